@@ -1,8 +1,8 @@
 -- A question and its answer, in the words of checkpoints that several nodes take together.
 use Rattle.std.specs.Prelude.{[], Option, Some, None}
 use Rattle.record.specs.ImageView.{ImageView}
-use Rattle.protocol.specs.Join.Answering.{AskAnswer as Answered}
-use Rattle.protocol.specs.Join.Answering as answered
+use Rattle.protocol.specs.Node.Answering.{AskAnswer as Answered}
+use Rattle.protocol.specs.Node.Answering as answered
 use Rattle.protocol.specs.Node.NodeView.{ModeView, InDoubt, Runs}
 use Rattle.ckpt_core.specs.declared.asking.AskAnswer.{AskAnswer}
 use Rattle.ckpt_core.specs.declared.asking.AskAnswer.TheVariants as answer

@@ -1,6 +1,6 @@
 //! A node is asked whether it keeps so many items of a channel for good.
 ghost use Rattle.std.specs.Prelude.{◌≡◌, ◌<◌, length, option_copied};
-ghost use Rattle.protocol.specs.Join.Answering.{holds, is_past, answer_of_holder, answer_of_free, answer_above, answer_to_ask};
+ghost use Rattle.protocol.specs.Node.Answering.{holds, is_past, answer_of_holder, answer_of_free, answer_above, answer_to_ask};
 ghost use Rattle.ckpt_core.specs.AskView.{answer_view, mode_with};
 
 use datagram::Reason;
@@ -30,12 +30,12 @@ pub struct Question {
     pub count: u64,
 }
 
-// Whether exactly the image of the question's checkpoint is held.
-fn holds(tentative: &Option<Tentative>, question: Question) -> bool
-    ensures { result ≡ holds question.initiator question.number tentative.now }
+/// Whether exactly the image of this initiator's checkpoint of this number is held.
+pub fn holds(tentative: &Option<Tentative>, initiator: u8, number: u64) -> bool
+    ensures { result ≡ holds initiator number tentative.now }
 {
     match tentative {
-        Some(held) => held.initiator == question.initiator && held.number == question.number,
+        Some(held) => held.initiator == initiator && held.number == number,
         None => false,
     }
 }
@@ -46,7 +46,7 @@ fn is_past(kept: &Record, question: Question) -> bool
     ensures { result ≡ is_past question.initiator question.number kept.now }
 {
     question.number <= kept.highest[usize::from(question.initiator)]
-        && !holds(&kept.tentative, question)
+        && !holds(&kept.tentative, question.initiator, question.number)
 }
 
 // The answer of a node that holds this image, of the question's checkpoint or of another.
@@ -98,7 +98,10 @@ fn answer_above(
         question.count (mode_with (option_copied current.entry)) tentative.now }
 {
     match tentative {
-        Some(held) => answer_of_holder(held, holds(tentative, question), current, question),
+        Some(held) => {
+            let same = holds(tentative, question.initiator, question.number);
+            answer_of_holder(held, same, current, question)
+        }
         None => answer_of_free(current, question),
     }
 }

@@ -4,7 +4,7 @@ use Rattle.std.specs.Prelude.{slice_get, slice_set}
 use Rattle.std.proofs.lemmas.List.{map-set}
 use Rattle.std.proofs.lemmas.Option.{slice_get-map}
 use Rattle.recovery_line.specs.Nodes.{Answer as Answered}
-use Rattle.protocol.specs.Join.Collecting.{answered_by, replaced_at, with_answer}
+use Rattle.protocol.specs.Node.Collecting.{answered_by, replaced_at, with_answer}
 use Rattle.decide_core.specs.InitiatorView.{question_view}
 use Rattle.decide_core.specs.declared.initiator.Asked.{Asked}
 

@@ -3,8 +3,11 @@ mod Opened
 mod Raising
 mod Checkpoints
 mod Recoveries
+mod Puts
+mod Memory
 mod Starts
-mod Walking
+mod Verdicts
+mod Asks
 mod Handing
 mod Slices
 mod Dues

@@ -4,3 +4,5 @@ pub mod StoredView
 pub mod Putting
 pub mod NodeOf
 pub mod Searching
+pub mod Then
+pub mod Said

@@ -1,5 +1,5 @@
 -- A node as data, its store aside.
-use Rattle.std.specs.Prelude.{option_map, None}
+use Rattle.std.specs.Prelude.{option_map}
 use Rattle.record.specs.RecordView.{RecordView}
 use Rattle.protocol.specs.Node.NodeView.{NodeView, ModeView, Down, InDoubt, Runs, RunningView}
 use Rattle.node.specs.JobView.{job_view}
@@ -8,7 +8,6 @@ use Rattle.node.specs.declared.mode.Mode.TheVariants as mode
 use Rattle.node.specs.declared.running.Running.{Running}
 use Rattle.node.specs.declared.state.NodeState.{NodeState}
 
--- (so far a node asks nobody, so that it collects no answers)
 abbrev pub running_view : Running → RunningView
 running_view running = record {
   current = running.current;
@@ -16,7 +15,7 @@ running_view running = record {
   last = running.last;
   inboxes = running.inboxes.items;
   outboxes = running.outboxes.items;
-  live = None;
+  live = running.live;
 }
 
 abbrev pub mode_view : Mode → ModeView

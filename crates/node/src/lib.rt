@@ -3,15 +3,14 @@
 //! A node that is down has no more than what its store's cell holds; recovered, it runs from its permanent image.
 #![tactic(auto)]
 
-mod addresses;
 mod checkpoint;
 mod choosing;
 mod delivering;
 mod granting;
+mod hearing;
 mod installing;
 mod mode;
 mod node;
-mod nodes;
 mod opening;
 mod popping;
 mod preparing;
@@ -22,10 +21,12 @@ mod running;
 mod sending;
 mod sharing;
 mod state;
+mod telling;
 
+pub use hearing::Said;
+pub use layout::{is_here, node_count};
 pub use mode::Mode;
 pub use node::Node;
-pub use nodes::{is_here, node_count};
 pub use opening::opening_record;
 pub use protocol::{ArmedRestart, Delivery, MAX_JOB_ITEMS, Outcome, Refusal};
 pub use restart::round_later;

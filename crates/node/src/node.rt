@@ -1,29 +1,39 @@
 //! A node, and its events.
-ghost use Rattle.std.specs.Prelude.{◌≡◌, ◌⊎◌, ◌+◌, ◌<◌, ◌++◌, [], ◌∷◌, ℤ, List, false, not, length, IfErr, IfOk, IsErrOf, IsSome, IsTrue, None, OnErr, OnOk, Some, is_some, option_map};
+ghost use Rattle.std.specs.Prelude.{◌≡◌, ◌⊎◌, ◌+◌, ◌<◌, ◌≤◌, ◌++◌, [], ◌∷◌, ℤ, List, false, true, not, length, IfErr, IfOk, IsErrOf, IsSome, IsTrue, None, OnErr, OnOk, Some, is_some, option_map};
 ghost use Rattle.kahn_net.specs.Streams.{IsPrefix};
 ghost use Rattle.kahn_net.specs.States.{standing_of};
 ghost use Rattle.kahn_net.specs.Syntax.{network_of};
 ghost use Rattle.retained.specs.LogState.{LogState, IsLogOf};
 ghost use Rattle.outlet.specs.Faults.{failures_after};
+ghost use Rattle.ckpt_codec.specs.SizeLaws.{IsRecordWithin};
+ghost use Rattle.ckpt_codec.specs.declared.lengths.TheConstants.{MAX_RETAINED_ITEMS};
 ghost use Rattle.ckpt_store.specs.StoreView.{cell_in, known_in, record_in};
 ghost use Rattle.protocol.specs.Node.ArmedRestarts.{with_armed};
 ghost use Rattle.protocol.specs.Node.Choosing.{node_job, with_grant};
-ghost use Rattle.protocol.specs.Node.Delivering.{delivery_of, packet_for, told_by};
-ghost use Rattle.protocol.specs.Node.Sending.{packets_of};
+ghost use Rattle.protocol.specs.Node.Addresses.{names_right};
+ghost use Rattle.protocol.specs.Node.Beginning.{start_prospect};
+ghost use Rattle.protocol.specs.Node.Delivering.{packet_for};
+ghost use Rattle.protocol.specs.Node.Hearing.{hear_prospect};
+ghost use Rattle.protocol.specs.Node.Telling.{turn_packets};
+ghost use Rattle.protocol.specs.Node.Verdicts.{decide_prospect};
+ghost use Rattle.datagram.specs.PacketText.{IsPacket};
+ghost use Rattle.kahn_net.specs.Nodes.{node_count};
+ghost use Rattle.node.specs.Said.{IsSaid, MayBeDecided};
+ghost use Rattle.kahn_net.specs.declared.limits.TheConstants.{MAX_NODES};
 ghost use Rattle.protocol.specs.Node.Installing.{IsInstall, IsOut, TakesTurn};
 ghost use Rattle.node.specs.JobView.{job_view};
 ghost use Rattle.node.specs.NodeView.{mode_view};
 ghost use Rattle.protocol.specs.Node.Opening.{running_from};
 ghost use Rattle.protocol.specs.Node.Modes.{crashed, is_down};
-ghost use Rattle.protocol.specs.Node.Plans.{LeavesCell};
+ghost use Rattle.protocol.specs.Node.Plans.{LeavesCell, packets_by};
 ghost use Rattle.protocol.specs.Node.Recovering.{recover_prospect};
-ghost use Rattle.protocol.specs.Node.Starting.{decide_prospect, start_prospect, IsLikeNow};
+ghost use Rattle.protocol.specs.Node.Starting.{IsLikeNow};
 ghost use Rattle.node.specs.Putting.{IsPutEvent};
 ghost use Rattle.node.specs.StoredView.{HasRecord, LeavesAsBefore, LeavesDevice};
 ghost use Rattle.protocol.specs.Node.Trimming.{HasNext, TookNext, current_log, trimmed_node};
 
-use crate::checkpoint::{decide, start};
-use crate::delivering::deliver;
+use crate::checkpoint::{asks, commits, decide, start};
+use crate::hearing::{Said, answers, hear, read_for};
 use crate::mode::Mode;
 use crate::opening::open_state;
 use crate::preparing::{arm, recount};
@@ -36,7 +46,7 @@ use kahn_net::Channel;
 use net_check::{Inputs, Net};
 use outlet::{Outlet, OutletFault};
 use proc_step::{Done, Job};
-use protocol::{Delivery, Outcome};
+use protocol::Outcome;
 use retained::LogFault;
 use sector_disk::ArmedFault;
 use std::alloc::{AllocError, Global};
@@ -140,55 +150,131 @@ impl<C: SlotCell> Node<C> {
         self.state.install(alloc, channels, done)
     }
 
-    /// Takes in bytes that came from another node. A node that is down takes none. Bytes that spell no packet for this
-    /// node, or one in which a name isn't right, are dropped. Refuses for want of memory alone, and then nothing is changed.
-    pub fn deliver(
-        &mut self,
-        alloc: Global,
-        net: &Net,
-        bytes: &[u8],
-    ) -> Result<Delivery, AllocError>
-        ensures answer { IfOk result
-            (λ outcome. outcome ≡ delivery_of (is_down (view_of self.old).mode)
-            (packet_for (network_of net.now.program) self.old.number bytes.now)) }
-        ensures step { IfOk result (λ outcome. is_down (view_of self.old).mode ≡ false
-            → view_of self.new ≡ told_by (packet_for (network_of net.now.program) self.old.number bytes.now)
-            (view_of self.old)) }
-        ensures down { IsTrue (is_down (view_of self.old).mode) → view_of self.new ≡ view_of self.old }
-        ensures refused { OnErr result (view_of self.new ≡ view_of self.old) }
-        ensures same { (self.new.store ≡ self.old.store) × (self.new.number ≡ self.old.number) }
+    /// The packet for this node that these bytes spell, if they spell one in which each name is right. Refuses for want of
+    /// memory alone.
+    pub fn read(&self, alloc: Global, net: &Net, bytes: &[u8]) -> Result<Option<Packet>, AllocError>
+        ensures { IfOk result (λ packet. packet
+            ≡ packet_for (network_of net.now.program) self.now.number bytes.now) }
     {
-        deliver(alloc, self.number, &mut self.state, net, bytes)
+        read_for(alloc, net, self.number, bytes)
     }
 
-    /// What the node sends now: of each channel from another node how far it has come, and then, unless a tentative image
-    /// is held, the items that are due. Refuses for want of memory alone.
-    pub fn packets(&self, alloc: Global, net: &Net) -> Result<Vec<Packet>, AllocError>
-        ensures { IfOk result (λ packets. packets.items
-            ≡ packets_of (network_of net.now.program) self.now.number (view_of self.now)) }
+    /// What a node that is up says to a packet for it: where the event is made, and where it takes no part in a checkpoint since
+    /// its record would be too large. Refuses for want of memory alone.
+    pub fn answers(&self, alloc: Global, net: &Net, packet: &Packet) -> Result<Said, AllocError>
+        requires up { is_down (view_of self.now).mode ≡ false }
+        requires right { names_right (network_of net.now.program) packet.now ≡ true }
+        requires listed { length (view_of self.now).kept.highest
+            ≡ node_count (network_of net.now.program) }
+        ensures { IfOk result (λ said. IsSaid said.made.items said.declined.items
+            (hear_prospect (network_of net.now.program) self.now.number packet.now.from
+            packet.now.body (view_of self.now))) }
     {
         match self.store.record() {
-            Ok(kept) => self.state.packets(alloc, net, self.number, kept),
-            Err(_) => Ok(Vec::new(alloc)),
+            Ok(kept) => answers(alloc, net, self.number, &self.state, kept, packet),
+            Err(_) => Err(AllocError),
         }
     }
 
-    /// Takes a tentative image of where the node stands now, under its next number: the first half of a checkpoint.
-    /// Where the device fails the node goes down, and may be recovered after the rounds that were armed with that call, or
-    /// from the next round on. Refuses for want of memory alone, and then nothing is changed.
-    pub fn start(&mut self, alloc: Global, round: u64) -> Result<Outcome, AllocError>
-        requires { IsLikeNow (view_of self.old) }
-        ensures event { IsPutEvent (start_prospect self.old.number (view_of self.old)) round
+    /// Hears a packet for it, if it is up. Where that puts the record and the device fails, the node goes down, as of a start.
+    /// Refuses for want of memory alone, and then nothing is changed.
+    pub fn hear(
+        &mut self,
+        alloc: Global,
+        net: &Net,
+        packet: &Packet,
+        round: u64,
+    ) -> Result<Outcome, AllocError>
+        requires up { is_down (view_of self.old).mode ≡ false }
+        requires like { IsLikeNow (view_of self.old) }
+        requires bounded { IsRecordWithin MAX_RETAINED_ITEMS (view_of self.old).kept }
+        requires right { names_right (network_of net.now.program) packet.now ≡ true }
+        requires allowed { IsPacket packet.now }
+        requires here { packet.now.to ≡ self.old.number }
+        requires listed { length (view_of self.old).kept.highest
+            ≡ node_count (network_of net.now.program) }
+        ensures event { IsPutEvent (hear_prospect (network_of net.now.program) self.old.number
+            packet.now.from packet.now.body (view_of self.old)) round
             (view_of self.old) (view_of self.new) self.old.store self.new.store result }
         ensures unchanged { LeavesCell result → cell_in self.new.store ≡ cell_in self.old.store }
         ensures same_number { self.new.number ≡ self.old.number }
     {
-        start(alloc, self.number, &mut self.state, &mut self.store, round)
+        hear(
+            alloc,
+            net,
+            self.number,
+            &mut self.state,
+            &mut self.store,
+            packet,
+            round,
+        )
     }
 
-    /// Makes the node's own tentative image permanent: the second half of a checkpoint. Where the device fails the node
-    /// goes down, as of a start. Refuses for want of memory alone, and then nothing is changed.
+    /// What the node says in its turn: of each channel from another node how far it has come, what it still asks, what it
+    /// decided and what it waits for, and then, unless a tentative image is held, the items that are due. Refuses for want
+    /// of memory alone.
+    pub fn packets(&self, alloc: Global, net: &Net) -> Result<Vec<Packet>, AllocError>
+        requires up { is_down (view_of self.now).mode ≡ false }
+        ensures { IfOk result (λ packets. packets.items ≡ turn_packets
+            (network_of net.now.program) self.now.number (view_of self.now).kept
+            (view_of self.now).mode) }
+    {
+        match self.store.record() {
+            Ok(kept) => self.state.packets(alloc, net, self.number, kept),
+            Err(_) => Err(AllocError),
+        }
+    }
+
+    /// Whom the node asks that begins a checkpoint now: of what, if it may begin one. Refuses for want of memory alone.
+    pub fn asks(&self, alloc: Global, net: &Net) -> Result<Vec<Packet>, AllocError>
+        ensures { IfOk result (λ packets. packets.items ≡ packets_by
+            (start_prospect (network_of net.now.program) self.now.number (view_of self.now))
+            Outcome.Made) }
+    {
+        match self.store.record() {
+            Ok(kept) => asks(alloc, net, self.number, &self.state, kept),
+            Err(_) => Ok(Vec::new(alloc)),
+        }
+    }
+
+    /// Begins a checkpoint: takes a tentative image of where the node stands now, under its next number, and collects answers for
+    /// it. Where the device fails the node goes down, and may be recovered after the rounds that were armed with that call, or
+    /// from the next round on. Refuses for want of memory alone, and then nothing is changed.
+    pub fn start(&mut self, alloc: Global, net: &Net, round: u64) -> Result<Outcome, AllocError>
+        requires { IsLikeNow (view_of self.old) }
+        ensures event { IsPutEvent (start_prospect (network_of net.now.program) self.old.number
+            (view_of self.old)) round
+            (view_of self.old) (view_of self.new) self.old.store self.new.store result }
+        ensures unchanged { LeavesCell result → cell_in self.new.store ≡ cell_in self.old.store }
+        ensures same_number { self.new.number ≡ self.old.number }
+    {
+        start(
+            alloc,
+            net,
+            self.number,
+            &mut self.state,
+            &mut self.store,
+            round,
+        )
+    }
+
+    /// What those who take part are told, once the checkpoint is decided for which answers are collected, if it may be decided.
+    /// Refuses for want of memory alone.
+    pub fn commits(&self, alloc: Global) -> Result<Vec<Packet>, AllocError>
+        requires { length (view_of self.now).kept.highest ≤ MAX_NODES }
+        ensures { IfOk result (λ packets. packets.items ≡ packets_by
+            (decide_prospect self.now.number (view_of self.now)) Outcome.Made) }
+    {
+        match self.store.record() {
+            Ok(kept) => commits(alloc, self.number, &self.state, kept),
+            Err(_) => Ok(Vec::new(alloc)),
+        }
+    }
+
+    /// Decides the checkpoint for which answers were collected: its image becomes permanent, and the decision names who took part.
+    /// Where the device fails the node goes down, as of a start. Refuses for want of memory alone, and then nothing is changed.
     pub fn decide(&mut self, alloc: Global, round: u64) -> Result<Outcome, AllocError>
+        requires { MayBeDecided self.old.number (view_of self.old) }
         ensures event { IsPutEvent (decide_prospect self.old.number (view_of self.old)) round
             (view_of self.old) (view_of self.new) self.old.store self.new.store result }
         ensures unchanged { LeavesCell result → cell_in self.new.store ≡ cell_in self.old.store }

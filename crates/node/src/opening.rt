@@ -7,10 +7,10 @@ ghost use Rattle.node.specs.NodeView.{node_view};
 ghost use Rattle.kahn_net.specs.declared.limits.TheConstants.{MAX_CHANNELS, MAX_PROCESSES};
 
 use crate::mode::Mode as NodeMode;
-use crate::nodes::{is_here, is_incoming, is_outgoing};
 use crate::running::Running;
 use crate::state::NodeState;
 use kahn_net::{Channel, Mode, ProcState, Process};
+use layout::{is_here, is_incoming, is_outgoing};
 use net_check::Net;
 use protocol::{Inbox, Outbox, WINDOW};
 use record::{End, Image, Record, SavedEnd, SavedProcess};
@@ -180,6 +180,7 @@ pub(crate) fn open_state(
             last: None,
             inboxes: open_inboxes(alloc, net, number)?,
             outboxes: open_outboxes(alloc, net, number)?,
+            live: None,
         }),
         version: 0,
         restart: 0,

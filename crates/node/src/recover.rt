@@ -58,6 +58,7 @@ fn mode_from(alloc: Global, image: Image, holds: bool) -> Mode
             last: None,
             inboxes: Vec::new(alloc),
             outboxes: Vec::new(alloc),
+            live: None,
         })
     }
 }

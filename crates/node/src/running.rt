@@ -1,11 +1,14 @@
 //! What a node has while it runs.
-ghost use Rattle.std.specs.Prelude.{◌≡◌, ◌↔◌, ◌<◌, ℕ, if◌then◌else◌, length, IfOk, IfSome, IsErrOf, IsTrue, None, OnErr, OnOk, Some, is_some, option_copied, option_map};
+ghost use Rattle.std.specs.Prelude.{◌≡◌, ◌↔◌, ◌<◌, if◌then◌else◌, length, IfOk, IfSome, IsErrOf, IsTrue, None, OnErr, OnOk, Some, is_some, option_copied, option_map};
 ghost use Rattle.kahn_net.specs.Syntax.{network_of};
 ghost use Rattle.kahn_net.specs.States.{standing_of};
-ghost use Rattle.protocol.specs.Node.Choosing.{after_grant, may_grant, next_job, next_process};
+ghost use Rattle.protocol.specs.Node.Choosing.{granted, may_grant, next_job, next_process};
 ghost use Rattle.protocol.specs.Node.Granting.{job_for};
+ghost use Rattle.protocol.specs.Node.Collecting.{hearing_covered, joining};
 ghost use Rattle.protocol.specs.Node.Delivering.{hearing};
-ghost use Rattle.protocol.specs.Node.Sending.{packets_from};
+ghost use Rattle.protocol.specs.Node.NodeView.{Runs};
+ghost use Rattle.protocol.specs.Node.Telling.{turn_packets};
+ghost use Rattle.protocol.specs.Node.Trimming.{cut_at};
 ghost use Rattle.protocol.specs.Node.Installing.{ImageTakes, IsTaken};
 ghost use Rattle.node.specs.JobView.{job_view};
 
@@ -14,7 +17,9 @@ use crate::delivering::{hear_acknowledgement, hear_item};
 use crate::granting::make_job;
 use crate::installing::install_from;
 use crate::sending::{add_all_answers, add_all_outgoing};
-use datagram::{Body, Packet};
+use crate::telling::{add_live_asks, add_verdicts};
+use datagram::{Body, Need, Packet};
+use decide_core::Initiator;
 use kahn_net::{Channel, MAX_COUNT};
 use net_check::{Inputs, Net};
 use proc_step::{Done, Job};
@@ -37,6 +42,8 @@ pub struct Running {
     pub inboxes: Vec<Inbox>,
     /// What is under way on each channel to another node, by their channels' numbers.
     pub outboxes: Vec<Outbox>,
+    /// The checkpoint for which answers are collected, if there is one.
+    pub live: Option<Initiator>,
 }
 
 impl Running {
@@ -124,11 +131,9 @@ impl Running {
         ensures job { IfOk result (λ job. option_map job_view job
             ≡ next_job (network_of net.now.value.program) inputs.now
             (running_node kept.now version (running_view self.old))) }
-        ensures state { IfOk result
-            (λ job. running_node kept.now version (running_view self.new)
-            ≡ after_grant (next_job (network_of net.now.value.program) inputs.now
-            (running_node kept.now version (running_view self.old)))
-            (running_node kept.now version (running_view self.old))) }
+        ensures state { IfOk result (λ job. running_view self.new
+            ≡ granted (next_job (network_of net.now.value.program) inputs.now
+            (running_node kept.now version (running_view self.old))) (running_view self.old)) }
         ensures err { OnErr result (running_view self.new ≡ running_view self.old) }
     {
         let Some(saved) = self.next_process(net, inputs, kept, version) else {
@@ -186,8 +191,8 @@ impl Running {
         Ok(true)
     }
 
-    /// Hears what a packet says: an item goes to its inbox, and an acknowledgement to its window. Anything else changes
-    /// nothing, so far. Refuses for want of memory alone, and then nothing is changed.
+    /// Hears what a packet says of a channel: an item goes to its inbox, and an acknowledgement to its window. Anything else
+    /// changes nothing here. Refuses for want of memory alone, and then nothing is changed.
     pub fn hear(&mut self, body: &Body) -> Result<(), AllocError>
         ensures ok { OnOk result (running_view self.new ≡ hearing body.now (running_view self.old)) }
         ensures err { OnErr result (running_view self.new ≡ running_view self.old) }
@@ -210,6 +215,43 @@ impl Running {
         }
     }
 
+    /// The receiver of a channel keeps so many items for good: the log lets go of them.
+    pub fn cut(&mut self, channel: u8, count: u64)
+        ensures { running_view self.new ≡ cut_at channel count (running_view self.old) }
+    {
+        self.current.trim(channel, count);
+    }
+
+    /// What was asked of a channel is kept for good, if answers are collected for the checkpoint of this number.
+    pub fn on_covered(&mut self, number: u64, channel: u16)
+        ensures { running_view self.new ≡ hearing_covered number channel (running_view self.old) }
+    {
+        if let Some(live) = &mut self.live {
+            live.on_covered(number, channel);
+        }
+    }
+
+    /// A node takes part of which this channel was asked, and has these needs, if answers are collected. Refuses for want of
+    /// memory alone, and then nothing is changed.
+    pub fn join(
+        &mut self,
+        net: &Net,
+        home: u8,
+        from: u8,
+        channel: u16,
+        needs: &[Need],
+    ) -> Result<(), AllocError>
+        ensures ok { OnOk result (running_view self.new
+            ≡ joining (network_of net.now.program) home from channel needs.now
+            (running_view self.old)) }
+        ensures err { OnErr result (running_view self.new ≡ running_view self.old) }
+    {
+        match &mut self.live {
+            Some(live) => live.join(net, home, from, channel, needs),
+            None => Ok(()),
+        }
+    }
+
     /// What the node of this number and with this record sends.
     pub fn packets(
         &self,
@@ -218,12 +260,14 @@ impl Running {
         number: u8,
         kept: &Record,
     ) -> Result<Vec<Packet>, AllocError>
-        ensures { (version : ℕ) → IfOk result (λ packets. packets.items
-            ≡ packets_from (network_of net.now.program) number
-            (Some (running_node kept.now version (running_view self.now)))) }
+        ensures { IfOk result (λ packets. packets.items
+            ≡ turn_packets (network_of net.now.program) number kept.now
+            (Runs (running_view self.now))) }
     {
         let mut packets = Vec::with_capacity(alloc, 2 * self.inboxes.len())?;
         add_all_answers(&mut packets, net, number, &kept.permanent, &self.inboxes)?;
+        add_live_asks(&mut packets, net, number, &self.live)?;
+        add_verdicts(&mut packets, number, kept)?;
         if kept.tentative.is_none() {
             add_all_outgoing(
                 alloc,

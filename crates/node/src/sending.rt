@@ -2,50 +2,16 @@
 ghost use Rattle.std.specs.Prelude.{◌≡◌, ◌+◌, ◌<◌, ◌≤◌, ◌++◌, length, IfOk, OnOk};
 ghost use Rattle.std.specs.List.{flat_map};
 ghost use Rattle.kahn_net.specs.Syntax.{network_of};
-ghost use Rattle.protocol.specs.Node.Addresses.{consumer_node, port_node, producer_node};
 ghost use Rattle.protocol.specs.Node.Sending.{data_packets, first_due, inbox_packets, items_due, outbox_packets};
 ghost use Rattle.kahn_net.specs.declared.limits.TheConstants.{MAX_COUNT};
 
 use datagram::{Body, Packet};
-use kahn_net::Port;
+use layout::{consumer_node, producer_node};
 use net_check::Net;
 use protocol::{Inbox, Outbox};
 use record::Image;
 use retained::Log;
 use std::alloc::{AllocError, Global};
-
-// The node of the process at an end of a channel, 0 where there is none.
-fn node_at(net: &Net, port: Port) -> u8
-    ensures { result ≡ port_node (network_of net.now.program) port }
-{
-    match port {
-        Port::Outside => 0,
-        Port::Process(number) => match net.program.processes.get(number) {
-            Some(process) => process.node,
-            None => 0,
-        },
-    }
-}
-
-// The node from which the items of a channel come.
-fn producer_node(net: &Net, channel: u8) -> u8
-    ensures { result ≡ producer_node (network_of net.now.program) channel }
-{
-    match net.program.channels.get(usize::from(channel)) {
-        Some(ends) => node_at(net, ends.producer),
-        None => 0,
-    }
-}
-
-// The node to which they go.
-fn consumer_node(net: &Net, channel: u8) -> u8
-    ensures { result ≡ consumer_node (network_of net.now.program) channel }
-{
-    match net.program.channels.get(usize::from(channel)) {
-        Some(ends) => node_at(net, ends.consumer),
-        None => 0,
-    }
-}
 
 // Adds what is said of a channel from another node.
 fn add_answers(
@@ -58,7 +24,7 @@ fn add_answers(
     ensures { OnOk result (packets.new.items ≡ packets.old.items
         ++ inbox_packets (network_of net.now.program) home permanent.now inbox.now) }
 {
-    let to = producer_node(net, inbox.channel);
+    let to = producer_node(net, usize::from(inbox.channel));
     let channel = u16::from(inbox.channel);
     let ack = inbox.window.ack();
     packets.push(Packet {
@@ -150,7 +116,7 @@ fn add_outgoing(
 {
     match current.log(outbox.channel) {
         Some(log) => {
-            let to = consumer_node(net, outbox.channel);
+            let to = consumer_node(net, usize::from(outbox.channel));
             add_due(alloc, packets, home, to, outbox, log)
         }
         None => Ok(()),

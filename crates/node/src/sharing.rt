@@ -1,5 +1,5 @@
 // How many items each log of an image may have.
-ghost use Rattle.std.specs.Prelude.{◌≡◌, ◌≤◌, ℕ, ℤ, List};
+ghost use Rattle.std.specs.Prelude.{◌≡◌, ◌<◌, ◌≤◌, ℕ, ℤ, List, length};
 ghost use Rattle.kahn_net.specs.Syntax.{Network};
 ghost use Rattle.kahn_net.specs.Valid.{IsValid};
 ghost use Rattle.kahn_net.specs.declared.limits.TheConstants.{MAX_NODES};
@@ -8,7 +8,9 @@ ghost use Rattle.record.specs.RecordView.{RecordView};
 ghost use Rattle.ckpt_codec.specs.SizeLaws.{IsImageWithin, IsRecordWithin};
 ghost use Rattle.ckpt_codec.specs.declared.lengths.TheConstants.{MAX_RETAINED_ITEMS};
 ghost use Rattle.protocol.specs.Node.Sharing.{is_logging, log_count, log_share};
-ghost use Rattle.protocol.specs.Node.Starting.{with_own, decided};
+ghost use Rattle.protocol.specs.Node.Starting.{with_own};
+ghost use Rattle.record.specs.Moves.{with_decision};
+ghost use Rattle.record.specs.declared.record.TheConstants.{MAX_DECISIONS};
 ghost use Rattle.protocol.specs.Node.Opening.{opening_record};
 ghost use Rattle.protocol.specs.Node.NodeView.{RunningNode};
 ghost use Rattle.protocol.specs.Node.Reached.{HasReached, ImageStands, IsLaidOut, LogsAreWithin};
@@ -49,7 +51,7 @@ pub(crate) fn share_of(image: &Image) -> usize
 
 /// An image of a valid network, each log of which has at most its share, is within the bounds of which a record holds two; so is a
 /// node's current one, however far it has come. And so is a node's first record, with such an image that of a start, and that of a
-/// decision. `ckpt_codec::bounded_records_fit` says that they fit.
+/// decision for which there is room. `ckpt_codec::bounded_records_fit` says that they fit.
 pub fn share_law()
     ensures image { (net : Network) (home : ℕ) (histories : List (List ℤ)) (made : ℕ → ℕ)
         (image : ImageView) → IsValid net → IsLaidOut net home image → ImageStands net histories made image
@@ -62,6 +64,7 @@ pub fn share_law()
     ensures started { (node : ℕ) (image : ImageView) (kept : RecordView)
         → IsImageWithin MAX_RETAINED_ITEMS image → IsRecordWithin MAX_RETAINED_ITEMS kept
         → IsRecordWithin MAX_RETAINED_ITEMS (with_own node image kept) }
-    ensures decided { (kept : RecordView) → IsRecordWithin MAX_RETAINED_ITEMS kept
-        → IsRecordWithin MAX_RETAINED_ITEMS (decided kept) }
+    ensures decided { (number : ℕ) (nodes : List ℕ) (kept : RecordView) → length nodes ≤ MAX_NODES
+        → length kept.decisions < MAX_DECISIONS → IsRecordWithin MAX_RETAINED_ITEMS kept
+        → IsRecordWithin MAX_RETAINED_ITEMS (with_decision number nodes kept) }
 {}

@@ -1,5 +1,5 @@
 //! What a node has beside its record.
-ghost use Rattle.std.specs.Prelude.{◌≡◌, ◌⊎◌, ◌+◌, ℤ, List, length, IfOk, IsErrOf, OnErr, OnOk, Some, is_some, option_map};
+ghost use Rattle.std.specs.Prelude.{◌≡◌, ◌⊎◌, ◌+◌, ℤ, List, length, IfOk, IsErrOf, OnErr, OnOk, Some, is_some, option_copied, option_map};
 ghost use Rattle.kahn_net.specs.Streams.{IsPrefix};
 ghost use Rattle.kahn_net.specs.Syntax.{network_of};
 ghost use Rattle.kahn_net.specs.States.{standing_of};
@@ -9,23 +9,28 @@ ghost use Rattle.record.specs.RecordView.{RecordView};
 ghost use Rattle.protocol.specs.Node.ArmedRestarts.{restart_after};
 ghost use Rattle.protocol.specs.Node.Choosing.{node_job, with_grant};
 ghost use Rattle.protocol.specs.Node.Delivering.{hearing};
-ghost use Rattle.protocol.specs.Node.Sending.{packets_of};
 ghost use Rattle.protocol.specs.Node.Installing.{IsOut, IsTakenIn, TakesTurn};
 ghost use Rattle.node.specs.JobView.{job_view};
-ghost use Rattle.protocol.specs.Node.Starting.{may_start};
+ghost use Rattle.protocol.specs.Node.Beginning.{live_in, may_start};
+ghost use Rattle.protocol.specs.Node.Collecting.{hearing_covered, joining};
+ghost use Rattle.protocol.specs.Node.NodeView.{on_running};
+ghost use Rattle.protocol.specs.Node.Telling.{turn_packets};
+ghost use Rattle.node.specs.Said.{current_in};
 ghost use Rattle.protocol.specs.Node.Modes.{crashed, is_down, is_running, next_number};
 ghost use Rattle.protocol.specs.Node.Trimming.{HasNext, TookNext, current_log, cut_at};
 
 use crate::mode::Mode;
 use crate::releasing::release_next;
 use crate::restart::{round_later, rounds_at};
-use datagram::{Body, Packet};
+use crate::telling::packets_in_doubt;
+use datagram::{Body, Need, Packet};
+use decide_core::Initiator;
 use kahn_net::{Channel, MAX_COUNT};
 use net_check::{Inputs, Net};
 use outlet::{Outlet, OutletFault};
 use proc_step::{Done, Job};
 use protocol::ArmedRestart;
-use record::Record;
+use record::{Image, MAX_DECISIONS, Record};
 use retained::LogFault;
 use std::alloc::{AllocError, Global};
 use std::sync::Arc;
@@ -75,7 +80,27 @@ impl NodeState {
     pub fn can_start(&self, kept: &Record) -> bool
         ensures { result ≡ may_start (node_view kept.now self.now) }
     {
-        self.is_running() && kept.tentative.is_none() && kept.decisions.is_empty()
+        self.is_running() && kept.tentative.is_none() && kept.decisions.len() < MAX_DECISIONS
+    }
+
+    /// The checkpoint for which answers are collected, if there is one.
+    pub fn live(&self) -> Option<&Initiator>
+        ensures { option_copied result ≡ live_in (mode_view self.now.mode) }
+    {
+        match &self.mode {
+            Mode::Running(running) => running.live.as_ref(),
+            Mode::Down | Mode::InDoubt => None,
+        }
+    }
+
+    /// Where its processes and channels stand now, if it runs.
+    pub fn current(&self) -> Option<&Image>
+        ensures { option_copied result ≡ current_in (mode_view self.now.mode) }
+    {
+        match &self.mode {
+            Mode::Running(running) => Some(&running.current),
+            Mode::Down | Mode::InDoubt => None,
+        }
     }
 
     /// Whether a node with this record can grant a job now.
@@ -138,15 +163,12 @@ impl NodeState {
         }
     }
 
-    // Hears what a packet says, if it runs.
+    // Hears what a packet says of a channel, if it runs.
     pub(crate) fn hear(&mut self, body: &Body) -> Result<(), AllocError>
-        ensures ok { OnOk result
-            (mode_view self.new.mode ≡ on_mode (hearing body.now) (mode_view self.old.mode)) }
-        ensures err { OnErr result (mode_view self.new.mode ≡ mode_view self.old.mode) }
-        ensures same_mode { is_down (mode_view self.new.mode) ≡ is_down (mode_view self.old.mode) }
-        ensures same { (self.new.version ≡ self.old.version)
-            × (self.new.restart ≡ self.old.restart)
-            × (self.new.armed ≡ self.old.armed) }
+        ensures ok { (kept : RecordView) → OnOk result (node_view kept self.new
+            ≡ on_running (hearing body.now) (node_view kept self.old)) }
+        ensures err { (kept : RecordView) → OnErr result
+            (node_view kept self.new ≡ node_view kept self.old) }
     {
         match &mut self.mode {
             Mode::Running(running) => running.hear(body),
@@ -154,7 +176,48 @@ impl NodeState {
         }
     }
 
-    // What the node of this number and with this record sends.
+    // The receiver of a channel keeps so many items for good.
+    pub(crate) fn cut(&mut self, channel: u8, count: u64)
+        ensures { (kept : RecordView) → node_view kept self.new
+            ≡ on_running (cut_at channel count) (node_view kept self.old) }
+    {
+        if let Mode::Running(running) = &mut self.mode {
+            running.cut(channel, count);
+        }
+    }
+
+    // What was asked of a channel is kept for good, if answers are collected for the checkpoint of this number.
+    pub(crate) fn on_covered(&mut self, number: u64, channel: u16)
+        ensures { (kept : RecordView) → node_view kept self.new
+            ≡ on_running (hearing_covered number channel) (node_view kept self.old) }
+    {
+        if let Mode::Running(running) = &mut self.mode {
+            running.on_covered(number, channel);
+        }
+    }
+
+    // A node takes part of which this channel was asked, and has these needs.
+    pub(crate) fn join(
+        &mut self,
+        net: &Net,
+        home: u8,
+        from: u8,
+        channel: u16,
+        needs: &[Need],
+    ) -> Result<(), AllocError>
+        ensures ok { (kept : RecordView) → OnOk result (node_view kept self.new
+            ≡ on_running (joining (network_of net.now.program) home from channel needs.now)
+            (node_view kept self.old)) }
+        ensures err { (kept : RecordView) → OnErr result
+            (node_view kept self.new ≡ node_view kept self.old) }
+    {
+        match &mut self.mode {
+            Mode::Running(running) => running.join(net, home, from, channel, needs),
+            Mode::Down | Mode::InDoubt => Ok(()),
+        }
+    }
+
+    // What the node of this number and with this record says in its turn.
     pub(crate) fn packets(
         &self,
         alloc: Global,
@@ -162,12 +225,13 @@ impl NodeState {
         number: u8,
         kept: &Record,
     ) -> Result<Vec<Packet>, AllocError>
-        ensures { IfOk result (λ packets. packets.items
-            ≡ packets_of (network_of net.now.program) number (node_view kept.now self.now)) }
+        ensures { IfOk result (λ packets. packets.items ≡ turn_packets
+            (network_of net.now.program) number kept.now (mode_view self.now.mode)) }
     {
         match &self.mode {
             Mode::Running(running) => running.packets(alloc, net, number, kept),
-            Mode::Down | Mode::InDoubt => Ok(Vec::new(alloc)),
+            Mode::InDoubt => packets_in_doubt(alloc, net, number, kept),
+            Mode::Down => Ok(Vec::new(alloc)),
         }
     }
 

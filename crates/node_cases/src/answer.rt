@@ -1,13 +1,51 @@
-//! What an event answers, in words.
+//! What an event answers, in words, and what was sent in it.
 
-use node::{Delivery, Mode, Outcome};
+use datagram::Packet;
+use node::{Mode, Outcome, Refusal, Said};
 use std::alloc::{AllocError, Global};
 
-pub fn delivery_word(delivery: Delivery) -> &'static str {
-    match delivery {
-        Delivery::Delivered => "delivered",
-        Delivery::Dropped => "dropped",
-        Delivery::NotDue => "not due",
+/// What came of an event, and what the node sent in it.
+#[derive(Drop)]
+pub struct Came {
+    pub outcome: Outcome,
+    pub said: Vec<Packet>,
+}
+
+impl Came {
+    /// Of an event in which this is sent where it is made, and nothing else.
+    pub fn of(alloc: Global, made: Vec<Packet>, outcome: Outcome) -> Came {
+        let declined = Vec::new(alloc);
+        Came::behind(alloc, Said { made, declined }, outcome)
+    }
+
+    /// Of an event in which this is sent where it is made, and that where its record is too large.
+    pub fn behind(alloc: Global, said: Said, outcome: Outcome) -> Came {
+        let Said { made, declined } = said;
+        let said = match outcome {
+            Outcome::Made => made,
+            Outcome::Refused(Refusal::TooLarge) => declined,
+            Outcome::Refused(Refusal::Spent) | Outcome::NotDue | Outcome::Failed => Vec::new(alloc),
+        };
+        Came { outcome, said }
+    }
+}
+
+/// What came of bytes that a node took for a packet.
+fn heard_word(outcome: Outcome) -> &'static str {
+    match outcome {
+        Outcome::NotDue => "not due",
+        Outcome::Made => "delivered",
+        Outcome::Refused(Refusal::TooLarge) => "declined",
+        Outcome::Refused(Refusal::Spent) => "refused 44",
+        Outcome::Failed => "failed",
+    }
+}
+
+/// What came of bytes that were delivered: an outcome, unless they were dropped.
+pub fn delivery_word(heard: Option<Outcome>) -> &'static str {
+    match heard {
+        Some(outcome) => heard_word(outcome),
+        None => "dropped",
     }
 }
 

@@ -28,17 +28,19 @@
 //! | `grant -> job`, `-> none` | a job is granted |
 //! | `install -> taken`, `-> left` | what came of the job that was granted last comes back. It may come back again |
 //! | `install 1`, `install of i: 5 -2 9` | the same of the job that was granted as the first, the second and so on; or of the first job of another such node, which went down as often, on these inputs |
-//! | `deliver 02 01 00 .. -> delivered`, `-> dropped`, `-> not due` | bytes come to the node; `deliver` alone is none |
+//! | `deliver 02 01 00 .. -> delivered`, `-> dropped`, `-> not due` | bytes come to the node, in round 0; `deliver` alone is none |
+//! | `deliver in 7 04 01 00 .. -> failed`, `-> declined` | the same in round 7; `failed` where the device does in it, and `declined` where the node takes no part in a checkpoint since its record would be too large |
 //! | `deliver each 0 to 1023 behind 01 00 ..` | for each of these numbers a packet comes, in which the number stands twice behind these bytes, in 8 bytes each: the answer is the first that isn't `delivered`, or that |
-//! | `start 7 -> stored`, `-> not due`, `-> failed`, `-> refused 44` | a tentative image is taken in round 7, of a node that has no process and no channel, or doesn't run |
-//! | `decide 7 -> stored` | the tentative image is made permanent, with the same answers |
+//! | `start 7 -> stored`, `-> not due`, `-> failed`, `-> refused 44` | a checkpoint is begun in round 7 |
+//! | `decide 7 -> stored` | the checkpoint is decided for which answers are collected, with the same answers. A node that is down isn't asked: `not due` |
+//! | `said -> 04 01 00 .., 04 01 02 ..` | the bytes of each packet that was sent in the last `deliver`, `start` or `decide`; `none` |
 //! | `crash fill 0 restart 9 -> yes`, `crash restart 9 -> no` | a crash, with or without a byte by which what the cell holds is settled; whether the node was up |
 //! | `recover 9 -> recovered`, `-> in doubt`, `-> failed`, `-> refused 44`, `-> not due` | a recovery in round 9 |
 //! | `arm call 2 fill 0 rounds 5 -> done` | a failure of its disk, which keeps the node down for so many rounds |
 //! | `has job -> yes` | whether a job can be granted |
 //! | `job -> process 0 version 0` | of the job that was granted last the process and the version |
 //! | `items 0 -> 5 -2 4`, `room -> 0 64` | the items of a channel that it has at hand; its room on each channel |
-//! | `packets -> 01 00 .., 01 00 ..` | the bytes of each packet that the node sends; `none` |
+//! | `packets -> 01 00 .., 01 00 ..` | the bytes of each packet that the node sends in its turn; `none`, and of a node that is down |
 //! | `record -> 01 00 ..` | the bytes of the node's record; `none` where it isn't known |
 //! | `state -> up version 0 restart 0` | whether the node is `up`, `down` or `in doubt`, how often it went down, and from which round on it may be recovered |
 //! | `processes -> 0 at 1 with 5 -2` | where each process stands now, `not begun`, `at` a site or `finished`, and its variables; a comma between two |
@@ -46,17 +48,23 @@
 //! | `log 1 -> 5 3 7` | the items that its log retains |
 //! | `inbox 1 -> from 0 to 3 last 4` | the positions between which the inbox of the channel has items, and the last of these |
 //!
-//! A node that doesn't run answers `none` to the last four. Items that aren't there are `nothing`. An answer that ends in `..` may go on.
+//! Nothing is heard, begun or decided, and the program ends with an error, where a record is longer than any of the network's gets, or
+//! where what the node has now isn't an image beside its permanent one; and nothing is heard where its record lists more nodes than the
+//! network has, or fewer.
+//!
+//! A node that doesn't run answers `none` to `processes`, `now`, `log` and `inbox`. Items that aren't there are `nothing`. An answer that ends in `..` may go on.
 #![tactic(auto)]
 
 mod answer;
+mod bounds;
+mod checkpoints;
+mod hearing;
 mod judging;
 mod opening;
 mod plan;
 mod run;
 mod settings;
 mod showing;
-mod starting;
 mod step;
 mod taking;
 

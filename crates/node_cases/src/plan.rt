@@ -43,7 +43,7 @@ fn wanted_by(
     wanted: &str,
 ) -> anyhow::Result<String> {
     match step {
-        Step::Ask(Question::Packets | Question::Record) if wanted != "none" => {
+        Step::Ask(Question::Packets | Question::Said | Question::Record) if wanted != "none" => {
             shown_spellings(alloc, named, wanted)
         }
         _ => Ok(String::from_str(alloc, wanted)?),

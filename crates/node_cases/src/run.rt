@@ -1,18 +1,20 @@
 //! A case's node, step by step.
 
-use crate::answer::{back_word, delivery_word, outcome_text};
+use crate::answer::{Came, back_word, delivery_word, outcome_text};
+use crate::checkpoints::{decide, start};
+use crate::hearing::deliver;
 use crate::opening::{CaseNode, inputs_of, net_of, node_of};
 use crate::settings::Settings;
 use crate::showing::{
     has_job_text, inbox_text, items_text, job_text, log_text, now_text, packets_text,
-    processes_text, record_text, room_text, state_text,
+    processes_text, record_text, room_text, spelled_text, state_text,
 };
-use crate::starting::start;
 use crate::step::{Brought, Event, Question, Row, Step};
 use crate::taking::take_in;
 use case_table::yes_or_no;
+use datagram::Packet;
 use net_check::{Inputs, Net};
-use node::{Delivery, Outcome};
+use node::Outcome;
 use proc_step::{Done, Job};
 use std::alloc::Global;
 use std::sync::Arc;
@@ -20,13 +22,15 @@ use std::sync::Arc;
 /// The most packets of a row.
 const MAX_ROW: u64 = 10_000;
 
-/// A node with its network and inputs, and what came of the jobs that it granted, in order.
+/// A node with its network and inputs, what came of the jobs that it granted, in order, and what it sent in the last event
+/// of those that send.
 #[derive(Drop)]
 pub struct Run {
     net: Arc<Net>,
     inputs: Inputs,
     node: CaseNode,
     outcomes: Vec<Done>,
+    said: Vec<Packet>,
 }
 
 /// What comes of a job.
@@ -81,6 +85,7 @@ impl Run {
             inputs,
             node,
             outcomes: Vec::new(alloc),
+            said: Vec::new(alloc),
         })
     }
 
@@ -95,12 +100,25 @@ impl Run {
         }
     }
 
+    /// Keeps what was sent in a checkpoint's event; says what came of it.
+    fn sent(&mut self, alloc: Global, came: Came) -> anyhow::Result<String> {
+        let Came { outcome, said } = came;
+        self.said = said;
+        Ok(outcome_text(alloc, outcome, "stored")?)
+    }
+
     fn event(&mut self, alloc: Global, event: Event) -> anyhow::Result<String> {
         let node = &mut self.node;
         let text = match event {
             Event::Grant => return self.grant(alloc),
-            Event::Start(round) => outcome_text(alloc, start(alloc, node, round)?, "stored")?,
-            Event::Decide(round) => outcome_text(alloc, node.decide(alloc, round)?, "stored")?,
+            Event::Start(round) => {
+                let came = start(alloc, node, &self.net, round)?;
+                return self.sent(alloc, came);
+            }
+            Event::Decide(round) => {
+                let came = decide(alloc, node, round)?;
+                return self.sent(alloc, came);
+            }
             Event::Crash { fill, restart } => {
                 String::from_str(alloc, yes_or_no(node.crash(fill, restart)))?
             }
@@ -173,22 +191,37 @@ impl Run {
         Ok(String::from_str(alloc, word)?)
     }
 
-    fn deliver(&mut self, alloc: Global, bytes: &[u8]) -> anyhow::Result<Delivery> {
-        Ok(self.node.deliver(alloc, &self.net, bytes)?)
+    /// Delivers bytes in a round, and keeps what was sent then.
+    fn deliver(
+        &mut self,
+        alloc: Global,
+        bytes: &[u8],
+        round: u64,
+    ) -> anyhow::Result<Option<Outcome>> {
+        match deliver(alloc, &mut self.node, &self.net, bytes, round)? {
+            Some(Came { outcome, said }) => {
+                self.said = said;
+                Ok(Some(outcome))
+            }
+            None => {
+                self.said = Vec::new(alloc);
+                Ok(None)
+            }
+        }
     }
 
     /// Delivers each packet of a row, up to the first that isn't taken as one.
-    fn deliver_each(&mut self, alloc: Global, row: &Row) -> anyhow::Result<Delivery> {
+    fn deliver_each(&mut self, alloc: Global, row: &Row) -> anyhow::Result<Option<Outcome>> {
         anyhow::ensure!(row.first <= row.last, "it goes from high to low");
         anyhow::ensure!(row.last - row.first < MAX_ROW, "too many packets");
         for number in row.first..=row.last {
             let bytes = packet_of(alloc, &row.head, number)?;
-            let delivery = self.deliver(alloc, &bytes)?;
-            if delivery != Delivery::Delivered {
-                return Ok(delivery);
+            let heard = self.deliver(alloc, &bytes, 0)?;
+            if heard != Some(Outcome::Made) {
+                return Ok(heard);
             }
         }
-        Ok(Delivery::Delivered)
+        Ok(Some(Outcome::Made))
     }
 
     fn shown(&self, alloc: Global, question: Question) -> anyhow::Result<String> {
@@ -196,6 +229,7 @@ impl Run {
         let text = match question {
             Question::HasJob => has_job_text(alloc, node, &self.net, &self.inputs)?,
             Question::Packets => packets_text(alloc, node, &self.net)?,
+            Question::Said => spelled_text(alloc, &self.said)?,
             Question::Job => job_text(alloc, self.last()?)?,
             Question::Items(channel) => items_text(alloc, self.last()?, channel)?,
             Question::Room => room_text(alloc, self.last()?)?,
@@ -219,13 +253,13 @@ impl Run {
         match step {
             Step::Event(event) => self.event(alloc, *event),
             Step::Install(brought) => self.install(alloc, settings, brought),
-            Step::Deliver(bytes) => {
-                let delivery = self.deliver(alloc, bytes)?;
-                Ok(String::from_str(alloc, delivery_word(delivery))?)
+            Step::Deliver { round, bytes } => {
+                let heard = self.deliver(alloc, bytes, *round)?;
+                Ok(String::from_str(alloc, delivery_word(heard))?)
             }
             Step::DeliverEach(row) => {
-                let delivery = self.deliver_each(alloc, row)?;
-                Ok(String::from_str(alloc, delivery_word(delivery))?)
+                let heard = self.deliver_each(alloc, row)?;
+                Ok(String::from_str(alloc, delivery_word(heard))?)
             }
             Step::Ask(question) => self.shown(alloc, *question),
         }

@@ -72,17 +72,26 @@ fn put_packet(alloc: Global, text: &mut String, packet: &Packet) -> anyhow::Resu
     Ok(())
 }
 
-/// The bytes of each packet that a node sends.
-pub fn packets_text(alloc: Global, node: &CaseNode, net: &Net) -> anyhow::Result<String> {
-    let packets = node.packets(alloc, net)?;
+/// The bytes of each of these packets.
+pub fn spelled_text(alloc: Global, packets: &[Packet]) -> anyhow::Result<String> {
     if packets.is_empty() {
         return Ok(none(alloc)?);
     }
     let mut text = String::new(alloc);
-    for packet in &packets {
+    for packet in packets {
         put_packet(alloc, &mut text, packet)?;
     }
     Ok(text)
+}
+
+/// The bytes of each packet that a node sends in its turn. One that is down has none.
+pub fn packets_text(alloc: Global, node: &CaseNode, net: &Net) -> anyhow::Result<String> {
+    let state = &node.state;
+    if state.is_down() {
+        return Ok(none(alloc)?);
+    }
+    let packets = node.packets(alloc, net)?;
+    spelled_text(alloc, &packets)
 }
 
 pub fn job_text(alloc: Global, done: &Done) -> Result<String, AllocError> {

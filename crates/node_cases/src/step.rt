@@ -31,6 +31,7 @@ pub enum Event {
 pub enum Question {
     HasJob,
     Packets,
+    Said,
     Job,
     Items(u8),
     Room,
@@ -55,7 +56,7 @@ pub struct Row {
 pub enum Step {
     Event(Event),
     Install(Brought),
-    Deliver(Vec<u8>),
+    Deliver { round: u64, bytes: Vec<u8> },
     DeliverEach(Row),
     Ask(Question),
 }
@@ -90,6 +91,7 @@ fn question_of(words: &[&str]) -> anyhow::Result<Option<Question>> {
     let question = match words {
         ["has", "job"] => Question::HasJob,
         ["packets"] => Question::Packets,
+        ["said"] => Question::Said,
         ["job"] => Question::Job,
         ["items", channel] => Question::Items(byte(channel)?),
         ["room"] => Question::Room,
@@ -119,6 +121,23 @@ fn row_of(alloc: Global, named: &[NamedBytes], text: &str) -> anyhow::Result<Row
     })
 }
 
+/// The bytes that stand behind `deliver`, and in which round they come.
+fn delivery_of(alloc: Global, named: &[NamedBytes], text: &str) -> anyhow::Result<Step> {
+    let Some(rest) = text.strip_prefix("in ") else {
+        return Ok(Step::Deliver {
+            round: 0,
+            bytes: spelled(alloc, named, text)?,
+        });
+    };
+    let Some((round, spelling)) = rest.split_once(" ") else {
+        anyhow::bail!("no bytes stand behind the round");
+    };
+    Ok(Step::Deliver {
+        round: number(round)?,
+        bytes: spelled(alloc, named, spelling)?,
+    })
+}
+
 /// What comes to the node from others, or is brought back to it.
 fn arrival_of(alloc: Global, named: &[NamedBytes], text: &str) -> anyhow::Result<Option<Step>> {
     let step = if let Some(inputs) = text.strip_prefix("install of ") {
@@ -128,11 +147,14 @@ fn arrival_of(alloc: Global, named: &[NamedBytes], text: &str) -> anyhow::Result
     } else if let Some(row) = text.strip_prefix("deliver each ") {
         Step::DeliverEach(row_of(alloc, named, row)?)
     } else if let Some(bytes) = text.strip_prefix("deliver ") {
-        Step::Deliver(spelled(alloc, named, bytes)?)
+        delivery_of(alloc, named, bytes)?
     } else {
         match text {
             "install" => Step::Install(Brought::Last),
-            "deliver" => Step::Deliver(Vec::new(alloc)),
+            "deliver" => Step::Deliver {
+                round: 0,
+                bytes: Vec::new(alloc),
+            },
             _ => return Ok(None),
         }
     };

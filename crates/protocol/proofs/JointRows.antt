@@ -10,14 +10,14 @@ use Rattle.record.specs.RecordView.{RecordView}
 use Rattle.record.specs.declared.image.End.TheVariants.{Receives, Sends}
 use Rattle.record.specs.declared.record.Tentative.{Tentative}
 use Rattle.recovery_line.specs.Nodes.{Awaited, By_took}
-use Rattle.protocol.specs.Join.Answering.{Silent, CoveredBefore, TookBefore, TakesNow, Declines, answer_to_ask}
-use Rattle.protocol.specs.Join.Answering.{kept_then}
-use Rattle.protocol.specs.Join.Answering.{answer_packets}
-use Rattle.protocol.specs.Join.Beginning.{live_begun, live_asks, may_begin}
-use Rattle.protocol.specs.Join.Collecting.{Joins, GivesUp, answer_to_took, joined_live, new_asks}
-use Rattle.protocol.specs.Join.Collecting.{with_answer}
-use Rattle.protocol.specs.Join.Needs.{needs_of}
-use Rattle.protocol.specs.Join.Verdicts.{is_ready, decision_on, commit_packets, verdict_packets}
+use Rattle.protocol.specs.Node.Answering.{Silent, CoveredBefore, TookBefore, TakesNow, Declines, answer_to_ask}
+use Rattle.protocol.specs.Node.Answering.{kept_then}
+use Rattle.protocol.specs.Node.Answering.{answer_packets}
+use Rattle.protocol.specs.Node.Beginning.{live_begun, live_asks, may_start}
+use Rattle.protocol.specs.Node.Collecting.{Joins, GivesUp, answer_to_took, joined_live, new_asks}
+use Rattle.protocol.specs.Node.Collecting.{with_answer}
+use Rattle.protocol.specs.Node.Needs.{needs_of}
+use Rattle.protocol.specs.Node.Verdicts.{may_decide, decision_on, commit_packets, verdict_packets}
 use Rattle.protocol.specs.Node.LiveView.{LiveView}
 use Rattle.protocol.specs.Node.NodeView.{NodeView, ModeView, InDoubt, Runs}
 
@@ -197,10 +197,10 @@ all_came = record {
   takers = 1 ∷ 0 ∷ [];
 }
 
-not_yet : is_ready 2 two_keeps (Some two_begins) ≡ false
+not_yet : may_decide 2 two_keeps (Some two_begins) ≡ false
 not_yet = refl
 
-ready : is_ready 2 two_keeps (Some all_came) ≡ true
+ready : may_decide 2 two_keeps (Some all_came) ≡ true
 ready = refl
 
 -- it names who took part, ascending, and so they are told
@@ -253,8 +253,8 @@ beginner unsettled = record {
 }
 
 -- with one it begins, and with as many as a record has room for it doesn't
-one_unsettled : may_begin (beginner (decisions 1)) ≡ true
+one_unsettled : may_start (beginner (decisions 1)) ≡ true
 one_unsettled = refl
 
-eight_unsettled : may_begin (beginner (decisions 8)) ≡ false
+eight_unsettled : may_start (beginner (decisions 8)) ≡ false
 eight_unsettled = refl

@@ -1,4 +1,5 @@
 -- Laws of checkpoints that several nodes take together: each event of a world is steps of the abstract machine.
+pub mod Promises
 pub mod Leading
 pub mod Sent
 pub mod Crossings

@@ -19,3 +19,10 @@ pub mod Opening
 pub mod Addresses
 pub mod Delivering
 pub mod Sending
+pub mod Needs
+pub mod Beginning
+pub mod Answering
+pub mod Collecting
+pub mod Verdicts
+pub mod Hearing
+pub mod Telling

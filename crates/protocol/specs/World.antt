@@ -20,5 +20,6 @@ pub mod InFlight
 pub mod Choice
 pub mod Quiet
 pub mod RecoveryLine
+pub mod Coordination
 pub mod Released
 pub mod OpeningWorld

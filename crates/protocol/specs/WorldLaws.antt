@@ -8,7 +8,11 @@ pub mod SoundLaws
 pub mod OrderLaws
 pub mod HandedLaws
 pub mod BoundLaws
+pub mod CutLaws
 pub mod PlanLaws
+pub mod TellLaws
+pub mod MoveLaws
+pub mod HeardLaws
 pub mod DeedLaws
 pub mod KeptLaws
 pub mod StepKeeps
@@ -23,6 +27,7 @@ pub mod ShownLaws
 pub mod ReleasedLaws
 pub mod ClosedLaws
 pub mod LineLaws
+pub mod CoordinationLaws
 pub mod FlightLaws
 pub mod TrafficLaws
 pub mod HearLaws

@@ -2,3 +2,4 @@ pub mod Posting
 pub mod Passing
 pub mod Seen
 pub mod Staged
+pub mod Ready

@@ -1,8 +1,9 @@
 -- Packets that are to go last, before they do.
-use Rattle.std.specs.Prelude.{◌≤◌, List, [], ◌∷◌, ◌++◌, length}
+use Rattle.std.specs.Prelude.{◌≡◌, ◌≤◌, ℕ, List, [], ◌∷◌, ◌++◌, length, map}
 use Rattle.wire.specs.declared.rule.Rule.{Rule}
+use Rattle.wire.specs.declared.sending.Sending.{Sending}
 use Rattle.wire.specs.Queue.{QueueState}
-use Rattle.wire.specs.Traffic.{QueueTraffic, Traffic, queues_traffic}
+use Rattle.wire.specs.Traffic.{QueueTraffic, Traffic, all_sent, queues_traffic}
 
 -- these go last in a queue, which counts as they do
 abbrev pub joined : QueueTraffic → QueueTraffic → QueueTraffic
@@ -29,3 +30,13 @@ HasRoom queue more = length more.flights ≤ queue.room
 -- queues, seen with these rules
 abbrev pub ruled : List Rule → List QueueState → Traffic
 ruled rules queues = record { queues = queues_traffic queues; rules = rules }
+
+-- These were made ready to be sent one after the other in a round, where as many were sent before as of this traffic.
+abbrev pub IsStaged : Traffic → ℕ → List Sending → List QueueState → Type 0
+IsStaged traffic round sendings staged =
+    ruled traffic.rules staged
+    ≡ all_sent round sendings (record { queues = map unsent traffic.queues; rules = traffic.rules })
+
+-- a queue has no less memory than before
+abbrev pub HasNoLessRoom : QueueState → QueueState → Type 0
+HasNoLessRoom old new = old.room ≤ new.room

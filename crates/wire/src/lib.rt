@@ -18,4 +18,5 @@ pub use laws::nothing_is_made_up;
 pub use queue::{Flight, Letter, NODES};
 pub use rule::{Change, Rule};
 pub use sending::Sending;
+pub use staging::Batch;
 pub use wire::Wire;

@@ -4,12 +4,13 @@
 ghost use Rattle.std.specs.Prelude.{◌≡◌, ◌≤◌, ◌<◌, All, length, map, IfOk, OnOk, OnErr};
 ghost use Rattle.std.specs.List.{AllZip};
 ghost use Rattle.wire.specs.Traffic.{AreNodes, queues_traffic, traffic_sent, all_sent};
-ghost use Rattle.wire.specs.Staging.{all_joined, behind, unsent, HasRoom, ruled};
+ghost use Rattle.wire.specs.Staging.{all_joined, behind, unsent, HasNoLessRoom, HasRoom, IsStaged, ruled};
 
 use crate::queue::{NODES, Queue};
 use crate::rule::Rule;
 use crate::sending::Sending;
 use std::alloc::{AllocError, Global};
+use std::marker::Model;
 
 // A queue for each, which counts on from there, with nothing in flight.
 fn unsent_queues(alloc: Global, queues: &[Queue]) -> Result<Vec<Queue>, AllocError>
@@ -61,6 +62,21 @@ fn stage_all(
     Ok(())
 }
 
+/// Packets that are ready to be sent: for each node what is to go last there.
+#[derive(Drop)]
+pub struct Batch {
+    pub(crate) queues: Vec<Queue>,
+}
+
+impl Model for Batch {
+    ghost use Rattle.std.specs.Prelude.{List};
+    ghost use Rattle.wire.specs.Queue.{QueueState};
+
+    ghost Value = { List QueueState };
+
+    ghost view = { λ staged. staged.queues.items };
+}
+
 // What is to go last in each of these queues, where these packets are sent.
 pub(crate) fn staged(
     alloc: Global,
@@ -75,18 +91,21 @@ pub(crate) fn staged(
     ensures sent { IfOk result (λ staged. behind (queues_traffic queues.now)
         (ruled rules.now staged.items)
         ≡ all_sent round packets.items (ruled rules.now queues.now)) }
+    ensures ready { IfOk result (λ staged. IsStaged (ruled rules.now queues.now) round packets.items
+        staged.items) }
 {
     let mut staged = unsent_queues(alloc, queues)?;
     stage_all(alloc, &mut staged, rules, packets, round)?;
     Ok(staged)
 }
 
-// Makes room in each queue for what is to go last in it.
-fn reserve_all(queues: &mut [Queue], staged: &[Queue]) -> Result<(), AllocError>
+/// Makes room in each queue for what is to go last in it.
+pub(crate) fn reserve_all(queues: &mut [Queue], staged: &[Queue]) -> Result<(), AllocError>
     requires { length queues.old ≡ length staged.now }
     ensures same { queues_traffic queues.new ≡ queues_traffic queues.old }
     ensures len { length queues.new ≡ length queues.old }
     ensures room { OnOk result (AllZip HasRoom queues.new staged.now) }
+    ensures more { AllZip HasNoLessRoom queues.old queues.new }
 {
     for place in 0..queues.len() {
         queues[place].reserve(staged[place].len())?;
@@ -94,8 +113,8 @@ fn reserve_all(queues: &mut [Queue], staged: &[Queue]) -> Result<(), AllocError>
     Ok(())
 }
 
-// Puts what is to go last in each queue there, where there is room.
-fn join_all(queues: &mut [Queue], staged: Vec<Queue>)
+/// Puts what is to go last in each queue there, where there is room.
+pub(crate) fn join_all(queues: &mut [Queue], staged: Vec<Queue>)
     requires { AllZip HasRoom queues.old staged.items }
     ensures traffic { queues_traffic queues.new
         ≡ all_joined (queues_traffic queues.old) (queues_traffic staged.items) }

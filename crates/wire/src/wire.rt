@@ -1,6 +1,8 @@
 // All that is in flight.
-ghost use Rattle.std.specs.Prelude.{◌≡◌, ◌+◌, ◌≤◌, ◌<◌, ◌++◌, [], ◌∷◌, All, replicate, length, slice_get, option_map, Some, IfOk, OnOk, OnErr};
-ghost use Rattle.std.specs.List.{position_from};
+ghost use Rattle.std.specs.Prelude.{◌≡◌, ◌+◌, ◌≤◌, ◌<◌, ◌++◌, [], ◌∷◌, ℕ, List, All, replicate, length, slice_get, option_map, Some, IfOk, OnOk, OnErr};
+ghost use Rattle.std.specs.List.{AllZip, position_from};
+ghost use Rattle.wire.specs.Staging.{behind, ruled, HasNoLessRoom, HasRoom, IsStaged};
+ghost use Rattle.wire.specs.declared.sending.Sending.{Sending as SendingValue};
 ghost use Rattle.wire.specs.Rules.{fate_of};
 ghost use Rattle.wire.specs.Queue.{is_due, flights_of, without, with_delay, with_copy, counted};
 ghost use Rattle.wire.specs.Wire.{queue_at, in_flight, room_for, with_queue, with_room, nth_of, is_due_at};
@@ -10,7 +12,7 @@ use crate::bytes::Bytes;
 use crate::queue::{Letter, NODES, Queue};
 use crate::rule::{Rule, capped_sum, fate_by};
 use crate::sending::Sending;
-use crate::staging::{post_all, staged};
+use crate::staging::{Batch, join_all, post_all, reserve_all, staged};
 use std::alloc::{AllocError, Global};
 use std::marker::Model;
 
@@ -276,5 +278,68 @@ impl Wire {
     {
         let more = staged(alloc, &self.queues, &self.rules, packets, round)?;
         post_all(&mut self.queues, more)
+    }
+
+    /// Makes these packets ready to be sent one after the other in a round, as the rules have it. Changes nothing, and refuses
+    /// for want of memory alone.
+    pub fn stage(
+        &self,
+        alloc: Global,
+        packets: Vec<Sending>,
+        round: u64,
+    ) -> Result<Batch, AllocError>
+        requires { All AreNodes packets.items }
+        ensures ready { IfOk result
+            (λ batch. IsStaged (traffic_of self.now) round packets.items batch) }
+        ensures count { IfOk result (λ batch. length batch ≡ NODES) }
+    {
+        Ok(Batch {
+            queues: staged(alloc, &self.queues, &self.rules, packets, round)?,
+        })
+    }
+
+    /// Makes room for what is ready to be sent, so that sending it needs no memory. The same is in flight as before, and room
+    /// that there was is there.
+    pub fn make_room(&mut self, batch: &Batch) -> Result<(), AllocError>
+        requires { length batch.now ≡ NODES }
+        ensures traffic { traffic_of self.new ≡ traffic_of self.old }
+        ensures room { OnOk result (AllZip HasRoom self.new.queues batch.now) }
+        ensures more { AllZip HasNoLessRoom self.old.queues self.new.queues }
+    {
+        reserve_all(&mut self.queues, &batch.queues)
+    }
+
+    // Puts what is ready last in each queue.
+    fn join_batch(&mut self, batch: Batch)
+        requires { AllZip HasRoom self.old.queues batch }
+        ensures joined { traffic_of self.new ≡ behind (queues_traffic self.old.queues)
+            (ruled self.old.rules batch) }
+        ensures count { length self.old.queues ≡ NODES }
+    {
+        join_all(&mut self.queues, batch.queues);
+    }
+
+    /// Sends what is ready, where there is room.
+    pub fn send_batch(&mut self, batch: Batch)
+        requires { AllZip HasRoom self.old.queues batch }
+        ensures { (round : ℕ) (packets : List SendingValue) → All AreNodes packets
+            → IsStaged (traffic_of self.old) round packets batch
+            → traffic_of self.new ≡ all_sent round packets (traffic_of self.old) }
+    {
+        self.join_batch(batch);
+    }
+
+    /// The packet at a place is gone, and what is ready is sent, where there is room.
+    pub fn lose_and_send(&mut self, to: u8, place: usize, batch: Batch)
+        requires node { to < NODES }
+        requires there { place < length (in_flight self.old to) }
+        requires room { AllZip HasRoom self.old.queues batch }
+        ensures { (round : ℕ) (packets : List SendingValue) → All AreNodes packets
+            → IsStaged (traffic_of self.old) round packets batch
+            → traffic_of self.new
+            ≡ all_sent round packets (traffic_without (traffic_of self.old) to place) }
+    {
+        self.lose(to, place);
+        self.send_batch(batch);
     }
 }

@@ -60,6 +60,14 @@ module _ {C : Type 0} (words : CellWords C) (slots : SlotWords C) where
         omega (arith, ap (λ (r : RecordView). sent_of r.permanent channel) same));
   }
 
+  -- what a crash leaves of a cell that nobody called
+  pub untouched : ((c : C) (left : Whole) → slots.left_since_whole c (words.moment c) left → slots.may_leave_whole c left)
+      → (store : Store C slots words)
+      → Only (slots.whole (cell_in store)) (slots.may_leave_whole (cell_in store)) → (next : RecordView)
+      → LeaveEitherSince words.moment slots.left_since_whole (cell_in store) (cell_in store) (record_in store) next
+  untouched only_now store settled next left since =
+      own_left store next settled left (only_now (cell_in store) left since)
+
   module _ (old new : Store C slots words)
       (settled : Only (slots.whole (cell_in old)) (slots.may_leave_whole (cell_in old))) where
     -- through a put of this record

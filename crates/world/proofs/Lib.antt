@@ -7,8 +7,13 @@ mod OpeningStores
 mod Views
 mod Stations
 mod Planned
+mod Events
 mod Showing
 mod Rests
 mod Places
 mod Packets
+mod Ready
+mod Crashes
+mod Sends
+mod Arriving
 mod Restarts

@@ -1,5 +1,5 @@
 -- The line of a world with an event: from what a crash leaves of each station to the line of all.
-use Rattle.std.proofs.Common.{◌≡◌, ◌∙◌, ℕ, List, ℤ, [], ◌∷◌, map, refl, ap}
+use Rattle.std.proofs.Common.{◌≡◌, ◌∙◌, ℕ, Bool, List, ℤ, [], ◌∷◌, map, refl, ap}
 use Rattle.std.specs.List.{AllZip}
 use Rattle.std.proofs.Math.Logic.{∥∥₁_map₂}
 use Rattle.kahn_net.specs.Syntax.{Network}
@@ -10,20 +10,23 @@ use Rattle.record.specs.RecordView.{RecordView}
 use Rattle.ckpt_store.specs.Spelling.{Spells}
 use Rattle.ckpt_store.specs.StoreView.{record_in}
 use Rattle.wire.specs.Traffic.{Traffic}
-use Rattle.protocol.specs.Node.Starting.{IsBehind}
-use Rattle.protocol.specs.World.Invariant.{outputs_of, WorldInvariant}
-use Rattle.protocol.specs.WorldLaws.LineLaws.{line_ahead, line_of, fit_undecided, kept_undecided}
-use Rattle.protocol.specs.World.RecoveryLine.{records_of, FitsOutputs}
+use Rattle.protocol.specs.World.EventView.{EventView, event_node}
+use Rattle.protocol.specs.World.Invariant.{WorldInvariant}
+use Rattle.protocol.specs.World.RecoveryLine.{AreEither, next_for, records_of}
+use Rattle.protocol.specs.World.ReplyView.{ReplyView}
+use Rattle.protocol.specs.World.Steps.{IsAct, Setting, WorldView, setting_of}
+use Rattle.protocol.specs.WorldLaws.LineLaws.{act_in_line, line_goes_on}
+use Rattle.protocol.specs.declared.outcome.Outcome.{Outcome}
 use Rattle.world.specs.RecoveryLine.{MayBeLeft, AreLeftSince, KeepsLine, HasOneLine, StaysInLine}
-use Rattle.protocol.specs.World.StationView.{StationView}
 use Rattle.world.specs.WorldView.{station_view}
 use Rattle.world.specs.declared.station.Station.{Station}
 use Rattle.world.proofs.Cells.{own_alone, own_spelled}
 
-module _ {C O : Type 0} {cell : CellWords C} {slots : SlotWords C} (taken : O → List ℤ) (failures : O → ℕ) (net : Network) where
+module _ {C O : Type 0} {cell : CellWords C} {slots : SlotWords C} (taken : O → List ℤ) (failures : O → ℕ) (setting : Setting)
+    (event : EventView) where
   -- each choice spells a record of each node
   all_spelled : (olds news : List (Station C O slots cell)) (lefts : List Whole)
-      → AllZip (StaysInLine taken failures net) olds news → AreLeftSince olds news lefts
+      → AllZip (StaysInLine taken failures setting event) olds news → AreLeftSince olds news lefts
       → ∥ ((records : List RecordView) × AllZip Spells records lefts) ∥₁
   all_spelled [] [] [] stays since = ∣ ([], tt) ∣₁
   all_spelled [] [] (left ∷ lefts) stays since = absurd since
@@ -31,50 +34,28 @@ module _ {C O : Type 0} {cell : CellWords C} {slots : SlotWords C} (taken : O �
   all_spelled (old ∷ olds) [] lefts stays since = absurd since
   all_spelled (old ∷ olds) (new ∷ news) [] stays since = absurd since
   all_spelled (old ∷ olds) (new ∷ news) (left ∷ lefts) stays since =
-      ∥∥₁_map₂ (stays.0.leaves left since.0).something (all_spelled olds news lefts stays.1 since.1)
+      ∥∥₁_map₂ (stays.0 left since.0).something (all_spelled olds news lefts stays.1 since.1)
       (λ one others. (one.0 ∷ others.0, (one.1, others.1)))
 
-  -- these records fit what had left before and what has left by now, and aren't behind
-  abbrev Follow : List (Station C O slots cell) → List (Station C O slots cell) → List RecordView → Type 0
-  Follow olds news records =
-      AllZip (λ (station : StationView) (kept : RecordView). FitsOutputs net station.node.kept.node
-      (outputs_of station.outlets) kept) (map (station_view taken failures) olds) records
-      × AllZip
-      (λ (station : StationView) (kept : RecordView). FitsOutputs net station.node.kept.node
-      (outputs_of station.outlets) kept) (map (station_view taken failures) news) records
-      × AllZip (λ (old kept : RecordView). IsBehind old.permanent kept.permanent)
-      (records_of (map (station_view taken failures) olds)) records
-
-  all_follow : (olds news : List (Station C O slots cell)) (lefts : List Whole) (records : List RecordView)
-      → AllZip (StaysInLine taken failures net) olds news → AreLeftSince olds news lefts → AllZip Spells records lefts
-      → Follow olds news records
-  all_follow [] [] [] [] stays since spelled = (tt, tt, tt)
-  all_follow [] [] [] (kept ∷ records) stays since spelled = absurd spelled
-  all_follow [] [] (left ∷ lefts) records stays since spelled = absurd since
-  all_follow [] (new ∷ news) lefts records stays since spelled = absurd since
-  all_follow (old ∷ olds) [] lefts records stays since spelled = absurd since
-  all_follow (old ∷ olds) (new ∷ news) [] records stays since spelled = absurd since
-  all_follow (old ∷ olds) (new ∷ news) (left ∷ lefts) [] stays since spelled = absurd spelled
-  all_follow (old ∷ olds) (new ∷ news) (left ∷ lefts) (kept ∷ records) stays since spelled =
-      let one = stays.0.leaves left since.0 in
-      let others = all_follow olds news lefts records stays.1 since.1 spelled.1 in (
-        (one.at_first kept spelled.0, others.0),
-        (one.at_last kept spelled.0, others.1),
-        (one.not_behind kept spelled.0, others.2),
-      )
-
-  -- what the nodes keep in the end isn't behind
-  all_go_on : (olds news : List (Station C O slots cell)) → AllZip (StaysInLine taken failures net) olds news
-      → AllZip (λ (old kept : RecordView). IsBehind old.permanent kept.permanent)
-      (records_of (map (station_view taken failures) olds)) (records_of (map (station_view taken failures) news))
-  all_go_on [] [] stays = tt
-  all_go_on [] (new ∷ news) stays = absurd stays
-  all_go_on (old ∷ olds) [] stays = absurd stays
-  all_go_on (old ∷ olds) (new ∷ news) stays = (stays.0.goes_on, all_go_on olds news stays.1)
+  -- of each node the one of before, or the one that the event puts there
+  all_either : (olds news : List (Station C O slots cell)) (lefts : List Whole) (records : List RecordView)
+      → AllZip (StaysInLine taken failures setting event) olds news → AreLeftSince olds news lefts
+      → AllZip Spells records lefts
+      → AreEither (records_of (map (station_view taken failures) olds))
+      (map (next_for setting event) (map (station_view taken failures) olds)) records
+  all_either [] [] [] [] stays since spelled = tt
+  all_either [] [] [] (kept ∷ records) stays since spelled = absurd spelled
+  all_either [] [] (left ∷ lefts) records stays since spelled = absurd since
+  all_either [] (new ∷ news) lefts records stays since spelled = absurd since
+  all_either (old ∷ olds) [] lefts records stays since spelled = absurd since
+  all_either (old ∷ olds) (new ∷ news) [] records stays since spelled = absurd since
+  all_either (old ∷ olds) (new ∷ news) (left ∷ lefts) [] stays since spelled = absurd spelled
+  all_either (old ∷ olds) (new ∷ news) (left ∷ lefts) (kept ∷ records) stays since spelled =
+      ((stays.0 left since.0).one_of kept spelled.0, all_either olds news lefts records stays.1 since.1 spelled.1)
 
   -- so an event keeps the line
-  pub keeps_line : (inputs : List (List ℤ)) (olds news : List (Station C O slots cell)) (before after : ℕ)
-      (flying flown : Traffic)
+  pub keeps_line : (net : Network) (inputs : List (List ℤ)) (olds news : List (Station C O slots cell)) (round : ℕ)
+      (flying : Traffic) (rooms : List (RecordView → Bool)) (came : Outcome) (answer : ReplyView) (number : ℕ)
       → WorldInvariant
       (record {
         net = net;
@@ -82,38 +63,41 @@ module _ {C O : Type 0} {cell : CellWords C} {slots : SlotWords C} (taken : O �
         stations = map (station_view taken failures) olds;
         traffic =
             flying;
-        round = before;
+        round = round;
       })
-      → WorldInvariant
+      → setting
+      ≡ setting_of
       (record {
         net = net;
         inputs = inputs;
-        stations = map (station_view taken failures) news;
+        stations = map (station_view taken failures) olds;
         traffic =
-            flown;
-        round = after;
+            flying;
+        round = round;
       })
-      → AllZip (StaysInLine taken failures net) olds news → KeepsLine taken failures net olds news
-  keeps_line inputs olds news before after flying flown was is stays = record {
-    spelled = λ lefts since. all_spelled olds news lefts stays since;
-    in_line = λ lefts records since spelled. (
-        let follow = all_follow olds news lefts records stays since spelled in
-        record {
-          at_first =
-              line_of net inputs was.valid (map (station_view taken failures) olds) records was.count was.numbered
-              was.stations follow.0;
-          at_last =
-              line_of net inputs was.valid (map (station_view taken failures) news) records is.count is.numbered
-              is.stations follow.1;
-          not_behind = line_ahead net inputs was.valid (map (station_view taken failures) olds) records was.stations
-              (fit_undecided net inputs was.valid (map (station_view taken failures) olds) records follow.0) follow.2;
-        });
-    goes_on =
-        line_ahead net inputs was.valid (map (station_view taken failures) olds)
-        (records_of (map (station_view taken failures) news)) was.stations
-        (kept_undecided net inputs was.valid (map (station_view taken failures) news) is.stations)
-        (all_go_on olds news stays);
-  }
+      → number ≡ event_node event
+      → IsAct setting number rooms event came (map (station_view taken failures) olds) answer
+      (map (station_view taken failures) news)
+      → AllZip (StaysInLine taken failures setting event) olds news → KeepsLine taken failures net olds news
+  keeps_line net inputs olds news round flying rooms came answer number inv same_setting same_number act stays =
+      let world : WorldView =
+      record {
+        net = net;
+        inputs = inputs;
+        stations = map (station_view taken failures) olds;
+        traffic =
+            flying;
+        round = round;
+      } in
+      record {
+        spelled = λ lefts since. all_spelled olds news lefts stays since;
+        in_line = λ lefts records since spelled. act_in_line rooms event came world answer setting number
+            (map (station_view taken failures) news) records inv same_setting same_number act
+            (all_either olds news lefts records stays since spelled);
+        goes_on =
+            line_goes_on rooms event came world answer setting number (map (station_view taken failures) news) inv
+            same_setting same_number act;
+      }
 
 module _ {C O : Type 0} {cell : CellWords C} {slots : SlotWords C} (taken : O → List ℤ) (failures : O → ℕ) where
   -- what a crash leaves now is what the nodes keep

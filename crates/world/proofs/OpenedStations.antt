@@ -34,7 +34,7 @@ use Rattle.protocol.specs.WorldLaws.OutputLaws.{output_once}
 use Rattle.world.specs.OpeningWorld.{fresh, own_outputs, opening_length, AllNumbered, HasRoom, HaveRoom, HaveOutlets}
 use Rattle.world.specs.OpeningWorld.{IsOpened, IsOpenedNode, IsOpeningRefusal, IsUnused, IsWorldRefusal}
 use Rattle.world.specs.OpeningWorld.{LeaveOnlyRecords}
-use Rattle.world.specs.OpeningWorld.{version_for, AreFormatted, StandsInVersion, IsVersion, AreVersions, AreVersionsFor}
+use Rattle.world.specs.OpeningWorld.{version_for, AreFormatted, StandsInVersion, IsVersion, AreVersions}
 use Rattle.world.specs.OpeningWorld.{IsNotOpened, IsDiskBack, SomeFailed, AreHandedBack}
 use Rattle.world.specs.StationView.{outlet_view, outlet_views}
 use Rattle.world.specs.WorldView.{station_view}

@@ -1,10 +1,9 @@
 -- Deeds come out by their plans.
 use Rattle.std.proofs.Common.{◌≡◌, ℕ, Bool, true, false, cond, List, [], Option, Some, None, Result, Ok, Err, refl, sym}
 use Rattle.std.proofs.Common.{ap, subst, ◌∙◌, All}
-use Rattle.std.specs.Prelude.{is_some, map, nat_lt, not, option_map, IfOk, IsTrue}
+use Rattle.std.specs.Prelude.{is_some, map, nat_lt, not, option_map, IfOk}
 use Rattle.std.specs.declared.alloc.AllocError.{AllocError}
 use Rattle.wire.specs.Traffic.{Traffic, all_sent, traffic_without}
-use Rattle.wire.specs.declared.sending.Sending.{Sending}
 use Rattle.kahn_net.specs.Syntax.{Network}
 use Rattle.kahn_net.specs.declared.limits.TheConstants.{MAX_COUNT}
 use Rattle.std.proofs.lemmas.List.Elements.{All-nil}
@@ -16,104 +15,75 @@ use Rattle.protocol.specs.Node.ArmedRestarts.{restart_after}
 use Rattle.proc_step.specs.declared.job.Job.{Job}
 use Rattle.node.specs.JobView.{job_view}
 use Rattle.protocol.specs.Node.Choosing.{granted, with_grant}
-use Rattle.protocol.specs.Node.Delivering.{delivery_of, packet_for, told_by}
+use Rattle.protocol.specs.Node.Delivering.{delivery_of, packet_for}
+use Rattle.protocol.specs.Node.Hearing.{deliver_prospect, hear_prospect, told_prospect}
 use Rattle.protocol.specs.Node.JobView.{JobView}
 use Rattle.protocol.specs.Node.NodeView.{NodeView, ModeView, Down, InDoubt, Runs, on_mode, with_mode}
 use Rattle.protocol.specs.Node.Modes.{is_down}
-use Rattle.protocol.specs.Node.Plans.{Prospect, Undue, becoming, if_due, packets_by, putting, room_for, unless_spent}
+use Rattle.protocol.specs.Node.Plans.{Prospect, Undue, Exhausted, Planned, becoming, if_due, packets_by, putting, room_for, unless_spent}
 use Rattle.protocol.specs.Node.Plans.{IsMade, IsPut}
 use Rattle.protocol.specs.Node.Recovering.{recover_prospect, restored, restored_mode}
 use Rattle.protocol.specs.declared.round_turns.RoundTurns.{RoundTurns}
 use Rattle.protocol.specs.World.EventView.{EventView, ByNode, Deed}
-use Rattle.protocol.specs.World.EventView as event
-use Rattle.protocol.specs.World.Replies.{answer_by, back_reply, delivery_reply, grant_reply, has_happened, outcome_of}
+use Rattle.protocol.specs.World.Replies.{answer_by, delivery_reply, grant_reply, has_happened}
 use Rattle.protocol.specs.World.ReplyView.{ReplyView}
 use Rattle.protocol.specs.World.ReplyView as reply
 use Rattle.protocol.specs.World.StationView.{StationView}
-use Rattle.protocol.specs.World.Steps.{IsPlanned, Setting, StationPlan, deliver_plan, due_bytes, flight_at, grant_plan}
-use Rattle.protocol.specs.World.Steps.{moved_to, plan_of, plan_sendings, sending_of, traffic_after, traffic_left}
-use Rattle.protocol.specs.World.Steps.{turns_by}
+use Rattle.protocol.specs.World.Steps.{IsPlanned, Setting, StationPlan, deliver_plan, grant_plan, moved_to, plan_of}
+use Rattle.protocol.specs.World.Steps.{plan_sendings, sending_of, traffic_left, turns_by}
 use Rattle.protocol.specs.World.Turns.{turns_of, count_grant}
-use Rattle.protocol.specs.WorldLaws.DeedLaws.{becoming_sends, deliver_sends}
+use Rattle.protocol.specs.WorldLaws.DeedLaws.{becoming_sends}
 use Rattle.protocol.specs.declared.outcome.Outcome.{Outcome}
 use Rattle.protocol.specs.declared.outcome.Outcome.TheVariants as outcome
+use Rattle.protocol.specs.declared.outcome.Refusal.TheVariants.{TooLarge, Spent}
+use Rattle.world.specs.Coming.{ComesBy, ComesHeard, ComesOut, HasCome, taken_by}
 use Rattle.world.specs.ReplyView.{reply_view}
 use Rattle.world.specs.declared.event.Reply.{Reply}
 
--- the answer tells what came of a deed, where one that is made is answered by nothing else
-pub told : (made : ReplyView) (came : Outcome) → outcome_of made ≡ outcome.Made
-    → outcome_of (answer_by made came) ≡ came
-told made outcome.NotDue is = refl
-told made outcome.Made is = is
-told made (outcome.Refused refusal) is = refl
-told made outcome.Failed is = refl
-
-silent_allowed : (packets : List Packet) → packets ≡ [] → All IsPacket packets
+pub silent_allowed : (packets : List Packet) → packets ≡ [] → All IsPacket packets
 silent_allowed packets none = subst (All IsPacket) (sym none) (All-nil IsPacket)
 
--- what a node says of bytes that came to it
-pub record Delivers (net : Network) (bytes : List ℕ) (old new : StationView) (answer : ReplyView) : Type 0 where
-  pub answers : answer ≡ delivery_reply (delivery_of (is_down old.node.mode) (packet_for net old.number bytes))
-  pub told : is_down old.node.mode ≡ false → new.node ≡ told_by (packet_for net old.number bytes) old.node
-  pub down : IsTrue (is_down old.node.mode) → new.node ≡ old.node
-  pub same : new ≡ moved_to new.node old.failures old.turns old
-
 module _ (fits : RecordView → Bool) (round : ℕ) (plan : StationPlan) (old new : StationView) where
-  -- a deed with a put, which came out so, and sends nothing
-  pub planned : (call : ℕ) (came : Outcome) (answer made : ReplyView) → outcome_of made ≡ outcome.Made
-      → (came ≡ outcome.Made → made ≡ plan.answer) → answer ≡ answer_by made came
-      → ((o : Outcome) → packets_by plan.prospect o ≡ [])
-      → IsMade (restart_after old.node.armed call round) plan.prospect old.node came new.node
-      → IsPut (room_for fits plan.prospect) old.failures new.failures came
-      → new ≡ moved_to new.node new.failures (turns_by plan.turns old.turns came) old
-      → IsPlanned fits round plan old answer new
-  planned call came answer made is_made right is silent step put same =
-      let came_is : outcome_of answer ≡ came = ap outcome_of is ∙ told made came is_made in
-      record {
-        call = call;
-        step = subst
-            (λ (o : Outcome). IsMade (restart_after old.node.armed call round) plan.prospect old.node o new.node)
-            (sym came_is) step;
-        put = subst (IsPut (room_for fits plan.prospect) old.failures new.failures) (sym came_is) put;
-        answers = (is ∙ by_made came right) ∙ ap (answer_by plan.answer) (sym came_is);
-        allowed = silent_allowed (packets_by plan.prospect (outcome_of answer)) (silent (outcome_of answer));
-        same = same
-            ∙ ap (λ (o : Outcome). moved_to new.node new.failures (turns_by plan.turns old.turns o) old) (sym came_is);
-      }
-    where
-      by_made : (o : Outcome) → (o ≡ outcome.Made → made ≡ plan.answer) → answer_by made o ≡ answer_by plan.answer o
-      by_made outcome.NotDue right = refl
-      by_made outcome.Made right = right refl
-      by_made (outcome.Refused refusal) right = refl
-      by_made outcome.Failed right = refl
+  -- a deed without a put, that was made
+  pub becomes_is : (node : NodeView) → plan.prospect ≡ becoming node → (answer : ReplyView) → answer ≡ plan.answer
+      → new ≡ moved_to node old.failures plan.turns old → IsPlanned fits round plan outcome.Made old answer new
+  becomes_is node is answer answers same = record {
+    call = 0;
+    step = subst (λ (p : Prospect). IsMade (restart_after old.node.armed 0 round) p old.node outcome.Made new.node)
+        (sym is) (ap (λ (s : StationView). s.node) same);
+    put = subst (λ (p : Prospect). IsPut (room_for fits p) old.failures new.failures outcome.Made) (sym is)
+        (refl, ap (λ (s : StationView). s.failures) same);
+    answers = answers;
+    allowed = silent_allowed (packets_by plan.prospect outcome.Made)
+        (ap (λ (p : Prospect). packets_by p outcome.Made) is ∙ becoming_sends node outcome.Made);
+    same = same
+        ∙ (ap (λ (n : NodeView). moved_to n old.failures plan.turns old) (sym (ap (λ (s : StationView). s.node) same))
+        ∙ ap (λ (f : ℕ). moved_to new.node f plan.turns old) (sym (ap (λ (s : StationView). s.failures) same)));
+  }
 
-  -- one without, that was made
-  pub becomes : (node : NodeView) → plan.prospect ≡ becoming node → outcome_of plan.answer ≡ outcome.Made
-      → (answer : ReplyView) → answer ≡ plan.answer
-      → new ≡ moved_to node old.failures plan.turns old → IsPlanned fits round plan old answer new
-  becomes node is made answer answers same =
-      planned 0 outcome.Made answer plan.answer made (λ e. refl) answers
-      (λ o. ap (λ (p : Prospect). packets_by p o) is ∙ becoming_sends node o)
-      (subst (λ (p : Prospect). IsMade (restart_after old.node.armed 0 round) p old.node outcome.Made new.node)
-      (sym is) (ap (λ (s : StationView). s.node) same))
-      (subst (λ (p : Prospect). IsPut (room_for fits p) old.failures new.failures outcome.Made) (sym is)
-      (refl, ap (λ (s : StationView). s.failures) same))
-      (same ∙ (ap (λ (n : NodeView). moved_to n old.failures plan.turns old)
-      (sym (ap (λ (s : StationView). s.node) same))
-      ∙ ap (λ (f : ℕ). moved_to new.node f plan.turns old) (sym (ap (λ (s : StationView). s.failures) same))))
+  pub becomes : (node : NodeView) → plan.prospect ≡ becoming node → (answer : ReplyView) → answer ≡ plan.answer
+      → new ≡ moved_to node old.failures plan.turns old → ComesBy fits round plan old answer new
+  becomes node is answer answers same = (outcome.Made, becomes_is node is answer answers same)
 
   -- or that isn't due
+  pub not_due_is : plan.prospect ≡ Undue → (answer : ReplyView) → answer ≡ reply.NotDue → new ≡ old
+      → IsPlanned fits round plan outcome.NotDue old answer new
+  not_due_is is answer answers same = record {
+    call = 0;
+    step = subst (λ (p : Prospect). IsMade (restart_after old.node.armed 0 round) p old.node outcome.NotDue new.node)
+        (sym is) (refl, ap (λ (s : StationView). s.node) same);
+    put = ap (λ (s : StationView). s.failures) same;
+    answers = answers;
+    allowed = silent_allowed (packets_by plan.prospect outcome.NotDue)
+        (ap (λ (p : Prospect). packets_by p outcome.NotDue) is);
+    same = same
+        ∙ (ap (λ (n : NodeView). moved_to n old.failures old.turns old) (sym (ap (λ (s : StationView). s.node) same))
+        ∙ ap (λ (f : ℕ). moved_to new.node f old.turns old) (sym (ap (λ (s : StationView). s.failures) same)));
+  }
+
   pub not_due : plan.prospect ≡ Undue → (answer : ReplyView) → answer ≡ reply.NotDue → new ≡ old
-      → IsPlanned fits round plan old answer new
-  not_due is answer answers same =
-      planned 0 outcome.NotDue answer reply.Acted refl (λ e. absurd (cc)) answers
-      (λ o. ap (λ (p : Prospect). packets_by p o) is)
-      (subst (λ (p : Prospect). IsMade (restart_after old.node.armed 0 round) p old.node outcome.NotDue new.node)
-      (sym is) (refl, ap (λ (s : StationView). s.node) same))
-      (ap (λ (s : StationView). s.failures) same)
-      (same ∙ (ap (λ (n : NodeView). moved_to n old.failures old.turns old)
-      (sym (ap (λ (s : StationView). s.node) same))
-      ∙ ap (λ (f : ℕ). moved_to new.node f old.turns old) (sym (ap (λ (s : StationView). s.failures) same))))
+      → ComesBy fits round plan old answer new
+  not_due is answer answers same = (outcome.NotDue, not_due_is is answer answers same)
 
 -- a station whose node, device and memory of the round are so
 pub seen_moved : (old : StationView) (number failures : ℕ) (node : NodeView) (turns noted : RoundTurns)
@@ -140,12 +110,12 @@ pub grants : (fits : RecordView → Bool) (round : ℕ) (job : Option JobView) (
     → option_map job_view given ≡ job → answer ≡ grant_reply (option_map job_view given)
     → node ≡ with_grant job old.node → number ≡ old.number → failures ≡ old.failures
     → turns ≡ cond (is_some given) (count_grant (turns_of round old.turns)) old.turns
-    → IsPlanned fits round (grant_plan job round old) old answer
+    → ComesBy fits round (grant_plan job round old) old answer
     (record { number = number; node = node; failures = failures; outlets = old.outlets; turns = turns })
 grants fits round job None old number failures node turns answer is answers moved same_number same_failures noted =
     let new : StationView =
     record { number = number; node = node; failures = failures; outlets = old.outlets; turns = turns } in
-    subst (λ (o : Option JobView). IsPlanned fits round (grant_plan o round old) old answer new) is
+    subst (λ (o : Option JobView). ComesBy fits round (grant_plan o round old) old answer new) is
     (not_due fits round (grant_plan None round old) old new refl answer answers
     (seen_moved old number failures node turns old.turns same_number noted
     ∙ ap (λ (n : NodeView). moved_to n failures old.turns old)
@@ -157,55 +127,16 @@ grants fits round job (Some given) old number failures node turns answer is answ
     let counted = count_grant (turns_of round old.turns) in
     let new : StationView =
     record { number = number; node = node; failures = failures; outlets = old.outlets; turns = turns } in
-    subst (λ (o : Option JobView). IsPlanned fits round (grant_plan o round old) old answer new) is
-    (becomes fits round (grant_plan some round old) old new (with_grant some old.node) refl refl answer answers
+    subst (λ (o : Option JobView). ComesBy fits round (grant_plan o round old) old answer new) is
+    (becomes fits round (grant_plan some round old) old new (with_grant some old.node) refl answer answers
     (seen_moved old number failures node turns counted same_number noted
     ∙ ap (λ (n : NodeView). moved_to n failures counted old)
     (moved ∙ ap (λ (o : Option JobView). with_grant o old.node) (sym is))
     ∙ ap (λ (f : ℕ). moved_to (with_grant some old.node) f counted old) same_failures))
 
--- bytes that were found come to a node
-told_made : (packet : Option Packet) → outcome_of (delivery_reply (delivery_of false packet)) ≡ outcome.Made
-told_made None = refl
-told_made (Some packet) = refl
+-- ---- a node comes back
 
-module _ (fits : RecordView → Bool) (round : ℕ) (net : Network) (place : ℕ) (bytes : List ℕ) (old new : StationView)
-    (answer : ReplyView) where
-  delivers_found : Delivers net bytes old new answer
-      → IsPlanned fits round (deliver_plan net place (Some bytes) old) old answer new
-  delivers_found came = by_mode (is_down old.node.mode) refl
-    where
-      packet : Option Packet
-      packet = packet_for net old.number bytes
-
-      plan : StationPlan
-      plan = deliver_plan net place (Some bytes) old
-
-      due_if : Bool → Prospect
-      due_if down = if_due (not down) (becoming (told_by packet old.node))
-
-      by_mode : (down : Bool) → is_down old.node.mode ≡ down → IsPlanned fits round plan old answer new
-      by_mode true is =
-          not_due fits round plan old new (ap due_if is) answer
-          (came.answers ∙ ap (λ (d : Bool). delivery_reply (delivery_of d packet)) is)
-          (came.same ∙ ap (λ (n : NodeView). moved_to n old.failures old.turns old) (came.down is))
-      by_mode false is =
-          becomes fits round plan old new (told_by packet old.node) (ap due_if is) (told_made packet) answer
-          (came.answers ∙ ap (λ (d : Bool). delivery_reply (delivery_of d packet)) is)
-          (came.same ∙ ap (λ (n : NodeView). moved_to n old.failures old.turns old) (came.told is))
-
-  pub delivers : (found : Option (List ℕ)) → Some bytes ≡ found → Delivers net bytes old new answer
-      → IsPlanned fits round (deliver_plan net place found old) old answer new
-  delivers found is came =
-      subst (λ (o : Option (List ℕ)). IsPlanned fits round (deliver_plan net place o old) old answer new) is
-      (delivers_found came)
-
--- a node that came back is in the mode in which its record starts again
-pub back_made : (mode : ModeView) → outcome_of (back_reply mode) ≡ outcome.Made
-back_made Down = refl
-back_made InDoubt = refl
-back_made (Runs running) = refl
-
+-- in the mode in which its record starts again
 put_made : (restart : ℕ) (due less : Bool) (next old new : NodeView)
     → IsMade restart (if_due due (unless_spent true less (putting false next))) old outcome.Made new → new ≡ next
 put_made restart false less next old new (e, same) = absurd (cc)
@@ -220,6 +151,15 @@ back_mode restart old new came step made =
     (put_made restart (is_down old.mode) (nat_lt old.kept.epoch MAX_COUNT) (restored old) old new
     (subst (λ (o : Outcome). IsMade restart (recover_prospect old) old o new) made step))
 
+-- what is answered where it is made counts there alone
+pub answer_then : (made planned otherwise : ReplyView) (came : Outcome) → (came ≡ outcome.Made → made ≡ planned)
+    → answer_by made otherwise came ≡ answer_by planned otherwise came
+answer_then made planned otherwise outcome.NotDue right = refl
+answer_then made planned otherwise outcome.Made right = right refl
+answer_then made planned otherwise (outcome.Refused TooLarge) right = refl
+answer_then made planned otherwise (outcome.Refused Spent) right = refl
+answer_then made planned otherwise outcome.Failed right = refl
+
 -- where nothing is noted what is remembered stays, however it came out
 pub turns_kept : (turns : RoundTurns) (came : Outcome) → turns ≡ turns_by turns turns came
 turns_kept turns outcome.NotDue = refl
@@ -227,72 +167,225 @@ turns_kept turns outcome.Made = refl
 turns_kept turns (outcome.Refused refusal) = refl
 turns_kept turns outcome.Failed = refl
 
--- what is in flight behind a delivery: without the packet that came, if one did
-pub delivered_traffic : (fits : RecordView → Bool) (setting : Setting) (k place : ℕ) (old new : StationView)
-    (answer : ReplyView)
-    → IsPlanned fits setting.round (plan_of setting k (event.Deliver place) old) old answer new
-    → cond (has_happened answer) (traffic_without setting.traffic k place) setting.traffic
-    ≡ traffic_after setting (ByNode k (event.Deliver place)) answer (Some old)
-delivered_traffic fits setting k place old new answer came =
-    by_found (due_bytes setting.round (flight_at setting k place)) came
+-- ---- what is in flight behind a deed
+
+-- of which no packet came
+pub own_traffic : (round : ℕ) (prospect : Prospect) (came : Outcome) (made declined answer : ReplyView) (before after : Traffic)
+    → answer ≡ answer_by made declined came → has_happened made ≡ true → has_happened declined ≡ true
+    → packets_by prospect outcome.NotDue ≡ []
+    → after ≡ all_sent round (map sending_of (packets_by prospect came)) before
+    → after ≡ cond (has_happened answer) (all_sent round (map sending_of (packets_by prospect came)) before) before
+own_traffic round prospect came made declined answer before after is happened refused none sent =
+    sent ∙ by came ∙ ap (λ (r : ReplyView). cond (has_happened r)
+    (all_sent round (map sending_of (packets_by prospect came)) before) before) (sym is)
   where
-    behind : Option (List ℕ) → ReplyView → Traffic
-    behind found reply =
-        let plan = deliver_plan setting.net place found old in
-        cond (has_happened reply)
-        (all_sent setting.round (plan_sendings plan reply) (traffic_left setting.traffic k plan.came))
-        setting.traffic
+    by : (o : Outcome)
+        → all_sent round (map sending_of (packets_by prospect o)) before
+        ≡ cond (has_happened (answer_by made declined o)) (all_sent round (map sending_of (packets_by prospect o)) before)
+        before
+    by outcome.NotDue = ap (λ (ps : List Packet). all_sent round (map sending_of ps) before) none
+    by outcome.Made =
+        ap (λ (b : Bool). cond b (all_sent round (map sending_of (packets_by prospect outcome.Made)) before) before)
+        (sym happened)
+    by (outcome.Refused TooLarge) =
+        ap (λ (b : Bool). cond b
+        (all_sent round (map sending_of (packets_by prospect (outcome.Refused TooLarge))) before) before) (sym refused)
+    by (outcome.Refused Spent) = refl
+    by outcome.Failed = refl
 
-    by_found : (found : Option (List ℕ))
-        → IsPlanned fits setting.round (deliver_plan setting.net place found old) old answer new
-        → cond (has_happened answer) (traffic_without setting.traffic k place) setting.traffic ≡ behind found answer
-    by_found None came =
-        let none : answer ≡ reply.NotDue = came.answers ∙ ap (answer_by reply.NotDue) (came.step.0) in
-        ap (λ (r : ReplyView). cond (has_happened r) (traffic_without setting.traffic k place) setting.traffic) none
-        ∙ sym (ap (behind None) none)
-    by_found (Some bytes) came =
-        ap (λ (l : List Sending). cond (has_happened answer)
-        (all_sent setting.round l (traffic_without setting.traffic k place)) setting.traffic)
-        (sym (ap (map sending_of) (deliver_sends setting.net place (Some bytes) old (outcome_of answer))))
-
--- the same where the network is the one behind a share, and the event is seen
--- an event by which nothing is sent, and no packet came, leaves what is in flight
-pub nothing_sent : (setting : Setting) (k : ℕ) (deed : Deed) (seen : EventView) (station : StationView)
-    (traffic : Traffic) (result : Result Reply AllocError) → seen ≡ ByNode k deed → traffic ≡ setting.traffic
-    → (plan_of setting k deed station).came ≡ None
-    → ((came : Outcome) → packets_by (plan_of setting k deed station).prospect came ≡ [])
-    → IfOk result (λ (r : Reply). traffic ≡ traffic_after setting seen (reply_view r) (Some station))
-nothing_sent setting k deed seen station traffic (Err e) is same none sends = tt
-nothing_sent setting k deed seen station traffic (Ok r) is same none sends =
-    subst (λ (e : EventView). traffic ≡ traffic_after setting e (reply_view r) (Some station)) (sym is)
-    (same ∙ sym (after (has_happened (reply_view r))))
+-- and one that is heard
+heard_traffic : (round : ℕ) (prospect : Prospect) (came : Outcome) (answer : ReplyView) (to place : ℕ) (before after : Traffic)
+    → answer ≡ answer_by reply.Delivered reply.Delivered came → packets_by prospect outcome.NotDue ≡ []
+    → after ≡ all_sent round (map sending_of (packets_by prospect came)) (taken_by came before to place)
+    → after ≡ cond (has_happened answer)
+    (all_sent round (map sending_of (packets_by prospect came)) (traffic_without before to place)) before
+heard_traffic round prospect came answer to place before after is none sent =
+    sent ∙ by came ∙ ap (λ (r : ReplyView). cond (has_happened r)
+    (all_sent round (map sending_of (packets_by prospect came)) (traffic_without before to place)) before) (sym is)
   where
-    after : (b : Bool)
-        → cond b (all_sent setting.round
-        (map sending_of (packets_by (plan_of setting k deed station).prospect (outcome_of (reply_view r))))
-        (traffic_left setting.traffic k (plan_of setting k deed station).came)) setting.traffic
-        ≡ setting.traffic
-    after true =
-        ap (λ (ps : List Packet). all_sent setting.round (map sending_of ps)
-        (traffic_left setting.traffic k (plan_of setting k deed station).came)) (sends (outcome_of (reply_view r)))
-        ∙ ap (λ (o : Option ℕ). traffic_left setting.traffic k o) none
-    after false = refl
+    by : (o : Outcome)
+        → all_sent round (map sending_of (packets_by prospect o)) (taken_by o before to place)
+        ≡ cond (has_happened (answer_by reply.Delivered reply.Delivered o))
+        (all_sent round (map sending_of (packets_by prospect o)) (traffic_without before to place)) before
+    by outcome.NotDue = ap (λ (ps : List Packet). all_sent round (map sending_of ps) before) none
+    by outcome.Made = refl
+    by (outcome.Refused TooLarge) = refl
+    by (outcome.Refused Spent) = refl
+    by outcome.Failed = refl
 
-pub delivered_in : (fits : RecordView → Bool) (setting : Setting) (k place : ℕ) (net : Network) (seen : EventView)
-    (old new : StationView) (after : Traffic) (result : Result Reply AllocError)
-    → net ≡ setting.net → seen ≡ ByNode k (event.Deliver place)
-    → IfOk result
-    (λ (r : Reply). IsPlanned fits setting.round
-    (deliver_plan net place (due_bytes setting.round (flight_at setting k place)) old) old (reply_view r) new)
-    → IfOk result
-    (λ (r : Reply). after
-    ≡ cond (has_happened (reply_view r)) (traffic_without setting.traffic k place) setting.traffic)
-    → IfOk result (λ (r : Reply). after ≡ traffic_after setting seen (reply_view r) (Some old))
-delivered_in fits setting k place net seen old new after (Err e) same is came traffic = tt
-delivered_in fits setting k place net seen old new after (Ok r) same is came traffic =
-    let planned_here =
-    subst (λ (n : Network). IsPlanned fits setting.round
-    (deliver_plan n place (due_bytes setting.round (flight_at setting k place)) old) old (reply_view r) new) same
-    came in
-    subst (λ (e : EventView). after ≡ traffic_after setting e (reply_view r) (Some old)) (sym is)
-    (traffic ∙ delivered_traffic fits setting k place old new (reply_view r) planned_here)
+-- an event that isn't due sends nothing
+pub undue_silent : (prospect : Prospect) → packets_by prospect outcome.NotDue ≡ []
+undue_silent Undue = refl
+undue_silent (Exhausted looks) = refl
+undue_silent (Planned plan) = refl
+
+-- ---- bytes that were found come to a node
+
+module _ (fits : RecordView → Bool) (round : ℕ) (net : Network) (to place : ℕ) (old new : StationView)
+    (answer : ReplyView) (before after : Traffic) where
+  abbrev Delivers : Option (List ℕ) → Type 0
+  Delivers found = ComesOut fits round (deliver_plan net place found old) old answer new to before after
+
+  -- the plan where they spell this packet, or none
+  abbrev told_plan : Option Packet → StationPlan
+  told_plan packet =
+      record {
+        prospect = deliver_prospect net old.number packet old.node;
+        turns = old.turns;
+        answer = delivery_reply (delivery_of false packet);
+        declined = reply.Delivered;
+        came = Some place;
+      }
+
+  abbrev Tells : Option Packet → Type 0
+  Tells packet = ComesOut fits round (told_plan packet) old answer new to before after
+
+  -- there are none
+  pub none_came : (found : Option (List ℕ)) → None ≡ found → answer ≡ reply.NotDue → new ≡ old → after ≡ before
+      → Delivers found
+  none_came found is answers same flown =
+      subst Delivers is
+      (record {
+        came = outcome.NotDue;
+        step = not_due_is fits round (deliver_plan net place None old) old new refl answer answers same;
+        traffic = flown ∙ ap (λ (r : ReplyView). cond (has_happened r)
+            (all_sent round (plan_sendings (deliver_plan net place None old) outcome.NotDue) before) before)
+            (sym answers);
+      })
+
+  -- the node is down
+  tells_none : (packet : Option Packet) → is_down old.node.mode ≡ true → answer ≡ reply.NotDue → new ≡ old
+      → after ≡ before → Tells packet
+  tells_none packet down answers same flown =
+      let undue : (told_plan packet).prospect ≡ Undue =
+      ap (λ (d : Bool). if_due (not d) (told_prospect net old.number packet old.node)) down in
+      record {
+        came = outcome.NotDue;
+        step = not_due_is fits round (told_plan packet) old new undue answer answers same;
+        traffic = flown ∙ ap (λ (r : ReplyView). cond (has_happened r)
+            (all_sent round (plan_sendings (told_plan packet) outcome.NotDue) (traffic_without before to place)) before)
+            (sym answers);
+      }
+
+  pub came_to_none : (found : Option (List ℕ)) (bytes : List ℕ) → Some bytes ≡ found → is_down old.node.mode ≡ true
+      → answer ≡ reply.NotDue → new ≡ old → after ≡ before → Delivers found
+  came_to_none found bytes is down answers same flown =
+      subst Delivers is (tells_none (packet_for net old.number bytes) down answers same flown)
+
+  -- they spell no packet for it
+  tells_nothing : is_down old.node.mode ≡ false → answer ≡ reply.Dropped → new ≡ old
+      → after ≡ traffic_without before to place → Tells None
+  tells_nothing up answers same flown =
+      let plan = told_plan None in
+      let is : plan.prospect ≡ becoming old.node = ap (λ (d : Bool). if_due (not d) (becoming old.node)) up in
+      let silent : packets_by plan.prospect outcome.Made ≡ [] =
+      ap (λ (p : Prospect). packets_by p outcome.Made) is in
+      record {
+        came = outcome.Made;
+        step = becomes_is fits round plan old new old.node is answer answers same;
+        traffic = flown
+            ∙ (ap (λ (ps : List Packet). all_sent round (map sending_of ps) (traffic_without before to place))
+            (sym silent)
+            ∙ ap (λ (r : ReplyView). cond (has_happened r)
+            (all_sent round (map sending_of (packets_by plan.prospect outcome.Made)) (traffic_without before to place))
+            before) (sym answers));
+      }
+
+  pub came_dropped : (found : Option (List ℕ)) (bytes : List ℕ) → Some bytes ≡ found
+      → None ≡ packet_for net old.number bytes → is_down old.node.mode ≡ false → answer ≡ reply.Dropped → new ≡ old
+      → after ≡ traffic_without before to place → Delivers found
+  came_dropped found bytes is none up answers same flown =
+      subst Delivers is (subst Tells none (tells_nothing up answers same flown))
+
+  -- they spell one, which it hears
+  tells_one : (packet : Packet) → is_down old.node.mode ≡ false
+      → ComesHeard fits round (hear_prospect net old.number packet.from packet.body old.node) old answer new to place
+      before after
+      → Tells (Some packet)
+  tells_one packet up heard =
+      let hears = hear_prospect net old.number packet.from packet.body old.node in
+      let is : hears ≡ (told_plan (Some packet)).prospect = ap (λ (d : Bool). if_due (not d) hears) (sym up) in
+      record {
+        came = heard.came;
+        step = record {
+          call = heard.call;
+          step = subst
+              (λ (p : Prospect). IsMade (restart_after old.node.armed heard.call round) p old.node heard.came new.node)
+              is heard.step;
+          put = subst (λ (p : Prospect). IsPut (room_for fits p) old.failures new.failures heard.came) is heard.put;
+          answers = heard.answers;
+          allowed = subst (λ (p : Prospect). All IsPacket (packets_by p heard.came)) is heard.allowed;
+          same = heard.same
+              ∙ ap (λ (t : RoundTurns). moved_to new.node new.failures t old) (turns_kept old.turns heard.came);
+        };
+        traffic = subst (λ (p : Prospect). after ≡ cond (has_happened answer)
+            (all_sent round (map sending_of (packets_by p heard.came)) (traffic_without before to place)) before) is
+            (heard_traffic round hears heard.came answer to place before after heard.answers (undue_silent hears)
+            heard.traffic);
+      }
+
+  pub came_heard : (found : Option (List ℕ)) (bytes : List ℕ) (packet : Packet) → Some bytes ≡ found
+      → Some packet ≡ packet_for net old.number bytes → is_down old.node.mode ≡ false
+      → ComesHeard fits round (hear_prospect net old.number packet.from packet.body old.node) old answer new to place
+      before after
+      → Delivers found
+  came_heard found bytes packet is spelled up heard =
+      subst Delivers is (subst Tells spelled (tells_one packet up heard))
+
+-- ---- events
+
+module _ (setting : Setting) (fits : RecordView → Bool) (seen : EventView) (old new : StationView)
+    (after : Traffic) (result : Result Reply AllocError) where
+  abbrev Comes : Type 0
+  Comes = IfOk result (λ (r : Reply). HasCome setting fits seen old (reply_view r) new after)
+
+  -- a deed with what it sends
+  pub deed_came : (k : ℕ) (deed : Deed) (plan : StationPlan) → seen ≡ ByNode k deed → plan ≡ plan_of setting k deed old
+      → IfOk result
+      (λ (r : Reply). ComesOut fits setting.round plan old (reply_view r) new k setting.traffic after)
+      → Comes
+  deed_came k deed plan is planned come = by result come
+    where
+      by : (res : Result Reply AllocError)
+          → IfOk res (λ (r : Reply). ComesOut fits setting.round plan old (reply_view r) new k setting.traffic after)
+          → IfOk res (λ (r : Reply). HasCome setting fits seen old (reply_view r) new after)
+      by (Err e) come = tt
+      by (Ok r) come =
+          let here =
+          subst (λ (p : StationPlan). ComesOut fits setting.round p old (reply_view r) new k setting.traffic after)
+          planned come in
+          subst (λ (e : EventView). HasCome setting fits e old (reply_view r) new after) (sym is)
+          (record { came = here.came; step = here.step; traffic = here.traffic })
+
+  -- one by which nothing is sent, and no packet came
+  quiet : (b : Bool) (k : ℕ) (deed : Deed) (came : Outcome) → (plan_of setting k deed old).came ≡ None
+      → packets_by (plan_of setting k deed old).prospect came ≡ []
+      → setting.traffic
+      ≡ cond b
+      (all_sent setting.round (map sending_of (packets_by (plan_of setting k deed old).prospect came))
+      (traffic_left setting.traffic k (plan_of setting k deed old).came)) setting.traffic
+  quiet false k deed came none silent = refl
+  quiet true k deed came none silent =
+      ap (traffic_left setting.traffic k) (sym none)
+      ∙ ap (λ (ps : List Packet). all_sent setting.round (map sending_of ps)
+      (traffic_left setting.traffic k (plan_of setting k deed old).came)) (sym silent)
+
+  pub quiet_came : (k : ℕ) (deed : Deed) (plan : StationPlan) → seen ≡ ByNode k deed
+      → plan ≡ plan_of setting k deed old → after ≡ setting.traffic → (plan_of setting k deed old).came ≡ None
+      → ((came : Outcome) → packets_by (plan_of setting k deed old).prospect came ≡ [])
+      → IfOk result (λ (r : Reply). ComesBy fits setting.round plan old (reply_view r) new) → Comes
+  quiet_came k deed plan is planned same none silent come = by result come
+    where
+      by : (res : Result Reply AllocError)
+          → IfOk res (λ (r : Reply). ComesBy fits setting.round plan old (reply_view r) new)
+          → IfOk res (λ (r : Reply). HasCome setting fits seen old (reply_view r) new after)
+      by (Err e) come = tt
+      by (Ok r) come =
+          let here =
+          subst (λ (p : StationPlan). ComesBy fits setting.round p old (reply_view r) new) planned come in
+          subst (λ (e : EventView). HasCome setting fits e old (reply_view r) new after) (sym is)
+          (record {
+            came = here.0;
+            step = here.1;
+            traffic = same ∙ quiet (has_happened (reply_view r)) k deed here.0 none (silent here.0);
+          })

@@ -1,37 +1,37 @@
 -- What has left the stations of a list, after an event at one of them, and what a crash meanwhile leaves of each.
-use Rattle.std.proofs.Common.{◌≡◌, ◌⊎◌, inl, inr, ℕ, ◌<◌, Bool, List, ℤ, length, get_or, map, refl, sym, ap}
+use Rattle.std.proofs.lemmas.Bool.{eq-eqb}
+use Rattle.std.proofs.Common.{◌≡◌, ◌⊎◌, inl, inr, ℕ, ◌<◌, Bool, cond, List, ℤ, length, get_or, map, refl, sym, ap}
 use Rattle.std.proofs.Common.{subst}
 use Rattle.std.specs.Prelude.{Result, Ok, Err, IfOk, OnErr, slice_set}
 use Rattle.std.specs.List.{AllZip}
 use Rattle.std.specs.declared.alloc.AllocError.{AllocError}
 use Rattle.kahn_net.specs.Syntax.{Network}
 use Rattle.record.specs.RecordView.{RecordView}
-use Rattle.ckpt_store.specs.StoreView.{cell_in, record_in, record_spelled}
-use Rattle.protocol.specs.Node.Starting.{IsBehind}
+use Rattle.ckpt_store.specs.StoreView.{cell_in, record_in}
 use Rattle.world.proofs.Cells.{leaves_own, own_left}
 use Rattle.gate_cell.specs.declared.cell.StableCell.{Ghosts as CellWords}
 use Rattle.gate_cell.specs.declared.slot_cell.SlotCell.{Ghosts as SlotWords}
 use Rattle.gate_cell.specs.Whole.{Whole}
-use Rattle.protocol.specs.World.EventView.{EventView}
+use Rattle.protocol.specs.World.EventView.{EventView, event_node}
 use Rattle.protocol.specs.World.Growing.{EachBegins}
 use Rattle.protocol.specs.WorldLaws.GrowLaws.{begins_same, step_begins, has_grown, still_grown}
 use Rattle.protocol.specs.World.Invariant.{outputs_of, AreSound, StationInvariant}
-use Rattle.protocol.specs.WorldLaws.KeptLaws.{step_node}
-use Rattle.protocol.specs.WorldLaws.LineLaws.{next_ahead, step_ahead, either_in_line, same_in_line}
-use Rattle.protocol.specs.WorldLaws.OrderLaws.{behind_itself}
+use Rattle.protocol.specs.WorldLaws.LineLaws.{next_ahead}
 use Rattle.protocol.specs.WorldLaws.OutputLaws.{map_at}
 use Rattle.protocol.specs.World.OutputView.{OutputView}
 use Rattle.world.specs.OutputView.{outputs_view}
 use Rattle.protocol.specs.WorldLaws.PairLaws.{pairs_refl, pairs_set}
 use Rattle.protocol.specs.World.Covered.{LeavesEither}
 use Rattle.protocol.specs.World.Pairs.{HasMoved, HasGrown}
-use Rattle.protocol.specs.World.RecoveryLine.{next_kept, LeavesInLine}
+use Rattle.protocol.specs.World.RecoveryLine.{next_for, next_kept}
 use Rattle.world.specs.RecoveryLine.{StaysInLine}
+use Rattle.wire.specs.Traffic.{Traffic}
+use Rattle.world.specs.Coming.{HasCome}
 use Rattle.world.specs.ReplyView.{reply_view}
 use Rattle.protocol.specs.World.StationView.{StationView}
 use Rattle.world.specs.StationView.{outlet_views}
 use Rattle.protocol.specs.WorldLaws.StepKeeps.{station_keeps}
-use Rattle.protocol.specs.World.Steps.{IsStationStep, Setting}
+use Rattle.protocol.specs.World.Steps.{Setting}
 use Rattle.protocol.specs.WorldLaws.PlanLaws.{IsSoundSetting, IsSoundStation}
 use Rattle.world.specs.WorldView.{station_view, IsGrown}
 use Rattle.world.specs.declared.event.Reply.{Reply}
@@ -40,37 +40,23 @@ use Rattle.world.proofs.Views.{same_outputs}
 
 module _ (setting : Setting) (sure : IsSoundSetting setting) (room : RecordView → Bool) (event : EventView) where
   -- what is seen after an event that was refused, or wasn't
-  sound_then : (old : StationView) (new : StationView) (result : Result Reply AllocError) → IsSoundStation setting old
-      → IfOk result (λ reply. IsStationStep setting room event old (reply_view reply) new) → OnErr result (new ≡ old)
+  sound_then : (old : StationView) (new : StationView) (flown : Traffic)
+      (result : Result Reply AllocError) → IsSoundStation setting old
+      → IfOk result (λ reply. HasCome setting room event old (reply_view reply) new flown) → OnErr result (new ≡ old)
       → StationInvariant setting.net setting.inputs new
-  sound_then old new (Ok reply) sound step same =
-      station_keeps setting sure room event old (reply_view reply) new sound step
-  sound_then old new (Err e) sound step same = subst (StationInvariant setting.net setting.inputs) (sym same) sound.inv
+  sound_then old new flown (Ok reply) sound come same =
+      station_keeps setting sure room event come.came old (reply_view reply) new sound come.step
+  sound_then old new flown (Err e) sound come same = subst (StationInvariant setting.net setting.inputs) (sym same) sound.inv
 
-  begins_then : (old : StationView) (new : StationView) (result : Result Reply AllocError)
-      → IfOk result (λ reply. IsStationStep setting room event old (reply_view reply) new) → OnErr result (new ≡ old)
+  begins_then : (old : StationView) (new : StationView) (flown : Traffic)
+      (result : Result Reply AllocError)
+      → IfOk result (λ reply. HasCome setting room event old (reply_view reply) new flown) → OnErr result (new ≡ old)
       → EachBegins (outputs_of old.outlets) (outputs_of new.outlets)
-  begins_then old new (Ok reply) step same = step_begins setting room event old (reply_view reply) new step
-  begins_then old new (Err e) step same =
+  begins_then old new flown (Ok reply) come same =
+      step_begins setting room event come.came old (reply_view reply) new come.step
+  begins_then old new flown (Err e) come same =
       subst (λ (s : StationView). EachBegins (outputs_of old.outlets) (outputs_of s.outlets)) (sym same)
       (begins_same (outputs_of old.outlets))
-
-  -- and the record that is kept isn't behind
-  ahead_then : (old : StationView) (new : StationView) (result : Result Reply AllocError) → IsSoundStation setting old
-      → IfOk result (λ reply. IsStationStep setting room event old (reply_view reply) new) → OnErr result (new ≡ old)
-      → IsBehind old.node.kept.permanent new.node.kept.permanent
-  ahead_then old new (Ok reply) sound step same =
-      step_ahead setting sure room event old (reply_view reply) new sound step
-  ahead_then old new (Err e) sound step same =
-      subst (λ (s : StationView). IsBehind old.node.kept.permanent s.node.kept.permanent) (sym same)
-      (behind_itself old.node.kept.permanent)
-
-  -- but of the same node
-  node_then : (old : StationView) (new : StationView) (result : Result Reply AllocError) → IsSoundStation setting old
-      → IfOk result (λ reply. IsStationStep setting room event old (reply_view reply) new) → OnErr result (new ≡ old)
-      → new.node.kept.node ≡ old.node.kept.node
-  node_then old new (Ok reply) sound step same = step_node setting sure room event old (reply_view reply) new sound step
-  node_then old new (Err e) sound step same = ap (λ (s : StationView). s.node.kept.node) same
 
 module _ {C O : Type 0} {cell : CellWords C} {slots : SlotWords C} (taken : O → List ℤ) (failures : O → ℕ)
     (only_now : (c : C) (left : Whole) → slots.left_since_whole c (cell.moment c) left → slots.may_leave_whole c left)
@@ -106,76 +92,63 @@ module _ {C O : Type 0} {cell : CellWords C} {slots : SlotWords C} (taken : O �
       (sound i (station_view taken failures station) (map_at (station_view taken failures) stations i station is)))
 
   -- what a crash leaves of a station whose cell nobody called is the record of before
-  untouched_in_line : (old new : Station C O slots cell) → StationInvariant net inputs (station_view taken failures old)
-      → StationInvariant net inputs (station_view taken failures new) → cell_in old.node.store ≡ cell_in new.node.store
-      → (left : Whole) → slots.left_since_whole (cell_in new.node.store) (cell.moment (cell_in old.node.store)) left
-      → LeavesInLine net (station_view taken failures old) (station_view taken failures new) left
-  untouched_in_line old new inv later same left since =
-      same_in_line net inputs (station_view taken failures old) (station_view taken failures new) left inv later
-      (ap (λ (c : C). record_spelled (slots.whole c)) (sym same))
-      (own_left cell slots old.node.store (record_in old.node.store) old.node.kept.settled left
+  untouched_in_line : (setting : Setting) (event : EventView) (old new : Station C O slots cell)
+      → cell_in old.node.store ≡ cell_in new.node.store → StaysInLine taken failures setting event old new
+  untouched_in_line setting event old new same left since =
+      own_left cell slots old.node.store (next_for setting event (station_view taken failures old))
+      old.node.kept.settled left
       (only_now (cell_in old.node.store) left
-      (subst (λ (c : C). slots.left_since_whole c (cell.moment (cell_in old.node.store)) left) (sym same) since)))
+      (subst (λ (c : C). slots.left_since_whole c (cell.moment (cell_in old.node.store)) left) (sym same) since))
 
-  still_in_line : (station : Station C O slots cell) → StationInvariant net inputs (station_view taken failures station)
-      → StaysInLine taken failures net station station
-  still_in_line station inv =
-      record {
-        leaves = untouched_in_line station station inv inv refl;
-        goes_on =
-            behind_itself (record_in station.node.store).permanent;
-      }
-
-  pub all_still_in_line : (stations : List (Station C O slots cell))
-      → AreSound net inputs (map (station_view taken failures) stations)
-      → AllZip (StaysInLine taken failures net) stations stations
-  all_still_in_line stations sound =
-      pairs_refl (StaysInLine taken failures net) stations
-      (λ i station is. still_in_line station
-      (sound i (station_view taken failures station) (map_at (station_view taken failures) stations i station is)))
+  pub all_still_in_line : (setting : Setting) (event : EventView) (stations : List (Station C O slots cell))
+      → AllZip (StaysInLine taken failures setting event) stations stations
+  all_still_in_line setting event stations =
+      pairs_refl (StaysInLine taken failures setting event) stations
+      (λ i station is. untouched_in_line setting event station station refl)
 
 module _ {C O : Type 0} {cell : CellWords C} {slots : SlotWords C} (taken : O → List ℤ) (failures : O → ℕ)
     (only_now : (c : C) (left : Whole) → slots.left_since_whole c (cell.moment c) left → slots.may_leave_whole c left)
     (setting : Setting) (sure : IsSoundSetting setting) (room : RecordView → Bool) (event : EventView) where
-  -- what a crash leaves of a station with an event
-  event_in_line : (old new : Station C O slots cell) → IsSoundStation setting (station_view taken failures old)
-      → StationInvariant setting.net setting.inputs (station_view taken failures new)
-      → (station_view taken failures new).node.kept.node ≡ (station_view taken failures old).node.kept.node
+  -- what a crash leaves of the station of an event
+  event_in_line : (old new : Station C O slots cell) → (station_view taken failures old).number ≡ event_node event
       → HasMoved cell.moment slots.left_since_whole (cell_in old.node.store) (cell_in new.node.store)
       (record_in old.node.store) (next_kept setting event (station_view taken failures old))
       (outlet_views taken failures old.outputs.items) (outlet_views taken failures new.outputs.items)
-      → (left : Whole) → slots.left_since_whole (cell_in new.node.store) (cell.moment (cell_in old.node.store)) left
-      → LeavesInLine setting.net (station_view taken failures old) (station_view taken failures new) left
-  event_in_line old new sound later node moved left since = at moved.apart
+      → StaysInLine taken failures setting event old new
+  event_in_line old new here moved left since = at moved.apart
     where
+      own : next_kept setting event (station_view taken failures old)
+          ≡ next_for setting event (station_view taken failures old)
+      own = ap (λ (b : Bool). cond b (next_kept setting event (station_view taken failures old))
+          (record_in old.node.store)) (sym (eq-eqb (station_view taken failures old).number (event_node event) here))
+
       at : (cell_in old.node.store ≡ cell_in new.node.store)
           ⊎ ((outlet_views taken failures old.outputs.items ≡ outlet_views taken failures new.outputs.items)
           × ((other : Whole)
           → slots.left_since_whole (cell_in new.node.store) (cell.moment (cell_in old.node.store)) other
           → LeavesEither (record_in old.node.store) (next_kept setting event (station_view taken failures old))
           other))
-          → LeavesInLine setting.net (station_view taken failures old) (station_view taken failures new) left
+          → LeavesEither (record_in old.node.store) (next_for setting event (station_view taken failures old)) left
       at (inl same) =
-          untouched_in_line taken failures only_now setting.net setting.inputs old new sound.inv later same left since
+          untouched_in_line taken failures only_now setting.net setting.inputs setting event old new same left since
       at (inr through) =
-          either_in_line setting sure event (station_view taken failures old) (station_view taken failures new) left
-          sound (ap outputs_of through.0) node (through.1 left since)
+          subst (λ (next : RecordView). LeavesEither (record_in old.node.store) next left) own (through.1 left since)
 
   -- the stations of a list of which one had an event
-  module _ (stations : List (Station C O slots cell)) (place : ℕ) (x y : Station C O slots cell) (result : Result Reply AllocError)
-      (here : IsSoundStation setting (station_view taken failures x))
+  module _ (stations : List (Station C O slots cell)) (place : ℕ) (x y : Station C O slots cell) (flown : Traffic)
+      (result : Result Reply AllocError) (here : IsSoundStation setting (station_view taken failures x))
       (sound : AreSound setting.net setting.inputs (map (station_view taken failures) stations))
       (within : place < length stations) (is : x ≡ get_or stations place x)
       (moved : HasMoved cell.moment slots.left_since_whole (cell_in x.node.store) (cell_in y.node.store)
       (record_in x.node.store) (next_kept setting event (station_view taken failures x))
       (outlet_views taken failures x.outputs.items) (outlet_views taken failures y.outputs.items))
       (step : IfOk result
-      (λ reply. IsStationStep setting room event (station_view taken failures x) (reply_view reply)
-      (station_view taken failures y)))
+      (λ reply. HasCome setting room event (station_view taken failures x) (reply_view reply)
+      (station_view taken failures y) flown))
       (same : OnErr result (station_view taken failures y ≡ station_view taken failures x)) where
     later : StationInvariant setting.net setting.inputs (station_view taken failures y)
-    later = sound_then setting sure room event (station_view taken failures x) (station_view taken failures y) result
-        here step same
+    later = sound_then setting sure room event (station_view taken failures x) (station_view taken failures y) flown
+        result here step same
 
     pub all_grown : AllZip (IsGrown taken) stations (slice_set stations place y)
     all_grown =
@@ -190,21 +163,12 @@ module _ {C O : Type 0} {cell : CellWords C} {slots : SlotWords C} (taken : O �
         (cell_in x.node.store) (cell_in y.node.store) here.inv.kept.covered later.kept.covered
         (leaves_own cell slots y.node.store y.node.kept.settled)
         (next_ahead setting sure event (station_view taken failures x) here) moved
-        (begins_then setting sure room event (station_view taken failures x) (station_view taken failures y) result
-        step same)))
+        (begins_then setting sure room event (station_view taken failures x) (station_view taken failures y) flown
+        result step same)))
 
-    pub all_in_line : AllZip (StaysInLine taken failures setting.net) stations (slice_set stations place y)
-    all_in_line =
-        pairs_set (StaysInLine taken failures setting.net) stations place x y
-        (λ i station at. still_in_line taken failures only_now setting.net setting.inputs station
-        (sound i (station_view taken failures station)
-        (map_at (station_view taken failures) stations i station at))) within is
-        (record {
-          leaves =
-              event_in_line x y here later
-              (node_then setting sure room event (station_view taken failures x) (station_view taken failures y) result
-              here step same) moved;
-          goes_on =
-              ahead_then setting sure room event (station_view taken failures x) (station_view taken failures y) result
-              here step same;
-        })
+    pub all_in_line : (station_view taken failures x).number ≡ event_node event
+        → AllZip (StaysInLine taken failures setting event) stations (slice_set stations place y)
+    all_in_line numbered =
+        pairs_set (StaysInLine taken failures setting event) stations place x y
+        (λ i station at. untouched_in_line taken failures only_now setting.net setting.inputs setting event station
+        station refl) within is (event_in_line x y numbered moved)

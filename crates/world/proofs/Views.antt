@@ -1,16 +1,16 @@
 -- Views of stations.
-use Rattle.std.proofs.Common.{◌≡◌, ℕ, zero, suc, ◌<◌, Bool, List, ℤ, [], ◌∷◌, length, get_or, Option, Some, map, refl}
-use Rattle.std.proofs.Common.{sym, ap, subst, ◌∙◌}
+use Rattle.std.proofs.Common.{◌≡◌, ℕ, zero, suc, ◌<◌, ◌≤◌, Bool, List, ℤ, [], ◌∷◌, length, get_or, Option, Some, map, refl}
+use Rattle.std.proofs.Common.{sym, ap, subst, ◌∙◌, arith}
 use Rattle.std.specs.Prelude.{Result, Ok, Err, IfOk, OnErr, slice_get, slice_set}
 use Rattle.std.proofs.lemmas.List.{length-map, map-set}
-use Rattle.std.proofs.lemmas.Option.{slice_get_read}
+use Rattle.std.proofs.lemmas.Option.{slice_get_past, slice_get_read}
 use Rattle.std.specs.declared.alloc.AllocError.{AllocError}
 use Rattle.kahn_net.specs.Syntax.{Network}
 use Rattle.wire.specs.Traffic.{Traffic}
 use Rattle.protocol.specs.Node.NodeView.{NodeView}
 use Rattle.protocol.specs.Node.Trimming.{current_log, trimmed_node}
 use Rattle.kahn_net.specs.Nodes.{node_count}
-use Rattle.protocol.specs.World.Invariant.{outputs_of, AreSound, IsNumbered}
+use Rattle.protocol.specs.World.Invariant.{outputs_of, AreJoined, AreSound, IsNumbered}
 use Rattle.protocol.specs.WorldLaws.PlanLaws.{IsSoundStation}
 use Rattle.protocol.specs.WorldLaws.StepKeeps.{all_here}
 use Rattle.protocol.specs.WorldLaws.OutputLaws.{map_at, set_same}
@@ -19,9 +19,12 @@ use Rattle.world.specs.OutputView.{output_view, outputs_view}
 use Rattle.protocol.specs.World.StationView.{OutletView, StationView}
 use Rattle.world.specs.StationView.{outlet_view, outlet_views}
 use Rattle.protocol.specs.World.Steps.{may_restart, next_release, setting_in, setting_of, IsHanded, IsRelease}
-use Rattle.protocol.specs.World.Steps.{IsStationStep, IsActOf, IsAct, Setting}
+use Rattle.protocol.specs.World.Steps.{IsActOf, IsStep, Setting, WorldView, round_after, traffic_after}
+use Rattle.protocol.specs.World.ReplyView.{NotDue, ReplyView}
+use Rattle.protocol.specs.declared.outcome.Outcome.TheVariants as outcome
+use Rattle.world.specs.Coming.{HasActed, HasCome}
 use Rattle.world.specs.WorldView.{IsCellUnchanged}
-use Rattle.protocol.specs.World.EventView.{EventView}
+use Rattle.protocol.specs.World.EventView.{EventView, event_node}
 use Rattle.world.specs.ReplyView.{reply_view}
 use Rattle.world.specs.declared.station.Station.{Station}
 use Rattle.gate_cell.specs.declared.cell.StableCell.{Ghosts as CellWords}
@@ -93,22 +96,27 @@ module _ (round place : ℕ) (old : StationView) (outlet later : OutletView) (no
 
 -- an event at the station of this place is one of the list of stations
 pub acted : {S : Type 0} (setting : Setting) (view : S → StationView) (room : S → RecordView → Bool)
-    (event : EventView) (xs : List S) (place : ℕ) (x y : S) (result : Result Reply AllocError) → place < length xs
-    → x ≡ get_or xs place x
-    → IfOk result (λ reply. IsStationStep setting (room x) event (view x) (reply_view reply) (view y))
+    (event : EventView) (xs : List S) (place : ℕ) (x y : S) (flown : Traffic) (result : Result Reply AllocError)
+    → place < length xs → x ≡ get_or xs place x
+    → IfOk result (λ reply. HasCome setting (room x) event (view x) (reply_view reply) (view y) flown)
     → IfOk result
-    (λ reply. IsAct setting place (map room xs) event (map view xs) (reply_view reply)
-    (map view (slice_set xs place y)))
-acted setting view room event xs place x y (Err e) within is step = tt
-acted {S} setting view room event xs place x y (Ok reply) within is step =
+    (λ reply. HasActed setting place (map room xs) event (map view xs) (reply_view reply)
+    (map view (slice_set xs place y)) flown)
+acted setting view room event xs place x y flown (Err e) within is come = tt
+acted {S} setting view room event xs place x y flown (Ok reply) within is come =
     let there : slice_get xs place ≡ Some x = slice_get_read xs (length xs) place x refl within is in
     let fits : slice_get (map room xs) place ≡ Some (room x) = map_at room xs place x there in
     let seen : slice_get (map view xs) place ≡ Some (view x) = map_at view xs place x there in
-    subst (λ (f : Option (RecordView → Bool)). IsActOf setting place f (slice_get (map view xs) place) event
-    (map view xs) (reply_view reply) (map view (slice_set xs place y))) (sym fits)
-    (subst (λ (s : Option StationView). IsActOf setting place (Some (room x)) s event (map view xs) (reply_view reply)
-    (map view (slice_set xs place y))) (sym seen)
-    (record { later = view y; step = step; stations = map-set view xs place y }))
+    record {
+      came = come.came;
+      act = subst (λ (f : Option (RecordView → Bool)). IsActOf setting place f (slice_get (map view xs) place) event
+          come.came (map view xs) (reply_view reply) (map view (slice_set xs place y))) (sym fits)
+          (subst (λ (s : Option StationView). IsActOf setting place (Some (room x)) s event come.came (map view xs)
+          (reply_view reply) (map view (slice_set xs place y))) (sym seen)
+          (record { later = view y; step = come.step; stations = map-set view xs place y }));
+      traffic =
+          come.traffic ∙ ap (traffic_after setting event come.came (reply_view reply)) (sym seen);
+    }
 
 -- the setting of a world by its stations, as they are and as they are seen
 pub setting_is : {S : Type 0} (view : S → StationView) (net : Network) (inputs : List (List ℤ)) (traffic : Traffic)
@@ -130,9 +138,9 @@ pub sound_at : {S : Type 0} (view : S → StationView) (net : Network) (inputs :
     (xs : List S) (place : ℕ) (x : S) (restarts : Bool) (count round : ℕ) → restarts ≡ may_restart count
     → count ≡ length xs
     → length (map view xs) ≡ node_count net → IsNumbered (map view xs) → AreSound net inputs (map view xs)
-    → place < length xs → x ≡ get_or xs place x
+    → AreJoined net (map view xs) → place < length xs → x ≡ get_or xs place x
     → IsSoundStation (setting_in net inputs traffic restarts round) (view x)
-sound_at view net inputs traffic xs place x restarts count round may many all numbered sound within is =
+sound_at view net inputs traffic xs place x restarts count round may many all numbered sound joined within is =
     let there : slice_get (map view xs) place ≡ Some (view x) =
     map_at view xs place x (slice_get_read xs (length xs) place x refl within is) in
     record {
@@ -140,6 +148,9 @@ sound_at view net inputs traffic xs place x restarts count round may many all nu
       named = (let named = numbered place (view x) there in named.1 ∙ sym named.0);
       here = λ alone. all_here net (map view xs) all numbered place (view x) there
           (ap may_restart (length-map xs view ∙ sym many) ∙ (sym may ∙ alone));
+      below = (let few = length-map xs view in let number = (numbered place (view x) there).0 in
+          omega (arith, within, few, all, number));
+      joined = joined place (view x) there;
     }
 
 -- what is true of the station of this place
@@ -172,3 +183,36 @@ pub same_outputs : {O : Type 0} (taken : O → List ℤ) (failures : O → ℕ) 
 same_outputs taken failures [] = refl
 same_outputs taken failures (output ∷ outputs) =
     ap (λ (rest : List OutputView). output_view taken output ∷ rest) (same_outputs taken failures outputs)
+
+-- what was an event at the station of this number is a step of the world
+pub world_steps : (rooms : List (RecordView → Bool)) (e : EventView) (old : WorldView) (answer : ReplyView)
+    (setting : Setting) (number round : ℕ) (stations : List StationView) (flown : Traffic) → setting ≡ setting_of old
+    → number ≡ event_node e → HasActed setting number rooms e old.stations answer stations flown
+    → round ≡ round_after answer old.round stations
+    → IsStep rooms e old answer
+    (record { net = old.net; inputs = old.inputs; stations = stations; traffic = flown; round = round })
+world_steps rooms e old answer setting number round stations flown same_setting same_number acted later =
+    let here =
+    subst (λ (n : ℕ). HasActed (setting_of old) n rooms e old.stations answer stations flown) same_number
+    (subst (λ (s : Setting). HasActed s number rooms e old.stations answer stations flown) same_setting acted) in
+    record {
+      net = refl;
+      inputs = refl;
+      came = here.came;
+      act = here.act;
+      traffic = here.traffic;
+      round = later;
+    }
+
+-- where there is no station, nothing happens
+pub none_acted : {S : Type 0} (setting : Setting) (view : S → StationView) (room : S → RecordView → Bool)
+    (event : EventView) (xs : List S) (place : ℕ) → length xs ≤ place
+    → HasActed setting place (map room xs) event (map view xs) NotDue (map view xs) setting.traffic
+none_acted setting view room event xs place past = record {
+  came = outcome.NotDue;
+  act = subst (λ (f : Option (RecordView → Bool)). IsActOf setting place f (slice_get (map view xs) place) event
+      outcome.NotDue (map view xs) NotDue (map view xs))
+      (sym (slice_get_past (map room xs) place (let many = length-map xs room in omega (arith, past, many))))
+      (refl, refl);
+  traffic = refl;
+}

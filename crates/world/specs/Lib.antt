@@ -5,6 +5,7 @@ pub mod ReplyView
 pub mod StationView
 pub mod WorldView
 pub mod WholeView
+pub mod Coming
 pub mod RecoveryLine
 pub mod OpeningWorld
 pub mod Closing

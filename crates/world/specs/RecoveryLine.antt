@@ -10,8 +10,10 @@ use Rattle.record.specs.RecordView.{RecordView}
 use Rattle.ckpt_store.specs.Spelling.{Spells}
 use Rattle.ckpt_store.specs.StoreView.{cell_in}
 use Rattle.recovery_line.specs.Line.{NotBehind}
-use Rattle.protocol.specs.Node.Starting.{IsBehind}
-use Rattle.protocol.specs.World.RecoveryLine.{records_seen, records_of, AreInLine, LeavesInLine}
+use Rattle.protocol.specs.World.Covered.{LeavesEither}
+use Rattle.protocol.specs.World.EventView.{EventView}
+use Rattle.protocol.specs.World.RecoveryLine.{next_for, records_seen, records_of, AreInLine}
+use Rattle.protocol.specs.World.Steps.{Setting}
 use Rattle.world.specs.WorldView.{station_view}
 use Rattle.world.specs.declared.station.Station.{Station}
 
@@ -53,13 +55,14 @@ pub record HasOneLine {C O : Type 0} {cell : CellWords C} {slots : SlotWords C} 
       → AllZip Spells records lefts
       → records ≡ records_of (map (station_view taken failures) stations)
 
--- ---- the same of one station
+-- ---- one station
 
--- whatever a crash at a moment of the event leaves is in line, and so is the record that is kept in the end
-pub record StaysInLine {C O : Type 0} {cell : CellWords C} {slots : SlotWords C} (taken : O → List ℤ) (failures : O → ℕ) (net : Network)
-    (old new : Station C O slots cell) : Type 0 where
-  pub leaves : (left : Whole)
-      → slots.left_since_whole (cell_in new.node.store) (cell.moment (cell_in old.node.store)) left
-      → LeavesInLine net (station_view taken failures old) (station_view taken failures new) left
-  pub goes_on : IsBehind (station_view taken failures old).node.kept.permanent
-      (station_view taken failures new).node.kept.permanent
+-- Whatever a crash at a moment of the event leaves of a station spells the record that it kept before, or the one that
+-- the event puts there, if it puts one.
+abbrev pub StaysInLine : {C O : Type 0} {cell : CellWords C} {slots : SlotWords C} → (O → List ℤ) → (O → ℕ) → Setting → EventView
+    → Station C O slots cell → Station C O slots cell → Type 0
+StaysInLine {cell = cell} {slots = slots} taken failures setting event old new =
+    (left : Whole)
+    → slots.left_since_whole (cell_in new.node.store) (cell.moment (cell_in old.node.store)) left
+    → LeavesEither (station_view taken failures old).node.kept (next_for setting event (station_view taken failures old))
+    left

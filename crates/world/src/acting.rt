@@ -1,27 +1,28 @@
 // An event at its station.
-ghost use Rattle.std.specs.Prelude.{◌≡◌, ◌<◌, All, IfOk, OnErr, Some, if◌then◌else◌, slice_get};
-ghost use Rattle.kahn_net.specs.Fits.{Fits};
+ghost use Rattle.std.specs.Prelude.{◌≡◌, ℕ, ◌<◌, All, IfOk, OnErr};
 ghost use Rattle.kahn_net.specs.Syntax.{network_of};
 ghost use Rattle.ckpt_store.specs.Spelling.{fits_in};
 ghost use Rattle.ckpt_store.specs.StoreView.{cell_in};
 ghost use Rattle.node.specs.NodeOf.{view_of};
-ghost use Rattle.protocol.specs.Node.Sending.{packets_of, IsWritable};
+ghost use Rattle.protocol.specs.Node.Sending.{IsWritable};
+ghost use Rattle.protocol.specs.Node.Telling.{turn_packets};
 ghost use Rattle.protocol.specs.World.EventView.{event_node};
-ghost use Rattle.wire.specs.Traffic.{all_sent, flights_to, traffic_of, traffic_without};
+ghost use Rattle.wire.specs.Traffic.{traffic_of};
 ghost use Rattle.wire.specs.declared.queue.TheConstants.{NODES};
+ghost use Rattle.world.specs.Coming.{ComesBy, ComesOut, HasCome};
 ghost use Rattle.world.specs.EventView.{event_view};
-ghost use Rattle.protocol.specs.World.Invariant.{StationInvariant};
 ghost use Rattle.protocol.specs.World.Pairs.{HasMoved};
 ghost use Rattle.protocol.specs.World.RecoveryLine.{next_kept};
-ghost use Rattle.protocol.specs.World.Replies.{has_happened, LeavesCells, TakesMemory};
+ghost use Rattle.protocol.specs.World.Replies.{LeavesCells, TakesMemory};
 ghost use Rattle.protocol.specs.World.ReplyView.{Down};
 ghost use Rattle.world.specs.ReplyView.{answer_view, reply_view};
 ghost use Rattle.world.specs.StationView.{outlet_views};
-ghost use Rattle.protocol.specs.World.Steps.{deliver_plan, due_bytes, idle_plan, plan_sendings, send_plan, setting_in, traffic_after, IsPlanned, IsStationStep};
+ghost use Rattle.protocol.specs.World.Steps.{idle_plan, send_plan, setting_in};
+ghost use Rattle.protocol.specs.WorldLaws.PlanLaws.{IsSoundSetting, IsSoundStation};
 ghost use Rattle.world.specs.WorldView.{station_view, IsCellUnchanged, LeavesDeviceBy, RestartsAsArmed};
 
 use crate::event::{Event, Reply};
-use crate::network::{delay, due_packet, lose, note_delivery, repeat, spell_all};
+use crate::network::{delay, lose, repeat, spell_all};
 use crate::station::Station;
 use gate_cell::SlotCell;
 use net_check::{Inputs, Net};
@@ -31,41 +32,6 @@ use std::sync::Arc;
 use wire::Wire;
 
 impl<C: SlotCell, O: Outlet> Station<C, O> {
-    // The packet at a place comes to the node, if there is one and it is due. It is then no longer in flight.
-    fn deliver(
-        &mut self,
-        alloc: Global,
-        net: &Net,
-        wire: &mut Wire,
-        to: u8,
-        place: usize,
-        round: u64,
-    ) -> Result<Reply, AllocError>
-        requires { to < NODES }
-        ensures outputs { outlet_views O.taken O.failures self.new.outputs.items
-            ≡ outlet_views O.taken O.failures self.old.outputs.items }
-        ensures cell { self.new.node.store ≡ self.old.node.store }
-        ensures refused { OnErr result
-            (station_view O.taken O.failures self.new ≡ station_view O.taken O.failures self.old) }
-        ensures step { IfOk result
-            (λ reply. IsPlanned (fits_in (C.slot_capacity (cell_in self.old.node.store))) round
-            (deliver_plan (network_of net.now.program) place
-            (due_bytes round (slice_get (flights_to (traffic_of wire.old) to) place))
-            (station_view O.taken O.failures self.old))
-            (station_view O.taken O.failures self.old) (reply_view reply)
-            (station_view O.taken O.failures self.new)) }
-        ensures traffic { IfOk result (λ reply. traffic_of wire.new
-            ≡ (if has_happened (reply_view reply)
-            then traffic_without (traffic_of wire.old) to place else traffic_of wire.old)) }
-        ensures same_traffic { OnErr result (traffic_of wire.new ≡ traffic_of wire.old) }
-    {
-        let Some(bytes) = due_packet(wire, to, place, round) else {
-            return Ok(Reply::NotDue);
-        };
-        let outcome = self.node.deliver(alloc, net, bytes)?;
-        Ok(note_delivery(wire, to, place, outcome))
-    }
-
     // The node sends what is due to the others.
     fn send(
         &mut self,
@@ -74,25 +40,21 @@ impl<C: SlotCell, O: Outlet> Station<C, O> {
         wire: &mut Wire,
         round: u64,
     ) -> Result<Reply, AllocError>
-        requires { All IsWritable (packets_of (network_of net.now.program) self.old.node.number
-            (view_of self.old.node)) }
+        requires { All IsWritable (turn_packets (network_of net.now.program) self.old.node.number
+            (view_of self.old.node).kept (view_of self.old.node).mode) }
         ensures outputs { outlet_views O.taken O.failures self.new.outputs.items
             ≡ outlet_views O.taken O.failures self.old.outputs.items }
         ensures same { self.new.node ≡ self.old.node }
         ensures refused { OnErr result
             (station_view O.taken O.failures self.new ≡ station_view O.taken O.failures self.old) }
-        ensures step { IfOk result
-            (λ reply. IsPlanned (fits_in (C.slot_capacity (cell_in self.old.node.store))) round
+        ensures come { (k : ℕ) → IfOk result
+            (λ reply. ComesOut (fits_in (C.slot_capacity (cell_in self.old.node.store))) round
             (send_plan (network_of net.now.program) round (station_view O.taken O.failures self.old))
             (station_view O.taken O.failures self.old) (reply_view reply)
-            (station_view O.taken O.failures self.new)) }
-        ensures traffic { IfOk result (λ reply. traffic_of wire.new
-            ≡ (if has_happened (reply_view reply)
-            then all_sent round (plan_sendings
-            (send_plan (network_of net.now.program) round (station_view O.taken O.failures self.old))
-            (reply_view reply)) (traffic_of wire.old)
-            else traffic_of wire.old)) }
+            (station_view O.taken O.failures self.new) k
+            (traffic_of wire.old) (traffic_of wire.new)) }
         ensures same_traffic { OnErr result (traffic_of wire.new ≡ traffic_of wire.old) }
+        ensures up { IfOk result (λ reply. reply_view reply ≡ Down → ⊥) }
     {
         let node = &self.node;
         if node.state.is_down() {
@@ -114,7 +76,7 @@ impl<C: SlotCell, O: Outlet> Station<C, O> {
         ensures outputs { outlet_views O.taken O.failures self.new.outputs.items
             ≡ outlet_views O.taken O.failures self.old.outputs.items }
         ensures same { self.new.node ≡ self.old.node }
-        ensures step { IsPlanned (fits_in (C.slot_capacity (cell_in self.old.node.store))) round
+        ensures step { ComesBy (fits_in (C.slot_capacity (cell_in self.old.node.store))) round
             (idle_plan round (station_view O.taken O.failures self.old))
             (station_view O.taken O.failures self.old) (reply_view result)
             (station_view O.taken O.failures self.new) }
@@ -135,10 +97,11 @@ impl<C: SlotCell, O: Outlet> Station<C, O> {
         round: u64,
         event: &Event,
     ) -> Result<Reply, AllocError>
-        requires fits { Fits (network_of net.now.value.program) inputs.now.value }
-        requires sound { StationInvariant (network_of net.now.value.program) inputs.now.value
+        requires sure { IsSoundSetting (setting_in (network_of net.now.value.program) inputs.now.value
+            (traffic_of wire.old) restarts round) }
+        requires sound { IsSoundStation (setting_in (network_of net.now.value.program)
+            inputs.now.value (traffic_of wire.old) restarts round)
             (station_view O.taken O.failures self.old) }
-        requires named { (view_of self.old.node).kept.node ≡ self.old.node.number }
         requires node { event_node (event_view event.now) < NODES }
         ensures moved { HasMoved C.moment C.left_since_whole (cell_in self.old.node.store)
             (cell_in self.new.node.store) (view_of self.old.node).kept
@@ -150,17 +113,12 @@ impl<C: SlotCell, O: Outlet> Station<C, O> {
         ensures refused { OnErr result
             ((station_view O.taken O.failures self.new ≡ station_view O.taken O.failures self.old)
             × TakesMemory (event_view event.now)) }
-        ensures step { IfOk result
-            (λ reply. IsStationStep (setting_in (network_of net.now.value.program) inputs.now.value
+        ensures come { IfOk result
+            (λ reply. HasCome (setting_in (network_of net.now.value.program) inputs.now.value
             (traffic_of wire.old) restarts round)
             (fits_in (C.slot_capacity (cell_in self.old.node.store))) (event_view event.now)
             (station_view O.taken O.failures self.old) (reply_view reply)
-            (station_view O.taken O.failures self.new)) }
-        ensures traffic { IfOk result
-            (λ reply. traffic_of wire.new ≡ traffic_after
-            (setting_in (network_of net.now.value.program) inputs.now.value
-            (traffic_of wire.old) restarts round) (event_view event.now) (reply_view reply)
-            (Some (station_view O.taken O.failures self.old))) }
+            (station_view O.taken O.failures self.new) (traffic_of wire.new)) }
         ensures same_traffic { OnErr result (traffic_of wire.new ≡ traffic_of wire.old) }
         ensures same_room { C.slot_capacity (cell_in self.new.node.store)
             ≡ C.slot_capacity (cell_in self.old.node.store) }
@@ -176,8 +134,8 @@ impl<C: SlotCell, O: Outlet> Station<C, O> {
             Event::Grant(_) => self.grant(alloc, net, inputs, round),
             Event::Install(done) => self.install(alloc, net, done),
             Event::Send(_) => self.send(alloc, net, wire, round),
-            Event::Start(_) => self.start(alloc, round),
-            Event::Decide(_) => self.decide(alloc, round),
+            Event::Start(_) => self.start(alloc, net, wire, round),
+            Event::Decide(_) => self.decide(alloc, wire, round),
             Event::Release(_) => self.release(net, inputs, round),
             Event::Crash { fill, rounds, .. } => {
                 if !restarts {

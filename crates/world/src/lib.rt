@@ -8,6 +8,7 @@
 mod acting;
 mod checkpoints;
 mod closing;
+mod delivering;
 mod event;
 mod laws;
 mod network;

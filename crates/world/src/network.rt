@@ -1,22 +1,25 @@
 // What is in flight between the nodes.
-ghost use Rattle.std.specs.Prelude.{◌≡◌, ◌<◌, All, IfOk, IsSome, IsTrue, OnErr, OnOk, FitsSigned, if◌then◌else◌, is_some, length, map, option_map, slice_get};
+ghost use Rattle.std.specs.Prelude.{◌≡◌, ◌<◌, ℕ, All, List, IfOk, IsSome, IsTrue, OnErr, OnOk, FitsSigned, if◌then◌else◌, is_some, length, map, option_map, slice_get};
 ghost use Rattle.std.specs.Int.{w64};
-ghost use Rattle.std.specs.List.{position_from};
+ghost use Rattle.std.specs.List.{AllZip, position_from};
 ghost use Rattle.datagram.specs.PacketText.{IsPacket};
 ghost use Rattle.protocol.specs.Node.Sending.{FitsItem, IsWritable};
-ghost use Rattle.protocol.specs.World.Replies.{act_reply, delivery_reply, has_happened};
+ghost use Rattle.protocol.specs.World.Replies.{act_reply, has_happened};
 ghost use Rattle.protocol.specs.World.Steps.{due_bytes, sending_of};
+ghost use Rattle.world.specs.Coming.{IsReadyFor, sent_then, taken_by};
 ghost use Rattle.world.specs.ReplyView.{reply_view};
 ghost use Rattle.wire.specs.Queue.{is_due};
-ghost use Rattle.wire.specs.Traffic.{flights_to, traffic_of, traffic_delayed, traffic_repeated, traffic_without};
+ghost use Rattle.wire.specs.Staging.{HasNoLessRoom, HasRoom, IsStaged};
+ghost use Rattle.wire.specs.Traffic.{AreNodes, all_sent, flights_to, traffic_of, traffic_delayed, traffic_repeated, traffic_without};
+ghost use Rattle.wire.specs.declared.sending.Sending.{Sending as SendingValue};
 ghost use Rattle.wire.specs.Wire.{in_flight};
 ghost use Rattle.wire.specs.declared.queue.TheConstants.{NODES};
 
 use crate::event::Reply;
 use datagram::{Body, Packet, write_packet};
-use node::Delivery;
+use node::{Outcome, Refusal, Said};
 use std::alloc::{AllocError, Global};
-use wire::{Bytes, Sending, Wire};
+use wire::{Batch, Bytes, Sending, Wire};
 
 // Whether there is a packet at a place, of those in flight to a node.
 fn is_there(wire: &Wire, to: u8, place: usize) -> bool
@@ -56,27 +59,6 @@ pub(crate) fn due_packet(wire: &Wire, to: u8, place: usize, round: u64) -> Optio
         wire.packet(to, place)
     } else {
         None
-    }
-}
-
-/// What is answered to a packet that came, which is then no longer in flight.
-pub(crate) fn note_delivery(wire: &mut Wire, to: u8, place: usize, outcome: Delivery) -> Reply
-    requires node { to < NODES }
-    requires there { place < length (in_flight wire.old to) }
-    ensures reply { reply_view result ≡ delivery_reply outcome }
-    ensures traffic { traffic_of wire.new ≡ (if has_happened (delivery_reply outcome)
-        then traffic_without (traffic_of wire.old) to place else traffic_of wire.old) }
-{
-    match outcome {
-        Delivery::NotDue => Reply::NotDue,
-        Delivery::Delivered => {
-            wire.lose(to, place);
-            Reply::Delivered
-        }
-        Delivery::Dropped => {
-            wire.lose(to, place);
-            Reply::Dropped
-        }
     }
 }
 
@@ -174,4 +156,87 @@ pub(crate) fn spell_all(alloc: Global, packets: &[Packet]) -> Result<Vec<Sending
         sendings.push(spell(alloc, packet)?)?;
     }
     Ok(sendings)
+}
+
+// These packets are made ready to be sent in this round, with room for them. The same is in flight as before, and room that
+// there was is there.
+fn make_ready(
+    alloc: Global,
+    wire: &mut Wire,
+    packets: &[Packet],
+    round: u64,
+) -> Result<Batch, AllocError>
+    requires { All IsWritable packets.now }
+    ensures same { traffic_of wire.new ≡ traffic_of wire.old }
+    ensures more { OnOk result (AllZip HasNoLessRoom wire.old.queues wire.new.queues) }
+    ensures ready { IfOk result (λ batch. IsReadyFor wire.new round (map sending_of packets.now) batch) }
+{
+    let sendings = spell_all(alloc, packets)?;
+    let batch = wire.stage(alloc, sendings, round)?;
+    wire.make_room(&batch)?;
+    Ok(batch)
+}
+
+/// What an event sends where it is made, and where its record is too large: made ready, with room for each.
+#[derive(Drop)]
+pub(crate) struct Ready {
+    made: Batch,
+    declined: Batch,
+}
+
+/// What is said is made ready to be sent in this round. The same is in flight as before. Refuses for want of memory alone: so an
+/// event has all memory that sending takes before it changes anything.
+pub(crate) fn prepare(
+    alloc: Global,
+    wire: &mut Wire,
+    said: &Said,
+    round: u64,
+) -> Result<Ready, AllocError>
+    requires made { All IsWritable said.now.made.items }
+    requires declined { All IsWritable said.now.declined.items }
+    ensures same { traffic_of wire.new ≡ traffic_of wire.old }
+    ensures made { IfOk result (λ ready. IsReadyFor wire.new round
+        (map sending_of said.now.made.items) ready.made) }
+    ensures declined { IfOk result (λ ready. IsReadyFor wire.new round
+        (map sending_of said.now.declined.items) ready.declined) }
+{
+    let made = make_ready(alloc, wire, &said.made, round)?;
+    let declined = make_ready(alloc, wire, &said.declined, round)?;
+    Ok(Ready { made, declined })
+}
+
+/// Sends what is ready, by what came of the event.
+pub(crate) fn send_by(wire: &mut Wire, ready: Ready, outcome: Outcome)
+    requires made { AllZip HasRoom wire.old.queues ready.made }
+    requires declined { AllZip HasRoom wire.old.queues ready.declined }
+    ensures { (round : ℕ) (made declined : List SendingValue) → All AreNodes made
+        → All AreNodes declined → IsStaged (traffic_of wire.old) round made ready.made
+        → IsStaged (traffic_of wire.old) round declined ready.declined
+        → traffic_of wire.new ≡ all_sent round (sent_then outcome made declined) (traffic_of wire.old) }
+{
+    match outcome {
+        Outcome::Made => wire.send_batch(ready.made),
+        Outcome::Refused(Refusal::TooLarge) => wire.send_batch(ready.declined),
+        Outcome::NotDue | Outcome::Refused(Refusal::Spent) | Outcome::Failed => {}
+    }
+}
+
+/// The packet that came is gone, and what is ready is sent, by what came of the event.
+pub(crate) fn take_by(wire: &mut Wire, to: u8, place: usize, ready: Ready, outcome: Outcome)
+    requires node { to < NODES }
+    requires there { place < length (in_flight wire.old to) }
+    requires made { AllZip HasRoom wire.old.queues ready.made }
+    requires declined { AllZip HasRoom wire.old.queues ready.declined }
+    ensures { (round : ℕ) (made declined : List SendingValue) → All AreNodes made
+        → All AreNodes declined → IsStaged (traffic_of wire.old) round made ready.made
+        → IsStaged (traffic_of wire.old) round declined ready.declined
+        → traffic_of wire.new ≡ all_sent round (sent_then outcome made declined)
+        (taken_by outcome (traffic_of wire.old) to place) }
+{
+    match outcome {
+        Outcome::Made => wire.lose_and_send(to, place, ready.made),
+        Outcome::Refused(Refusal::TooLarge) => wire.lose_and_send(to, place, ready.declined),
+        Outcome::Refused(Refusal::Spent) | Outcome::Failed => wire.lose(to, place),
+        Outcome::NotDue => {}
+    }
 }

@@ -6,7 +6,8 @@ ghost use Rattle.protocol.specs.Node.Choosing.{node_job};
 ghost use Rattle.node.specs.NodeOf.{view_of};
 ghost use Rattle.protocol.specs.Node.NodeView.{running_of};
 ghost use Rattle.node.specs.NodeView.{node_view};
-ghost use Rattle.protocol.specs.Node.Starting.{is_own, may_decide};
+ghost use Rattle.protocol.specs.Node.Beginning.{live_in};
+ghost use Rattle.protocol.specs.Node.Verdicts.{may_decide};
 ghost use Rattle.protocol.specs.Node.Modes.{is_down};
 ghost use Rattle.protocol.specs.World.Choice.{counts_rose, has_more, has_sent, has_turn, due_place, flying_to, may_recover, own_choice, station_choice, wants_checkpoint, choice};
 ghost use Rattle.protocol.specs.World.Turns.{turns_of};
@@ -21,6 +22,7 @@ use crate::network::{first_due, packet_at};
 use crate::nodes::may_restart;
 use crate::station::Station;
 use crate::world::World;
+use decide_core::may_decide;
 use gate_cell::SlotCell;
 use net_check::{Inputs, Net};
 use node::{Mode, NodeState};
@@ -28,16 +30,6 @@ use outlet::Outlet;
 use protocol::MAX_GRANTS;
 use record::{Image, Record};
 use wire::Wire;
-
-// Whether a node holds its own tentative image.
-fn holds_own(kept: &Record, number: u8) -> bool
-    ensures { result ≡ is_own number kept.now.tentative }
-{
-    match &kept.tentative {
-        Some(held) => held.initiator == number,
-        None => false,
-    }
-}
 
 // Whether a count of this channel is above what it is in an earlier image.
 fn has_risen(now: &Image, before: &Image, channel: u8) -> bool
@@ -94,13 +86,14 @@ impl<C: SlotCell, O: Outlet> Station<C, O> {
         self.turns.of(round).granted < MAX_GRANTS && self.node.has_job(net, inputs)
     }
 
-    // Whether its node may make its own tentative image permanent.
+    // Whether its node may decide the checkpoint for which it collects answers.
     fn may_decide(&self) -> bool
-        ensures { result ≡ may_decide self.now.node.number (view_of self.now.node) }
+        ensures { result ≡ may_decide self.now.node.number (view_of self.now.node).kept
+            (live_in (view_of self.now.node).mode) }
     {
         let node = &self.node;
         match node.store.record() {
-            Ok(kept) => node.state.is_running() && holds_own(kept, node.number),
+            Ok(kept) => may_decide(node.number, kept, node.state.live()),
             Err(_) => false,
         }
     }

@@ -13,7 +13,8 @@ ghost use Rattle.protocol.specs.World.EventView as event;
 ghost use Rattle.protocol.specs.World.Pairs.{LeaveEitherSince};
 ghost use Rattle.protocol.specs.World.Replies.{back_reply};
 ghost use Rattle.protocol.specs.World.ReplyView.{Crashed, Down, NotDue};
-ghost use Rattle.protocol.specs.World.Steps.{IsPlanned, arm_plan, crash_plan, recover_plan};
+ghost use Rattle.protocol.specs.World.Steps.{arm_plan, crash_plan, recover_plan};
+ghost use Rattle.world.specs.Coming.{ComesBy};
 ghost use Rattle.world.specs.ReplyView.{answer_view, reply_view};
 ghost use Rattle.world.specs.StationView.{outlet_views};
 ghost use Rattle.world.specs.WorldView.{armed_then, station_view, IsCellUnchanged, RestartsAsArmed};
@@ -22,7 +23,7 @@ use crate::checkpoints::answer_by;
 use crate::event::Reply;
 use crate::station::Station;
 use gate_cell::SlotCell;
-use node::{Mode, round_later};
+use node::{Mode, Refusal, round_later};
 use outlet::Outlet;
 use sector_disk::ArmedFault;
 use std::alloc::{AllocError, Global};
@@ -59,7 +60,7 @@ impl<C: SlotCell, O: Outlet> Station<C, O> {
         ensures later { C.moment (cell_in self.old.node.store)
             ≤ C.moment (cell_in self.new.node.store) }
         ensures same_setup { LeavesDevice self.old.node.store self.new.node.store }
-        ensures step { IsPlanned (fits_in (C.slot_capacity (cell_in self.old.node.store))) round
+        ensures step { ComesBy (fits_in (C.slot_capacity (cell_in self.old.node.store))) round
             (crash_plan true (round_later round rounds) (station_view O.taken O.failures self.old))
             (station_view O.taken O.failures self.old) (reply_view result)
             (station_view O.taken O.failures self.new) }
@@ -82,7 +83,7 @@ impl<C: SlotCell, O: Outlet> Station<C, O> {
         ensures refused { OnErr result
             (station_view O.taken O.failures self.new ≡ station_view O.taken O.failures self.old) }
         ensures step { IfOk result
-            (λ reply. IsPlanned (fits_in (C.slot_capacity (cell_in self.old.node.store))) round
+            (λ reply. ComesBy (fits_in (C.slot_capacity (cell_in self.old.node.store))) round
             (recover_plan true (station_view O.taken O.failures self.old))
             (station_view O.taken O.failures self.old) (reply_view reply)
             (station_view O.taken O.failures self.new)) }
@@ -94,7 +95,8 @@ impl<C: SlotCell, O: Outlet> Station<C, O> {
         match self.node.recover(alloc, round) {
             Ok(outcome) => {
                 let state = &self.node.state;
-                Ok(answer_by(back_reply(&state.mode), outcome))
+                let back = back_reply(&state.mode);
+                Ok(answer_by(back, Reply::Refused(Refusal::TooLarge), outcome))
             }
             Err(_) => Err(AllocError),
         }
@@ -124,7 +126,7 @@ impl<C: SlotCell, O: Outlet> Station<C, O> {
         ensures refused { OnErr result
             (station_view O.taken O.failures self.new ≡ station_view O.taken O.failures self.old) }
         ensures step { IfOk result
-            (λ reply. IsPlanned (fits_in (C.slot_capacity (cell_in self.old.node.store))) round
+            (λ reply. ComesBy (fits_in (C.slot_capacity (cell_in self.old.node.store))) round
             (arm_plan fault.call rounds (station_view O.taken O.failures self.old))
             (station_view O.taken O.failures self.old) (reply_view reply)
             (station_view O.taken O.failures self.new)) }

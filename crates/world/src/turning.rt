@@ -12,7 +12,8 @@ ghost use Rattle.protocol.specs.World.Replies.{grant_reply};
 ghost use Rattle.world.specs.ReplyView.{reply_view};
 ghost use Rattle.world.specs.StationView.{outlet_views};
 ghost use Rattle.protocol.specs.World.Turns.{count_grant, turns_of};
-ghost use Rattle.protocol.specs.World.Steps.{IsInstalled, IsPlanned, grant_plan};
+ghost use Rattle.protocol.specs.World.Steps.{IsInstalled, grant_plan};
+ghost use Rattle.world.specs.Coming.{ComesBy};
 ghost use Rattle.world.specs.WorldView.{station_view};
 
 use crate::event::Reply;
@@ -54,7 +55,7 @@ impl<C: SlotCell, O: Outlet> Station<C, O> {
         ensures refused { OnErr result
             (station_view O.taken O.failures self.new ≡ station_view O.taken O.failures self.old) }
         ensures step { IfOk result
-            (λ reply. IsPlanned (fits_in (C.slot_capacity (cell_in self.old.node.store))) round
+            (λ reply. ComesBy (fits_in (C.slot_capacity (cell_in self.old.node.store))) round
             (grant_plan (node_job (network_of net.now.value.program) inputs.now
             (view_of self.old.node)) round (station_view O.taken O.failures self.old))
             (station_view O.taken O.failures self.old) (reply_view reply)

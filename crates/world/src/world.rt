@@ -1,22 +1,24 @@
 //! A world, and its events.
-ghost use Rattle.std.specs.Prelude.{◌≡◌, length, map, slice_get, IfOk, IfErr, OnErr};
+ghost use Rattle.std.specs.Prelude.{◌≡◌, length, map, IfOk, IfErr, OnErr};
 ghost use Rattle.std.specs.List.{AllZip};
 ghost use Rattle.kahn_net.specs.Fits.{Fits};
 ghost use Rattle.kahn_net.specs.Syntax.{network_of};
 ghost use Rattle.protocol.specs.World.EventView.{event_node};
 ghost use Rattle.world.specs.EventView.{event_view};
+ghost use Rattle.protocol.specs.World.Coordination.{AreCoordinated};
 ghost use Rattle.protocol.specs.World.Headline.{AreApproximated};
 ghost use Rattle.kahn_net.specs.Nodes.{node_count};
-ghost use Rattle.protocol.specs.World.Invariant.{AreSound, IsNumbered, WorldInvariant};
+ghost use Rattle.protocol.specs.World.Invariant.{AreJoined, AreSound, IsNumbered, WorldInvariant};
 ghost use Rattle.protocol.specs.World.Pairs.{AreSameElsewhere};
 ghost use Rattle.protocol.specs.World.Traffic.{TrafficIsSound};
 ghost use Rattle.wire.specs.Traffic.{traffic_of};
+ghost use Rattle.world.specs.Coming.{HasActed};
 ghost use Rattle.world.specs.RecoveryLine.{StaysInLine, KeepsLine, HasOneLine};
 ghost use Rattle.protocol.specs.World.Replies.{IsDropped, IsTooLarge, LeavesCells, TakesMemory};
 ghost use Rattle.world.specs.ReplyView.{answer_view, reply_view};
 ghost use Rattle.protocol.specs.World.ReplyView.{Down};
 ghost use Rattle.protocol.specs.World.Roomy.{HasFullRoom};
-ghost use Rattle.protocol.specs.World.Steps.{are_done_with, is_done_with, may_restart, round_after, setting_in, traffic_after, IsAct, IsStep};
+ghost use Rattle.protocol.specs.World.Steps.{are_done_with, is_done_with, may_restart, round_after, setting_in, IsStep};
 ghost use Rattle.world.specs.WorldView.{capacities, rooms, station_view, world_view, IsCellUnchanged, IsGrown, LeavesDeviceAt, RestartsAsArmedAt};
 
 use crate::event::{Event, Refused, Reply};
@@ -32,9 +34,10 @@ use wire::Wire;
 
 /// A network that runs on its inputs: shares of both, its stations, one a node, by node number, and the round.
 ///
-/// Its type keeps that the inputs fit the network, that each station is of the node of its number, that the images of each station stand where its processes have come
-/// on one approximation of the network's histories, that what its outlets took is a beginning of what the processes put
-/// there, and that its permanent image covers all of that.
+/// Its type keeps that the inputs fit the network, that each station is of the node of its number, that the images of each
+/// station stand where its processes have come on one approximation of the network's histories, that what its outlets took
+/// is a beginning of what the processes put there, that its permanent image covers all of that, and that steps of the
+/// abstract machine of recovery lines led to it.
 #[derive(Drop)]
 pub struct World<C: SlotCell, O: Outlet> {
     pub net: Arc<Net>,
@@ -60,6 +63,8 @@ fn act_at<C: SlotCell, O: Outlet>(
     requires fits { Fits (network_of net.now.value.program) inputs.now.value }
     requires sound { AreSound (network_of net.now.value.program) inputs.now.value
         (map (station_view O.taken O.failures) stations.old.items) }
+    requires joined { AreJoined (network_of net.now.value.program)
+        (map (station_view O.taken O.failures) stations.old.items) }
     requires flying { TrafficIsSound (network_of net.now.value.program) inputs.now.value
         (traffic_of wire.old) }
     requires numbered { IsNumbered (map (station_view O.taken O.failures) stations.old.items) }
@@ -67,22 +72,19 @@ fn act_at<C: SlotCell, O: Outlet>(
     requires at { event_node (event_view event.now) ≡ number }
     ensures grown { AllZip (IsGrown O.taken) stations.old.items stations.new.items }
     ensures line { AllZip (StaysInLine O.taken O.failures
-        (network_of net.now.value.program)) stations.old.items stations.new.items }
+        (setting_in (network_of net.now.value.program) inputs.now.value (traffic_of wire.old)
+        (may_restart (length stations.old.items)) round) (event_view event.now))
+        stations.old.items stations.new.items }
     ensures refused { OnErr result
         ((map (station_view O.taken O.failures) stations.new.items
         ≡ map (station_view O.taken O.failures) stations.old.items)
         × TakesMemory (event_view event.now)) }
-    ensures step { IfOk result
-        (λ reply. IsAct (setting_in (network_of net.now.value.program) inputs.now.value
+    ensures come { IfOk result
+        (λ reply. HasActed (setting_in (network_of net.now.value.program) inputs.now.value
         (traffic_of wire.old) (may_restart (length stations.old.items)) round) number
         (rooms stations.old.items) (event_view event.now)
         (map (station_view O.taken O.failures) stations.old.items) (reply_view reply)
-        (map (station_view O.taken O.failures) stations.new.items)) }
-    ensures traffic { IfOk result
-        (λ reply. traffic_of wire.new ≡ traffic_after
-        (setting_in (network_of net.now.value.program) inputs.now.value (traffic_of wire.old)
-        (may_restart (length stations.old.items)) round) (event_view event.now) (reply_view reply)
-        (slice_get (map (station_view O.taken O.failures) stations.old.items) number)) }
+        (map (station_view O.taken O.failures) stations.new.items) (traffic_of wire.new)) }
     ensures same_traffic { OnErr result (traffic_of wire.new ≡ traffic_of wire.old) }
     ensures same_capacities { capacities stations.new.items ≡ capacities stations.old.items }
     ensures device { LeavesDeviceAt (event_view event.now) (answer_view result)
@@ -160,12 +162,16 @@ impl<C: SlotCell, O: Outlet> World<C, O> {
         // event leaves covers all that has left; and no event both lets an item leave and writes a record.
         ensures grown { HaveGrown self.old self.new }
         // Whatever a crash of all nodes leaves at moments of the event spells a record of each, and the line from which
-        // they would then restart covers all that has left, isn't behind the line before the event, and is sound where
-        // the network is on one node.
+        // they would then restart is sound, covers all that has left, and isn't behind the line before the event.
         ensures line { KeepsLine O.taken O.failures (network_of self.old.net.value.program)
             self.old.stations.items self.new.stations.items }
         // By the end of the event one line alone is possible: that of the records which the nodes keep.
         ensures settled { HasOneLine O.taken O.failures self.new.stations.items }
+        // Checkpoints that several nodes take together are coordinated: an instance is decided only while all whom the
+        // decision names hold it, and stays so until it is permanent there; what is said to be ended is over, and stays
+        // over; and whoever takes part had to.
+        ensures coordinated { AreCoordinated (network_of self.old.net.value.program)
+            (world_of self.old).stations (world_of self.new).stations (world_of self.new).traffic }
         // Each stream that has left is a prefix of its channel's history in one approximation on the inputs, the same
         // for all streams of the world.
         ensures prefix { AreApproximated (world_of self.new) }

@@ -10,13 +10,15 @@ use Rattle.record.specs.Ends.{received_of}
 use Rattle.record.specs.ImageView.{ImageView}
 use Rattle.record.specs.RecordView.{RecordView}
 use Rattle.record.specs.declared.record.Tentative.{Tentative}
+use Rattle.record.specs.declared.record.TheConstants.{MAX_DECISIONS}
 use Rattle.recovery_line.specs.Nodes.{Answer}
 use Rattle.recovery_line.specs.Observers.{has_node}
-use Rattle.protocol.specs.Join.Beginning.{live_in}
+use Rattle.protocol.specs.Node.Beginning.{live_in}
 use Rattle.protocol.specs.Join.Seen.{questions_seen}
 use Rattle.protocol.specs.Node.Addresses.{are_nodes, producer_node}
 use Rattle.protocol.specs.Node.Layout.{is_incoming, is_outgoing}
 use Rattle.protocol.specs.Node.LiveView.{LiveView}
+use Rattle.protocol.specs.Node.NodeView.{InDoubt}
 use Rattle.protocol.specs.World.StationView.{StationView}
 
 -- another node of the network
@@ -52,13 +54,18 @@ pub record DecisionIsSound (net : Network) (home : ℕ) (decision : DecisionView
   pub number : IsPositive decision.number
   pub others : (p : ℕ) → has_node p decision.participants ≡ true → IsOther net home p
 
--- A record lists a number for each node of the network; and what it holds and what it decided may be said.
+-- A record lists a number for each node of the network; what it holds and what it decided may be said; and while an
+-- image of the node's own is held there is room for one decision more.
 pub record KeepsNodes (net : Network) (home : ℕ) (kept : RecordView) : Type 0 where
   pub listed : length kept.highest ≡ node_count net
   pub held : (held : Tentative) → kept.tentative ≡ Some held → HeldIsSound net home held
   pub decisions : (i : ℕ) (d : DecisionView) → slice_get kept.decisions i ≡ Some d → DecisionIsSound net home d
+  pub room : (held : Tentative) → kept.tentative ≡ Some held → held.initiator ≡ home
+      → length kept.decisions < MAX_DECISIONS
 
--- so it is of a station's record, and of what its node collects
+-- So it is of a station's record, and of what its node collects; and no node is in doubt: nodes come back in a world of
+-- one alone so far, and that one holds no image but its own.
 pub record IsJoined (net : Network) (station : StationView) : Type 0 where
+  pub sure : station.node.mode ≢ InDoubt
   pub kept : KeepsNodes net station.number station.node.kept
   pub live : (live : LiveView) → live_in station.node.mode ≡ Some live → LiveIsSound net station.number live

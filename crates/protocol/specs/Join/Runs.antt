@@ -1,5 +1,5 @@
 -- That a world has come about by steps of the abstract machine.
-use Rattle.std.specs.Prelude.{◌≡◌, ℕ, List, Some, All, slice_get}
+use Rattle.std.specs.Prelude.{◌≡◌, ℕ, List, [], ◌∷◌, Some, All, slice_get}
 use Rattle.datagram.specs.PacketText.{IsPacketText}
 use Rattle.datagram.specs.declared.packet.Packet.{Packet as Datagram}
 use Rattle.kahn_net.specs.Syntax.{Network}
@@ -12,9 +12,22 @@ use Rattle.protocol.specs.Join.Seen.{packet_seen, world_seen}
 use Rattle.protocol.specs.World.RecoveryLine.{net_seen}
 use Rattle.protocol.specs.World.StationView.{StationView}
 
--- some steps lead from one world to another
-abbrev pub Leads : Net → World → World → Type 0
-Leads net w v = (worlds : List World) × Run net w worlds v
+-- in each of these worlds the records are those of this one
+abbrev pub KeepRecords : World → List World → Type 0
+KeepRecords w [] = Unit {0}
+KeepRecords w (u ∷ worlds) = (u.records ≡ w.records) × KeepRecords w worlds
+
+-- of the steps that lead to these worlds none but the first writes a record
+abbrev pub WriteAtFirst : List World → Type 0
+WriteAtFirst [] = Unit {0}
+WriteAtFirst (u ∷ worlds) = KeepRecords u worlds
+
+-- Some steps lead from one world to another, of which none but the first writes a record. So what is true of two
+-- worlds of which a step leads from one to the other, and speaks of their records alone, is true of these.
+pub record Leads (net : Net) (w v : World) : Type 0 where
+  pub worlds : List World
+  pub run : Run net w worlds v
+  pub once : WriteAtFirst worlds
 
 abbrev pub WasSent : List Packet → Packet → Type 0
 WasSent sent packet = (place : ℕ) × (slice_get sent place ≡ Some packet)
@@ -35,3 +48,13 @@ pub record HasRun (net : Network) (stations : List StationView) (traffic : Traff
   pub sent : List Packet
   pub reached : Reachable (net_seen net) (world_seen stations sent)
   pub carries : Carries traffic sent
+
+-- A world goes on: it has run, and steps lead from it to these stations, in which whatever is in flight then was sent,
+-- if it wasn't before. So what is true of two worlds of the machine of which one comes after the other is true of
+-- these.
+pub record RunsOn (net : Network) (before : List StationView) (traffic : Traffic) (after : List StationView)
+    (flown : Traffic) : Type 0 where
+  pub run : HasRun net before traffic
+  pub sent : List Packet
+  pub leads : Leads (net_seen net) (world_seen before run.sent) (world_seen after sent)
+  pub carries : Carries flown sent

@@ -9,6 +9,7 @@ use Rattle.recovery_line.specs.Nodes.{Answer, Live, Mode, Down, In_doubt, Runnin
 use Rattle.recovery_line.specs.Observers.{has_node, image_seen, record_seen}
 use Rattle.recovery_line.specs.Packets.{Packet, Kept, Ask, Took, Covered, Query, Commit, Ended, Settled}
 use Rattle.recovery_line.specs.Worlds.{World}
+use Rattle.protocol.specs.Node.Beginning.{in_front}
 use Rattle.protocol.specs.Node.LiveView.{QuestionView, LiveView}
 use Rattle.protocol.specs.Node.NodeView.{ModeView}
 use Rattle.protocol.specs.Node.NodeView as view
@@ -85,11 +86,6 @@ body_seen from to (says.Undone channel epoch sent) = None
 
 abbrev pub packet_seen : Datagram → Option Packet
 packet_seen packet = body_seen packet.from packet.to packet.body
-
--- a packet, if there is one, in front of others
-abbrev pub in_front : {A : Type 0} → Option A → List A → List A
-in_front None others = others
-in_front (Some packet) others = packet ∷ others
 
 abbrev pub all_seen : List Datagram → List Packet
 all_seen [] = []

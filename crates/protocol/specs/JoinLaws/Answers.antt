@@ -21,16 +21,16 @@ use Rattle.recovery_line.specs.Observers.{image_seen, record_seen}
 use Rattle.recovery_line.specs.Packets.{Packet, Ask, Took, Covered, AreNeeds, HearsAsk}
 use Rattle.recovery_line.specs.Records.{Record}
 use Rattle.recovery_line.specs.Worlds.{World, InFlight, MaySend}
-use Rattle.protocol.specs.Join.Answering.{AskAnswer, Silent, CoveredBefore, TookBefore, TakesNow, Declines, holds}
-use Rattle.protocol.specs.Join.Answering.{is_past}
-use Rattle.protocol.specs.Join.Answering.{answer_of_holder, answer_of_free, answer_above, answer_to_ask}
-use Rattle.protocol.specs.Join.Answering.{with_current_as, kept_then, took_packet, answer_packets}
-use Rattle.protocol.specs.Join.Needs.{held_needs}
+use Rattle.protocol.specs.Node.Answering.{AskAnswer, Silent, CoveredBefore, TookBefore, TakesNow, Declines, holds}
+use Rattle.protocol.specs.Node.Answering.{is_past}
+use Rattle.protocol.specs.Node.Answering.{answer_of_holder, answer_of_free, answer_above, answer_to_ask}
+use Rattle.protocol.specs.Node.Answering.{with_current_as, kept_then, took_packet, answer_packets}
+use Rattle.protocol.specs.Node.Needs.{held_needs}
 use Rattle.protocol.specs.Join.Runs.{Leads, WasSent}
 use Rattle.protocol.specs.Join.Seen.{live_seen, mode_seen, need_of, all_seen, world_seen}
 use Rattle.protocol.specs.JoinLaws.Holding.{at_most, above, not_below, up_seen, IsHeld, held_seen}
 use Rattle.protocol.specs.JoinLaws.Crossings.{both_true}
-use Rattle.protocol.specs.JoinLaws.Leading.{leads_here, leads_by, leads_on, hears, outlets_same, record_at, mode_at}
+use Rattle.protocol.specs.JoinLaws.Leading.{leads_here, leads_by, leads_then, hears, outlets_same, record_at, mode_at}
 use Rattle.protocol.specs.JoinLaws.Leading.{set_there, unseen}
 use Rattle.protocol.specs.JoinLaws.NeedLaws.{are_needs}
 use Rattle.protocol.specs.JoinLaws.Sent.{MaySendAll, sends}
@@ -217,12 +217,11 @@ module _ (net : Network) (valid : IsValid net) (stations : List StationView) (k 
   tells kept packet may leads =
       let later = slice_set stations k (Now kept) in
       let here = set_there stations k old (Now kept) there in
-      leads_on (net_seen net) (world_seen stations sent) (world_seen later sent) _ leads
-      (leads_by (net_seen net) (world_seen later sent) _
+      leads_then (net_seen net) (world_seen stations sent) (world_seen later sent) _ leads
       (sends (net_seen net) later (packet ∷ []) sent
       (may (world_seen later sent) asked
       (λ down. up_seen old.node.mode up (sym (mode_at later k (Now kept) here) ∙ down))
-      (record_at later k (Now kept) here))))
+      (record_at later k (Now kept) here))) refl
 
   as_before : Leads (net_seen net) (world_seen stations sent)
       (world_seen (slice_set stations k (Now old.node.kept)) sent)

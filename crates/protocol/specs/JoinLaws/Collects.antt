@@ -19,16 +19,17 @@ use Rattle.recovery_line.specs.Nodes.{Answer, Awaited, By_took, By_covered, Mode
 use Rattle.recovery_line.specs.Observers.{image_seen, record_seen}
 use Rattle.recovery_line.specs.Packets.{Packet, Covered, Took, HearsCovered, HearsTook}
 use Rattle.recovery_line.specs.Worlds.{World, IsLive, MaySend}
-use Rattle.protocol.specs.Join.Beginning.{ask_on, collecting}
-use Rattle.protocol.specs.Join.Collecting.{was_asked, with_answer, is_open_at, awaits, with_covered, hearing_covered}
-use Rattle.protocol.specs.Join.Collecting.{needs_no_question, new_question, with_need, with_needs, new_ask, new_asks}
-use Rattle.protocol.specs.Join.Collecting.{joined_live, is_met, are_met, given_up}
+use Rattle.protocol.specs.Node.Beginning.{ask_on, collecting}
+use Rattle.protocol.specs.Node.Collecting.{was_asked, with_answer, is_open_at, awaits, with_covered, hearing_covered}
+use Rattle.protocol.specs.Node.Collecting.{needs_no_question, new_question, with_need, with_needs, new_ask, new_asks}
+use Rattle.protocol.specs.Node.Collecting.{joined_live, is_met, are_met, given_up}
 use Rattle.protocol.specs.Join.Runs.{Leads, WasSent}
-use Rattle.protocol.specs.Join.Seen.{need_of, question_seen, questions_seen, live_seen, mode_seen, in_front, all_seen}
+use Rattle.protocol.specs.Join.Seen.{need_of, question_seen, questions_seen, live_seen, mode_seen, all_seen}
+use Rattle.protocol.specs.Node.Beginning.{in_front}
 use Rattle.protocol.specs.Join.Seen.{node_seen, world_seen}
 use Rattle.protocol.specs.JoinLaws.Crossings.{both_true, cross_within, producer_is}
 use Rattle.protocol.specs.JoinLaws.Holding.{at_most, IsHeld, held_seen, named_so}
-use Rattle.protocol.specs.JoinLaws.Leading.{leads_here, leads_by, leads_on, acts, hears, outlets_same, mode_at}
+use Rattle.protocol.specs.JoinLaws.Leading.{leads_here, leads_by, leads_then, acts, hears, outlets_same, mode_at}
 use Rattle.protocol.specs.JoinLaws.Leading.{set_there}
 use Rattle.protocol.specs.JoinLaws.Leading.{unseen}
 use Rattle.protocol.specs.JoinLaws.Questions.{question_at, open_at, asked_within, set_question, answer_here}
@@ -327,7 +328,7 @@ module _ (net : Network) (stations : List StationView) (k : ℕ) (old : StationV
     joined_leads p c n m to needs cross few came wide number asked at met =
         let new = Now (Runs (collecting (Some (joined_live net k p c needs live)) running)) in
         let later = slice_set stations k new in
-        leads_on (net_seen net) (world_seen stations sent) (world_seen later sent) _
+        leads_then (net_seen net) (world_seen stations sent) (world_seen later sent) _
         (leads_by (net_seen net) (world_seen stations sent) (world_seen later sent)
         (hears stations k old new there (net_seen net) sent (outlets_same stations k old new there refl)
         (Took k n c m (need_of needs)) came (
@@ -338,10 +339,9 @@ module _ (net : Network) (stations : List StationView) (k : ℕ) (old : StationV
               (hears_took net k p c n to needs cross old.node.kept running (outlets_seen stations) live live_is number
               asked at met wide),
         )))
-        (leads_by (net_seen net) (world_seen later sent) _
         (sends (net_seen net) later (new_asks net k live.number needs (with_answer By_took c live.questions)) sent
         (new_may net k (world_seen later sent) (joined_live net k p c needs live)
         (ap live_of (mode_at later k new (set_there stations k old new there))) needs
         (with_answer By_took c live.questions)
         (λ i need there_is. (let below = few i need there_is in
-        let same = answer_length live.questions c By_took in omega (arith, below, same, wide))) refl)))
+        let same = answer_length live.questions c By_took in omega (arith, below, same, wide))) refl)) refl

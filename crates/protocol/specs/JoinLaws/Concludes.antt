@@ -21,20 +21,20 @@ use Rattle.recovery_line.specs.Observers.{has_node, image_seen, record_seen, dec
 use Rattle.recovery_line.specs.Packets.{Packet}
 use Rattle.recovery_line.specs.Records.{Record, Holds}
 use Rattle.recovery_line.specs.Worlds.{World, Reachable}
-use Rattle.protocol.specs.Join.Beginning.{collecting, live_in}
-use Rattle.protocol.specs.Join.Collecting.{is_awaited, is_open}
-use Rattle.protocol.specs.Join.Answering.{holds}
+use Rattle.protocol.specs.Node.Beginning.{collecting, live_in}
+use Rattle.protocol.specs.Node.Collecting.{is_awaited, is_open}
+use Rattle.protocol.specs.Node.Answering.{holds}
 use Rattle.protocol.specs.Join.Runs.{Leads}
 use Rattle.protocol.specs.Join.Seen.{question_seen, questions_seen, live_seen, mode_seen, all_seen, world_seen}
-use Rattle.protocol.specs.Join.Verdicts.{all_answered, is_ready, participants_of, decision_on, decided_now, concluded}
-use Rattle.protocol.specs.Join.Verdicts.{commit_to, commit_packets}
+use Rattle.protocol.specs.Node.Verdicts.{all_answered, may_decide, participants_of, decision_on, decided_now, concluded}
+use Rattle.protocol.specs.Node.Verdicts.{commit_to, commit_packets}
 use Rattle.protocol.specs.JoinLaws.Crossings.{both_true}
 use Rattle.protocol.specs.JoinLaws.Holding.{IsHeld, held_where, held_seen}
-use Rattle.protocol.specs.JoinLaws.Leading.{leads_by, leads_on, acts, outlets_same, record_at, mode_at, set_there}
+use Rattle.protocol.specs.JoinLaws.Leading.{leads_by, leads_then, acts, outlets_same, record_at, mode_at, set_there}
 use Rattle.protocol.specs.JoinLaws.NeedLaws.{has_where, has_where_below}
 use Rattle.protocol.specs.JoinLaws.Sent.{MaySendAll, sends}
 use Rattle.protocol.specs.Node.LiveView.{QuestionView, LiveView}
-use Rattle.protocol.specs.Node.NodeView.{ModeView, Down, Runs, RunningView, on_mode}
+use Rattle.protocol.specs.Node.NodeView.{ModeView, Runs, RunningView, on_mode}
 use Rattle.protocol.specs.World.RecoveryLine.{net_seen, record_or_new, records_of, records_seen, outlets_seen}
 use Rattle.protocol.specs.World.StationView.{StationView}
 use Rattle.protocol.specs.World.Steps.{moved_to}
@@ -94,7 +94,7 @@ same_nodes nodes takers few p = elim (above_or p nodes) [
 
 -- ---- as a step of one node
 
-module _ (home : ℕ) (kept : RecordView) (live : LiveView) (ready : is_ready home kept (Some live) ≡ true)
+module _ (home : ℕ) (kept : RecordView) (live : LiveView) (ready : may_decide home kept (Some live) ≡ true)
     (few : (p : ℕ) → has_node p live.takers ≡ true → p < length kept.highest)
     (older : (n : ℕ) → decides kept.decisions n ≡ true → n < live.number) where
   pub own_held : IsHeld home live.number kept.tentative
@@ -123,7 +123,7 @@ module _ (home : ℕ) (kept : RecordView) (live : LiveView) (ready : is_ready ho
           (λ n is. (let below = older n is in let same = own_held.number in omega (arith, below, same)))))
 
 concludes : (net : Net) (home : ℕ) (kept : RecordView) (running : RunningView) (left : ℕ → ℕ) (live : LiveView)
-    → running.live ≡ Some live → is_ready home kept (Some live) ≡ true
+    → running.live ≡ Some live → may_decide home kept (Some live) ≡ true
     → ((p : ℕ) → has_node p live.takers ≡ true → p < length kept.highest)
     → ((n : ℕ) → decides kept.decisions n ≡ true → n < live.number)
     → NodeStep net home (record { disk = record_seen kept; mode = mode_seen (Runs running); outlets = left })
@@ -183,7 +183,7 @@ module _ (net : Network) (stations : List StationView) (k : ℕ) (old : StationV
           omega (arith, within, same)
 
   module _ (running : RunningView) (is : old.node.mode ≡ Runs running) (live : LiveView)
-      (live_is : running.live ≡ Some live) (ready : is_ready k old.node.kept (Some live) ≡ true) where
+      (live_is : running.live ≡ Some live) (ready : may_decide k old.node.kept (Some live) ≡ true) where
     seen_live : (world_seen stations sent).modes k ≡ Mode.Running (image_seen running.current) (Some (live_seen live))
     seen_live =
         mode_at stations k old there ∙ (ap mode_seen is
@@ -214,15 +214,14 @@ module _ (net : Network) (stations : List StationView) (k : ℕ) (old : StationV
         let new = moved_to (concluded old.node) failures turns old in
         let later = slice_set stations k new in
         let here = set_there stations k old new there in
-        leads_on (net_seen net) (world_seen stations sent) (world_seen later sent) _
+        leads_then (net_seen net) (world_seen stations sent) (world_seen later sent) _
         (leads_by (net_seen net) (world_seen stations sent) (world_seen later sent)
         (acts stations k old new there (net_seen net) sent (outlets_same stations k old new there refl) step))
-        (leads_by (net_seen net) (world_seen later sent) _
         (sends (net_seen net) later (commit_packets k (length old.node.kept.highest) (Some live)) sent
         (commits_may (net_seen net) (world_seen later sent) k live.number
         (participants_of (length old.node.kept.highest) live.takers)
         (λ down. some_not_none (ap current_of down) (ap current_of (mode_at later k new here ∙ mode_now)))
-        (λ p named. (names_it later (record_at later k new here) p named)))))
+        (λ p named. (names_it later (record_at later k new here) p named)))) refl
       where
         live_now : live_in old.node.mode ≡ Some live
         live_now = ap live_in is ∙ live_is

@@ -12,11 +12,11 @@ use Rattle.record.specs.Moves.{highest_seen}
 use Rattle.recovery_line.specs.Observers.{record_seen}
 use Rattle.recovery_line.specs.Packets.{Packet}
 use Rattle.recovery_line.specs.Worlds.{Reachable}
-use Rattle.protocol.specs.Join.Beginning.{live_in, live_asks, may_begin, begun, begin_prospect}
+use Rattle.protocol.specs.Node.Beginning.{live_in, live_asks, may_start, begun, start_prospect}
 use Rattle.protocol.specs.Join.Joined.{IsJoined}
 use Rattle.protocol.specs.Join.Runs.{Leads}
 use Rattle.protocol.specs.Join.Seen.{mode_seen, all_seen, world_seen}
-use Rattle.protocol.specs.Join.Verdicts.{is_ready, concluded, commit_packets, conclude_prospect}
+use Rattle.protocol.specs.Node.Verdicts.{may_decide, concluded, commit_packets, decide_prospect}
 use Rattle.protocol.specs.JoinLaws.Concludes.{conclude_by}
 use Rattle.protocol.specs.JoinLaws.Hears.{mode_unseen}
 use Rattle.protocol.specs.JoinLaws.Leading.{leads_here, unseen}
@@ -58,10 +58,10 @@ module _ (net : Network) (stations : List StationView) (k : ℕ) (old : StationV
         let listed = joined.kept.listed in
         omega (arith, within, listed, count)
 
-    pub starts_lead : IsValid net → ProspectLeads net stations k old sent (begin_prospect net k old.node)
-    starts_lead valid = by (may_begin old.node) refl (nat_lt (highest_seen k old.node.kept) MAX_COUNT)
+    pub starts_lead : IsValid net → ProspectLeads net stations k old sent (start_prospect net k old.node)
+    starts_lead valid = by (may_start old.node) refl (nat_lt (highest_seen k old.node.kept) MAX_COUNT)
       where
-        by : (due : Bool) → may_begin old.node ≡ due → (less : Bool)
+        by : (due : Bool) → may_start old.node ≡ due → (less : Bool)
             → ProspectLeads net stations k old sent
             (if_due due (unless_spent false less (Planned (record {
               node = begun net k old.node;
@@ -79,8 +79,8 @@ module _ (net : Network) (stations : List StationView) (k : ℕ) (old : StationV
           keeps = λ e. absurd (cc);
         }
 
-    pub concludes_lead : ProspectLeads net stations k old sent (conclude_prospect k old.node)
-    concludes_lead = by (live_in old.node.mode) refl (is_ready k old.node.kept (live_in old.node.mode)) refl
+    pub concludes_lead : ProspectLeads net stations k old sent (decide_prospect k old.node)
+    concludes_lead = by (live_in old.node.mode) refl (may_decide k old.node.kept (live_in old.node.mode)) refl
       where
         runs : (mode : ModeView) (live : LiveView) → live_in mode ≡ Some live
             → (running : RunningView) × (mode ≡ Runs running) × (running.live ≡ Some live)
@@ -89,7 +89,7 @@ module _ (net : Network) (stations : List StationView) (k : ℕ) (old : StationV
         runs (Runs running) live is = (running, refl, is)
 
         by : (o : Option LiveView) → live_in old.node.mode ≡ o → (ready : Bool)
-            → is_ready k old.node.kept (live_in old.node.mode) ≡ ready
+            → may_decide k old.node.kept (live_in old.node.mode) ≡ ready
             → ProspectLeads net stations k old sent
             (if_due ready (Planned (record {
               node = concluded old.node;
@@ -100,13 +100,13 @@ module _ (net : Network) (stations : List StationView) (k : ℕ) (old : StationV
             })))
         by o is false ready = tt
         by None is true ready =
-            absurd (let bad : is_ready k old.node.kept None ≡ true =
-            ap (is_ready k old.node.kept) (sym is) ∙ ready in cc)
+            absurd (let bad : may_decide k old.node.kept None ≡ true =
+            ap (may_decide k old.node.kept) (sym is) ∙ ready in cc)
         by (Some live) is true ready = record {
           leads = λ failures turns.
               let at = runs old.node.mode live is in
-              let enough : is_ready k old.node.kept (Some live) ≡ true =
-              ap (is_ready k old.node.kept) (sym is) ∙ ready in
+              let enough : may_decide k old.node.kept (Some live) ≡ true =
+              ap (may_decide k old.node.kept) (sym is) ∙ ready in
               let listed : length old.node.kept.highest ≡ length stations =
               (let one = joined.kept.listed in omega (arith, one, count)) in
               subst (λ (o : Option LiveView). Leads (net_seen net) (world_seen stations sent)

@@ -1,5 +1,6 @@
 -- Whatever event happens, a world goes on being one to which steps of the abstract machine have led.
-use Rattle.std.proofs.Common.{◌≡◌, ℕ, ◌<◌, ◌&&◌, Bool, true, false, cond, List, ℤ, length, Option, Some, None}
+use Rattle.std.proofs.Common.{◌≡◌, ◌⊎◌, inl, inr, ℕ, ◌<◌, ◌&&◌, Bool, true, false, cond, List, ℤ, length, Option, Some}
+use Rattle.std.proofs.Common.{None}
 use Rattle.std.proofs.Common.{option_map, refl, sym, ap, subst, ◌∙◌, arith}
 use Rattle.std.specs.Prelude.{◌==◌, nat_lt, not, slice_get, slice_set}
 use Rattle.std.proofs.lemmas.Bool.{eq-eqb, ltb-true}
@@ -15,16 +16,16 @@ use Rattle.recovery_line.specs.Packets.{Packet}
 use Rattle.wire.proofs.Passing.{arrived_passes}
 use Rattle.wire.specs.Traffic.{Traffic, all_sent, flights_to}
 use Rattle.wire.specs.declared.queue.Flight.{Flight}
-use Rattle.protocol.specs.Join.Beginning.{live_in}
-use Rattle.protocol.specs.Join.Deeds.{come_plan}
-use Rattle.protocol.specs.Join.Hearing.{hear_prospect, told_prospect, come_prospect}
+use Rattle.protocol.specs.Node.Beginning.{live_in}
+use Rattle.protocol.specs.World.Steps.{deliver_plan}
+use Rattle.protocol.specs.Node.Hearing.{hear_prospect, told_prospect, deliver_prospect}
 use Rattle.protocol.specs.Join.Joined.{IsJoined}
-use Rattle.protocol.specs.Join.Promises.{traffic_by}
-use Rattle.protocol.specs.Join.Runs.{Leads, SaysWhatWasSent, Carries, HasRun}
+use Rattle.protocol.specs.JoinLaws.Promises.{traffic_by}
+use Rattle.protocol.specs.Join.Runs.{Leads, SaysWhatWasSent, Carries, HasRun, RunsOn}
 use Rattle.protocol.specs.Join.Seen.{body_seen, live_seen, mode_seen, node_seen, world_seen}
 use Rattle.protocol.specs.JoinLaws.Crossings.{both_true, true_both}
 use Rattle.protocol.specs.JoinLaws.Hears.{hear_leads}
-use Rattle.protocol.specs.JoinLaws.Leading.{leads_here, leads_by, leads_on, acts, outlets_same, set_itself}
+use Rattle.protocol.specs.JoinLaws.Leading.{leads_here, leads_by, acts, outlets_same, set_itself}
 use Rattle.protocol.specs.JoinLaws.Leaves.{release_leads}
 use Rattle.protocol.specs.JoinLaws.Plans.{ProspectLeads, stays_run, made_run}
 use Rattle.protocol.specs.JoinLaws.Works.{turn_works}
@@ -43,9 +44,8 @@ use Rattle.protocol.specs.World.EventView.{NetworkAct}
 use Rattle.protocol.specs.World.EventView as event
 use Rattle.protocol.specs.World.Invariant.{AreSound, IsNumbered, StationInvariant}
 use Rattle.protocol.specs.World.RecoveryLine.{net_seen, outlets_seen}
-use Rattle.protocol.specs.World.Replies.{has_happened, outcome_of}
+use Rattle.protocol.specs.World.Replies.{answer_by, has_happened}
 use Rattle.protocol.specs.World.ReplyView.{ReplyView}
-use Rattle.protocol.specs.World.ReplyView as reply
 use Rattle.protocol.specs.World.StationView.{StationView}
 use Rattle.protocol.specs.World.Steps.{StationPlan, moved_to, turns_by, plan_sendings, traffic_left, traffic_acted}
 use Rattle.protocol.specs.World.Steps.{next_release, IsPlanned, IsInstalled, IsRelease, first_waiting}
@@ -53,32 +53,35 @@ use Rattle.protocol.specs.World.Traffic.{SpellsSound}
 use Rattle.protocol.specs.WorldLaws.FlightLaws.{gone_holds, delayed_holds, repeated_holds}
 use Rattle.protocol.specs.declared.outcome.Outcome.{Outcome}
 use Rattle.protocol.specs.declared.outcome.Outcome.TheVariants as outcome
+use Rattle.protocol.specs.declared.outcome.Refusal.TheVariants.{TooLarge, Spent}
 
-nothing_happened : (answer : ReplyView) → has_happened answer ≡ false → answer ≡ reply.NotDue
-nothing_happened reply.NotDue is = refl
-nothing_happened reply.Acted is = absurd (cc)
-nothing_happened reply.Delivered is = absurd (cc)
-nothing_happened reply.Dropped is = absurd (cc)
-nothing_happened (reply.Granted job) is = absurd (cc)
-nothing_happened reply.Installed is = absurd (cc)
-nothing_happened reply.Discarded is = absurd (cc)
-nothing_happened reply.Sent is = absurd (cc)
-nothing_happened reply.Started is = absurd (cc)
-nothing_happened reply.Decided is = absurd (cc)
-nothing_happened (reply.Released channel count) is = absurd (cc)
-nothing_happened reply.OutletFailed is = absurd (cc)
-nothing_happened reply.Crashed is = absurd (cc)
-nothing_happened reply.Recovered is = absurd (cc)
-nothing_happened reply.InDoubt is = absurd (cc)
-nothing_happened reply.Idled is = absurd (cc)
-nothing_happened reply.Down is = absurd (cc)
-nothing_happened (reply.Refused refusal) is = absurd (cc)
+-- ---- a deed that is answered as if it hadn't happened
 
-undue_stays : (restart : ℕ) (prospect : Prospect) (old new : NodeView) → IsMade restart prospect old outcome.NotDue new
-    → new ≡ old
-undue_stays restart Undue old new step = step.1
-undue_stays restart (Exhausted looks) old new step = absurd step
-undue_stays restart (Planned plan) old new step = absurd step
+-- a plan can't happen, or what is answered tells that it did
+abbrev pub AnswersSo : StationPlan → Type 0
+AnswersSo plan =
+    (plan.prospect ≡ Undue) ⊎ ((has_happened plan.answer ≡ true) × (has_happened plan.declined ≡ true))
+
+-- the node is as it was then
+node_stays : (restart : ℕ) (plan : StationPlan) (old new : NodeView) (answer : ReplyView) → AnswersSo plan
+    → has_happened answer ≡ false → (came : Outcome) → IsMade restart plan.prospect old came new
+    → answer ≡ answer_by plan.answer plan.declined came → new ≡ old
+node_stays restart plan old new answer (inl undue) none came step is =
+    (subst (λ (p : Prospect). IsMade restart p old came new) undue step).1
+node_stays restart plan old new answer (inr tells) none outcome.NotDue step is = by plan.prospect step
+  where
+    by : (prospect : Prospect) → IsMade restart prospect old outcome.NotDue new → new ≡ old
+    by Undue made = made.1
+    by (Exhausted looks) made = absurd made
+    by (Planned whole) made = absurd made
+node_stays restart plan old new answer (inr tells) none outcome.Made step is =
+    absurd (let some = ap has_happened is ∙ tells.0 in cc)
+node_stays restart plan old new answer (inr tells) none (outcome.Refused TooLarge) step is =
+    absurd (let some = ap has_happened is ∙ tells.1 in cc)
+node_stays restart plan old new answer (inr tells) none (outcome.Refused Spent) step is =
+    absurd (let some : has_happened answer ≡ true = ap has_happened is in cc)
+node_stays restart plan old new answer (inr tells) none outcome.Failed step is =
+    absurd (let some : has_happened answer ≡ true = ap has_happened is in cc)
 
 left_carries : (traffic : Traffic) (k : ℕ) (came : Option ℕ) (sent : List Packet) → Carries traffic sent
     → Carries (traffic_left traffic k came) sent
@@ -97,30 +100,27 @@ module _ (net : Network) (stations : List StationView) (k : ℕ) (old : StationV
   -- ---- a deed of a node, by its plan
 
   pub planned_run : (run : HasRun net stations traffic) (fits : RecordView → Bool) (round : ℕ) (plan : StationPlan)
-      (answer : ReplyView) (new : StationView) → ProspectLeads net stations k old run.sent plan.prospect
-      → IsPlanned fits round plan old answer new
-      → HasRun net (slice_set stations k new) (traffic_by traffic k round plan answer)
-  planned_run run fits round plan answer new leads step = by (has_happened answer) refl
+      (came : Outcome) (answer : ReplyView) (new : StationView) → AnswersSo plan
+      → ProspectLeads net stations k old run.sent plan.prospect → IsPlanned fits round plan came old answer new
+      → RunsOn net stations traffic (slice_set stations k new) (traffic_by traffic k round plan came answer)
+  planned_run run fits round plan came answer new so leads step = by (has_happened answer) refl
     where
       by : (b : Bool) → has_happened answer ≡ b
-          → HasRun net (slice_set stations k new)
-          (cond b (all_sent round (plan_sendings plan answer) (traffic_left traffic k plan.came)) traffic)
+          → RunsOn net stations traffic (slice_set stations k new)
+          (cond b (all_sent round (plan_sendings plan came) (traffic_left traffic k plan.came)) traffic)
       by true happened =
-          subst (λ (s : StationView). HasRun net (slice_set stations k s)
-          (all_sent round (plan_sendings plan answer) (traffic_left traffic k plan.came))) (sym step.same)
+          subst (λ (s : StationView). RunsOn net stations traffic (slice_set stations k s)
+          (all_sent round (plan_sendings plan came) (traffic_left traffic k plan.came))) (sym step.same)
           (made_run net stations k old there traffic run (restart_after old.node.armed step.call round) round
-          plan.prospect
-          (outcome_of answer) new.node new.failures
-          (turns_by plan.turns old.turns (outcome_of answer)) (traffic_left traffic k plan.came) leads
-          (left_carries traffic k plan.came run.sent run.carries) step.step step.allowed)
+          plan.prospect came new.node new.failures (turns_by plan.turns old.turns came)
+          (traffic_left traffic k plan.came) leads (left_carries traffic k plan.came run.sent run.carries) step.step
+          step.allowed)
       by false none =
-          let came = ap outcome_of (nothing_happened answer none) in
-          subst (λ (s : StationView). HasRun net (slice_set stations k s) traffic) (sym step.same)
-          (stays_run net stations k old there traffic run new.node new.failures
-          (turns_by plan.turns old.turns (outcome_of answer)) traffic
-          (undue_stays (restart_after old.node.armed step.call round) plan.prospect old.node new.node
-          (subst (λ (o : Outcome). IsMade (restart_after old.node.armed step.call round) plan.prospect old.node o
-          new.node) came step.step)) run.carries)
+          subst (λ (s : StationView). RunsOn net stations traffic (slice_set stations k s) traffic) (sym step.same)
+          (stays_run net stations k old there traffic run new.node new.failures (turns_by plan.turns old.turns came)
+          traffic
+          (node_stays (restart_after old.node.armed step.call round) plan old.node new.node answer so none came
+          step.step step.answers) run.carries)
 
   -- ---- a packet that comes
 
@@ -129,10 +129,10 @@ module _ (net : Network) (stations : List StationView) (k : ℕ) (old : StationV
     pub come_leads : (inputs : List (List ℤ)) (run : HasRun net stations traffic) (place : ℕ) (bytes : List ℕ)
         → option_map (λ (f : Flight). f.packet) (slice_get (flights_to traffic k) place) ≡ Some bytes
         → SpellsSound net inputs k bytes
-        → ProspectLeads net stations k old run.sent (come_plan net place (Some bytes) old).prospect
+        → ProspectLeads net stations k old run.sent (deliver_plan net place (Some bytes) old).prospect
     come_leads inputs run place bytes came says =
         subst (λ (o : Option Datagram). ProspectLeads net stations k old run.sent
-        (come_prospect net old.number o old.node))
+        (deliver_prospect net old.number o old.node))
         (sym packet_is) (by (is_down old.node.mode) refl)
       where
         packet_is : packet_for net old.number bytes ≡ Some says.packet
@@ -181,20 +181,21 @@ module _ (net : Network) (stations : List StationView) (k : ℕ) (old : StationV
 
   pub install_run : (inputs : List (List ℤ)) (run : HasRun net stations traffic) (done : DoneView) (answer : ReplyView)
       (new : StationView) → old.node.kept.node ≡ k → StationInvariant net inputs old → StationInvariant net inputs new
-      → IsInstalled net.channels done old answer new → HasRun net (slice_set stations k new) traffic
+      → IsInstalled net.channels done old answer new → RunsOn net stations traffic (slice_set stations k new) traffic
   install_run inputs run done answer new home inv later step =
-      subst (λ (s : StationView). HasRun net (slice_set stations k s) traffic) (sym step.same)
+      subst (λ (s : StationView). RunsOn net stations traffic (slice_set stations k s) traffic) (sym step.same)
       (by step.applied step.step (subst (StationInvariant net inputs) step.same later))
     where
       by : (applied : Bool)
           → IsInstall net.channels done.job done.after done.taken done.sent old.node applied new.node
           → StationInvariant net inputs (moved_to new.node old.failures old.turns old)
-          → HasRun net (slice_set stations k (moved_to new.node old.failures old.turns old)) traffic
+          → RunsOn net stations traffic (slice_set stations k (moved_to new.node old.failures old.turns old)) traffic
       by false is sound =
           stays_run net stations k old there traffic run new.node old.failures old.turns traffic is.1 run.carries
       by true is sound = record {
+        run = run;
         sent = run.sent;
-        reached = leads_on (net_seen net) _ _ _ run.reached
+        leads =
             (leads_by (net_seen net) (world_seen stations run.sent) _
             (acts stations k old now there (net_seen net) run.sent (outlets_same stations k old now there refl) works));
         carries = run.carries;
@@ -284,9 +285,6 @@ module _ (net : Network) (stations : List StationView) (k : ℕ) (old : StationV
         by None is = ap (λ (s : StationView). s.node.kept) is.1
         by (Some place) is = ap (λ (s : StationView). s.node.kept) is.same
 
-    pub release_run : HasRun net stations traffic → HasRun net (slice_set stations k new) traffic
-    release_run run = record {
-      sent = run.sent;
-      reached = leads_on (net_seen net) _ _ _ run.reached (release_steps run.sent);
-      carries = run.carries;
-    }
+    pub release_run : HasRun net stations traffic → RunsOn net stations traffic (slice_set stations k new) traffic
+    release_run run =
+        record { run = run; sent = run.sent; leads = release_steps run.sent; carries = run.carries }

@@ -19,25 +19,25 @@ use Rattle.recovery_line.specs.Images.{Image}
 use Rattle.recovery_line.specs.Nodes.{Mode}
 use Rattle.recovery_line.specs.Observers.{image_seen, record_seen, names}
 use Rattle.recovery_line.specs.Packets.{Packet, Kept, Ask, Took, Covered, Query, Commit, Ended, Settled, HearsKept}
-use Rattle.protocol.specs.Join.Answering.{holds, answer_to_ask, kept_then, takes_now, AskAnswer, Silent}
-use Rattle.protocol.specs.Join.Answering.{CoveredBefore, TookBefore, TakesNow, Declines, answering}
-use Rattle.protocol.specs.Join.Beginning.{live_in, collecting}
-use Rattle.protocol.specs.Join.Collecting.{is_live, was_asked, are_met, Ignores, Joins, GivesUp}
-use Rattle.protocol.specs.Join.Collecting.{answer_to_took}
-use Rattle.protocol.specs.Join.Collecting.{joining, joined_asks, joined_live, give_up_prospect, took_by, loses}
-use Rattle.protocol.specs.Join.Collecting.{hearing_covered, refused_prospect, took_prospect}
-use Rattle.protocol.specs.Join.Hearing.{remembering, hear_prospect}
+use Rattle.protocol.specs.Node.Answering.{holds, answer_to_ask, kept_then, takes_now, AskAnswer, Silent}
+use Rattle.protocol.specs.Node.Answering.{CoveredBefore, TookBefore, TakesNow, Declines, answering}
+use Rattle.protocol.specs.Node.Beginning.{live_in, collecting}
+use Rattle.protocol.specs.Node.Collecting.{is_live, was_asked, are_met, Ignores, Joins, GivesUp}
+use Rattle.protocol.specs.Node.Collecting.{answer_to_took}
+use Rattle.protocol.specs.Node.Collecting.{joining, joined_asks, joined_live, give_up_prospect, took_by, loses}
+use Rattle.protocol.specs.Node.Collecting.{hearing_covered, refused_prospect, took_prospect}
+use Rattle.protocol.specs.Node.Hearing.{remembering, hear_prospect}
 use Rattle.protocol.specs.Join.Runs.{Leads, WasSent}
 use Rattle.protocol.specs.Join.Seen.{need_of, body_seen, live_seen, mode_seen, all_seen, world_seen}
-use Rattle.protocol.specs.Join.Verdicts.{after_verdict, settled_packets, verdict_packets, commit_prospect}
-use Rattle.protocol.specs.Join.Verdicts.{ended_prospect}
-use Rattle.protocol.specs.Join.Verdicts.{settled_prospect}
+use Rattle.protocol.specs.Node.Verdicts.{after_verdict, settled_packets, verdict_packets, commit_prospect}
+use Rattle.protocol.specs.Node.Verdicts.{ended_prospect}
+use Rattle.protocol.specs.Node.Verdicts.{settled_prospect}
 use Rattle.protocol.specs.JoinLaws.Answers.{answer_tells, answer_leads}
 use Rattle.protocol.specs.JoinLaws.Collects.{covered_leads, give_up_leads, joined_leads}
 use Rattle.protocol.specs.JoinLaws.Crossings.{both_true, between_cross, channel_within, goes_cross}
 use Rattle.protocol.specs.JoinLaws.Cuts.{cut_trims, cut_unseen, within_or_out}
 use Rattle.protocol.specs.JoinLaws.Holding.{IsHeld, held_where}
-use Rattle.protocol.specs.JoinLaws.Leading.{leads_here, leads_by, leads_on, hears, outlets_same, unseen}
+use Rattle.protocol.specs.JoinLaws.Leading.{leads_here, leads_by, leads_from, hears, outlets_same, unseen}
 use Rattle.protocol.specs.JoinLaws.Plans.{ProspectLeads}
 use Rattle.protocol.specs.JoinLaws.Settles.{commit_leads, confirm_leads, ended_leads, settled_leads, query_leads}
 use Rattle.protocol.specs.Node.Addresses.{are_nodes, runs_between, names_run}
@@ -305,9 +305,9 @@ module _ (net : Network) (valid : IsValid net) (stations : List StationView) (k 
       → ProspectLeads net stations k old sent (telling packets old.node)
   tells packets leads = record {
     leads = λ failures turns.
-        leads_on (net_seen net) (world_seen stations sent)
+        leads_from (net_seen net) (world_seen stations sent)
         (world_seen (slice_set stations k (moved_to old.node failures turns old)) sent) _
-        (still old.node refl refl failures turns) (leads failures turns);
+        (unseen stations k old (moved_to old.node failures turns old) there sent refl refl refl) (leads failures turns);
     silent = refl;
     keeps = λ e. refl;
   }

@@ -10,7 +10,7 @@ use Rattle.recovery_line.specs.Images.{Image}
 use Rattle.recovery_line.specs.Nodes.{Mode}
 use Rattle.recovery_line.specs.Observers.{image_seen, tentative_seen}
 use Rattle.recovery_line.specs.Records.{Tentative}
-use Rattle.protocol.specs.Join.Answering.{holds}
+use Rattle.protocol.specs.Node.Answering.{holds}
 use Rattle.protocol.specs.Join.Seen.{mode_seen}
 use Rattle.protocol.specs.JoinLaws.Crossings.{both_true, true_both}
 use Rattle.protocol.specs.Node.Modes.{is_down}

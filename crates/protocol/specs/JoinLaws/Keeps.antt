@@ -22,16 +22,18 @@ use Rattle.record.specs.Moves.{confirmed}
 use Rattle.record.specs.Moves.{confirmed_one, without_node}
 use Rattle.record.specs.RecordView.{RecordView}
 use Rattle.record.specs.declared.record.Tentative.{Tentative}
+use Rattle.record.specs.declared.record.TheConstants.{MAX_DECISIONS}
+use Rattle.ckpt_codec.specs.SizeLaws.{confirmed_no_more}
 use Rattle.recovery_line.proofs.Basics.{one_inside, same_or_other, some_not_none}
 use Rattle.recovery_line.specs.Nodes.{Answer, By_took, By_covered}
 use Rattle.recovery_line.specs.Observers.{has_node}
-use Rattle.protocol.specs.Join.Beginning.{live_begun}
-use Rattle.protocol.specs.Join.Collecting.{with_answer, with_taker, with_needs, joined_live, with_covered}
+use Rattle.protocol.specs.Node.Beginning.{live_begun}
+use Rattle.protocol.specs.Node.Collecting.{with_answer, with_taker, with_needs, joined_live, with_covered}
 use Rattle.protocol.specs.Join.Joined.{IsOther, IsQuestion, LiveIsSound, MayBeAskedFor, HeldIsSound, DecisionIsSound}
 use Rattle.protocol.specs.Join.Joined.{KeepsNodes}
-use Rattle.protocol.specs.Join.Needs.{question_on}
+use Rattle.protocol.specs.Node.Needs.{question_on}
 use Rattle.protocol.specs.Join.Seen.{need_of, question_seen, questions_seen}
-use Rattle.protocol.specs.Join.Verdicts.{participants_of, decision_on}
+use Rattle.protocol.specs.Node.Verdicts.{participants_of, decision_on}
 use Rattle.protocol.specs.JoinLaws.Crossings.{both_true, comes_cross, cross_within, producer_is}
 use Rattle.protocol.specs.JoinLaws.Spelled.{question_of}
 use Rattle.protocol.specs.JoinLaws.NeedLaws.{asked_only, needed_above, needed_cross, each_length, has_where_below}
@@ -103,13 +105,14 @@ module _ (net : Network) (home : ℕ) where
 
   module _ (kept : RecordView) (keeps : KeepsNodes net home kept) where
     pub takes_keeps : (x n : ℕ) (image : ImageView) → x < node_count net → IsPositive n → MayBeAskedFor net home image
-        → KeepsNodes net home (with_tentative x n image kept)
-    takes_keeps x n image below positive counts = record {
+        → (x ≡ home → length kept.decisions < MAX_DECISIONS) → KeepsNodes net home (with_tentative x n image kept)
+    takes_keeps x n image below positive counts few = record {
       listed = length-set kept.highest x n ∙ keeps.listed;
       held = λ held is.
           subst (HeldIsSound net home) (one_inside refl is)
           (record { initiator = below; number = positive; counts = counts });
       decisions = keeps.decisions;
+      room = λ held is own. few (ap (λ (h : Tentative). h.initiator) (one_inside refl is) ∙ own);
     }
 
     pub drops_keeps : KeepsNodes net home (without_tentative kept)
@@ -117,6 +120,7 @@ module _ (net : Network) (home : ℕ) where
       listed = keeps.listed;
       held = λ held is. absurd (some_not_none refl is);
       decisions = keeps.decisions;
+      room = λ held is own. absurd (some_not_none refl is);
     }
 
     pub settles_keeps : KeepsNodes net home (with_permanent kept)
@@ -124,6 +128,7 @@ module _ (net : Network) (home : ℕ) where
       listed = keeps.listed;
       held = λ held is. absurd (some_not_none refl is);
       decisions = keeps.decisions;
+      room = λ held is own. absurd (some_not_none refl is);
     }
 
     pub decides_keeps : (live : LiveView) → LiveIsSound net home live → KeepsNodes net home (decision_on live kept)
@@ -135,6 +140,7 @@ module _ (net : Network) (home : ℕ) where
           (by (participants_of (length kept.highest) live.takers)
           (λ p has. sound.takers p
           (has_where_below (λ q. has_node q live.takers) p 0 (length kept.highest) has).0));
+      room = λ held is own. absurd (some_not_none refl is);
     }
       where
         by : (nodes : List ℕ) → ((p : ℕ) → has_node p nodes ≡ true → IsOther net home p)
@@ -154,6 +160,8 @@ module _ (net : Network) (home : ℕ) where
       decisions = each_place (DecisionIsSound net home) (confirmed n p kept.decisions)
           (each_flat (DecisionIsSound net home) (DecisionIsSound net home) (confirmed_one n p) one kept.decisions
           (each_of (DecisionIsSound net home) kept.decisions keeps.decisions));
+      room = λ held is own. (let before = keeps.room held is own in
+          let less = confirmed_no_more n p kept.decisions in omega (arith, before, less));
     }
       where
         few : (d : DecisionView) (nodes : List ℕ) → IsPositive d.number → d.number ≡ n
@@ -178,18 +186,18 @@ module _ (net : Network) (home : ℕ) where
     pub epoch_keeps : KeepsNodes net home (with_epoch kept)
     epoch_keeps = record {
       listed = keeps.listed;
-      held = λ held is. by kept.tentative refl held is;
+      held = λ held is. keeps.held held (still kept.tentative held is);
       decisions = keeps.decisions;
+      room = λ held is own. keeps.room held (still kept.tentative held is) own;
     }
       where
-        by : (o : Option Tentative) → kept.tentative ≡ o → (held : Tentative) → without_own kept.node o ≡ Some held
-            → HeldIsSound net home held
-        by None at held is = absurd (cc)
-        by (Some h) at held is = by_own (h.initiator == kept.node) is
+        still : (o : Option Tentative) (held : Tentative) → without_own kept.node o ≡ Some held → o ≡ Some held
+        still None held is = absurd (cc)
+        still (Some h) held is = by_own (h.initiator == kept.node) is
           where
-            by_own : (b : Bool) → cond b None (Some h) ≡ Some held → HeldIsSound net home held
+            by_own : (b : Bool) → cond b None (Some h) ≡ Some held → Some h ≡ Some held
             by_own true e = absurd (cc)
-            by_own false e = subst (HeldIsSound net home) (one_inside refl e) (keeps.held h at)
+            by_own false e = e
 
   -- ---- what is collected
 

@@ -1,7 +1,7 @@
 -- What a station keeps and collects may be said at any time.
-use Rattle.std.proofs.Common.{◌≡◌, ◌⊎◌, inl, inr, ⊎_elim, ℕ, zero, suc, ◌<◌, Bool, true, false, cond, List, ℤ, [], ◌∷◌}
+use Rattle.std.proofs.Common.{◌≡◌, ◌≢◌, ⊎_elim, ℕ, zero, suc, ◌<◌, Bool, true, false, cond, List, ℤ, [], ◌∷◌}
 use Rattle.std.proofs.Common.{length, Option, Some, None, refl, sym, ap, subst, ◌∙◌, arith}
-use Rattle.std.specs.Prelude.{◌==◌, nat_lt, not, replicate, slice_get}
+use Rattle.std.specs.Prelude.{◌==◌, nat_lt, not, slice_get}
 use Rattle.std.proofs.Math.Bool.{Bool-set}
 use Rattle.std.proofs.Math.Bridge.{le_prop}
 use Rattle.std.proofs.Math.Logic.{∥∥₁_elim, ∥∥₁_map}
@@ -14,17 +14,17 @@ use Rattle.datagram.specs.declared.packet.Packet.{Packet}
 use Rattle.kahn_net.specs.Nodes.{node_count}
 use Rattle.kahn_net.specs.Syntax.{Network}
 use Rattle.kahn_net.specs.declared.limits.TheConstants.{MAX_COUNT}
-use Rattle.record.specs.Moves.{with_epoch}
+use Rattle.record.specs.Moves.{with_epoch, without_own}
 use Rattle.record.specs.RecordView.{RecordView}
 use Rattle.record.specs.declared.record.Tentative.{Tentative}
 use Rattle.recovery_line.proofs.Basics.{one_inside, some_not_none}
-use Rattle.protocol.specs.Join.Beginning.{live_in, begin_prospect}
-use Rattle.protocol.specs.Join.Deeds.{come_plan, deed_plan}
-use Rattle.protocol.specs.Join.Hearing.{hear_prospect, told_prospect, come_prospect}
+use Rattle.protocol.specs.Node.Beginning.{live_in, start_prospect}
+use Rattle.protocol.specs.World.Steps.{deliver_plan, plan_of}
+use Rattle.protocol.specs.Node.Hearing.{hear_prospect, told_prospect, deliver_prospect}
 use Rattle.protocol.specs.Join.Joined.{LiveIsSound, MayBeAskedFor, KeepsNodes, IsJoined}
-use Rattle.protocol.specs.Join.Promises.{StandsIn, DeedsStayJoined, OthersStayJoined, OpeningIsJoined}
-use Rattle.protocol.specs.Join.Telling.{turn_packets}
-use Rattle.protocol.specs.Join.Verdicts.{conclude_prospect}
+use Rattle.protocol.specs.JoinLaws.Promises.{StandsIn, DeedsStayJoined, OpeningIsJoined}
+use Rattle.protocol.specs.Node.Telling.{turn_packets}
+use Rattle.protocol.specs.Node.Verdicts.{decide_prospect}
 use Rattle.protocol.specs.JoinLaws.Crossings.{true_both}
 use Rattle.protocol.specs.JoinLaws.Keeps.{epoch_keeps, current_counts}
 use Rattle.protocol.specs.JoinLaws.Sayable.{ProspectSays, begins_says, concludes_says, hears_says}
@@ -46,9 +46,10 @@ use Rattle.protocol.specs.Node.Trimming.{cut_at}
 use Rattle.protocol.specs.World.EventView.{Deed}
 use Rattle.protocol.specs.World.EventView as event
 use Rattle.protocol.specs.World.OpeningWorld.{stations_from}
-use Rattle.protocol.specs.World.Replies.{outcome_of}
 use Rattle.protocol.specs.World.StationView.{StationView}
-use Rattle.protocol.specs.World.Steps.{Setting, due_bytes, flight_at, next_release, IsRelease, moved_to}
+use Rattle.protocol.specs.World.DoneView.{DoneView}
+use Rattle.protocol.specs.World.ReplyView.{ReplyView}
+use Rattle.protocol.specs.World.Steps.{Setting, due_bytes, flight_at, next_release, IsInstalled, IsRelease, moved_to}
 use Rattle.protocol.specs.declared.outcome.Outcome.{Outcome}
 use Rattle.protocol.specs.declared.outcome.Outcome.TheVariants as outcome
 use Rattle.protocol.specs.declared.outcome.Refusal.TheVariants.{TooLarge, Spent}
@@ -56,6 +57,7 @@ use Rattle.protocol.specs.declared.outcome.Refusal.TheVariants.{TooLarge, Spent}
 -- ---- nodes
 
 pub record NodeJoins (net : Network) (home : ℕ) (node : NodeView) : Type 0 where
+  pub sure : node.mode ≢ InDoubt
   pub kept : KeepsNodes net home node.kept
   pub live : (live : LiveView) → live_in node.mode ≡ Some live → LiveIsSound net home live
 
@@ -68,15 +70,17 @@ says_joins : (net : Network) (inputs : List (List ℤ)) (home : ℕ) (prospect :
     → ProspectSays net inputs home prospect → ProspectJoins net home prospect
 says_joins net inputs home Undue says = tt
 says_joins net inputs home (Exhausted looks) says = tt
-says_joins net inputs home (Planned plan) says = record { kept = says.kept; live = says.live }
+says_joins net inputs home (Planned plan) says = record { sure = says.sure; kept = says.kept; live = says.live }
 
 module _ (net : Network) (home : ℕ) (old : NodeView) (joins : NodeJoins net home old) where
   down_joins : (restart : ℕ) (kept : RecordView) → KeepsNodes net home kept
       → NodeJoins net home (crashed restart (with_kept kept old))
-  down_joins restart kept keeps = record { kept = keeps; live = λ live is. absurd (some_not_none refl is) }
+  down_joins restart kept keeps =
+      record { sure = λ is. absurd (cc); kept = keeps; live = λ live is. absurd (some_not_none refl is) }
 
   went_down : (restart : ℕ) → NodeJoins net home (crashed restart old)
-  went_down restart = record { kept = joins.kept; live = λ live is. absurd (some_not_none refl is) }
+  went_down restart =
+      record { sure = λ is. absurd (cc); kept = joins.kept; live = λ live is. absurd (some_not_none refl is) }
 
   -- however it comes out
   made_joins : (restart : ℕ) (prospect : Prospect) (came : Outcome) (new : NodeView) → ProspectJoins net home prospect
@@ -104,10 +108,16 @@ module _ (net : Network) (home : ℕ) (old : NodeView) (joins : NodeJoins net ho
       → ((running : RunningView) → (change running).live ≡ running.live)
       → NodeJoins net home (record old { mode = on_mode change old.mode })
   changed_joins change same = record {
+    sure = surely old.mode joins.sure;
     kept = joins.kept;
     live = λ live is. joins.live live (sym (by old.mode) ∙ is);
   }
     where
+      surely : (mode : ModeView) → mode ≢ InDoubt → on_mode change mode ≢ InDoubt
+      surely Down known is = absurd (cc)
+      surely InDoubt known is = known refl
+      surely (Runs running) known is = absurd (cc)
+
       by : (mode : ModeView) → live_in (on_mode change mode) ≡ live_in mode
       by Down = refl
       by InDoubt = refl
@@ -121,10 +131,24 @@ module _ (net : Network) (home : ℕ) (old : NodeView) (joins : NodeJoins net ho
       by false = tt
       by true = went_down restart
 
-  recover_joins : (due : Bool) → ProspectJoins net home (if_due due (recover_prospect old))
-  recover_joins false = tt
-  recover_joins true = by (is_down old.mode) (nat_lt old.kept.epoch MAX_COUNT)
+  -- a node that comes back is the only one, and holds no image but its own
+  recover_joins : (due : Bool) → old.kept.node ≡ home → home < node_count net → (due ≡ true → node_count net ≡ 1)
+      → ProspectJoins net home (if_due due (recover_prospect old))
+  recover_joins false named below alone = tt
+  recover_joins true named below alone = by (is_down old.mode) (nat_lt old.kept.epoch MAX_COUNT)
     where
+      own : (o : Option Tentative) → old.kept.tentative ≡ o → without_own old.kept.node o ≡ None
+      own None is = refl
+      own (Some held) is =
+          let few = (joins.kept.held held is).initiator in
+          let one = alone refl in
+          let same : held.initiator ≡ old.kept.node = omega (arith, few, one, below, named) in
+          ap (λ (b : Bool). cond b None (Some held)) (eq-eqb held.initiator old.kept.node same)
+
+      surely : (o : Option Tentative) → o ≡ None → restored_with (with_epoch old.kept) o ≢ InDoubt
+      surely None free is = absurd (cc)
+      surely (Some held) free is = absurd (some_not_none refl (sym free))
+
       none : (o : Option Tentative) (live : LiveView) → live_in (restored_with (with_epoch old.kept) o) ≡ Some live
           → LiveIsSound net home live
       none None live is = absurd (some_not_none refl is)
@@ -134,6 +158,7 @@ module _ (net : Network) (home : ℕ) (old : NodeView) (joins : NodeJoins net ho
       by false d = tt
       by true false = tt
       by true true = record {
+        sure = surely (with_epoch old.kept).tentative (own old.kept.tentative refl);
         kept = epoch_keeps net home old.kept joins.kept;
         live = none (with_epoch old.kept).tentative;
       }
@@ -148,7 +173,7 @@ module _ (net : Network) (home : ℕ) (old : NodeView) (joins : NodeJoins net ho
 
 node_of_station : (net : Network) (station : StationView) → IsJoined net station
     → NodeJoins net station.number station.node
-node_of_station net station joined = record { kept = joined.kept; live = joined.live }
+node_of_station net station joined = record { sure = joined.sure; kept = joined.kept; live = joined.live }
 
 -- ---- deeds
 
@@ -176,11 +201,11 @@ module _ (setting : Setting) (stations : List StationView) (k : ℕ) (old : Stat
       node links)
 
   came_joins : (place : ℕ) (o : Option (List ℕ)) → SpelledBytes setting k o
-      → ProspectJoins setting.net old.number (come_plan setting.net place o old).prospect
+      → ProspectJoins setting.net old.number (deliver_plan setting.net place o old).prospect
   came_joins place None says = tt
   came_joins place (Some bytes) says =
       subst (λ (o : Option Packet). ProspectJoins setting.net old.number
-      (come_prospect setting.net old.number o old.node))
+      (deliver_prospect setting.net old.number o old.node))
       (sym packet_is) (by (not (is_down old.node.mode)))
     where
       to_here : says.packet.to ≡ old.number
@@ -200,14 +225,15 @@ module _ (setting : Setting) (stations : List StationView) (k : ℕ) (old : Stat
       by true =
           says_joins setting.net setting.inputs old.number
           (hear_prospect setting.net old.number says.packet.from says.packet.body old.node)
-          (hears_says setting.net setting.inputs in_world.valid old.number here_below old.node in_world.joined.kept
+          (hears_says setting.net setting.inputs in_world.valid old.number here_below old.node in_world.joined.sure
+          in_world.joined.kept
           in_world.joined.live counts says.packet.from says.packet.body says.text.allowed.body
           (ap (λ (n : ℕ). names_run setting.net says.packet.from n says.packet.body) (sym to_here) ∙ says.names))
 
   deed_joins : (deed : Deed)
       → ((place : ℕ) → deed ≡ event.Deliver place
       → SpelledBytes setting k (due_bytes setting.round (flight_at setting k place)))
-      → ProspectJoins setting.net old.number (deed_plan setting k deed old).prospect
+      → ProspectJoins setting.net old.number (plan_of setting k deed old).prospect
   deed_joins (event.Deliver place) says =
       came_joins place (due_bytes setting.round (flight_at setting k place)) (says place refl)
   deed_joins event.Grant says =
@@ -216,17 +242,20 @@ module _ (setting : Setting) (stations : List StationView) (k : ℕ) (old : Stat
       turn_joins setting.net old.number old.node joins_now (not (is_down old.node.mode))
       (turn_packets setting.net old.number old.node.kept old.node.mode)
   deed_joins event.Start says =
-      says_joins setting.net setting.inputs old.number (begin_prospect setting.net old.number old.node)
-      (begins_says setting.net setting.inputs in_world.valid old.number here_below old.node in_world.joined.kept
-      in_world.joined.live counts)
+      says_joins setting.net setting.inputs old.number (start_prospect setting.net old.number old.node)
+      (begins_says setting.net setting.inputs in_world.valid old.number here_below old.node in_world.joined.sure
+      in_world.joined.kept in_world.joined.live counts)
   deed_joins event.Decide says =
-      says_joins setting.net setting.inputs old.number (conclude_prospect old.number old.node)
-      (concludes_says setting.net setting.inputs in_world.valid old.number here_below old.node in_world.joined.kept
-      in_world.joined.live counts)
+      says_joins setting.net setting.inputs old.number (decide_prospect old.number old.node)
+      (concludes_says setting.net setting.inputs in_world.valid old.number here_below old.node in_world.joined.sure
+      in_world.joined.kept in_world.joined.live counts)
   deed_joins (event.Crash fill rounds) says =
       crash_joins setting.net old.number old.node joins_now setting.restarts (round_later setting.round rounds)
-  deed_joins event.Recover says = recover_joins setting.net old.number old.node joins_now setting.restarts
-  deed_joins (event.Arm fault rounds) says = record { kept = joins_now.kept; live = joins_now.live }
+  deed_joins event.Recover says =
+      recover_joins setting.net old.number old.node joins_now setting.restarts (in_world.node ∙ sym in_world.number)
+      here_below in_world.alone
+  deed_joins (event.Arm fault rounds) says =
+      record { sure = joins_now.sure; kept = joins_now.kept; live = joins_now.live }
   deed_joins event.Idle says = joins_now
 
   -- the bytes that come in a deed are spelled
@@ -261,38 +290,41 @@ module _ (setting : Setting) (stations : List StationView) (k : ℕ) (old : Stat
   known_bytes event.Idle = ∣ (λ place same. absurd (cc)) ∣₁
 
 pub deeds_stay_joined : DeedsStayJoined
-deeds_stay_joined setting stations k old new deed fits answer in_world step =
+deeds_stay_joined setting stations k old new deed fits came answer in_world step =
     ∥∥₁_elim (known_bytes setting stations k old in_world deed) (hlevel (le_prop, ℕ_set, Bool-set))
     (λ says. subst (IsJoined setting.net) (sym step.same) (as_station
     (made_joins setting.net old.number old.node (joins_now setting stations k old in_world)
-    (restart_after old.node.armed step.call setting.round) (deed_plan setting k deed old).prospect (outcome_of answer)
+    (restart_after old.node.armed step.call setting.round) (plan_of setting k deed old).prospect came
     new.node (deed_joins setting stations k old in_world deed says) step.step)))
   where
     as_station : {failures : _} {turns : _} → NodeJoins setting.net old.number new.node
         → IsJoined setting.net (moved_to new.node failures turns old)
-    as_station joins = record { kept = joins.kept; live = joins.live }
+    as_station joins = record { sure = joins.sure; kept = joins.kept; live = joins.live }
 
-pub others_stay_joined : OthersStayJoined
-others_stay_joined net old new done round answer (inl step) joined =
-    subst (IsJoined net) (sym step.same) (by step.applied step.step)
+pub install_joined : (net : Network) (old new : StationView) (done : DoneView) (answer : ReplyView)
+    → IsInstalled net.channels done old answer new → IsJoined net old → IsJoined net new
+install_joined net old new done answer step joined = subst (IsJoined net) (sym step.same) (by step.applied step.step)
   where
     by : (applied : Bool) → IsInstall net.channels done.job done.after done.taken done.sent old.node applied new.node
         → IsJoined net (moved_to new.node old.failures old.turns old)
     by false is = subst (λ (n : NodeView). IsJoined net (moved_to n old.failures old.turns old)) (sym is.1)
-        (record { kept = joined.kept; live = joined.live })
+        (record { sure = joined.sure; kept = joined.kept; live = joined.live })
     by true is =
         let joins = changed_joins net old.number old.node (node_of_station net old joined)
         (turned net.channels done.job.process done.after done.taken done.sent) (λ r. refl) in
         subst (λ (n : NodeView). IsJoined net (moved_to n old.failures old.turns old)) (sym is.1)
-        (record { kept = joins.kept; live = joins.live })
-others_stay_joined net old new done round answer (inr step) joined = by (next_release round old) step
+        (record { sure = joins.sure; kept = joins.kept; live = joins.live })
+
+pub release_joined : (net : Network) (old new : StationView) (round : ℕ) (answer : ReplyView)
+    → IsRelease round (next_release round old) old answer new → IsJoined net old → IsJoined net new
+release_joined net old new round answer step joined = by (next_release round old) step
   where
     by : (o : Option ℕ) → IsRelease round o old answer new → IsJoined net new
     by None is = subst (IsJoined net) (sym is.1) joined
     by (Some place) is =
         let joins = changed_joins net old.number old.node (node_of_station net old joined)
         (cut_at is.outlet.channel (length is.later.taken)) (λ r. refl) in
-        subst (IsJoined net) (sym is.same) (record { kept = joins.kept; live = joins.live })
+        subst (IsJoined net) (sym is.same) (record { sure = joins.sure; kept = joins.kept; live = joins.live })
 
 pub opening_is_joined : OpeningIsJoined
 opening_is_joined net failures outlets k station is = from_number (node_count net) 0 failures k refl is
@@ -301,10 +333,12 @@ opening_is_joined net failures outlets k station is = from_number (node_count ne
         → slice_get (stations_from net nodes number failures outlets) k ≡ Some station → IsJoined net station
     from_number nodes number [] k same is = absurd (cc)
     from_number nodes number (f ∷ failures) zero same is = subst (IsJoined net) (one_inside refl is) (record {
+      sure = λ e. absurd (cc);
       kept = record {
         listed = length-replicate nodes 0 ∙ same;
         held = λ held e. absurd (some_not_none refl e);
         decisions = λ i d e. absurd (cc);
+        room = λ held e own. absurd (some_not_none refl e);
       };
       live = λ live e. absurd (some_not_none refl e);
     })

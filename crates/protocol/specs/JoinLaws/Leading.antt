@@ -10,8 +10,8 @@ use Rattle.recovery_line.specs.Nodes.{Mode, Node, NodeStep}
 use Rattle.recovery_line.specs.Observers.{record_seen}
 use Rattle.recovery_line.specs.Packets.{Packet, Hears}
 use Rattle.recovery_line.specs.Records.{Record}
-use Rattle.recovery_line.specs.Worlds.{World, node_of, OnlyAt, Step, Acts, Comes, Run}
-use Rattle.protocol.specs.Join.Runs.{Leads, WasSent}
+use Rattle.recovery_line.specs.Worlds.{World, node_of, opening, OnlyAt, Step, Acts, Comes, Run, Reachable}
+use Rattle.protocol.specs.Join.Runs.{KeepRecords, WriteAtFirst, Leads, WasSent}
 use Rattle.protocol.specs.Join.Seen.{mode_seen, mode_or_new, modes_seen, node_seen, world_seen}
 use Rattle.protocol.specs.World.RecoveryLine.{record_or_new, records_of, records_seen, outlets_seen}
 use Rattle.protocol.specs.World.Released.{taken_or, released_of}
@@ -21,19 +21,53 @@ use Rattle.protocol.specs.WorldLaws.PairLaws.{elsewhere_set}
 
 -- ---- runs
 
-run_behind : (net : Net) (w u v : World) (first later : List World) → Run net w first u → Run net u later v
+pub run_behind : (net : Net) (w u v : World) (first later : List World) → Run net w first u → Run net u later v
     → Run net w (first ++ later) v
 run_behind net w u v [] later one other = subst (λ (x : World). Run net x later v) (sym one) other
 run_behind net w u v (x ∷ first) later one other = (one.0, run_behind net x u v first later one.1 other)
 
-pub leads_on : (net : Net) (w u v : World) → Leads net w u → Leads net u v → Leads net w v
-leads_on net w u v one other = (one.0 ++ other.0, run_behind net w u v one.0 other.0 one.1 other.1)
+-- a world that steps led to, and steps that lead on from there
+pub reached_then : (net : Net) (w v : World) → Reachable net w → Leads net w v → Reachable net v
+reached_then net w v reached leads =
+    (reached.0 ++ leads.worlds, run_behind net opening w v reached.0 leads.worlds reached.1 leads.run)
 
 pub leads_here : (net : Net) (w v : World) → v ≡ w → Leads net w v
-leads_here net w v same = ([], sym same)
+leads_here net w v same = record { worlds = []; run = sym same; once = tt }
 
 pub leads_by : (net : Net) (w v : World) → Step net w v → Leads net w v
-leads_by net w v step = (v ∷ [], (step, refl))
+leads_by net w v step = record { worlds = v ∷ []; run = (step, refl); once = tt }
+
+-- from a world that is the same
+pub leads_from : (net : Net) (w u v : World) → u ≡ w → Leads net u v → Leads net w v
+leads_from net w u v same leads = subst (λ (x : World). Leads net x v) same leads
+
+-- a run on which no record is written ends with the records with which it began
+pub records_at_end : (net : Net) (w v : World) (worlds : List World) → Run net w worlds v → KeepRecords w worlds
+    → v.records ≡ w.records
+records_at_end net w v [] run keeps = ap (λ (x : World). x.records) (sym run)
+records_at_end net w v (u ∷ worlds) run keeps =
+    records_at_end net u v worlds run.1 (kept_from worlds keeps.1) ∙ keeps.0
+  where
+    kept_from : (others : List World) → KeepRecords w others → KeepRecords u others
+    kept_from [] kept = tt
+    kept_from (x ∷ others) kept = (kept.0 ∙ sym keeps.0, kept_from others kept.1)
+
+keeps_behind : (w v : World) (worlds : List World) → KeepRecords w worlds → v.records ≡ w.records
+    → KeepRecords w (worlds ++ (v ∷ []))
+keeps_behind w v [] keeps same = (same, tt)
+keeps_behind w v (u ∷ worlds) keeps same = (keeps.0, keeps_behind w v worlds keeps.1 same)
+
+-- one step more, which writes no record
+pub leads_then : (net : Net) (w u v : World) → Leads net w u → Step net u v → v.records ≡ u.records → Leads net w v
+leads_then net w u v leads step same = by leads.worlds leads.run leads.once
+  where
+    by : (worlds : List World) → Run net w worlds u → WriteAtFirst worlds → Leads net w v
+    by [] run once = leads_by net w v (subst (λ (x : World). Step net x v) (sym run) step)
+    by (x ∷ worlds) run once = record {
+      worlds = x ∷ (worlds ++ (v ∷ []));
+      run = (run.0, run_behind net x u v worlds (v ∷ []) run.1 (step, refl));
+      once = keeps_behind x v worlds once (same ∙ records_at_end net x u worlds run.1 once);
+    }
 
 -- ---- one element of a list
 
@@ -88,6 +122,15 @@ module _ (stations : List StationView) (k : ℕ) (x y : StationView) (there : sl
   -- as much has left then, where its outlets are the same
   pub outlets_same : y.outlets ≡ x.outlets → outlets_seen (slice_set stations k y) ≡ outlets_seen stations
   outlets_same same = fun_ext (λ c. ap length (left_same c stations k x y there same))
+
+  -- the records are the same, where its own is
+  pub same_records : y.node.kept ≡ x.node.kept
+      → records_seen (records_of (slice_set stations k y)) ≡ records_seen (records_of stations)
+  same_records same =
+      ap records_seen
+      (map-set (λ (s : StationView). s.node.kept) stations k y
+      ∙ (ap (slice_set (records_of stations) k) same
+      ∙ set_itself (records_of stations) k x.node.kept (map_at (λ (s : StationView). s.node.kept) stations k x there)))
 
   pub only_here : (sent : List Packet) → OnlyAt (world_seen stations sent) (world_seen (slice_set stations k y) sent) k
   only_here sent = record {

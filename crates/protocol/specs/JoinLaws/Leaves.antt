@@ -21,7 +21,7 @@ use Rattle.protocol.specs.Join.Runs.{Leads}
 use Rattle.protocol.specs.Join.Seen.{live_seen, mode_seen, node_seen, world_seen}
 use Rattle.protocol.specs.JoinLaws.Crossings.{is_it}
 use Rattle.protocol.specs.JoinLaws.Cuts.{cut_trims}
-use Rattle.protocol.specs.JoinLaws.Leading.{leads_by, leads_on, acts, node_at, only_here, set_there, set_again}
+use Rattle.protocol.specs.JoinLaws.Leading.{leads_by, leads_then, acts, node_at, only_here, same_records, set_there, set_again}
 use Rattle.protocol.specs.Node.Layout.{port_on, producer_of, consumer_of}
 use Rattle.protocol.specs.Node.Layout as layout
 use Rattle.protocol.specs.Node.NodeView.{ModeView, Runs, RunningView, running_node, running_in, on_mode}
@@ -277,16 +277,16 @@ module _ (net : Network) (inputs : List (List ℤ)) (stations : List StationView
   taken_leads one =
       subst (λ (xs : List StationView). Leads (net_seen net) (world_seen stations sent) (world_seen xs sent))
       (set_again stations k half new)
-      (leads_on (net_seen net) (world_seen stations sent) (world_seen (slice_set stations k half) sent)
+      (leads_then (net_seen net) (world_seen stations sent) (world_seen (slice_set stations k half) sent)
       (world_seen (slice_set (slice_set stations k half) k new) sent)
       (leads_by (net_seen net) (world_seen stations sent) (world_seen (slice_set stations k half) sent)
       (item_leaves one))
-      (leads_by (net_seen net) (world_seen (slice_set stations k half) sent)
-      (world_seen (slice_set (slice_set stations k half) k new) sent)
       (acts (slice_set stations k half) k half new (set_there stations k old half there) (net_seen net) sent
       (fun_ext (λ d. ap (length {A = ℤ}) (same_left d)))
       (lets_go (outlets_seen (slice_set stations k half)) (let now = half_here in omega (arith, now))
-      (omega (arith, one)) (omega (arith, one))))))
+      (omega (arith, one)) (omega (arith, one))))
+      (same_records (slice_set stations k half) k half new (set_there stations k old half there)
+      (ap (λ (s : StationView). s.node.kept) step.same)))
     where
       same_left : (d : ℕ)
           → released_of d (slice_set (slice_set stations k half) k new) ≡ released_of d (slice_set stations k half)

@@ -11,10 +11,10 @@ use Rattle.recovery_line.specs.Line.{Sound, Covers, NotBehind, AtMoment}
 use Rattle.recovery_line.specs.Packets.{Packet}
 use Rattle.recovery_line.specs.Records.{Record, effective}
 use Rattle.recovery_line.specs.Worlds.{World, Reachable}
-use Rattle.protocol.specs.Join.Line.{AreEither, LineStays}
+use Rattle.protocol.specs.World.RecoveryLine.{AreEither, AreInLine}
 use Rattle.protocol.specs.Join.Runs.{Leads}
 use Rattle.protocol.specs.Join.Seen.{world_seen}
-use Rattle.protocol.specs.JoinLaws.Leading.{leads_here, leads_on, outlets_same}
+use Rattle.protocol.specs.JoinLaws.Leading.{leads_here, reached_then, outlets_same}
 use Rattle.protocol.specs.JoinLaws.Sent.{waits}
 use Rattle.protocol.specs.World.RecoveryLine.{net_seen, records_of, records_seen, outlets_seen}
 use Rattle.protocol.specs.World.StationView.{StationView}
@@ -41,10 +41,10 @@ LinesHold =
 
 pub lines_hold : LinesHold
 lines_hold net w records left reached to =
-    let there = leads_on net _ w to.world reached to.leads in
+    let there = reached_then net w to.world reached to.leads in
     let moment : AtMoment to.world to.world records left =
     record { of_records = inl (sym to.records_are); of_outlets = inl (sym to.outlets_are) } in
-    let on = line_never_falls_back net w to.world to.world to.leads.0 records left reached to.leads.1
+    let on = line_never_falls_back net w to.world to.world to.leads.worlds records left reached to.leads.run
     (waits net to.world) moment in
     record {
       sound = line_is_sound net to.world to.world records left there (waits net to.world) moment;
@@ -91,7 +91,7 @@ line_stays : (net : Network) (before after : List StationView) (sent : List Pack
     → Reachable (net_seen net) (world_seen before sent)
     → LeadsTo (net_seen net) (world_seen before sent) (records_seen records) (outlets_seen before)
     → LeadsTo (net_seen net) (world_seen before sent) (records_seen records) (outlets_seen after)
-    → LineStays net before after records
+    → AreInLine net before after records
 line_stays net before after sent records reached first last =
     let one = lines_hold (net_seen net) (world_seen before sent) (records_seen records) (outlets_seen before) reached
     first in
@@ -111,7 +111,7 @@ module _ (net : Network) (before : List StationView) (sent : List Packet)
       → Leads (net_seen net) (world_seen before sent) (world_seen (slice_set before k next) later)
       → outlets_seen after ≡ outlets_seen before
       → AreEither (records_of before) (slice_set (records_of before) k next.node.kept) records
-      → LineStays net before after records
+      → AreInLine net before after records
   line_at_put k old next later after records there outlets leads same left =
       let to = by (one_other (records_of before) records k next.node.kept left) in
       line_stays net before after sent records reached to
@@ -141,7 +141,7 @@ module _ (net : Network) (before : List StationView) (sent : List Packet)
   pub line_at_release : (after : List StationView) (later : List Packet) (records : List RecordView)
       → Leads (net_seen net) (world_seen before sent) (world_seen after later)
       → records_of after ≡ records_of before → AreEither (records_of before) (records_of before) records
-      → LineStays net before after records
+      → AreInLine net before after records
   line_at_release after later records leads same left =
       let are = none_other (records_of before) records left in
       line_stays net before after sent records reached
@@ -160,7 +160,7 @@ module _ (net : Network) (before : List StationView) (sent : List Packet)
 
 -- the records that stations keep are in line with themselves
 pub line_now : (net : Network) (stations : List StationView) (sent : List Packet)
-    → Reachable (net_seen net) (world_seen stations sent) → LineStays net stations stations (records_of stations)
+    → Reachable (net_seen net) (world_seen stations sent) → AreInLine net stations stations (records_of stations)
 line_now net stations sent reached =
     line_stays net stations stations sent (records_of stations) reached as_it_is as_it_is
   where

@@ -13,7 +13,7 @@ use Rattle.recovery_line.specs.Images.{IsCross}
 use Rattle.recovery_line.specs.Nodes.{Answer, Awaited, AsksNeeds}
 use Rattle.recovery_line.specs.Observers.{has_node, image_seen}
 use Rattle.recovery_line.specs.Packets.{AreNeeds}
-use Rattle.protocol.specs.Join.Needs.{is_needed, need_on, needs_of, each_from, question_if, question_on, questions_of}
+use Rattle.protocol.specs.Node.Needs.{is_needed, need_on, needs_of, each_from, question_if, question_on, questions_of}
 use Rattle.protocol.specs.Join.Seen.{need_of, question_seen, questions_seen}
 use Rattle.protocol.specs.JoinLaws.Crossings.{both_true, true_both, comes_cross, cross_comes, cross_within}
 use Rattle.protocol.specs.Node.Layout.{is_incoming, numbers_where}

@@ -15,7 +15,7 @@ use Rattle.recovery_line.specs.Nodes.{Mode, Running}
 use Rattle.recovery_line.specs.Observers.{image_seen, record_seen}
 use Rattle.recovery_line.specs.Records.{Record, new_record}
 use Rattle.recovery_line.specs.Worlds.{opening}
-use Rattle.protocol.specs.Join.Promises.{HaveTakenNothing}
+use Rattle.protocol.specs.JoinLaws.Promises.{HaveTakenNothing}
 use Rattle.protocol.specs.Join.Runs.{SaysWhatWasSent, HasRun}
 use Rattle.protocol.specs.Join.Seen.{modes_seen, world_seen}
 use Rattle.protocol.specs.Node.Layout.{port_on, channel_on}

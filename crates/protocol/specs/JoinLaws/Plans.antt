@@ -11,11 +11,11 @@ use Rattle.recovery_line.specs.Images.{Net}
 use Rattle.recovery_line.specs.Nodes.{Mode, Node, NodeStep, Crash}
 use Rattle.recovery_line.specs.Observers.{record_seen}
 use Rattle.recovery_line.specs.Packets.{Packet}
-use Rattle.protocol.specs.Join.Runs.{Leads, Carries, HasRun}
+use Rattle.protocol.specs.Join.Runs.{Leads, Carries, HasRun, RunsOn}
 use Rattle.protocol.specs.Join.Seen.{mode_seen, all_seen, node_seen, world_seen}
-use Rattle.protocol.specs.JoinLaws.Leading.{leads_here, leads_by, leads_on, acts, outlets_same, set_there, set_again}
-use Rattle.protocol.specs.JoinLaws.Leading.{set_itself, unseen}
-use Rattle.protocol.specs.Join.Line.{AreEither, LineStays}
+use Rattle.protocol.specs.JoinLaws.Leading.{leads_here, leads_by, leads_then, acts, outlets_same, same_records, set_there}
+use Rattle.protocol.specs.JoinLaws.Leading.{set_again, set_itself, unseen}
+use Rattle.protocol.specs.World.RecoveryLine.{AreEither, AreInLine}
 use Rattle.protocol.specs.JoinLaws.Lines.{line_at_put}
 use Rattle.protocol.specs.JoinLaws.Sent.{carries_still, carries_all}
 use Rattle.protocol.specs.Node.Modes.{crashed, with_kept}
@@ -71,13 +71,15 @@ module _ (net : Network) (stations : List StationView) (k : ℕ) (old : StationV
     (there : slice_get stations k ≡ Some old) (traffic : Traffic) (run : HasRun net stations traffic) where
   -- a station whose node is as it was
   pub stays_run : (node : NodeView) (failures : ℕ) (turns : RoundTurns) (flown : Traffic) → node ≡ old.node
-      → Carries flown run.sent → HasRun net (slice_set stations k (moved_to node failures turns old)) flown
+      → Carries flown run.sent
+      → RunsOn net stations traffic (slice_set stations k (moved_to node failures turns old)) flown
   stays_run node failures turns flown same carries = record {
+    run = run;
     sent = run.sent;
-    reached = leads_on (net_seen net) _ _ _ run.reached
-        (leads_here (net_seen net) (world_seen stations run.sent) _
+    leads =
+        leads_here (net_seen net) (world_seen stations run.sent) _
         (unseen stations k old (moved_to node failures turns old) there run.sent refl
-        (ap (λ (n : NodeView). record_seen n.kept) same) (ap (λ (n : NodeView). mode_seen n.mode) same)));
+        (ap (λ (n : NodeView). record_seen n.kept) same) (ap (λ (n : NodeView). mode_seen n.mode) same));
     carries = carries;
   }
 
@@ -86,13 +88,14 @@ module _ (net : Network) (stations : List StationView) (k : ℕ) (old : StationV
     -- sent is none of what is in flight.
     failed_run : (restart : ℕ) (node : NodeView) (failures : ℕ) (turns : RoundTurns) (flown : Traffic)
         → Carries flown run.sent → HasFailedAt restart plan.node.kept old.node node
-        → HasRun net (slice_set stations k (moved_to node failures turns old)) flown
+        → RunsOn net stations traffic (slice_set stations k (moved_to node failures turns old)) flown
     failed_run restart node failures turns flown carries (inl same) =
-        subst (λ (n : NodeView). HasRun net (slice_set stations k (moved_to n failures turns old)) flown) (sym same)
+        subst (λ (n : NodeView). RunsOn net stations traffic (slice_set stations k (moved_to n failures turns old))
+        flown) (sym same)
         (record {
+          run = run;
           sent = run.sent;
-          reached = leads_on (net_seen net) _ _ _ run.reached
-              (falls_leads net stations k old there run.sent restart failures turns);
+          leads = falls_leads net stations k old there run.sent restart failures turns;
           carries = carries;
         })
     failed_run restart node failures turns flown carries (inr same) =
@@ -103,35 +106,38 @@ module _ (net : Network) (stations : List StationView) (k : ℕ) (old : StationV
         let fallen : Leads (net_seen net) (world_seen stations run.sent) (world_seen (slice_set stations k down) more) =
         subst (λ (xs : List StationView). Leads (net_seen net) (world_seen stations run.sent) (world_seen xs more))
         (set_again stations k done down)
-        (leads_on (net_seen net) (world_seen stations run.sent) (world_seen made more) _
+        (leads_then (net_seen net) (world_seen stations run.sent) (world_seen made more) _
         (by_steps.leads failures turns)
-        (leads_by (net_seen net) (world_seen made more) (world_seen (slice_set made k down) more)
         (acts made k done down (set_there stations k old done there) (net_seen net) more
         (outlets_same made k done down (set_there stations k old done there) refl)
         (falls (net_seen net) k (node_seen done (outlets_seen made)) (node_seen down (outlets_seen made)) refl refl
-        refl)))) in
-        subst (λ (n : NodeView). HasRun net (slice_set stations k (moved_to n failures turns old)) flown) (sym same)
+        refl))
+        (same_records made k done down (set_there stations k old done there) refl)) in
+        subst (λ (n : NodeView). RunsOn net stations traffic (slice_set stations k (moved_to n failures turns old))
+        flown) (sym same)
         (record {
+          run = run;
           sent = more;
-          reached = leads_on (net_seen net) _ _ _ run.reached fallen;
+          leads = fallen;
           carries = carries_still (all_seen plan.packets) run.sent flown carries;
         })
 
     carried_run : (restart round : ℕ) (came : Outcome) (node : NodeView) (failures : ℕ) (turns : RoundTurns)
         (flown : Traffic) → Carries flown run.sent → IsCarriedOut restart plan old.node came node
         → All IsPacket (plan_packets plan came)
-        → HasRun net (slice_set stations k (moved_to node failures turns old))
+        → RunsOn net stations traffic (slice_set stations k (moved_to node failures turns old))
         (all_sent round (map sending_of (plan_packets plan came)) flown)
     carried_run restart round outcome.NotDue node failures turns flown carries step allowed = absurd step
     carried_run restart round (outcome.Refused Spent) node failures turns flown carries step allowed = absurd step
     carried_run restart round outcome.Failed node failures turns flown carries step allowed =
         failed_run restart node failures turns flown carries step.1
     carried_run restart round outcome.Made node failures turns flown carries step allowed =
-        subst (λ (n : NodeView). HasRun net (slice_set stations k (moved_to n failures turns old))
+        subst (λ (n : NodeView). RunsOn net stations traffic (slice_set stations k (moved_to n failures turns old))
         (all_sent round (map sending_of plan.packets) flown)) (sym step)
         (record {
+          run = run;
           sent = all_seen plan.packets ++ run.sent;
-          reached = leads_on (net_seen net) _ _ _ run.reached (by_steps.leads failures turns);
+          leads = by_steps.leads failures turns;
           carries = carries_all round plan.packets flown run.sent carries allowed;
         })
     carried_run restart round (outcome.Refused TooLarge) node failures turns flown carries step allowed =
@@ -141,18 +147,19 @@ module _ (net : Network) (stations : List StationView) (k : ℕ) (old : StationV
 
   held_run : (restart : ℕ) (looks : Bool) (came : Outcome) (node : NodeView) (failures : ℕ) (turns : RoundTurns)
       (flown : Traffic) → Carries flown run.sent → IsHeldUp restart looks old.node came node
-      → HasRun net (slice_set stations k (moved_to node failures turns old)) flown
+      → RunsOn net stations traffic (slice_set stations k (moved_to node failures turns old)) flown
   held_run restart looks outcome.NotDue node failures turns flown carries step = absurd step
   held_run restart looks outcome.Made node failures turns flown carries step = absurd step
   held_run restart looks (outcome.Refused TooLarge) node failures turns flown carries step = absurd step
   held_run restart looks (outcome.Refused Spent) node failures turns flown carries step =
       stays_run node failures turns flown step carries
   held_run restart looks outcome.Failed node failures turns flown carries step =
-      subst (λ (n : NodeView). HasRun net (slice_set stations k (moved_to n failures turns old)) flown) (sym step.1)
+      subst (λ (n : NodeView). RunsOn net stations traffic (slice_set stations k (moved_to n failures turns old))
+      flown) (sym step.1)
       (record {
+        run = run;
         sent = run.sent;
-        reached = leads_on (net_seen net) _ _ _ run.reached
-            (falls_leads net stations k old there run.sent restart failures turns);
+        leads = falls_leads net stations k old there run.sent restart failures turns;
         carries = carries;
       })
 
@@ -161,7 +168,7 @@ module _ (net : Network) (stations : List StationView) (k : ℕ) (old : StationV
       (turns : RoundTurns) (flown : Traffic) → ProspectLeads net stations k old run.sent prospect
       → Carries flown run.sent → IsMade restart prospect old.node came node
       → All IsPacket (packets_by prospect came)
-      → HasRun net (slice_set stations k (moved_to node failures turns old))
+      → RunsOn net stations traffic (slice_set stations k (moved_to node failures turns old))
       (all_sent round (map sending_of (packets_by prospect came)) flown)
   made_run restart round Undue came node failures turns flown by_steps carries step allowed =
       stays_run node failures turns flown step.1 carries
@@ -174,7 +181,7 @@ module _ (net : Network) (stations : List StationView) (k : ℕ) (old : StationV
 
   as_before : (after : List StationView) (records : List RecordView) → outlets_seen after ≡ outlets_seen stations
       → AreEither (records_of stations) (slice_set (records_of stations) k old.node.kept) records
-      → LineStays net stations after records
+      → AreInLine net stations after records
   as_before after records same left =
       line_at_put net stations run.sent run.reached k old old run.sent after records there refl
       (leads_here (net_seen net) (world_seen stations run.sent) _
@@ -184,7 +191,7 @@ module _ (net : Network) (stations : List StationView) (k : ℕ) (old : StationV
       → (after : List StationView) (records : List RecordView) → outlets_seen after ≡ outlets_seen stations
       → AreEither (records_of stations)
       (slice_set (records_of stations) k (next_record prospect old.node.kept)) records
-      → LineStays net stations after records
+      → AreInLine net stations after records
   prospect_line Undue by_steps after records same left = as_before after records same left
   prospect_line (Exhausted looks) by_steps after records same left = as_before after records same left
   prospect_line (Planned plan) by_steps after records same left =

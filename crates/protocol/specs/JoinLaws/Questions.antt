@@ -9,8 +9,8 @@ use Rattle.datagram.specs.declared.packet.Need.{Need}
 use Rattle.kahn_net.specs.Syntax.{Network}
 use Rattle.recovery_line.proofs.Basics.{one_inside, same_or_other}
 use Rattle.recovery_line.specs.Nodes.{Answer, Awaited, By_took, By_covered}
-use Rattle.protocol.specs.Join.Collecting.{is_awaited, is_question, was_asked, answered_by, replaced_at, with_answer}
-use Rattle.protocol.specs.Join.Collecting.{is_open_at, needs_no_question, new_question, with_need, with_needs}
+use Rattle.protocol.specs.Node.Collecting.{is_awaited, is_question, was_asked, answered_by, replaced_at, with_answer}
+use Rattle.protocol.specs.Node.Collecting.{is_open_at, needs_no_question, new_question, with_need, with_needs}
 use Rattle.protocol.specs.Join.Seen.{need_of, question_seen, questions_seen}
 use Rattle.protocol.specs.JoinLaws.Leading.{set_there}
 use Rattle.protocol.specs.Node.Addresses.{producer_node}

@@ -1,11 +1,11 @@
 -- After each deed a station's record and what it collects may be said, and so may what is sent in the deed.
-use Rattle.std.proofs.Common.{◌≡◌, ℕ, ◌+◌, ◌<◌, ◌&&◌, Bool, true, false, cond, List, ℤ, [], length, All, Option}
+use Rattle.std.proofs.Common.{◌≡◌, ◌≢◌, ℕ, ◌+◌, ◌<◌, ◌&&◌, Bool, true, false, cond, List, ℤ, [], length, All, Option}
 use Rattle.std.proofs.Common.{Some, None, option_map, refl, sym, ap, subst, ◌∙◌, arith}
 use Rattle.std.specs.Prelude.{nat_lt}
 use Rattle.std.specs.List.{list_all}
 use Rattle.std.proofs.lemmas.Bool.{ltb-true}
 use Rattle.std.proofs.lemmas.List.Elements.{All-nil}
-use Rattle.datagram.specs.PacketText.{IsPositive, IsBody}
+use Rattle.datagram.specs.PacketText.{IsPositive, IsBody, IsPacket}
 use Rattle.datagram.specs.declared.packet.Body.{Body}
 use Rattle.datagram.specs.declared.packet.Body.TheVariants as says
 use Rattle.datagram.specs.declared.packet.Need.{Need}
@@ -17,49 +17,53 @@ use Rattle.kahn_net.specs.Valid.{IsValid}
 use Rattle.kahn_net.specs.declared.limits.TheConstants.{MAX_COUNT}
 use Rattle.record.specs.Moves.{highest_seen, with_permanent, without_tentative, with_confirmed}
 use Rattle.record.specs.RecordView.{RecordView}
+use Rattle.record.specs.declared.record.TheConstants.{MAX_DECISIONS}
 use Rattle.recovery_line.proofs.Basics.{one_inside}
 use Rattle.recovery_line.specs.Nodes.{By_took}
 use Rattle.recovery_line.specs.Observers.{has_node, names}
-use Rattle.protocol.specs.Join.Answering.{AskAnswer, Silent, CoveredBefore, TookBefore, TakesNow, Declines, holds}
-use Rattle.protocol.specs.Join.Answering.{kept_then}
-use Rattle.protocol.specs.Join.Answering.{answer_to_ask, with_current_as, ask_prospect}
-use Rattle.protocol.specs.Join.Beginning.{live_in, collecting, live_asks, may_begin, beginning, begun, begin_prospect}
-use Rattle.protocol.specs.Join.Collecting.{TookAnswer, Ignores, Joins, GivesUp, answer_to_took}
-use Rattle.protocol.specs.Join.Collecting.{awaits, with_covered, hearing_covered, joining, joined_asks}
-use Rattle.protocol.specs.Join.Collecting.{joined_live, give_up_prospect, took_by, took_prospect, loses}
-use Rattle.protocol.specs.Join.Collecting.{refused_prospect, with_answer}
-use Rattle.protocol.specs.Join.Hearing.{hear_prospect}
+use Rattle.protocol.specs.Node.Answering.{AskAnswer, Silent, CoveredBefore, TookBefore, TakesNow, Declines, holds}
+use Rattle.protocol.specs.Node.Answering.{kept_then}
+use Rattle.protocol.specs.Node.Answering.{answer_to_ask, with_current_as, ask_prospect}
+use Rattle.protocol.specs.Node.Beginning.{live_in, collecting, live_asks, may_start, beginning, begun, start_prospect}
+use Rattle.protocol.specs.Node.Collecting.{TookAnswer, Ignores, Joins, GivesUp, answer_to_took}
+use Rattle.protocol.specs.Node.Collecting.{awaits, with_covered, hearing_covered, joining, joined_asks}
+use Rattle.protocol.specs.Node.Collecting.{joined_live, give_up_prospect, took_by, took_prospect, loses}
+use Rattle.protocol.specs.Node.Collecting.{refused_prospect, with_answer}
+use Rattle.protocol.specs.Node.Hearing.{hear_prospect}
 use Rattle.protocol.specs.Join.Joined.{IsOther, LiveIsSound, MayBeAskedFor, KeepsNodes}
-use Rattle.protocol.specs.Join.Verdicts.{is_ready, concluded, decided_now, commit_packets, conclude_prospect, mode_then}
-use Rattle.protocol.specs.Join.Verdicts.{after_verdict, settled_packets, commit_prospect, ended_prospect}
-use Rattle.protocol.specs.Join.Verdicts.{settled_prospect}
-use Rattle.protocol.specs.Join.Verdicts.{participants_of, verdict_packets}
+use Rattle.protocol.specs.Node.Verdicts.{may_decide, concluded, decided_now, commit_packets, decide_prospect, mode_then}
+use Rattle.protocol.specs.Node.Verdicts.{after_verdict, settled_packets, commit_prospect, ended_prospect}
+use Rattle.protocol.specs.Node.Verdicts.{settled_prospect}
+use Rattle.protocol.specs.Node.Verdicts.{participants_of, verdict_packets}
 use Rattle.protocol.specs.JoinLaws.Crossings.{both_true}
 use Rattle.protocol.specs.JoinLaws.Keeps.{takes_keeps, drops_keeps, settles_keeps, decides_keeps, confirms_keeps}
 use Rattle.protocol.specs.JoinLaws.Keeps.{begun_sound, covered_sound, joined_sound}
 use Rattle.protocol.specs.JoinLaws.NeedLaws.{has_where_below}
-use Rattle.protocol.specs.JoinLaws.Spelled.{one_sendable, other_of, asks_sendable, new_sendable}
+use Rattle.protocol.specs.JoinLaws.Spelled.{IsSayable, one_sendable, other_of, asks_sendable, new_sendable}
 use Rattle.protocol.specs.JoinLaws.Spelled.{answers_sendable, declined_sendable, commits_sendable, settled_sendable}
 use Rattle.protocol.specs.JoinLaws.Spelled.{verdict_sendable}
 use Rattle.protocol.specs.Node.Addresses.{are_nodes, names_run}
 use Rattle.protocol.specs.Node.Delivering.{hearing}
 use Rattle.protocol.specs.Node.Layout.{is_incoming, is_outgoing}
 use Rattle.protocol.specs.Node.LiveView.{LiveView}
-use Rattle.protocol.specs.Node.Modes.{with_kept}
+use Rattle.protocol.specs.Node.Modes.{is_none, is_running, with_kept}
 use Rattle.protocol.specs.Node.NodeView.{NodeView, ModeView, Down, InDoubt, Runs, RunningView, on_mode, on_running}
 use Rattle.protocol.specs.Node.NodeView.{running_in}
 use Rattle.protocol.specs.Node.Plans.{Plan, Prospect, Undue, Exhausted, Planned, becoming, putting, telling, if_due}
-use Rattle.protocol.specs.Node.Plans.{unless_spent}
+use Rattle.protocol.specs.Node.Plans.{packets_by, plan_packets, unless_spent}
+use Rattle.protocol.specs.declared.outcome.Outcome.{Outcome}
+use Rattle.protocol.specs.declared.outcome.Outcome.TheVariants as outcome
+use Rattle.protocol.specs.declared.outcome.Refusal.TheVariants as refusal
 use Rattle.protocol.specs.Node.Starting.{own_at}
 use Rattle.protocol.specs.Node.Trimming.{cut_at}
-use Rattle.protocol.specs.WorldLaws.SendLaws.{IsSendable}
 
 -- of the node of this number that a plan makes, and of what it sends
 pub record PlanSays (net : Network) (inputs : List (List ℤ)) (home : ℕ) (plan : Plan) : Type 0 where
+  pub sure : plan.node.mode ≢ InDoubt
   pub kept : KeepsNodes net home plan.node.kept
   pub live : (live : LiveView) → live_in plan.node.mode ≡ Some live → LiveIsSound net home live
-  pub sendable : All (IsSendable net inputs) plan.packets
-  pub refusable : All (IsSendable net inputs) plan.refused
+  pub sendable : All (IsSayable net inputs) plan.packets
+  pub refusable : All (IsSayable net inputs) plan.refused
 
 abbrev pub ProspectSays : Network → List (List ℤ) → ℕ → Prospect → Type 0
 ProspectSays net inputs home Undue = Unit {0}
@@ -67,19 +71,26 @@ ProspectSays net inputs home (Exhausted looks) = Unit {0}
 ProspectSays net inputs home (Planned plan) = PlanSays net inputs home plan
 
 module _ (net : Network) (inputs : List (List ℤ)) (valid : IsValid net) (home : ℕ) (here : home < node_count net)
-    (old : NodeView) (kept : KeepsNodes net home old.kept)
+    (old : NodeView) (sure : old.mode ≢ InDoubt) (kept : KeepsNodes net home old.kept)
     (live : (live : LiveView) → live_in old.mode ≡ Some live → LiveIsSound net home live)
     (counts : (running : RunningView) → old.mode ≡ Runs running → MayBeAskedFor net home running.current) where
-  nothing : All (IsSendable net inputs) []
-  nothing = All-nil (IsSendable net inputs)
+  nothing : All (IsSayable net inputs) []
+  nothing = All-nil (IsSayable net inputs)
+
+  -- a change of what is in memory leaves no doubt
+  surely : (change : RunningView → RunningView) (mode : ModeView) → mode ≢ InDoubt → on_mode change mode ≢ InDoubt
+  surely change Down known is = absurd (cc)
+  surely change InDoubt known is = known refl
+  surely change (Runs running) known is = absurd (cc)
 
   stays : ProspectSays net inputs home (becoming old)
-  stays = record { kept = kept; live = live; sendable = nothing; refusable = nothing }
+  stays = record { sure = sure; kept = kept; live = live; sendable = nothing; refusable = nothing }
 
   -- a change that leaves what is collected
   changes : (change : RunningView → RunningView) → ((running : RunningView) → (change running).live ≡ running.live)
       → ProspectSays net inputs home (becoming (on_running change old))
   changes change same = record {
+    sure = surely change old.mode sure;
     kept = kept;
     live = λ l is. live l (sym (live_same old.mode) ∙ is);
     sendable = nothing;
@@ -91,20 +102,29 @@ module _ (net : Network) (inputs : List (List ℤ)) (valid : IsValid net) (home 
       live_same InDoubt = refl
       live_same (Runs running) = same running
 
-  tells : (packets : List Packet) → All (IsSendable net inputs) packets
+  tells : (packets : List Packet) → All (IsSayable net inputs) packets
       → ProspectSays net inputs home (telling packets old)
-  tells packets sendable = record { kept = kept; live = live; sendable = sendable; refusable = nothing }
+  tells packets sendable = record { sure = sure; kept = kept; live = live; sendable = sendable; refusable = nothing }
 
   -- ---- it begins, and decides
 
-  begun_kept : nat_lt (highest_seen home old.kept) MAX_COUNT ≡ true → (mode : ModeView) → old.mode ≡ mode
+  begun_kept : nat_lt (highest_seen home old.kept) MAX_COUNT ≡ true → length old.kept.decisions < MAX_DECISIONS
+      → (mode : ModeView) → old.mode ≡ mode
       → KeepsNodes net home (own_at home old.kept (running_in old.kept old.version mode))
-  begun_kept less Down is = kept
-  begun_kept less InDoubt is = kept
-  begun_kept less (Runs running) is =
+  begun_kept less few Down is = kept
+  begun_kept less few InDoubt is = kept
+  begun_kept less few (Runs running) is =
       let below = ltb-true (highest_seen home old.kept) MAX_COUNT less in
       takes_keeps net home old.kept kept home (highest_seen home old.kept + 1) running.current here
-      (omega arith, omega (arith, below)) (counts running is)
+      (omega arith, omega (arith, below)) (counts running is) (λ same. few)
+
+  -- a node that may start has room for a decision
+  few_now : may_start old ≡ true → length old.kept.decisions < MAX_DECISIONS
+  few_now due =
+      let rest = (both_true (is_running old.mode)
+      (is_none old.kept.tentative && nat_lt (length old.kept.decisions) MAX_DECISIONS) due).1 in
+      ltb-true (length old.kept.decisions) MAX_DECISIONS
+      (both_true (is_none old.kept.tentative) (nat_lt (length old.kept.decisions) MAX_DECISIONS) rest).1
 
   begun_live : nat_lt (highest_seen home old.kept) MAX_COUNT ≡ true → (mode : ModeView) → old.mode ≡ mode
       → (l : LiveView) → live_in (on_mode (beginning net home old.kept) mode) ≡ Some l → LiveIsSound net home l
@@ -115,14 +135,14 @@ module _ (net : Network) (inputs : List (List ℤ)) (valid : IsValid net) (home 
       (begun_sound net home inputs valid here old.kept running.current less (counts running is))
 
   live_sendable : (o : Option LiveView) → ((l : LiveView) → o ≡ Some l → LiveIsSound net home l)
-      → All (IsSendable net inputs) (live_asks net home o)
+      → All (IsSayable net inputs) (live_asks net home o)
   live_sendable None sound = nothing
   live_sendable (Some l) sound = asks_sendable net inputs valid home here l (sound l refl)
 
-  pub begins_says : ProspectSays net inputs home (begin_prospect net home old)
-  begins_says = by (may_begin old) (nat_lt (highest_seen home old.kept) MAX_COUNT) refl
+  pub begins_says : ProspectSays net inputs home (start_prospect net home old)
+  begins_says = by (may_start old) refl (nat_lt (highest_seen home old.kept) MAX_COUNT) refl
     where
-      by : (due : Bool) → (less : Bool) → nat_lt (highest_seen home old.kept) MAX_COUNT ≡ less
+      by : (due : Bool) → may_start old ≡ due → (less : Bool) → nat_lt (highest_seen home old.kept) MAX_COUNT ≡ less
           → ProspectSays net inputs home
           (if_due due (unless_spent false less (Planned (record {
             node = begun net home old;
@@ -131,10 +151,11 @@ module _ (net : Network) (inputs : List (List ℤ)) (valid : IsValid net) (home 
             packets = live_asks net home (live_in (begun net home old).mode);
             refused = [];
           }))))
-      by false less e = tt
-      by true false e = tt
-      by true true e = record {
-        kept = begun_kept e old.mode refl;
+      by false is less e = tt
+      by true is false e = tt
+      by true is true e = record {
+        sure = surely (beginning net home old.kept) old.mode sure;
+        kept = begun_kept e (few_now is) old.mode refl;
         live = begun_live e old.mode refl;
         sendable = live_sendable (live_in (begun net home old).mode) (begun_live e old.mode refl);
         refusable = nothing;
@@ -153,7 +174,7 @@ module _ (net : Network) (inputs : List (List ℤ)) (valid : IsValid net) (home 
   decided_kept (Some l) sound = decides_keeps net home old.kept kept l (sound l refl)
 
   decided_told : (o : Option LiveView) → ((l : LiveView) → o ≡ Some l → LiveIsSound net home l)
-      → All (IsSendable net inputs) (commit_packets home (length old.kept.highest) o)
+      → All (IsSayable net inputs) (commit_packets home (length old.kept.highest) o)
   decided_told None sound = nothing
   decided_told (Some l) sound =
       commits_sendable net inputs valid home here l.number (sound l refl).number
@@ -161,8 +182,8 @@ module _ (net : Network) (inputs : List (List ℤ)) (valid : IsValid net) (home 
       (λ p has. (sound l refl).takers p
       (has_where_below (λ q. has_node q l.takers) p 0 (length old.kept.highest) has).0)
 
-  pub concludes_says : ProspectSays net inputs home (conclude_prospect home old)
-  concludes_says = by (is_ready home old.kept (live_in old.mode))
+  pub concludes_says : ProspectSays net inputs home (decide_prospect home old)
+  concludes_says = by (may_decide home old.kept (live_in old.mode))
     where
       by : (due : Bool) → ProspectSays net inputs home (if_due due (Planned (record {
         node = concluded old;
@@ -173,6 +194,7 @@ module _ (net : Network) (inputs : List (List ℤ)) (valid : IsValid net) (home 
       })))
       by false = tt
       by true = record {
+        sure = surely (collecting None) old.mode sure;
         kept = decided_kept (live_in old.mode) live;
         live = none_live old.mode;
         sendable = decided_told (live_in old.mode) live;
@@ -190,6 +212,7 @@ module _ (net : Network) (inputs : List (List ℤ)) (valid : IsValid net) (home 
     taken_kept InDoubt is = kept
     taken_kept (Runs running) is =
         takes_keeps net home old.kept kept x n running.current other.below asked.0 (counts running is)
+        (λ same. absurd (other.apart same))
 
     kept_after : (answer : AskAnswer) → KeepsNodes net home (kept_then x n answer old.mode old.kept)
     kept_after Silent = kept
@@ -202,6 +225,7 @@ module _ (net : Network) (inputs : List (List ℤ)) (valid : IsValid net) (home 
     asked_says =
         let answer = answer_to_ask x n c m old.kept old.mode in
         record {
+          sure = sure;
           kept = kept_after (answer_to_ask x n c m old.kept old.mode);
           live = live;
           sendable = answers_sendable net inputs valid home here x n c m asked right
@@ -217,6 +241,7 @@ module _ (net : Network) (inputs : List (List ℤ)) (valid : IsValid net) (home 
 
   gives_up : ProspectSays net inputs home (give_up_prospect old)
   gives_up = record {
+    sure = surely (collecting None) old.mode sure;
     kept = drops_keeps net home old.kept kept;
     live = none_live old.mode;
     sendable = nothing;
@@ -232,6 +257,7 @@ module _ (net : Network) (inputs : List (List ℤ)) (valid : IsValid net) (home 
 
   covered_says : (n c : ℕ) → ProspectSays net inputs home (becoming (on_running (hearing_covered n c) old))
   covered_says n c = record {
+    sure = surely (hearing_covered n c) old.mode sure;
     kept = kept;
     live = λ l is. by old.mode refl l is;
     sendable = nothing;
@@ -283,7 +309,7 @@ module _ (net : Network) (inputs : List (List ℤ)) (valid : IsValid net) (home 
               (joined_sound net home inputs valid here k p c needs (sound k refl) other asked.3.each parts.1)
 
       asks : (o : Option LiveView) → ((k : LiveView) → o ≡ Some k → LiveIsSound net home k)
-          → All (IsSendable net inputs) (joined_asks net home c needs o)
+          → All (IsSayable net inputs) (joined_asks net home c needs o)
       asks None sound = nothing
       asks (Some k) sound =
           new_sendable net inputs valid home here k.number p (sound k refl).number needs
@@ -293,6 +319,7 @@ module _ (net : Network) (inputs : List (List ℤ)) (valid : IsValid net) (home 
       by Ignores = stays
       by GivesUp = gives_up
       by Joins = record {
+        sure = surely (joining net home p c needs) old.mode sure;
         kept = kept;
         live = joined old.mode refl;
         sendable = asks (live_in old.mode) live;
@@ -307,6 +334,11 @@ module _ (net : Network) (inputs : List (List ℤ)) (valid : IsValid net) (home 
   verdict_live next Down at l is = absurd (cc)
   verdict_live next InDoubt at l is = absurd (cc)
   verdict_live next (Runs running) at l is = live l (ap live_in at ∙ is)
+
+  verdict_sure : (next : RecordView) (mode : ModeView) → mode_then next mode ≢ InDoubt
+  verdict_sure next Down is = absurd (cc)
+  verdict_sure next InDoubt is = absurd (cc)
+  verdict_sure next (Runs running) is = absurd (cc)
 
   commit_says : (x n : ℕ) → IsPositive n → IsOther net home x
       → ProspectSays net inputs home (commit_prospect home x n old)
@@ -323,6 +355,7 @@ module _ (net : Network) (inputs : List (List ℤ)) (valid : IsValid net) (home 
           }))
           (telling (settled_packets home x n old.kept) old))
       by true = record {
+        sure = verdict_sure (with_permanent old.kept) old.mode;
         kept = settles_keeps net home old.kept kept;
         live = verdict_live (with_permanent old.kept) old.mode refl;
         sendable = settled_sendable net inputs valid home here x n (with_permanent old.kept) positive other;
@@ -338,6 +371,7 @@ module _ (net : Network) (inputs : List (List ℤ)) (valid : IsValid net) (home 
       by : (b : Bool) → ProspectSays net inputs home
           (cond b (putting false (after_verdict (without_tentative old.kept) old)) (becoming old))
       by true = record {
+        sure = verdict_sure (without_tentative old.kept) old.mode;
         kept = drops_keeps net home old.kept kept;
         live = verdict_live (without_tentative old.kept) old.mode refl;
         sendable = nothing;
@@ -351,6 +385,7 @@ module _ (net : Network) (inputs : List (List ℤ)) (valid : IsValid net) (home 
       by : (b : Bool) → ProspectSays net inputs home
           (cond b (putting false (with_kept (with_confirmed n p old.kept) old)) (becoming old))
       by true = record {
+        sure = sure;
         kept = confirms_keeps net home old.kept kept n p;
         live = live;
         sendable = nothing;
@@ -379,3 +414,19 @@ module _ (net : Network) (inputs : List (List ℤ)) (valid : IsValid net) (home 
   hears_says from (says.Ended n) is right = ended_says from n
   hears_says from (says.Settled n) is right = settled_says from n
   hears_says from (says.Undone channel epoch count) is right = stays
+
+-- what such a plan sends has a spelling, however it comes out
+plan_allowed : (net : Network) (inputs : List (List ℤ)) (home : ℕ) (plan : Plan) → PlanSays net inputs home plan
+    → (came : Outcome) → All IsPacket (plan_packets plan came)
+plan_allowed net inputs home plan says outcome.NotDue = All-nil IsPacket
+plan_allowed net inputs home plan says outcome.Made = λ k d within. (says.sendable k d within).allowed
+plan_allowed net inputs home plan says (outcome.Refused refusal.TooLarge) =
+    λ k d within. (says.refusable k d within).allowed
+plan_allowed net inputs home plan says (outcome.Refused refusal.Spent) = All-nil IsPacket
+plan_allowed net inputs home plan says outcome.Failed = All-nil IsPacket
+
+pub says_allowed : (net : Network) (inputs : List (List ℤ)) (home : ℕ) (prospect : Prospect)
+    → ProspectSays net inputs home prospect → (came : Outcome) → All IsPacket (packets_by prospect came)
+says_allowed net inputs home Undue says came = All-nil IsPacket
+says_allowed net inputs home (Exhausted looks) says came = All-nil IsPacket
+says_allowed net inputs home (Planned plan) says came = plan_allowed net inputs home plan says came

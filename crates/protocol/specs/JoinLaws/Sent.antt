@@ -14,7 +14,8 @@ use Rattle.recovery_line.specs.Images.{Net}
 use Rattle.recovery_line.specs.Packets.{Packet}
 use Rattle.recovery_line.specs.Worlds.{World, MaySend, Step, Send}
 use Rattle.protocol.specs.Join.Runs.{WasSent, SaysWhatWasSent, Carries}
-use Rattle.protocol.specs.Join.Seen.{packet_seen, in_front, all_seen, world_seen}
+use Rattle.protocol.specs.Join.Seen.{packet_seen, all_seen, world_seen}
+use Rattle.protocol.specs.Node.Beginning.{in_front}
 use Rattle.protocol.specs.World.StationView.{StationView}
 use Rattle.protocol.specs.World.Steps.{sending_of}
 use Rattle.protocol.specs.WorldLaws.FlightLaws.{all_sent_holds}

@@ -16,15 +16,15 @@ use Rattle.recovery_line.specs.Observers.{image_seen, record_seen, decides}
 use Rattle.recovery_line.specs.Packets.{Packet, Query, Commit, Ended, Settled, HearsCommit, HearsEnded, HearsSettled}
 use Rattle.recovery_line.specs.Packets.{after_verdict as verdict_mode}
 use Rattle.recovery_line.specs.Records.{Record}
-use Rattle.recovery_line.specs.Worlds.{World, InFlight}
-use Rattle.protocol.specs.Join.Answering.{holds}
-use Rattle.protocol.specs.Join.Beginning.{live_in}
-use Rattle.protocol.specs.Join.Collecting.{is_live}
+use Rattle.recovery_line.specs.Worlds.{World, Step, InFlight}
+use Rattle.protocol.specs.Node.Answering.{holds}
+use Rattle.protocol.specs.Node.Beginning.{live_in}
+use Rattle.protocol.specs.Node.Collecting.{is_live}
 use Rattle.protocol.specs.Join.Runs.{Leads, WasSent}
 use Rattle.protocol.specs.Join.Seen.{live_seen, mode_seen, all_seen, world_seen}
-use Rattle.protocol.specs.Join.Verdicts.{commit_to, mode_then, after_verdict, settled_packets, verdict_packets}
+use Rattle.protocol.specs.Node.Verdicts.{commit_to, mode_then, after_verdict, settled_packets, verdict_packets}
 use Rattle.protocol.specs.JoinLaws.Holding.{at_most, IsHeld, held_where, named_so, not_held, up_seen}
-use Rattle.protocol.specs.JoinLaws.Leading.{leads_by, leads_on, hears, outlets_same, record_at, mode_at, set_there}
+use Rattle.protocol.specs.JoinLaws.Leading.{leads_by, leads_then, hears, outlets_same, record_at, mode_at, set_there}
 use Rattle.protocol.specs.JoinLaws.Sent.{MaySendAll, sends}
 use Rattle.protocol.specs.Node.LiveView.{LiveView}
 use Rattle.protocol.specs.Node.Modes.{is_down, with_kept}
@@ -167,15 +167,14 @@ module _ (net : Network) (stations : List StationView) (k : ℕ) (old : StationV
   -- what a node says that holds the image no more
   says_settled : (x n : ℕ) (node : NodeView) → is_down node.mode ≡ false → WasSent sent (Commit x k n)
       → holds x n node.kept.tentative ≡ false
-      → Leads (net_seen net) (world_seen (Later node) sent)
+      → Step (net_seen net) (world_seen (Later node) sent)
       (world_seen (Later node) (all_seen (settled_packets k x n node.kept) ++ sent))
   says_settled x n node node_up came free =
       let new = moved_to node failures turns old in
       let here = set_there stations k old new there in
-      leads_by (net_seen net) (world_seen (Later node) sent) _
-      (sends (net_seen net) (Later node) (settled_packets k x n node.kept) sent
+      sends (net_seen net) (Later node) (settled_packets k x n node.kept) sent
       (settled_may (net_seen net) (world_seen (Later node) sent) k x n node.kept (record_at (Later node) k new here)
-      (λ down. up_seen node.mode node_up (sym (mode_at (Later node) k new here) ∙ down)) came free))
+      (λ down. up_seen node.mode node_up (sym (mode_at (Later node) k new here) ∙ down)) came free)
 
   pub commit_leads : (x n : ℕ) → WasSent sent (Commit x k n) → holds x n old.node.kept.tentative ≡ true
       → Leads (net_seen net) (world_seen stations sent)
@@ -184,7 +183,7 @@ module _ (net : Network) (stations : List StationView) (k : ℕ) (old : StationV
   commit_leads x n came held =
       let node = after_verdict (with_permanent old.node.kept) old.node in
       let new = moved_to node failures turns old in
-      leads_on (net_seen net) (world_seen stations sent) (world_seen (Later node) sent) _
+      leads_then (net_seen net) (world_seen stations sent) (world_seen (Later node) sent) _
       (leads_by (net_seen net) (world_seen stations sent) (world_seen (Later node) sent)
       (hears stations k old new there (net_seen net) sent (outlets_same stations k old new there refl) (Commit x k n)
       came (
@@ -192,12 +191,13 @@ module _ (net : Network) (stations : List StationView) (k : ℕ) (old : StationV
         hears_commit x n old.node.kept old.node.mode (outlets_seen stations) (up_seen old.node.mode up)
             (held_where x n old.node.kept.tentative held),
       )))
-      (says_settled x n node (up_then old.node.mode (with_permanent old.node.kept) up) came refl)
+      (says_settled x n node (up_then old.node.mode (with_permanent old.node.kept) up) came refl) refl
 
   pub confirm_leads : (x n : ℕ) → WasSent sent (Commit x k n) → holds x n old.node.kept.tentative ≡ false
       → Leads (net_seen net) (world_seen (Later old.node) sent)
       (world_seen (Later old.node) (all_seen (settled_packets k x n old.node.kept) ++ sent))
-  confirm_leads x n came free = says_settled x n old.node up came free
+  confirm_leads x n came free =
+      leads_by (net_seen net) (world_seen (Later old.node) sent) _ (says_settled x n old.node up came free)
 
   pub ended_leads : (x n : ℕ) → WasSent sent (Ended x k n) → holds x n old.node.kept.tentative ≡ true
       → Leads (net_seen net) (world_seen stations sent)

@@ -2,12 +2,12 @@
 use Rattle.std.proofs.Common.{◌≡◌, ℕ, zero, suc, ◌+◌, ◌<◌, ◌≤◌, ◌&&◌, Bool, true, false, cond, List, ℤ, [], ◌∷◌, length}
 use Rattle.std.proofs.Common.{map}
 use Rattle.std.proofs.Common.{All, Option, Some, None, refl, sym, ap, subst, ◌∙◌, arith}
-use Rattle.std.specs.Prelude.{◌≢◌, ◌==◌, ◌||◌, nat_le, nat_lt, not, slice_get, slice_index}
+use Rattle.std.specs.Prelude.{◌≢◌, ◌==◌, IsTrue, ◌||◌, nat_le, nat_lt, not, slice_get, slice_index}
 use Rattle.std.specs.List.{flat_map, list_all}
 use Rattle.std.specs.List.Sorted.{IsStrictlyIncreasing}
 use Rattle.std.proofs.lemmas.Bool.{eq-eqb, ne_eqb, ltb-true, lt-ltb}
 use Rattle.std.proofs.lemmas.List.Elements.{All-nil, All-cons, All-append, All-head, All-tail}
-use Rattle.datagram.specs.PacketText.{IsPositive, IsNeed, IsBody, AreNeeds, channels}
+use Rattle.datagram.specs.PacketText.{IsPositive, IsNeed, IsBody, IsPacket, AreNeeds, channels}
 use Rattle.datagram.specs.declared.packet.Body.{Body}
 use Rattle.datagram.specs.declared.packet.Body.TheVariants as says
 use Rattle.datagram.specs.declared.packet.Need.{Need}
@@ -26,22 +26,23 @@ use Rattle.record.specs.declared.record.Tentative.{Tentative}
 use Rattle.recovery_line.specs.Images.{IsCross}
 use Rattle.recovery_line.specs.Nodes.{Answer, Awaited, By_took, By_covered}
 use Rattle.recovery_line.specs.Observers.{decides, has_node}
-use Rattle.protocol.specs.Join.Answering.{AskAnswer, Silent, CoveredBefore, TookBefore, TakesNow, Declines}
-use Rattle.protocol.specs.Join.Answering.{answer_packets}
-use Rattle.protocol.specs.Join.Answering.{took_packet}
-use Rattle.protocol.specs.Join.Beginning.{if_awaited, ask_on, open_question, open_questions, live_asks}
-use Rattle.protocol.specs.Join.Collecting.{needs_no_question, with_need, new_ask, new_asks}
-use Rattle.protocol.specs.Join.Collecting.{is_live}
+use Rattle.protocol.specs.Node.Answering.{AskAnswer, Silent, CoveredBefore, TookBefore, TakesNow, Declines}
+use Rattle.protocol.specs.Node.Answering.{answer_packets}
+use Rattle.protocol.specs.Node.Answering.{took_packet}
+use Rattle.protocol.specs.Node.Beginning.{if_awaited, ask_on, open_question, open_questions, live_asks}
+use Rattle.protocol.specs.Node.Collecting.{needs_no_question, with_need, new_ask, new_asks}
+use Rattle.protocol.specs.Node.Collecting.{is_live}
 use Rattle.protocol.specs.Join.Joined.{IsOther, IsQuestion, LiveIsSound, MayBeAskedFor, DecisionIsSound}
 use Rattle.protocol.specs.Join.Joined.{KeepsNodes}
-use Rattle.protocol.specs.Join.Needs.{is_needed, need_on, needs_of, held_needs}
-use Rattle.protocol.specs.Join.Seen.{questions_seen, in_front}
-use Rattle.protocol.specs.Join.Telling.{decision_packets, packet_if, query_packets, verdicts_told}
-use Rattle.protocol.specs.Join.Verdicts.{commit_to, settled_packets, verdict_packets}
+use Rattle.protocol.specs.Node.Needs.{is_needed, need_on, needs_of, held_needs}
+use Rattle.protocol.specs.Join.Seen.{questions_seen}
+use Rattle.protocol.specs.Node.Beginning.{in_front}
+use Rattle.protocol.specs.Node.Telling.{decision_packets, packet_if, query_packets, verdicts_told}
+use Rattle.protocol.specs.Node.Verdicts.{commit_to, settled_packets, verdict_packets}
 use Rattle.protocol.specs.JoinLaws.Crossings.{both_true, true_both, channel_within, comes_cross, cross_goes, goes_cross}
 use Rattle.protocol.specs.JoinLaws.Crossings.{cross_within, producer_below, producer_is}
 use Rattle.protocol.specs.JoinLaws.NeedLaws.{needed_above}
-use Rattle.protocol.specs.Node.Addresses.{are_nodes, names_run, producer_node}
+use Rattle.protocol.specs.Node.Addresses.{are_nodes, names_right, names_run, producer_node}
 use Rattle.protocol.specs.Node.Layout.{is_incoming, is_outgoing, numbers_where}
 use Rattle.protocol.specs.Node.LiveView.{QuestionView, LiveView}
 use Rattle.protocol.specs.NodeLaws.PlaceLaws.{nodes_few}
@@ -49,12 +50,25 @@ use Rattle.protocol.specs.World.RecoveryLine.{net_seen}
 use Rattle.protocol.specs.World.Traffic.{PacketIsSound}
 use Rattle.protocol.specs.WorldLaws.SendLaws.{IsSendable}
 
-module _ (net : Network) (inputs : List (List ℤ)) (valid : IsValid net) (home : ℕ) (here : home < node_count net) where
-  pub none_sendable : All (IsSendable net inputs) []
-  none_sendable = All-nil (IsSendable net inputs)
+-- a packet that has a spelling, names what there is, and says what belongs
+pub record IsSayable (net : Network) (inputs : List (List ℤ)) (packet : Packet) : Type 0 where
+  pub allowed : IsPacket packet
+  pub names : IsTrue (names_right net packet)
+  pub sound : PacketIsSound net inputs packet
 
-  pub one_sendable : (packet : Packet) → IsSendable net inputs packet → All (IsSendable net inputs) (packet ∷ [])
-  one_sendable packet is = All-cons (IsSendable net inputs) packet [] is none_sendable
+-- such packets may be sent
+pub all_sendable : (net : Network) (inputs : List (List ℤ)) (packets : List Packet)
+    → All (IsSayable net inputs) packets → All (IsSendable net inputs) packets
+all_sendable net inputs packets said k d within =
+    (let it = said k d within in
+    record { writable = λ fits. it.allowed; names = it.names; sound = it.sound })
+
+module _ (net : Network) (inputs : List (List ℤ)) (valid : IsValid net) (home : ℕ) (here : home < node_count net) where
+  pub none_sendable : All (IsSayable net inputs) []
+  none_sendable = All-nil (IsSayable net inputs)
+
+  pub one_sendable : (packet : Packet) → IsSayable net inputs packet → All (IsSayable net inputs) (packet ∷ [])
+  one_sendable packet is = All-cons (IsSayable net inputs) packet [] is none_sendable
 
   node_fits : (p : ℕ) → p < node_count net → p ≤ LAST_NODE
   node_fits p below = let few = nodes_few net valid in omega (arith, below, few)
@@ -82,9 +96,9 @@ module _ (net : Network) (inputs : List (List ℤ)) (valid : IsValid net) (home 
   -- a packet to another node that says so is fit to be sent
   says_to : (p : ℕ) (body : Body) → IsOther net home p → IsBody body → names_run net home p body ≡ true
       → PacketIsSound net inputs (record { from = home; to = p; body = body })
-      → IsSendable net inputs (record { from = home; to = p; body = body })
+      → IsSayable net inputs (record { from = home; to = p; body = body })
   says_to p body other allowed names sound = record {
-    writable = λ fits. record {
+    allowed = record {
       from = node_fits home here;
       to = node_fits p other.below;
       apart = λ same. other.apart (sym same);
@@ -119,7 +133,7 @@ module _ (net : Network) (inputs : List (List ℤ)) (valid : IsValid net) (home 
       }
 
   ask_sendable : (number c m : ℕ) → IsPositive number → IsQuestion net home c m
-      → IsSendable net inputs (ask_on net home number c m)
+      → IsSayable net inputs (ask_on net home number c m)
   ask_sendable number c m positive question =
       let p = producer_node net c in
       let cross = goes_cross net p c valid question.goes in
@@ -130,15 +144,15 @@ module _ (net : Network) (inputs : List (List ℤ)) (valid : IsValid net) (home 
       question.goes) tt
 
   in_front_sendable : (o : Option Packet) (packets : List Packet)
-      → ((packet : Packet) → o ≡ Some packet → IsSendable net inputs packet) → All (IsSendable net inputs) packets
-      → All (IsSendable net inputs) (in_front o packets)
+      → ((packet : Packet) → o ≡ Some packet → IsSayable net inputs packet) → All (IsSayable net inputs) packets
+      → All (IsSayable net inputs) (in_front o packets)
   in_front_sendable None packets one rest = rest
   in_front_sendable (Some packet) packets one rest =
-      All-cons (IsSendable net inputs) packet packets (one packet refl) rest
+      All-cons (IsSayable net inputs) packet packets (one packet refl) rest
 
   questions_sendable : (number : ℕ) → IsPositive number → (c : ℕ) (questions : List (Option QuestionView))
       → ((j m : ℕ) (answer : Answer) → questions_seen questions j ≡ Some (m, answer) → IsQuestion net home (c + j) m)
-      → All (IsSendable net inputs) (open_questions net home number c questions)
+      → All (IsSayable net inputs) (open_questions net home number c questions)
   questions_sendable number positive c [] each = none_sendable
   questions_sendable number positive c (question ∷ questions) each =
       in_front_sendable (open_question net home number c question)
@@ -155,16 +169,16 @@ module _ (net : Network) (inputs : List (List ℤ)) (valid : IsValid net) (home 
       by : (o : Option QuestionView)
           → ((m : ℕ) (answer : Answer) → questions_seen (o ∷ questions) 0 ≡ Some (m, answer)
           → IsQuestion net home (c + 0) m)
-          → (packet : Packet) → open_question net home number c o ≡ Some packet → IsSendable net inputs packet
+          → (packet : Packet) → open_question net home number c o ≡ Some packet → IsSayable net inputs packet
       by None one packet is = absurd (cc)
       by (Some q) one packet is =
-          subst (IsSendable net inputs) (awaited q.answer (ask_on net home number c q.count) packet is)
+          subst (IsSayable net inputs) (awaited q.answer (ask_on net home number c q.count) packet is)
           (ask_sendable number c q.count positive
           (subst (λ (d : ℕ). IsQuestion net home d q.count) (let e : c + 0 ≡ c = omega arith in e)
           (one q.count q.answer refl)))
 
   pub asks_sendable : (live : LiveView) → LiveIsSound net home live
-      → All (IsSendable net inputs) (live_asks net home (Some live))
+      → All (IsSayable net inputs) (live_asks net home (Some live))
   asks_sendable live sound =
       questions_sendable live.number sound.number 0 live.questions
       (λ j m answer is. subst (λ (d : ℕ). IsQuestion net home d m) (let e : j ≡ 0 + j = omega arith in e)
@@ -180,7 +194,7 @@ module _ (net : Network) (inputs : List (List ℤ)) (valid : IsValid net) (home 
 
   pub new_sendable : (number p : ℕ) → IsPositive number → (needs : List Need) (questions : List (Option QuestionView))
       → All IsNeed needs → list_all (λ (need : Need). is_incoming net p need.channel) needs ≡ true
-      → All (IsSendable net inputs) (new_asks net home number needs questions)
+      → All (IsSayable net inputs) (new_asks net home number needs questions)
   new_sendable number p positive [] questions each all = none_sendable
   new_sendable number p positive (need ∷ needs) questions each all =
       let both = both_true (is_incoming net p need.channel)
@@ -194,11 +208,11 @@ module _ (net : Network) (inputs : List (List ℤ)) (valid : IsValid net) (home 
       by : (b : Bool) → needs_no_question net home need questions ≡ b → IsNeed need
           → is_incoming net p need.channel ≡ true → (packet : Packet)
           → cond b None (Some (ask_on net home number need.channel need.count)) ≡ Some packet
-          → IsSendable net inputs packet
+          → IsSayable net inputs packet
       by true e is incoming packet same = absurd (cc)
       by false e is incoming packet same =
           let it : ask_on net home number need.channel need.count ≡ packet = cc in
-          subst (IsSendable net inputs) it
+          subst (IsSayable net inputs) it
           (ask_sendable number need.channel need.count positive (need_question p need is incoming (apart e)))
         where
           apart : needs_no_question net home need questions ≡ false → producer_node net need.channel ≢ home
@@ -349,7 +363,7 @@ module _ (net : Network) (inputs : List (List ℤ)) (valid : IsValid net) (home 
     needs_are (Some h) is =
         (needs_written kept.permanent h.image (held h is), needs_incoming kept.permanent h.image (held h is))
 
-    took_sendable : IsSendable net inputs (took_packet net home x n c m kept)
+    took_sendable : IsSayable net inputs (took_packet net home x n c m kept)
     took_sendable =
         let needs = needs_are kept.tentative refl in
         says_to x (says.Took n c m (held_needs net home kept.permanent kept.tentative)) other
@@ -363,13 +377,13 @@ module _ (net : Network) (inputs : List (List ℤ)) (valid : IsValid net) (home 
         (held_needs net home kept.permanent kept.tentative)) parts.1 needs.1)) tt
 
     pub declined_sendable : (reason : Reason)
-        → IsSendable net inputs (record { from = home; to = x; body = says.Refused n c reason })
+        → IsSayable net inputs (record { from = home; to = x; body = says.Refused n c reason })
     declined_sendable reason =
         says_to x (says.Refused n c reason) other (asked.0, asked.1)
         (true_both (are_nodes net home x) (is_outgoing net home c) said parts.1) tt
 
     pub answers_sendable : (answer : AskAnswer)
-        → All (IsSendable net inputs) (answer_packets net home x n c m kept answer)
+        → All (IsSayable net inputs) (answer_packets net home x n c m kept answer)
     answers_sendable Silent = none_sendable
     answers_sendable CoveredBefore =
         one_sendable (record { from = home; to = x; body = says.Covered n c m })
@@ -382,7 +396,7 @@ module _ (net : Network) (inputs : List (List ℤ)) (valid : IsValid net) (home 
 
   -- ---- verdicts
 
-  pub commit_sendable : (n p : ℕ) → IsPositive n → IsOther net home p → IsSendable net inputs (commit_to home n p)
+  pub commit_sendable : (n p : ℕ) → IsPositive n → IsOther net home p → IsSayable net inputs (commit_to home n p)
   commit_sendable n p positive other = says_to p (says.Commit n) other positive (nodes_are p other) tt
 
   first_of : (p : ℕ) (nodes : List ℕ) → has_node p (p ∷ nodes) ≡ true
@@ -390,10 +404,10 @@ module _ (net : Network) (inputs : List (List ℤ)) (valid : IsValid net) (home 
 
   pub commits_sendable : (n : ℕ) → IsPositive n → (nodes : List ℕ)
       → ((p : ℕ) → has_node p nodes ≡ true → IsOther net home p)
-      → All (IsSendable net inputs) (map (commit_to home n) nodes)
+      → All (IsSayable net inputs) (map (commit_to home n) nodes)
   commits_sendable n positive [] others = none_sendable
   commits_sendable n positive (p ∷ nodes) others =
-      All-cons (IsSendable net inputs) (commit_to home n p) (map (commit_to home n) nodes)
+      All-cons (IsSayable net inputs) (commit_to home n p) (map (commit_to home n) nodes)
       (commit_sendable n p positive (others p (first_of p nodes)))
       (commits_sendable n positive nodes (λ q is. others q (rw is (or_true (p == q)))))
     where
@@ -402,21 +416,21 @@ module _ (net : Network) (inputs : List (List ℤ)) (valid : IsValid net) (home 
       or_true false = refl
 
   pub settled_sendable : (x n : ℕ) (kept : RecordView) → IsPositive n → IsOther net home x
-      → All (IsSendable net inputs) (settled_packets home x n kept)
+      → All (IsSayable net inputs) (settled_packets home x n kept)
   settled_sendable x n kept positive other = by (nat_le n (highest_seen x kept))
     where
       by : (b : Bool)
-          → All (IsSendable net inputs) (cond b (record { from = home; to = x; body = says.Settled n } ∷ []) [])
+          → All (IsSayable net inputs) (cond b (record { from = home; to = x; body = says.Settled n } ∷ []) [])
       by true = one_sendable (record { from = home; to = x; body = says.Settled n })
           (says_to x (says.Settled n) other positive (nodes_are x other) tt)
       by false = none_sendable
 
   pub verdict_sendable : (p n : ℕ) (kept : RecordView) (live : Option LiveView) → IsPositive n → IsOther net home p
-      → All (IsSendable net inputs) (verdict_packets home p n kept live)
+      → All (IsSayable net inputs) (verdict_packets home p n kept live)
   verdict_sendable p n kept live positive other =
       by (decides kept.decisions n) (is_live n live || not (nat_le n (highest_seen home kept)))
     where
-      by : (b d : Bool) → All (IsSendable net inputs) (cond b (commit_to home n p ∷ [])
+      by : (b d : Bool) → All (IsSayable net inputs) (cond b (commit_to home n p ∷ [])
           (cond d [] (record { from = home; to = p; body = says.Ended n } ∷ [])))
       by true d = one_sendable (commit_to home n p) (commit_sendable n p positive other)
       by false true = none_sendable
@@ -425,27 +439,27 @@ module _ (net : Network) (inputs : List (List ℤ)) (valid : IsValid net) (home 
 
   -- what is said of decisions, and of an image that is held, in a turn
   pub told_sendable : (kept : RecordView) → KeepsNodes net home kept
-      → All (IsSendable net inputs) (verdicts_told home kept)
+      → All (IsSayable net inputs) (verdicts_told home kept)
   told_sendable kept keeps =
-      All-append (IsSendable net inputs) (flat_map (decision_packets home) kept.decisions)
+      All-append (IsSayable net inputs) (flat_map (decision_packets home) kept.decisions)
       (query_packets home kept.tentative) (decisions kept.decisions keeps.decisions)
       (query kept.tentative refl)
     where
       decisions : (ds : List DecisionView)
           → ((i : ℕ) (d : DecisionView) → slice_get ds i ≡ Some d → DecisionIsSound net home d)
-          → All (IsSendable net inputs) (flat_map (decision_packets home) ds)
+          → All (IsSayable net inputs) (flat_map (decision_packets home) ds)
       decisions [] each = none_sendable
       decisions (d ∷ ds) each =
-          All-append (IsSendable net inputs) (decision_packets home d) (flat_map (decision_packets home) ds)
+          All-append (IsSayable net inputs) (decision_packets home d) (flat_map (decision_packets home) ds)
           (commits_sendable d.number (each 0 d refl).number d.participants (each 0 d refl).others)
           (decisions ds (λ i e is. each (suc i) e is))
 
-      query : (o : Option Tentative) → kept.tentative ≡ o → All (IsSendable net inputs) (query_packets home o)
+      query : (o : Option Tentative) → kept.tentative ≡ o → All (IsSayable net inputs) (query_packets home o)
       query None is = none_sendable
       query (Some h) is = by (h.initiator == home) refl
         where
           by : (b : Bool) → (h.initiator == home) ≡ b
-              → All (IsSendable net inputs)
+              → All (IsSayable net inputs)
               (packet_if (not b) (record { from = home; to = h.initiator; body = says.Query h.number }))
           by true own = none_sendable
           by false apart =

@@ -17,13 +17,14 @@ use Rattle.recovery_line.specs.Observers.{image_seen, record_seen, tentative_see
 use Rattle.recovery_line.specs.Packets.{Packet}
 use Rattle.recovery_line.specs.Records.{Record}
 use Rattle.recovery_line.specs.Worlds.{World, IsLive, MaySend, Reachable}
-use Rattle.protocol.specs.Join.Beginning.{live_in, live_begun, if_awaited, ask_on, open_question, open_questions}
-use Rattle.protocol.specs.Join.Beginning.{live_asks}
-use Rattle.protocol.specs.Join.Beginning.{may_begin, beginning, begun}
+use Rattle.protocol.specs.Node.Beginning.{live_in, live_begun, if_awaited, ask_on, open_question, open_questions}
+use Rattle.protocol.specs.Node.Beginning.{live_asks}
+use Rattle.protocol.specs.Node.Beginning.{may_start, beginning, begun}
 use Rattle.protocol.specs.Join.Runs.{Leads}
-use Rattle.protocol.specs.Join.Seen.{questions_seen, live_seen, mode_seen, in_front, all_seen, world_seen}
+use Rattle.protocol.specs.Join.Seen.{questions_seen, live_seen, mode_seen, all_seen, world_seen}
+use Rattle.protocol.specs.Node.Beginning.{in_front}
 use Rattle.protocol.specs.JoinLaws.Crossings.{both_true}
-use Rattle.protocol.specs.JoinLaws.Leading.{leads_by, leads_on, acts, outlets_same, record_at, mode_at, set_there}
+use Rattle.protocol.specs.JoinLaws.Leading.{leads_by, leads_then, acts, outlets_same, record_at, mode_at, set_there}
 use Rattle.protocol.specs.JoinLaws.NeedLaws.{asks_needs}
 use Rattle.protocol.specs.JoinLaws.Sent.{MaySendAll, sends}
 use Rattle.protocol.specs.Node.LiveView.{QuestionView, LiveView}
@@ -112,7 +113,7 @@ module _ (net : Network) (home : ℕ) (w : World) (live : LiveView) (is : IsLive
 
 module _ (net : Network) (valid : IsValid net) (stations : List StationView) (k : ℕ) (old : StationView)
     (there : slice_get stations k ≡ Some old) (sent : List Packet)
-    (reached : Reachable (net_seen net) (world_seen stations sent)) (may : may_begin old.node ≡ true)
+    (reached : Reachable (net_seen net) (world_seen stations sent)) (may : may_start old.node ≡ true)
     (listed : k < length old.node.kept.highest) where
   runs : is_running old.node.mode ≡ true
   runs = (both_true (is_running old.node.mode)
@@ -154,10 +155,9 @@ module _ (net : Network) (valid : IsValid net) (stations : List StationView) (k 
   begin_leads failures turns =
       let new = moved_to (begun net k old.node) failures turns old in
       let later = slice_set stations k new in
-      leads_on (net_seen net) (world_seen stations sent) (world_seen later sent) _
+      leads_then (net_seen net) (world_seen stations sent) (world_seen later sent) _
       (leads_by (net_seen net) (world_seen stations sent) (world_seen later sent)
       (acts stations k old new there (net_seen net) sent (outlets_same stations k old new there refl)
       (starts net k old.node.version old.node.kept old.node.mode (outlets_seen stations) valid runs free idle listed)))
-      (leads_by (net_seen net) (world_seen later sent) _
       (sends (net_seen net) later (live_asks net k (live_in (begun net k old.node).mode)) sent
-      (asks_sent later (ap live_of (mode_at later k new (set_there stations k old new there))))))
+      (asks_sent later (ap live_of (mode_at later k new (set_there stations k old new there))))) refl

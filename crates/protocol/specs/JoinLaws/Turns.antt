@@ -19,15 +19,15 @@ use Rattle.recovery_line.specs.Observers.{has_node, image_seen, record_seen, ten
 use Rattle.recovery_line.specs.Packets.{Packet}
 use Rattle.recovery_line.specs.Records.{Record}
 use Rattle.recovery_line.specs.Worlds.{World}
-use Rattle.protocol.specs.Join.Beginning.{live_in, live_asks}
+use Rattle.protocol.specs.Node.Beginning.{live_in, live_asks}
 use Rattle.protocol.specs.Join.Seen.{mode_seen, world_seen}
-use Rattle.protocol.specs.Join.Telling.{decision_packets, packet_if, query_packets, verdicts_told, kept_packet}
-use Rattle.protocol.specs.Join.Telling.{turn_packets}
-use Rattle.protocol.specs.Join.Telling.{turn_prospect}
+use Rattle.protocol.specs.Node.Telling.{decision_packets, packet_if, query_packets, verdicts_told, kept_packet}
+use Rattle.protocol.specs.Node.Telling.{turn_packets}
+use Rattle.protocol.specs.Node.Telling.{send_prospect}
 use Rattle.protocol.specs.JoinLaws.Concludes.{commits_may}
 use Rattle.protocol.specs.JoinLaws.Crossings.{comes_cross}
 use Rattle.protocol.specs.JoinLaws.Holding.{up_seen}
-use Rattle.protocol.specs.JoinLaws.Leading.{leads_here, leads_by, leads_on, record_at, mode_at, set_there, unseen}
+use Rattle.protocol.specs.JoinLaws.Leading.{leads_by, leads_from, record_at, mode_at, set_there, unseen}
 use Rattle.protocol.specs.JoinLaws.Plans.{ProspectLeads}
 use Rattle.protocol.specs.JoinLaws.Sent.{MaySendAll, may_both, may_each, may_map, sends}
 use Rattle.protocol.specs.JoinLaws.Starts.{asks_may, live_there}
@@ -178,7 +178,7 @@ module _ (net : Network) (valid : IsValid net) (stations : List StationView) (k 
     (there : slice_get stations k ≡ Some old) (sent : List Packet)
     (incoming : (running : RunningView) → old.node.mode ≡ Runs running → (i : ℕ) (inbox : Inbox)
     → slice_get running.inboxes i ≡ Some inbox → is_incoming net k inbox.channel ≡ true) where
-  pub turn_leads : ProspectLeads net stations k old sent (turn_prospect net k old.node)
+  pub turn_leads : ProspectLeads net stations k old sent (send_prospect net k old.node)
   turn_leads = by (is_down old.node.mode) refl
     where
       by : (down : Bool) → is_down old.node.mode ≡ down
@@ -190,9 +190,8 @@ module _ (net : Network) (valid : IsValid net) (stations : List StationView) (k 
             let new = moved_to old.node failures turns old in
             let later = slice_set stations k new in
             let here = set_there stations k old new there in
-            leads_on (net_seen net) (world_seen stations sent) (world_seen later sent) _
-            (leads_here (net_seen net) (world_seen stations sent)
-            _ (unseen stations k old new there sent refl refl refl))
+            leads_from (net_seen net) (world_seen stations sent) (world_seen later sent) _
+            (unseen stations k old new there sent refl refl refl)
             (leads_by (net_seen net) (world_seen later sent) _
             (sends (net_seen net) later (turn_packets net k old.node.kept old.node.mode) sent
             (turn_may net valid (world_seen later sent) k old.node.kept old.node.mode (record_at later k new here)

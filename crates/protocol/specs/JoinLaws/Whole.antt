@@ -1,5 +1,6 @@
 -- What is promised of checkpoints that several nodes take together holds.
-use Rattle.std.proofs.Common.{◌≡◌, ℕ, Bool, true, false, List, length, Option, Some, None, option_map, refl, sym, ap}
+use Rattle.std.proofs.Common.{◌≡◌, inl, inr, ℕ, Bool, true, false, List, length, Option, Some, None, option_map, refl}
+use Rattle.std.proofs.Common.{sym, ap}
 use Rattle.std.proofs.Common.{subst, ◌∙◌}
 use Rattle.std.specs.Prelude.{slice_get, slice_set}
 use Rattle.std.proofs.Math.Bridge.{le_prop}
@@ -7,43 +8,74 @@ use Rattle.std.proofs.lemmas.List.{map-set}
 use Rattle.protocol.specs.World.RecoveryLine.{records_of}
 use Rattle.protocol.specs.WorldLaws.OutputLaws.{map_at}
 use Rattle.std.proofs.Math.Logic.{∥∥₁_elim, ∥∥₁_map, ∥∥₁_map₂}
+use Rattle.datagram.specs.declared.packet.Packet.{Packet}
 use Rattle.kahn_net.specs.Nodes.{node_count}
+use Rattle.kahn_net.specs.Syntax.{Network}
+use Rattle.record.specs.Moves.{with_epoch}
 use Rattle.wire.specs.Queue.{is_due}
+use Rattle.wire.specs.Traffic.{Traffic}
 use Rattle.wire.specs.declared.queue.Flight.{Flight}
-use Rattle.protocol.specs.Join.Deeds.{come_plan, deed_plan}
-use Rattle.protocol.specs.Join.Promises.{StandsIn, OpeningHasRun, DeedsRun, DeedsKeepTheLine, InstallsRun, ReleasesRun}
-use Rattle.protocol.specs.Join.Promises.{NetworkRuns, LinesAreSound, ReleasesKeepTheLine}
-use Rattle.protocol.specs.Join.Runs.{HasRun}
-use Rattle.protocol.specs.Join.Beginning.{begin_prospect}
-use Rattle.protocol.specs.Join.Telling.{turn_prospect}
-use Rattle.protocol.specs.Join.Verdicts.{conclude_prospect}
+use Rattle.protocol.specs.World.Steps.{deliver_plan, plan_of}
+use Rattle.protocol.specs.JoinLaws.Promises.{StandsIn, OpeningHasRun, DeedsRun, DeedsKeepTheLine, InstallsRun}
+use Rattle.protocol.specs.JoinLaws.Promises.{ReleasesRun}
+use Rattle.protocol.specs.JoinLaws.Promises.{NetworkRuns, LinesAreSound, ReleasesKeepTheLine}
+use Rattle.protocol.specs.Join.Runs.{HasRun, RunsOn}
+use Rattle.protocol.specs.Node.Beginning.{start_prospect}
+use Rattle.protocol.specs.Node.Telling.{send_prospect}
+use Rattle.protocol.specs.Node.Verdicts.{decide_prospect}
 use Rattle.protocol.specs.JoinLaws.Deeds.{same_leads, grant_leads, starts_lead, concludes_lead}
-use Rattle.protocol.specs.JoinLaws.Events.{planned_run, come_leads, install_run, release_run, release_steps}
+use Rattle.protocol.specs.JoinLaws.Events.{AnswersSo, planned_run, come_leads, install_run, release_run, release_steps}
 use Rattle.protocol.specs.JoinLaws.Events.{release_puts_none}
 use Rattle.protocol.specs.JoinLaws.Events.{acted_carries}
-use Rattle.protocol.specs.JoinLaws.Leading.{outlets_same, set_itself}
+use Rattle.protocol.specs.Join.Seen.{world_seen}
+use Rattle.protocol.specs.World.RecoveryLine.{net_seen}
+use Rattle.protocol.specs.JoinLaws.Leading.{leads_here, reached_then, outlets_same, set_itself}
 use Rattle.protocol.specs.JoinLaws.Lines.{line_at_release, line_now}
 use Rattle.protocol.specs.JoinLaws.Opens.{run_opens}
 use Rattle.protocol.specs.JoinLaws.Plans.{ProspectLeads, prospect_line}
 use Rattle.protocol.specs.JoinLaws.Returns.{crash_leads, recover_leads}
 use Rattle.protocol.specs.JoinLaws.Turns.{turn_leads}
 use Rattle.protocol.specs.Node.ArmedRestarts.{round_later, with_armed}
-use Rattle.protocol.specs.Node.Choosing.{node_job}
+use Rattle.protocol.specs.Node.Choosing.{grant_prospect, node_job}
+use Rattle.protocol.specs.Node.Delivering.{delivery_of, packet_for}
+use Rattle.protocol.specs.Node.JobView.{JobView}
 use Rattle.protocol.specs.Node.Layout.{is_incoming}
-use Rattle.protocol.specs.Node.NodeView.{Runs, RunningView, running_node, running_in}
+use Rattle.protocol.specs.Node.NodeView.{Down, InDoubt, ModeView, NodeView, Runs, RunningView, running_node, running_in}
 use Rattle.protocol.specs.Node.Plans.{Prospect, if_due}
-use Rattle.protocol.specs.Node.Recovering.{crash_prospect, recover_prospect}
+use Rattle.protocol.specs.Node.Recovering.{crash_prospect, recover_prospect, restored_mode}
 use Rattle.protocol.specs.NodeLaws.NumberedLaws.{where_mark}
 use Rattle.protocol.specs.World.EventView.{Deed}
 use Rattle.protocol.specs.World.EventView as event
 use Rattle.protocol.specs.World.StationView.{StationView}
-use Rattle.protocol.specs.World.Steps.{Setting, bytes_when, due_bytes, flight_at}
+use Rattle.protocol.specs.World.Replies.{back_reply, delivery_reply, grant_reply, has_happened}
+use Rattle.protocol.specs.World.Steps.{Setting, bytes_when, due_bytes, flight_at, noting}
+use Rattle.protocol.specs.World.Turns.{count_grant, turns_of}
+use Rattle.protocol.specs.declared.round_turns.RoundTurns.{RoundTurns}
 use Rattle.protocol.specs.World.Traffic.{SpellsSound}
 use Rattle.protocol.specs.WorldLaws.TrafficLaws.{arrives_sound}
 use Rattle.protocol.specs.declared.links.Inbox.{Inbox}
 
 pub opening_has_run : OpeningHasRun
 opening_has_run net failures outlets nothing = ∣ run_opens net (node_count net) outlets 0 failures nothing ∣₁
+
+-- a world that goes on has run then
+pub has_run_then : (net : Network) (before after : List StationView) (traffic flown : Traffic)
+    → RunsOn net before traffic after flown → HasRun net after flown
+has_run_then net before after traffic flown on = record {
+  sent = on.sent;
+  reached = reached_then (net_seen net) _ _ on.run.reached on.leads;
+  carries = on.carries;
+}
+
+-- and one in which nothing happens goes on
+pub runs_still : (net : Network) (stations : List StationView) (traffic : Traffic) → HasRun net stations traffic
+    → RunsOn net stations traffic stations traffic
+runs_still net stations traffic run = record {
+  run = run;
+  sent = run.sent;
+  leads = leads_here (net_seen net) (world_seen stations run.sent) (world_seen stations run.sent) refl;
+  carries = run.carries;
+}
 
 -- ---- the bytes that come in a deed, if any do
 
@@ -121,27 +153,27 @@ module _ (setting : Setting) (stations : List StationView) (k : ℕ) (old : Stat
 
     came : (place : ℕ) (o : Option (List ℕ)) → due_bytes setting.round (flight_at setting k place) ≡ o
         → SpelledBytes setting k o
-        → ProspectLeads setting.net stations k old run.sent (come_plan setting.net place o old).prospect
+        → ProspectLeads setting.net stations k old run.sent (deliver_plan setting.net place o old).prospect
     came place None is says = tt
     came place (Some bytes) is says =
         come_leads setting.net stations k old in_world.there setting.traffic in_world.valid in_world.number
         in_world.joined setting.inputs run place bytes (due_are setting.round (flight_at setting k place) bytes is) says
 
     deed_leads : (deed : Deed) → Spelled setting k deed
-        → ProspectLeads setting.net stations k old run.sent (deed_plan setting k deed old).prospect
+        → ProspectLeads setting.net stations k old run.sent (plan_of setting k deed old).prospect
     deed_leads (event.Deliver place) says =
         came place (due_bytes setting.round (flight_at setting k place)) refl says
     deed_leads event.Grant says =
         grant_leads setting.net stations k old in_world.there run.sent (node_job setting.net setting.inputs old.node)
     deed_leads event.Send says =
-        as_numbered (λ (n : ℕ). turn_prospect setting.net n old.node)
+        as_numbered (λ (n : ℕ). send_prospect setting.net n old.node)
         (turn_leads setting.net in_world.valid stations k old in_world.there run.sent incoming)
     deed_leads event.Start says =
-        as_numbered (λ (n : ℕ). begin_prospect setting.net n old.node)
+        as_numbered (λ (n : ℕ). start_prospect setting.net n old.node)
         (starts_lead setting.net stations k old in_world.there run.sent run.reached in_world.count in_world.joined
         in_world.valid)
     deed_leads event.Decide says =
-        as_numbered (λ (n : ℕ). conclude_prospect n old.node)
+        as_numbered (λ (n : ℕ). decide_prospect n old.node)
         (concludes_lead setting.net stations k old in_world.there run.sent run.reached in_world.count in_world.joined)
     deed_leads (event.Crash fill rounds) says =
         where_due setting.restarts (crash_prospect (round_later setting.round rounds) old.node)
@@ -153,18 +185,55 @@ module _ (setting : Setting) (stations : List StationView) (k : ℕ) (old : Stat
         same_leads setting.net stations k old in_world.there run.sent (with_armed fault.call rounds old.node) refl refl
     deed_leads event.Idle says = same_leads setting.net stations k old in_world.there run.sent old.node refl refl
 
+-- a deed that can happen is answered so
+job_answers : (job : Option JobView) (turns : RoundTurns) (node : NodeView)
+    → AnswersSo (noting turns (grant_prospect job node) (grant_reply job))
+job_answers None turns node = inl refl
+job_answers (Some job) turns node = inr (refl, refl)
+
+packet_answers : (packet : Option Packet) → has_happened (delivery_reply (delivery_of false packet)) ≡ true
+packet_answers None = refl
+packet_answers (Some packet) = refl
+
+bytes_answer : (net : Network) (place : ℕ) (bytes : Option (List ℕ)) (station : StationView)
+    → AnswersSo (deliver_plan net place bytes station)
+bytes_answer net place None station = inl refl
+bytes_answer net place (Some bytes) station = inr (packet_answers (packet_for net station.number bytes), refl)
+
+back_answers : (mode : ModeView) → has_happened (back_reply mode) ≡ true
+back_answers Down = refl
+back_answers InDoubt = refl
+back_answers (Runs running) = refl
+
+pub answers_so : (setting : Setting) (k : ℕ) (deed : Deed) (station : StationView)
+    → AnswersSo (plan_of setting k deed station)
+answers_so setting k (event.Deliver place) station =
+    bytes_answer setting.net place (due_bytes setting.round (flight_at setting k place)) station
+answers_so setting k event.Grant station =
+    job_answers (node_job setting.net setting.inputs station.node)
+    (count_grant (turns_of setting.round station.turns)) station.node
+answers_so setting k event.Send station = inr (refl, refl)
+answers_so setting k event.Start station = inr (refl, refl)
+answers_so setting k event.Decide station = inr (refl, refl)
+answers_so setting k (event.Crash fill rounds) station = inr (refl, refl)
+answers_so setting k event.Recover station =
+    inr (back_answers (restored_mode (with_epoch station.node.kept)), refl)
+answers_so setting k (event.Arm fault rounds) station = inr (refl, refl)
+answers_so setting k event.Idle station = inr (refl, refl)
+
 pub deeds_run : DeedsRun
-deeds_run setting stations k old new deed fits answer in_world step known =
+deeds_run setting stations k old new deed fits came answer in_world step known =
     ∥∥₁_map₂ known (all_spelled setting stations k old in_world deed)
     (λ run says. planned_run setting.net stations k old in_world.there setting.traffic run fits setting.round
-    (deed_plan setting k deed old) answer new (deed_leads setting stations k old in_world run deed says) step)
+    (plan_of setting k deed old) came answer new (answers_so setting k deed old)
+    (deed_leads setting stations k old in_world run deed says) step)
 
 pub deeds_keep_the_line : DeedsKeepTheLine
 deeds_keep_the_line setting stations k old new deed records in_world same left known =
     ∥∥₁_elim
     (∥∥₁_map₂ known (all_spelled setting stations k old in_world deed)
     (λ run says. prospect_line setting.net stations k old in_world.there setting.traffic run
-    (deed_plan setting k deed old).prospect (deed_leads setting stations k old in_world run deed says)
+    (plan_of setting k deed old).prospect (deed_leads setting stations k old in_world run deed says)
     (slice_set stations k new) records (outlets_same stations k old new in_world.there same) left))
     (hlevel (le_prop)) (λ line. line)
 
@@ -200,8 +269,9 @@ releases_keep_the_line net inputs stations k old new round answer traffic record
 pub network_runs : NetworkRuns
 network_runs net stations k place act traffic known =
     ∥∥₁_map known (λ run. record {
+      run = run;
       sent = run.sent;
-      reached = run.reached;
+      leads = leads_here (net_seen net) (world_seen stations run.sent) (world_seen stations run.sent) refl;
       carries = acted_carries act traffic k place run.sent run.carries;
     })
 

@@ -1,5 +1,5 @@
--- What a packet does to the node that it is for.
-use Rattle.std.specs.Prelude.{ℕ, ◌==◌, ◌&&◌, Bool, true, false, not, if◌then◌else◌, List, [], ◌∷◌, ℤ}
+-- What a packet does to the ends of channels of the node that it is for, and which packets are for a node.
+use Rattle.std.specs.Prelude.{ℕ, ◌==◌, ◌&&◌, Bool, true, false, if◌then◌else◌, List, [], ◌∷◌, ℤ}
 use Rattle.std.specs.Prelude.{Option, Some, None, option_map, slice_get, slice_set}
 use Rattle.std.specs.List.{position_from}
 use Rattle.kahn_net.specs.Syntax.{Network}
@@ -13,10 +13,8 @@ use Rattle.datagram.specs.declared.packet.Body.{Body}
 use Rattle.datagram.specs.declared.packet.Body.TheVariants.{Data, Ack, Kept, Ask, Took, Covered, Refused, Query, Commit}
 use Rattle.datagram.specs.declared.packet.Body.TheVariants.{Ended, Settled, Undone}
 use Rattle.protocol.specs.Node.Addresses.{names_right}
-use Rattle.protocol.specs.Node.NodeView.{NodeView, RunningView, on_running}
-use Rattle.protocol.specs.Node.Modes.{is_down}
+use Rattle.protocol.specs.Node.NodeView.{RunningView}
 use Rattle.protocol.specs.Node.Popping.{has_place, popping}
-use Rattle.protocol.specs.Node.Plans.{Prospect, becoming, if_due}
 use Rattle.protocol.specs.declared.delivery.Delivery.{Delivery}
 use Rattle.protocol.specs.declared.delivery.Delivery.TheVariants.{NotDue, Delivered, Dropped}
 use Rattle.protocol.specs.declared.links.Inbox.{Inbox}
@@ -58,7 +56,8 @@ inbox_place inboxes channel = position_from (λ (inbox : Inbox). inbox.channel =
 abbrev pub outbox_place : List Outbox → ℕ → Option ℕ
 outbox_place outboxes channel = position_from (λ (outbox : Outbox). outbox.channel == channel) 0 outboxes
 
--- what a node has in memory after it heard this: only an item and an acknowledgement change anything, so far
+-- what a node has in memory after it heard this of a channel: an item, or an acknowledgement. (What else comes is about
+-- checkpoints: `Hearing`.)
 abbrev pub hearing : Body → RunningView → RunningView
 hearing (Data channel position item) running =
     record running { inboxes = changed_at (taking position item) running.inboxes (inbox_place running.inboxes channel) }
@@ -76,10 +75,6 @@ hearing (Ended number) running = running
 hearing (Settled number) running = running
 hearing (Undone channel epoch sent) running = running
 
--- the node after it heard this, if it runs; else as it was
-abbrev pub heard : Body → NodeView → NodeView
-heard body node = on_running (hearing body) node
-
 -- a packet that is for this node, and names nodes and channels of this network as they run
 abbrev pub if_right : Network → ℕ → Option Packet → Option Packet
 if_right net home None = None
@@ -88,15 +83,6 @@ if_right net home (Some packet) = if (packet.to == home) && names_right net pack
 -- such a packet that these bytes spell, if they spell one
 abbrev pub packet_for : Network → ℕ → List ℕ → Option Packet
 packet_for net home bytes = if_right net home (whole_at bytes)
-
--- the node after bytes came that spell this packet for it, or none
-abbrev pub told_by : Option Packet → NodeView → NodeView
-told_by None node = node
-told_by (Some packet) node = heard packet.body node
-
--- bytes come to a node that is up
-abbrev pub deliver_prospect : Option Packet → NodeView → Prospect
-deliver_prospect packet node = if_due (not (is_down node.mode)) (becoming (told_by packet node))
 
 -- how they are taken: not at all by a node that is down; they are dropped where they spell no packet for it
 abbrev pub delivery_of : Bool → Option Packet → Delivery

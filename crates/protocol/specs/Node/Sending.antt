@@ -1,7 +1,6 @@
--- What a node sends to the others.
-use Rattle.std.specs.Prelude.{ℕ, suc, max, not, if◌then◌else◌, List, [], ◌∷◌, ◌++◌, ℤ, take, Option, Some, None}
+-- What a node says to the others of the channels between them.
+use Rattle.std.specs.Prelude.{ℕ, suc, max, List, [], ◌∷◌, ℤ, take, Option, Some, None}
 use Rattle.std.specs.Prelude.{FitsSigned}
-use Rattle.std.specs.List.{flat_map}
 use Rattle.kahn_net.specs.Syntax.{Network}
 use Rattle.retained.specs.LogState.{LogState, items_since}
 use Rattle.record.specs.Ends.{received_of, log_of}
@@ -13,9 +12,6 @@ use Rattle.datagram.specs.declared.packet.Body.{Body}
 use Rattle.datagram.specs.declared.packet.Body.TheVariants.{Data, Ack, Kept, Ask, Took, Covered, Refused, Query, Commit}
 use Rattle.datagram.specs.declared.packet.Body.TheVariants.{Ended, Settled, Undone}
 use Rattle.protocol.specs.Node.Addresses.{producer_node, consumer_node}
-use Rattle.protocol.specs.Node.NodeView.{NodeView, RunningNode, running_of}
-use Rattle.protocol.specs.Node.Modes.{is_none, is_down}
-use Rattle.protocol.specs.Node.Plans.{Prospect, if_due, telling}
 use Rattle.protocol.specs.declared.links.Inbox.{Inbox}
 use Rattle.protocol.specs.declared.links.Outbox.{Outbox}
 
@@ -58,22 +54,6 @@ log_packets net home outbox (Some log) =
 -- of a channel to another node: the items that are due
 abbrev pub outbox_packets : Network → ℕ → ImageView → Outbox → List Packet
 outbox_packets net home current outbox = log_packets net home outbox (log_of current outbox.channel)
-
--- What a node that runs sends: first what it says of the channels that come to it, then items of those that go from it,
--- unless it holds a tentative image; channels ascending.
-abbrev pub packets_from : Network → ℕ → Option RunningNode → List Packet
-packets_from net home None = []
-packets_from net home (Some node) =
-    flat_map (inbox_packets net home node.kept.permanent) node.inboxes
-    ++ (if is_none node.kept.tentative then flat_map (outbox_packets net home node.current) node.outboxes else [])
-
--- what a node sends
-abbrev pub packets_of : Network → ℕ → NodeView → List Packet
-packets_of net home node = packets_from net home (running_of node)
-
--- a node that is up sends that
-abbrev pub send_prospect : Network → ℕ → NodeView → Prospect
-send_prospect net home node = if_due (not (is_down node.mode)) (telling (packets_of net home node) node)
 
 -- an item of a packet is one of 64 bits
 abbrev pub FitsItem : Body → Type 0

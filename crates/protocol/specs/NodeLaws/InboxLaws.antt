@@ -1,5 +1,5 @@
--- Laws of a turn at inboxes: what it took of a channel is out of the inbox, which then begins where the image counts, and
--- what came out of its window since is behind what was left.
+-- Laws of a turn at inboxes: what it took of a channel is out of the inbox, which then begins where the image counts,
+-- and what came out of its window since is behind what was left.
 use Rattle.std.proofs.Common.{◌≡◌, ◌⊎◌, inl, inr, ℕ, ◌+◌, ◌-◌, ◌≤◌, Bool, true, false, eqb, ℤ, List, length, drop}
 use Rattle.std.proofs.Common.{Option, Some, None, option_map, refl, sym, ap, subst, ◌∙◌, arith}
 use Rattle.std.specs.Prelude.{slice_get, find, not, IsTrue}

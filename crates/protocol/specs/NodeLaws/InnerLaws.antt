@@ -152,17 +152,16 @@ inner_there net home inputs image c p q channel laid counts is from puts to gets
     ∙ ap (role_by true) (ap (port_on net home) to ∙ gets)))
     (count_there net home inputs image c channel counts of)
 
--- an output has no end that receives what it sends
+-- a channel that goes elsewhere has no end that receives what it sends
 not_both : (puts : Bool) → ¬ (2 ≡ role_by puts false)
 not_both true e = absurd (cc)
 not_both false e = absurd (cc)
 
 pub output_apart : (net : Network) (home : ℕ) (image : ImageView) (c received : ℕ) (channel : Channel) (log : LogState)
-    → IsLaidOut net home image → slice_get net.channels c ≡ Some channel → channel.consumer ≡ Outside
+    → IsLaidOut net home image → slice_get net.channels c ≡ Some channel → port_on net home channel.consumer ≡ false
     → ¬ (end_of image c ≡ Some (Both received log))
-output_apart net home image c received channel log laid is to both =
+output_apart net home image c received channel log laid is away both =
     let entry = entry_of image c (Both received log) both in
     let role = laid.roles entry.place entry.saved channel entry.is (ap (slice_get net.channels) entry.channel ∙ is) in
     not_both (port_on net home channel.producer)
-    (sym (ap role_of entry.is_end)
-    ∙ (role ∙ ap (λ (port : Port). role_by (port_on net home channel.producer) (port_on net home port)) to))
+    (sym (ap role_of entry.is_end) ∙ (role ∙ ap (role_by (port_on net home channel.producer)) away))

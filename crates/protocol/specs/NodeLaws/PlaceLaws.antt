@@ -35,7 +35,3 @@ pub nodes_few : (net : Network) → IsValid net → node_count net ≤ MAX_NODES
 nodes_few net valid =
     let above : nodes_above net.codes ≤ MAX_NODES = few_above net.codes (λ p code is. (valid.codes p code is).node) in
     omega (arith, above)
-
--- and there is one at least
-pub some_node : (net : Network) → 0 < node_count net
-some_node net = omega arith

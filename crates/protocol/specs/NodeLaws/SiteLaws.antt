@@ -1,6 +1,6 @@
 -- Laws of sites: where a process stands at a point, that is a site of its statements.
 use Rattle.std.proofs.Common.{◌≡◌, ℕ, zero, suc, ◌+◌, ◌^◌, ◌<◌, ◌≤◌, Bool, true, false, cond, ℤ, pos, List, [], ◌∷◌}
-use Rattle.std.proofs.Common.{◌++◌, drop, Option, Some, None, refl, sym, subst, append-nil, arith}
+use Rattle.std.proofs.Common.{◌++◌, drop, Option, Some, None, sym, subst, append-nil, arith}
 use Rattle.std.specs.Prelude.{slice_get, slice_set}
 use Rattle.std.specs.Ordering.{int_eq}
 use Rattle.kahn_net.specs.Streams.{history_of, total}

@@ -1,7 +1,8 @@
 -- Laws of sizes: an image of a valid network whose logs keep to their share is within bounds, so that a record of two
 -- such images fits.
-use Rattle.std.proofs.Common.{◌≡◌, ℕ, ◌+◌, ◌<◌, ◌≤◌, ℤ, List, [], length, get_or, Some, None, ◌⊎◌, inl, inr, arith}
-use Rattle.std.specs.Prelude.{slice_get}
+use Rattle.std.proofs.Common.{◌≡◌, ℕ, suc, ◌+◌, ◌<◌, ◌≤◌, Bool, true, false, cond, ℤ, List, [], ◌∷◌, ◌++◌, length}
+use Rattle.std.proofs.Common.{length-append, Some, arith}
+use Rattle.std.specs.Prelude.{slice_get, nat_lt}
 use Rattle.std.proofs.Math.Logic.{∥∥₁_elim}
 use Rattle.std.proofs.Math.Bridge.{le_prop}
 use Rattle.std.proofs.lemmas.List.{length-replicate}
@@ -16,12 +17,14 @@ use Rattle.record.specs.ImageView.{ImageView}
 use Rattle.record.specs.RecordView.{RecordView}
 use Rattle.record.specs.declared.image.SavedEnd.{SavedEnd}
 use Rattle.ckpt_codec.specs.RecordText.{variables_of}
-use Rattle.record.specs.Moves.{highest_seen}
+use Rattle.record.specs.DecisionView.{DecisionView}
+use Rattle.record.specs.Moves.{highest_seen, decided_below, decided_by, with_decision}
+use Rattle.record.specs.declared.record.TheConstants.{MAX_DECISIONS}
 use Rattle.ckpt_codec.specs.SizeLaws.{IsImageWithin, IsRecordWithin, within_tentative, within_decision, left_of}
 use Rattle.ckpt_codec.specs.declared.lengths.TheConstants.{MAX_RETAINED_ITEMS}
 use Rattle.protocol.specs.Node.NodeView.{RunningNode}
 use Rattle.protocol.specs.Node.Reached.{HasReached, ImageStands, IsLaidOut, LogsAreWithin}
-use Rattle.protocol.specs.Node.Starting.{with_own, held_number, decided}
+use Rattle.protocol.specs.Node.Starting.{with_own}
 use Rattle.protocol.specs.Node.Opening.{opening_image, opening_record}
 use Rattle.protocol.specs.NodeLaws.OpeningLaws.{reached_opening, laid_out_opening, logs_opening}
 use Rattle.protocol.specs.Node.Layout.{has_process, has_end}
@@ -122,9 +125,30 @@ pub own_within : (node : ℕ) (image : ImageView) (kept : RecordView) → IsImag
 own_within node image kept here within =
     within_tentative MAX_RETAINED_ITEMS kept within node (highest_seen node kept + 1) image here
 
--- the record of a decision
-pub decided_within : (kept : RecordView) → IsRecordWithin MAX_RETAINED_ITEMS kept
-    → IsRecordWithin MAX_RETAINED_ITEMS (decided kept)
-decided_within kept within =
-    within_decision MAX_RETAINED_ITEMS kept within (held_number kept.tentative) [] (omega arith)
-    within.decided
+-- the record of a decision, where there is room for one more
+below_few : (number : ℕ) (decisions : List DecisionView)
+    → length (decided_below number decisions) ≤ length decisions
+below_few number [] = omega arith
+below_few number (d ∷ decisions) = by (nat_lt d.number number) (below_few number decisions)
+  where
+    by : (b : Bool) → length (decided_below number decisions) ≤ length decisions
+        → length (cond b (d ∷ decided_below number decisions) (decided_below number decisions))
+        ≤ suc (length decisions)
+    by true rest = omega (arith, rest)
+    by false rest = omega (arith, rest)
+
+decided_few : (number : ℕ) (nodes : List ℕ) (decisions : List DecisionView) → length decisions < MAX_DECISIONS
+    → length (decided_by number nodes decisions) ≤ MAX_DECISIONS
+decided_few number [] decisions room = omega (arith, room)
+decided_few number (p ∷ nodes) decisions room =
+    let few = below_few number decisions in
+    let one : DecisionView = record { number = number; participants = p ∷ nodes } in
+    let sum : length (decided_below number decisions ++ one ∷ []) ≡ length (decided_below number decisions) + 1 =
+    length-append (decided_below number decisions) (one ∷ []) in
+    omega (arith, few, sum, room)
+
+pub decided_within : (number : ℕ) (nodes : List ℕ) (kept : RecordView) → length nodes ≤ MAX_NODES
+    → length kept.decisions < MAX_DECISIONS → IsRecordWithin MAX_RETAINED_ITEMS kept
+    → IsRecordWithin MAX_RETAINED_ITEMS (with_decision number nodes kept)
+decided_within number nodes kept few room within =
+    within_decision MAX_RETAINED_ITEMS kept within number nodes few (decided_few number nodes kept.decisions room)

@@ -23,12 +23,14 @@ use Rattle.protocol.specs.Node.Sharing.{is_logging, log_share, IsWithinShare}
 use Rattle.protocol.specs.Node.Granting.{first_log, inbox_log, is_process, items_by, next_items, items_from, room_in}
 use Rattle.protocol.specs.Node.Granting.{room_of, room_from}
 use Rattle.record.specs.Changes.{trimmed_log, trimmed_end, trimmed_saved, trimmed_image}
-use Rattle.protocol.specs.Node.Layout.{role_here}
+use Rattle.protocol.specs.Node.Layout.{has_process, port_on, role_here}
 use Rattle.protocol.specs.Node.Reached.{acts_of, EndStands, ImageStands, is_counting, IsLaidOut, LinksAreLaidOut}
 use Rattle.protocol.specs.Node.Reached.{CountIsWithin, CountsAreWithin, LogsAreWithin, IsJobOf}
 use Rattle.protocol.specs.NodeLaws.CountLaws.{sends_within}
 use Rattle.protocol.specs.NodeLaws.LogLaws.{trimmed_end_stays, trimmed_is_log_of, base_at, base_after}
-use Rattle.protocol.specs.NodeLaws.ImageLaws.{map_got, map_keeps, end_at, end_of_changed, found_is}
+use Rattle.protocol.specs.NodeLaws.ImageLaws.{find_within, map_got, map_keeps, end_at, end_of_changed, found_is}
+use Rattle.protocol.specs.NodeLaws.NumberedLaws.{where_mark}
+use Rattle.record.specs.ProcessView.{SavedProcessView}
 use Rattle.protocol.specs.NodeLaws.InnerLaws.{output_apart}
 use Rattle.protocol.specs.NodeLaws.SharingLaws.{share_kept}
 use Rattle.protocol.specs.Node.Starting.{IsBehind}
@@ -266,13 +268,13 @@ count_trimmed net inputs c position saved apart within = at (eqb_tells saved.cha
 
 pub counts_trimmed : (net : Network) (home : ℕ) (inputs : List (List ℤ)) (c position : ℕ) (channel : Channel)
     (image : ImageView) → IsLaidOut net home image → slice_get net.channels c ≡ Some channel
-    → channel.consumer ≡ Outside
+    → port_on net home channel.consumer ≡ false
     → CountsAreWithin net inputs image → CountsAreWithin net inputs (trimmed_image c position image)
-counts_trimmed net home inputs c position channel image laid on to counts k saved is =
+counts_trimmed net home inputs c position channel image laid on away counts k saved is =
     let old = map_got (trimmed_saved c position) image.ends k saved is in
     subst (λ (s : SavedEnd). CountIsWithin net inputs s.channel s.end) old.2
     (count_trimmed net inputs c position old.0
-    (λ received log here both. output_apart net home image c received channel log laid on to
+    (λ received log here both. output_apart net home image c received channel log laid on away
     (found old.0 old.1 here ∙ ap Some both)) (counts k old.0 old.1))
   where
     found : (s : SavedEnd) → slice_get image.ends k ≡ Some s → s.channel ≡ c → end_of image c ≡ Some (s.end)
@@ -370,11 +372,13 @@ end_elsewhere c position image d apart =
         ap (λ (b : Bool). Some (cond b (trimmed_end position s.end) s.end))
         (ne_eqb s.channel c (λ e. apart (sym here ∙ e)))
 
--- the job that is out stays one of an image whose log of an output was trimmed: there is no less room
-pub job_trimmed : (net : Network) (inputs : List (List ℤ)) (c position : ℕ) (channel : Channel) (image : ImageView)
-    (inboxes : List Inbox) (job : JobView) → slice_get net.channels c ≡ Some channel → channel.consumer ≡ Outside
+-- the job that is out stays one of an image whose log of a channel was trimmed that goes elsewhere: there is no less
+-- room
+pub job_trimmed : (net : Network) (home : ℕ) (inputs : List (List ℤ)) (c position : ℕ) (channel : Channel)
+    (image : ImageView) (inboxes : List Inbox) (job : JobView) → IsLaidOut net home image
+    → slice_get net.channels c ≡ Some channel → port_on net home channel.consumer ≡ false
     → IsJobOf net inputs image inboxes job → IsJobOf net inputs (trimmed_image c position image) inboxes job
-job_trimmed net inputs c position channel image inboxes job on to of = record {
+job_trimmed net home inputs c position channel image inboxes job laid on away of = record {
   process = of.process;
   code = of.code;
   items = λ d.
@@ -395,7 +399,13 @@ job_trimmed net inputs c position channel image inboxes job on to of = record {
         let place : k ≡ c = omega (arith, e) in
         let both : Some other ≡ Some channel = sym is ∙ (ap (slice_get net.channels) place ∙ on) in
         let one : other ≡ channel = cc in
-        let bad : Process job.process ≡ Outside = sym goes ∙ (ap (λ (x : Channel). x.consumer) one ∙ to) in
+        let saved = find_within (λ (s : SavedProcessView). eqb s.number job.process) image.processes
+        (record { number = job.process; standing = job.standing }) of.process in
+        let here : has_process net home job.process ≡ true =
+        (where_mark (λ (s : SavedProcessView). s.number) (has_process net home) 0 (length net.codes) image.processes
+        saved.0 (record { number = job.process; standing = job.standing }) laid.processes saved.1).0 in
+        let on_it : port_on net home channel.consumer ≡ true =
+        ap (port_on net home) (ap (λ (x : Channel). x.consumer) (sym one) ∙ goes) ∙ here in
         absurd (cc)))
 
 -- How far a node has come

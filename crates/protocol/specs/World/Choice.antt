@@ -6,7 +6,8 @@ use Rattle.record.specs.ImageView.{ImageView}
 use Rattle.record.specs.Ends.{received_of, sent_of}
 use Rattle.protocol.specs.Node.Choosing.{node_job}
 use Rattle.protocol.specs.Node.NodeView.{RunningNode, running_of}
-use Rattle.protocol.specs.Node.Starting.{may_start, may_decide}
+use Rattle.protocol.specs.Node.Beginning.{live_in, may_start}
+use Rattle.protocol.specs.Node.Verdicts.{may_decide}
 use Rattle.protocol.specs.Node.Modes.{is_none, is_down}
 use Rattle.record.specs.declared.image.SavedEnd.{SavedEnd}
 use Rattle.std.specs.List.{position_from}
@@ -68,7 +69,8 @@ own_choice net inputs nodes round station =
     if is_some (next_release round station) then Release station.number
     else (if nat_lt (turns_of round station.turns).granted MAX_GRANTS && is_some (node_job net inputs station.node)
     then ByNode station.number event.Grant
-    else (if may_decide station.number station.node then ByNode station.number event.Decide
+    else (if may_decide station.number station.node.kept (live_in station.node.mode) then ByNode station.number
+    event.Decide
     else (if wants_checkpoint nodes round station then ByNode station.number event.Start
     else (if not (is_down station.node.mode) && not (has_sent round station) then ByNode station.number event.Send
     else ByNode station.number event.Idle))))

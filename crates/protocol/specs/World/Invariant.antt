@@ -6,6 +6,8 @@ use Rattle.kahn_net.specs.Syntax.{Network}
 use Rattle.kahn_net.specs.Valid.{IsValid}
 use Rattle.protocol.specs.Node.NodeView.{RunningNode, running_of}
 use Rattle.protocol.specs.Node.Starting.{AreInOrder}
+use Rattle.protocol.specs.Join.Joined.{IsJoined}
+use Rattle.protocol.specs.Join.Runs.{HasRun}
 use Rattle.protocol.specs.World.OutputView.{OutputView}
 use Rattle.protocol.specs.World.RecordSound.{RecordIsSound}
 use Rattle.protocol.specs.World.Sound.{IsSound}
@@ -45,12 +47,19 @@ IsNumbered stations =
     (i : ℕ) (station : StationView) → slice_get stations i ≡ Some station
     → (station.number ≡ i) × (station.node.kept.node ≡ i)
 
+-- what each of these stations keeps and collects may be said to other nodes, and none is in doubt
+abbrev pub AreJoined : Network → List StationView → Type 0
+AreJoined net stations =
+    (i : ℕ) (station : StationView) → slice_get stations i ≡ Some station → IsJoined net station
+
 -- A world: its network is valid, the inputs fit it, there is one station a node, by their numbers, and each one is
--- sound; and so is what is in flight between them.
+-- sound; so is what is in flight between them; and steps of the abstract machine of recovery lines led to it.
 pub record WorldInvariant (world : WorldView) : Type 0 where
   pub valid : IsValid world.net
   pub fits : Fits world.net world.inputs
   pub count : length world.stations ≡ node_count world.net
   pub numbered : IsNumbered world.stations
   pub stations : AreSound world.net world.inputs world.stations
+  pub joined : AreJoined world.net world.stations
   pub traffic : TrafficIsSound world.net world.inputs world.traffic
+  pub run : ∥ HasRun world.net world.stations world.traffic ∥₁

@@ -1,24 +1,17 @@
 -- The recovery line of a world: what all nodes restart from, if they crash together. The words of the line are those of
 -- the abstract machine (the crate `recovery_line`); here stands how a world is seen there, and what it is for a line to
 -- be in order.
-use Rattle.std.specs.Prelude.{◌≡◌, ℕ, ◌≤◌, List, [], map, length, Option, Some, None, slice_get}
-use Rattle.gate_cell.specs.Whole.{Whole}
-use Rattle.kahn_net.specs.Nodes.{IsOnOneNode}
+use Rattle.std.specs.Prelude.{◌≡◌, ◌⊎◌, ◌==◌, if◌then◌else◌, ℕ, List, [], ◌∷◌, map, length, Option, Some, None}
+use Rattle.std.specs.Prelude.{slice_get}
 use Rattle.kahn_net.specs.Syntax.{Network}
-use Rattle.record.specs.Ends.{base_of, received_of, sent_of}
 use Rattle.record.specs.RecordView.{RecordView}
-use Rattle.ckpt_store.specs.Spelling.{Spells, SpellsSome}
-use Rattle.recovery_line.specs.Images.{Net, IsOutput}
+use Rattle.recovery_line.specs.Images.{Net}
 use Rattle.recovery_line.specs.Line.{Sound, Covers, NotBehind}
 use Rattle.recovery_line.specs.Observers.{record_seen}
 use Rattle.recovery_line.specs.Records.{Record, new_record, effective}
 use Rattle.protocol.specs.Node.Layout.{producer_of, consumer_of}
 use Rattle.protocol.specs.Node.Plans.{next_record}
-use Rattle.protocol.specs.Node.Starting.{IsBehind}
-use Rattle.protocol.specs.World.EventView.{EventView, ByNode, ByNetwork, Install, Release}
-use Rattle.protocol.specs.World.Invariant.{outputs_of}
-use Rattle.protocol.specs.World.OutputView.{OutputView}
-use Rattle.protocol.specs.World.RecordSound.{CoversAll}
+use Rattle.protocol.specs.World.EventView.{EventView, ByNode, ByNetwork, Install, Release, event_node}
 use Rattle.protocol.specs.World.Released.{released_of}
 use Rattle.protocol.specs.World.StationView.{StationView}
 use Rattle.protocol.specs.World.Steps.{Setting, plan_of}
@@ -32,6 +25,11 @@ next_kept setting (ByNode k deed) station = next_record (plan_of setting k deed 
 next_kept setting (Install done) station = station.node.kept
 next_kept setting (Release k) station = station.node.kept
 next_kept setting (ByNetwork k place act) station = station.node.kept
+
+-- of any station of a world in which the event happens: no other station's record is put
+abbrev pub next_for : Setting → EventView → StationView → RecordView
+next_for setting event station =
+    if station.number == event_node event then next_kept setting event station else station.node.kept
 
 -- ---- a world as the abstract machine sees it
 
@@ -62,15 +60,11 @@ records_of stations = map (λ (station : StationView). station.node.kept) statio
 
 -- ---- lines in order
 
--- The line that follows from these records covers what has left these stations: nothing has left that it hasn't put;
--- and nothing is lost that is still to leave. Of a network on one node it is sound: nobody has received what another
--- would have to put again, and nothing is lost that is still to be received either. (Of several nodes that isn't said,
--- as their checkpoints aren't coordinated yet.)
+-- The line that follows from these records is sound: nobody has received what another would have to put again, and
+-- nothing is lost that is still to be received or to leave. And it covers what has left these stations.
 pub record IsLineOf (net : Network) (stations : List StationView) (records : List RecordView) : Type 0 where
-  pub sound : IsOnOneNode net → Sound (net_seen net) (effective (records_seen records)) (outlets_seen stations)
+  pub sound : Sound (net_seen net) (effective (records_seen records)) (outlets_seen stations)
   pub covers : Covers (net_seen net) (records_seen records) (outlets_seen stations)
-  pub no_gap : (c p : ℕ) → IsOutput (net_seen net) c p
-      → (effective (records_seen records) p).base c ≤ outlets_seen stations c
 
 -- What a crash in an event left is in line: the line of these records is one of what had left before the event, and of
 -- what has left by its end; and it isn't behind the line before the event.
@@ -84,28 +78,13 @@ abbrev pub LinesFollow : Type 0
 LinesFollow =
     (first second third : ℕ → Record) → NotBehind first second → NotBehind second third → NotBehind first third
 
--- ---- the same of one station
+-- ---- the records that a crash inside an event leaves
 
--- With this record the part of the line that is of the station of this node is sound and covers what has left: no
--- decision stands, so that its permanent image is the effective one, of a channel between two processes of the node
--- that image has received no more than it put and no less than its log let go of, the log of each output begins no
--- later than the outlet ends, and that image has put all that has left.
-pub record FitsOutputs (net : Network) (home : ℕ) (outputs : List OutputView) (kept : RecordView) : Type 0 where
-  pub undecided : kept.decisions ≡ []
-  pub inside : (c : ℕ) → producer_of net (slice_get net.channels c) ≡ Some home
-      → consumer_of net (slice_get net.channels c) ≡ Some home
-      → (base_of kept.permanent c ≤ received_of kept.permanent c)
-      × (received_of kept.permanent c ≤ sent_of kept.permanent c)
-  pub no_gap : (j : ℕ) (output : OutputView) → slice_get outputs j ≡ Some output
-      → base_of kept.permanent output.channel ≤ length output.taken
-  pub covered : CoversAll kept.permanent outputs
-
--- A crash leaves a record of a station with an event: it fits what had left before and what has left by the end, and
--- its permanent image isn't behind the one of before.
-pub record LeavesInLine (net : Network) (old new : StationView) (left : Whole) : Type 0 where
-  pub something : SpellsSome left
-  pub at_first : (kept : RecordView) → Spells kept left
-      → FitsOutputs net old.node.kept.node (outputs_of old.outlets) kept
-  pub at_last : (kept : RecordView) → Spells kept left
-      → FitsOutputs net new.node.kept.node (outputs_of new.outlets) kept
-  pub not_behind : (kept : RecordView) → Spells kept left → IsBehind old.node.kept.permanent kept.permanent
+-- a record of each station: the one of before, or the next one
+abbrev pub AreEither : List RecordView → List RecordView → List RecordView → Type 0
+AreEither [] [] [] = Unit {0}
+AreEither [] [] (r ∷ records) = ⊥
+AreEither [] (n ∷ nexts) records = ⊥
+AreEither (k ∷ kepts) [] records = ⊥
+AreEither (k ∷ kepts) (n ∷ nexts) [] = ⊥
+AreEither (k ∷ kepts) (n ∷ nexts) (r ∷ records) = ((r ≡ k) ⊎ (r ≡ n)) × AreEither kepts nexts records

@@ -6,7 +6,7 @@ use Rattle.protocol.specs.declared.delivery.Delivery.{Delivery}
 use Rattle.protocol.specs.declared.delivery.Delivery.TheVariants as delivery
 use Rattle.protocol.specs.declared.outcome.Outcome.{Outcome}
 use Rattle.protocol.specs.declared.outcome.Outcome.TheVariants as outcome
-use Rattle.protocol.specs.declared.outcome.Refusal.TheVariants.{TooLarge}
+use Rattle.protocol.specs.declared.outcome.Refusal.TheVariants.{TooLarge, Spent}
 use Rattle.protocol.specs.World.EventView.{Deed, NetworkAct, EventView, ByNode, ByNetwork, Install, Release}
 use Rattle.protocol.specs.World.EventView as event
 use Rattle.protocol.specs.World.ReplyView.{ReplyView}
@@ -14,19 +14,13 @@ use Rattle.protocol.specs.World.ReplyView as reply
 
 -- ---- answers to events
 
--- what came of a deed, by its answer
-abbrev pub outcome_of : ReplyView → Outcome
-outcome_of reply.NotDue = outcome.NotDue
-outcome_of (reply.Refused refusal) = outcome.Refused refusal
-outcome_of reply.Down = outcome.Failed
-outcome_of answer = outcome.Made
-
--- what is answered to a deed that, where it is made, is answered so
-abbrev pub answer_by : ReplyView → Outcome → ReplyView
-answer_by made outcome.NotDue = reply.NotDue
-answer_by made outcome.Made = made
-answer_by made (outcome.Refused refusal) = reply.Refused refusal
-answer_by made outcome.Failed = reply.Down
+-- what is answered to a deed that is answered so where it is made, and so where its record is too large
+abbrev pub answer_by : ReplyView → ReplyView → Outcome → ReplyView
+answer_by made otherwise outcome.NotDue = reply.NotDue
+answer_by made otherwise outcome.Made = made
+answer_by made otherwise (outcome.Refused TooLarge) = otherwise
+answer_by made otherwise (outcome.Refused Spent) = reply.Refused Spent
+answer_by made otherwise outcome.Failed = reply.Down
 
 -- what a node did with bytes that came to it
 abbrev pub delivery_reply : Delivery → ReplyView
@@ -72,6 +66,7 @@ IsDropped answer = answer ≡ reply.Dropped
 
 -- no record was put, and none may have been
 abbrev pub AnswerLeaves : Option ReplyView → Type 0
+AnswerLeaves (Some reply.Delivered) = ⊥
 AnswerLeaves (Some reply.Started) = ⊥
 AnswerLeaves (Some reply.Decided) = ⊥
 AnswerLeaves (Some reply.Down) = ⊥

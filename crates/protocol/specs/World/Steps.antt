@@ -21,24 +21,27 @@ use Rattle.wire.specs.declared.queue.Flight.{Flight}
 use Rattle.wire.specs.declared.sending.Sending.{Sending}
 use Rattle.protocol.specs.Node.ArmedRestarts.{restart_after, round_later, with_armed}
 use Rattle.protocol.specs.Node.Choosing.{node_job, grant_prospect}
-use Rattle.protocol.specs.Node.Delivering.{packet_for, deliver_prospect, delivery_of}
+use Rattle.protocol.specs.Node.Beginning.{start_prospect}
+use Rattle.protocol.specs.Node.Delivering.{packet_for, delivery_of}
+use Rattle.protocol.specs.Node.Hearing.{deliver_prospect}
 use Rattle.protocol.specs.Node.Installing.{IsInstall}
 use Rattle.protocol.specs.Node.JobView.{JobView}
 use Rattle.protocol.specs.Node.Modes.{is_none, is_running, is_down, next_number}
 use Rattle.protocol.specs.Node.NodeView.{NodeView}
 use Rattle.protocol.specs.Node.Plans.{Prospect, Undue, becoming, if_due, IsMade, IsPut, room_for, packets_by}
 use Rattle.protocol.specs.Node.Recovering.{crash_prospect, recover_prospect, restored_mode}
-use Rattle.protocol.specs.Node.Sending.{send_prospect}
-use Rattle.protocol.specs.Node.Starting.{start_prospect, decide_prospect}
+use Rattle.protocol.specs.Node.Telling.{send_prospect}
 use Rattle.protocol.specs.Node.Trimming.{current_log, trimmed_node, TookNext}
+use Rattle.protocol.specs.Node.Verdicts.{decide_prospect}
 use Rattle.protocol.specs.declared.outcome.Outcome.{Outcome}
 use Rattle.protocol.specs.declared.outcome.Outcome.TheVariants as outcome
+use Rattle.protocol.specs.declared.outcome.Refusal.TheVariants.{TooLarge}
 use Rattle.protocol.specs.declared.round_turns.RoundTurns.{RoundTurns}
 use Rattle.protocol.specs.World.DoneView.{DoneView, IsTurnOfJob}
 use Rattle.protocol.specs.World.EventView.{Deed, NetworkAct, EventView, ByNode, ByNetwork, Install, Release, event_node}
 use Rattle.protocol.specs.World.EventView as event
 use Rattle.protocol.specs.World.Replies.{act_reply, answer_by, back_reply, delivery_reply, grant_reply, has_happened}
-use Rattle.protocol.specs.World.Replies.{install_reply, outcome_of}
+use Rattle.protocol.specs.World.Replies.{install_reply}
 use Rattle.protocol.specs.World.ReplyView.{ReplyView}
 use Rattle.protocol.specs.World.ReplyView as reply
 use Rattle.protocol.specs.World.StationView.{OutletView, StationView}
@@ -91,30 +94,43 @@ due_bytes round (Some flight) = bytes_when (is_due round flight) flight.packet
 -- ---- deeds
 
 -- What a deed makes of its station: what it comes to at the node; what is remembered of the round then; what is
--- answered where it is made; and the place of the packet that came, if one did, and is gone.
+-- answered where it is made, and where its record is too large; and the place of the packet that came, if one did, and
+-- is gone.
 pub record StationPlan : Type 0 where
   pub prospect : Prospect
   pub turns : RoundTurns
   pub answer : ReplyView
+  pub declined : ReplyView
   pub came : Option ℕ
 
 -- a deed of which nothing is remembered, and for which no packet came
 abbrev pub plainly : Prospect → ReplyView → StationView → StationPlan
-plainly prospect answer station = record { prospect = prospect; turns = station.turns; answer = answer; came = None }
+plainly prospect answer station =
+    record {
+      prospect = prospect;
+      turns = station.turns;
+      answer = answer;
+      declined = reply.Refused TooLarge;
+      came = None;
+    }
 
 -- one of which this is remembered
 abbrev pub noting : RoundTurns → Prospect → ReplyView → StationPlan
-noting turns prospect answer = record { prospect = prospect; turns = turns; answer = answer; came = None }
+noting turns prospect answer =
+    record { prospect = prospect; turns = turns; answer = answer; declined = reply.Refused TooLarge; came = None }
 
--- these bytes come, of the packet at a place
+-- These bytes come, of the packet at a place. A node that takes no part in a checkpoint since its record would be too
+-- large has heard the question all the same.
 abbrev pub deliver_plan : Network → ℕ → Option (List ℕ) → StationView → StationPlan
 deliver_plan net place None station = plainly Undue reply.NotDue station
-deliver_plan net place (Some bytes) station = record {
-  prospect = deliver_prospect (packet_for net station.number bytes) station.node;
-  turns = station.turns;
-  answer = delivery_reply (delivery_of false (packet_for net station.number bytes));
-  came = Some place;
-}
+deliver_plan net place (Some bytes) station =
+    record {
+      prospect = deliver_prospect net station.number (packet_for net station.number bytes) station.node;
+      turns = station.turns;
+      answer = delivery_reply (delivery_of false (packet_for net station.number bytes));
+      declined = reply.Delivered;
+      came = Some place;
+    }
 
 abbrev pub grant_plan : Option JobView → ℕ → StationView → StationPlan
 grant_plan job round station =
@@ -125,9 +141,9 @@ send_plan net round station =
     noting (count_send (not (is_none station.node.kept.tentative)) (turns_of round station.turns))
     (send_prospect net station.number station.node) reply.Sent
 
-abbrev pub start_plan : ℕ → StationView → StationPlan
-start_plan round station =
-    noting (count_start (turns_of round station.turns)) (start_prospect station.number station.node) reply.Started
+abbrev pub start_plan : Network → ℕ → StationView → StationPlan
+start_plan net round station =
+    noting (count_start (turns_of round station.turns)) (start_prospect net station.number station.node) reply.Started
 
 abbrev pub decide_plan : StationView → StationPlan
 decide_plan station = plainly (decide_prospect station.number station.node) reply.Decided station
@@ -156,7 +172,7 @@ plan_of setting k (event.Deliver place) station =
 plan_of setting k event.Grant station =
     grant_plan (node_job setting.net setting.inputs station.node) setting.round station
 plan_of setting k event.Send station = send_plan setting.net setting.round station
-plan_of setting k event.Start station = start_plan setting.round station
+plan_of setting k event.Start station = start_plan setting.net setting.round station
 plan_of setting k event.Decide station = decide_plan station
 plan_of setting k (event.Crash fill rounds) station =
     crash_plan setting.restarts (round_later setting.round rounds) station
@@ -176,17 +192,17 @@ turns_by noted turns outcome.Made = noted
 turns_by noted turns (outcome.Refused refusal) = noted
 turns_by noted turns outcome.Failed = noted
 
--- A deed comes out by its plan, as its answer tells. `fits` is what the node's cell has room for, and `call` the device
--- call that failed, where the device did.
-pub record IsPlanned (fits : RecordView → Bool) (round : ℕ) (plan : StationPlan) (old : StationView)
+-- A deed comes out by its plan, in this way, and is answered so. `fits` is what the node's cell has room for, and
+-- `call` the device call that failed, where the device did.
+pub record IsPlanned (fits : RecordView → Bool) (round : ℕ) (plan : StationPlan) (came : Outcome) (old : StationView)
     (answer : ReplyView) (new : StationView) : Type 0 where
   pub call : ℕ
-  pub step : IsMade (restart_after old.node.armed call round) plan.prospect old.node (outcome_of answer) new.node
-  pub put : IsPut (room_for fits plan.prospect) old.failures new.failures (outcome_of answer)
-  pub answers : answer ≡ answer_by plan.answer (outcome_of answer)
+  pub step : IsMade (restart_after old.node.armed call round) plan.prospect old.node came new.node
+  pub put : IsPut (room_for fits plan.prospect) old.failures new.failures came
+  pub answers : answer ≡ answer_by plan.answer plan.declined came
   -- what is sent has a spelling
-  pub allowed : All IsPacket (packets_by plan.prospect (outcome_of answer))
-  pub same : new ≡ moved_to new.node new.failures (turns_by plan.turns old.turns (outcome_of answer)) old
+  pub allowed : All IsPacket (packets_by plan.prospect came)
+  pub same : new ≡ moved_to new.node new.failures (turns_by plan.turns old.turns came) old
 
 -- ---- turns that come back, and items that leave
 
@@ -254,36 +270,38 @@ IsRelease round (Some place) old answer new = IsReleaseAt round place old answer
 
 -- ---- one station, and all
 
--- an event of this station, or of the network at it
-abbrev pub IsStationStep : Setting → (RecordView → Bool) → EventView → StationView → ReplyView → StationView → Type 0
-IsStationStep setting fits (ByNode k deed) old answer new =
-    IsPlanned fits setting.round (plan_of setting k deed old) old answer new
-IsStationStep setting fits (Install done) old answer new = IsInstalled setting.net.channels done old answer new
-IsStationStep setting fits (Release k) old answer new =
+-- an event of this station, or of the network at it; a deed comes out in this way
+abbrev pub IsStationStep : Setting → (RecordView → Bool) → EventView → Outcome → StationView → ReplyView → StationView
+    → Type 0
+IsStationStep setting fits (ByNode k deed) came old answer new =
+    IsPlanned fits setting.round (plan_of setting k deed old) came old answer new
+IsStationStep setting fits (Install done) came old answer new = IsInstalled setting.net.channels done old answer new
+IsStationStep setting fits (Release k) came old answer new =
     IsRelease setting.round (next_release setting.round old) old answer new
-IsStationStep setting fits (ByNetwork k place act) old answer new =
+IsStationStep setting fits (ByNetwork k place act) came old answer new =
     (answer ≡ act_reply (is_some (flight_at setting k place))) × (new ≡ old)
 
 -- at the station of this place
 pub record IsActAt (setting : Setting) (place : ℕ) (fits : RecordView → Bool) (station : StationView)
-    (event : EventView) (old : List StationView) (answer : ReplyView) (new : List StationView) : Type 0 where
+    (event : EventView) (came : Outcome) (old : List StationView) (answer : ReplyView)
+    (new : List StationView) : Type 0 where
   pub later : StationView
-  pub step : IsStationStep setting fits event station answer later
+  pub step : IsStationStep setting fits event came station answer later
   pub stations : new ≡ slice_set old place later
 
 -- and where there may be none
-abbrev pub IsActOf : Setting → ℕ → Option (RecordView → Bool) → Option StationView → EventView → List StationView
-    → ReplyView → List StationView → Type 0
-IsActOf setting place (Some fits) (Some station) event old answer new =
-    IsActAt setting place fits station event old answer new
-IsActOf setting place (Some fits) None event old answer new = (answer ≡ reply.NotDue) × (new ≡ old)
-IsActOf setting place None station event old answer new = (answer ≡ reply.NotDue) × (new ≡ old)
+abbrev pub IsActOf : Setting → ℕ → Option (RecordView → Bool) → Option StationView → EventView → Outcome
+    → List StationView → ReplyView → List StationView → Type 0
+IsActOf setting place (Some fits) (Some station) event came old answer new =
+    IsActAt setting place fits station event came old answer new
+IsActOf setting place (Some fits) None event came old answer new = (answer ≡ reply.NotDue) × (new ≡ old)
+IsActOf setting place None station event came old answer new = (answer ≡ reply.NotDue) × (new ≡ old)
 
 -- an event at the station of this place; `fits` is, of each station, what its node's cell has room for
-abbrev pub IsAct : Setting → ℕ → List (RecordView → Bool) → EventView → List StationView → ReplyView → List StationView
-    → Type 0
-IsAct setting place fits event old answer new =
-    IsActOf setting place (slice_get fits place) (slice_get old place) event old answer new
+abbrev pub IsAct : Setting → ℕ → List (RecordView → Bool) → EventView → Outcome → List StationView → ReplyView
+    → List StationView → Type 0
+IsAct setting place fits event came old answer new =
+    IsActOf setting place (slice_get fits place) (slice_get old place) event came old answer new
 
 -- ---- the round
 
@@ -310,9 +328,9 @@ round_after answer round stations = round
 abbrev pub sending_of : Packet → Sending
 sending_of packet = record { from = packet.from; to = packet.to; packet = packet_text packet }
 
--- what a station sends by a plan, as its answer tells
-abbrev pub plan_sendings : StationPlan → ReplyView → List Sending
-plan_sendings plan answer = map sending_of (packets_by plan.prospect (outcome_of answer))
+-- what a station sends by a plan that came out so
+abbrev pub plan_sendings : StationPlan → Outcome → List Sending
+plan_sendings plan came = map sending_of (packets_by plan.prospect came)
 
 -- without the packet that came
 abbrev pub traffic_left : Traffic → ℕ → Option ℕ → Traffic
@@ -325,12 +343,12 @@ traffic_acted event.Repeat traffic k place = traffic_repeated traffic k place
 traffic_acted (event.Delay rounds) traffic k place = traffic_delayed traffic k place rounds
 
 -- what an event that happens sends
-abbrev pub sendings_then : Setting → EventView → ReplyView → Option StationView → List Sending
-sendings_then setting (ByNode k deed) answer None = []
-sendings_then setting (ByNode k deed) answer (Some station) = plan_sendings (plan_of setting k deed station) answer
-sendings_then setting (Install done) answer station = []
-sendings_then setting (Release k) answer station = []
-sendings_then setting (ByNetwork k place act) answer station = []
+abbrev pub sendings_then : Setting → EventView → Outcome → Option StationView → List Sending
+sendings_then setting (ByNode k deed) came None = []
+sendings_then setting (ByNode k deed) came (Some station) = plan_sendings (plan_of setting k deed station) came
+sendings_then setting (Install done) came station = []
+sendings_then setting (Release k) came station = []
+sendings_then setting (ByNetwork k place act) came station = []
 
 -- what it takes away of what is in flight, or makes of it
 abbrev pub traffic_then : Setting → EventView → Option StationView → Traffic
@@ -342,9 +360,9 @@ traffic_then setting (Release k) station = setting.traffic
 traffic_then setting (ByNetwork k place act) station = traffic_acted act setting.traffic k place
 
 -- so all of it: without the packet that came, and with what was sent
-abbrev pub traffic_after : Setting → EventView → ReplyView → Option StationView → Traffic
-traffic_after setting event answer station =
-    if has_happened answer then all_sent setting.round (sendings_then setting event answer station)
+abbrev pub traffic_after : Setting → EventView → Outcome → ReplyView → Option StationView → Traffic
+traffic_after setting event came answer station =
+    if has_happened answer then all_sent setting.round (sendings_then setting event came station)
     (traffic_then setting event station) else setting.traffic
 
 -- ---- one event of a world
@@ -352,6 +370,8 @@ pub record IsStep (fits : List (RecordView → Bool)) (event : EventView) (old :
     (new : WorldView) : Type 0 where
   pub net : new.net ≡ old.net
   pub inputs : new.inputs ≡ old.inputs
-  pub act : IsAct (setting_of old) (event_node event) fits event old.stations answer new.stations
-  pub traffic : new.traffic ≡ traffic_after (setting_of old) event answer (slice_get old.stations (event_node event))
+  pub came : Outcome
+  pub act : IsAct (setting_of old) (event_node event) fits event came old.stations answer new.stations
+  pub traffic : new.traffic
+      ≡ traffic_after (setting_of old) event came answer (slice_get old.stations (event_node event))
   pub round : new.round ≡ round_after answer old.round new.stations

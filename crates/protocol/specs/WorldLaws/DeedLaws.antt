@@ -1,48 +1,56 @@
--- What is known of each deed: its plan is sound, a node that doesn't run sends nothing by it, and nothing that comes by
+-- What is known of each deed: its plan is sound, a node that is down sends nothing by it, and nothing that comes by
 -- it is dropped. A further deed has a case in each of the three laws that go by deeds, at the end of this file.
-use Rattle.std.proofs.Common.{◌≡◌, ℕ, Bool, true, false, cond, ℤ, List, [], map, Option, Some, None, option_map, refl}
-use Rattle.std.proofs.Common.{sym, ap, subst, ◌∙◌}
+use Rattle.std.proofs.Common.{◌≡◌, ℕ, Bool, true, false, cond, ℤ, List, [], map, All, Option, Some, None}
+use Rattle.std.proofs.Common.{option_map, refl, sym, ap, subst, ◌∙◌}
 use Rattle.std.specs.Prelude.{◌==◌, nat_lt, not}
 use Rattle.std.proofs.Math.Logic.{∥∥₁_elim}
 use Rattle.std.proofs.lemmas.Bool.{and_from, eq-eqb}
 use Rattle.std.proofs.lemmas.List.Elements.{All-nil}
 use mathlib.Core.HLevel.{⊥_prop}
 use Rattle.datagram.proofs.Exactness.{whole_again}
+use Rattle.datagram.specs.Reading.{whole_at}
 use Rattle.datagram.specs.declared.packet.Packet.{Packet}
 use Rattle.kahn_net.specs.Syntax.{Network}
 use Rattle.kahn_net.specs.declared.limits.TheConstants.{MAX_COUNT}
 use Rattle.record.specs.Moves.{highest_seen, with_epoch}
-use Rattle.record.specs.RecordView.{RecordView}
 use Rattle.wire.specs.Queue.{is_due}
 use Rattle.wire.specs.declared.queue.Flight.{Flight}
-use Rattle.protocol.specs.Node.Addresses.{names_right}
+use Rattle.protocol.specs.Node.Addresses.{names_right, names_run}
 use Rattle.protocol.specs.Node.ArmedRestarts.{round_later, with_armed}
+use Rattle.protocol.specs.Node.Beginning.{begun, live_asks, live_in, may_start, start_prospect}
 use Rattle.protocol.specs.Node.Choosing.{grant_prospect, node_job, with_grant}
-use Rattle.protocol.specs.Node.Delivering.{delivery_of, if_right, packet_for, told_by}
+use Rattle.protocol.specs.Node.Delivering.{delivery_of, if_right, packet_for}
+use Rattle.protocol.specs.Node.Hearing.{deliver_prospect, hear_prospect}
 use Rattle.protocol.specs.Node.JobView.{JobView}
-use Rattle.protocol.specs.Node.Modes.{crashed, is_down, is_running, with_kept}
-use Rattle.protocol.specs.Node.NodeView.{Down, InDoubt, ModeView, NodeView, Runs, running_in}
-use Rattle.protocol.specs.Node.Plans.{Planned, Prospect, becoming, if_due, packets_by, putting, telling, unless_spent}
+use Rattle.protocol.specs.Node.Modes.{crashed, is_down}
+use Rattle.protocol.specs.Node.NodeView.{Down, InDoubt, ModeView, NodeView, Runs}
+use Rattle.protocol.specs.Node.Plans.{Planned, Prospect, Undue, Exhausted, becoming, if_due, packets_by, putting}
+use Rattle.protocol.specs.Node.Plans.{unless_spent}
 use Rattle.protocol.specs.Node.Recovering.{crash_prospect, recover_prospect, restored, restored_mode}
-use Rattle.protocol.specs.Node.Sending.{packets_from, packets_of}
-use Rattle.protocol.specs.Node.Starting.{decide_prospect, decided, may_decide, may_start, start_prospect, with_own_now}
+use Rattle.protocol.specs.Node.Sending.{IsWritable}
+use Rattle.protocol.specs.Node.Telling.{turn_packets}
+use Rattle.protocol.specs.Node.Verdicts.{decide_prospect, may_decide}
 use Rattle.protocol.specs.declared.outcome.Outcome.{Outcome}
 use Rattle.protocol.specs.declared.outcome.Outcome.TheVariants as outcome
 use Rattle.protocol.specs.declared.outcome.Refusal.TheVariants.{Spent, TooLarge}
 use Rattle.protocol.specs.World.EventView.{Deed, ByNode, ByNetwork, Install, Release}
 use Rattle.protocol.specs.World.EventView as event
-use Rattle.protocol.specs.World.InFlight.{OnlyRunningSend}
-use Rattle.protocol.specs.World.Replies.{back_reply, delivery_reply, grant_reply, outcome_of}
+use Rattle.protocol.specs.World.InFlight.{OnlyNodesThatAreUpSend}
+use Rattle.protocol.specs.World.Replies.{back_reply, delivery_reply, grant_reply}
 use Rattle.protocol.specs.World.ReplyView.{ReplyView}
 use Rattle.protocol.specs.World.ReplyView as reply
 use Rattle.protocol.specs.World.StationView.{StationView}
 use Rattle.protocol.specs.World.Steps.{Setting, bytes_when, deliver_plan, due_bytes, flight_at, plan_of, sending_of}
 use Rattle.protocol.specs.World.Traffic.{BytesAreSound, SpellsSound, TrafficIsSound}
-use Rattle.protocol.specs.WorldLaws.OrderLaws.{behind_itself}
-use Rattle.protocol.specs.WorldLaws.PlanLaws.{IsSoundProspect, IsSoundSetting, IsSoundStation, back_sound, decide_sound}
-use Rattle.protocol.specs.WorldLaws.PlanLaws.{deliver_sound, down_keeps, grant_sound, moved_keeps, sound_becoming}
-use Rattle.protocol.specs.WorldLaws.PlanLaws.{sound_if_due, sound_unless_spent, start_sound, station_sendable}
+use Rattle.protocol.specs.WorldLaws.HeardLaws.{hear_keeps, named_here, right_is, whole_sound}
+use Rattle.protocol.specs.WorldLaws.MoveLaws.{decide_keeps, start_keeps}
+use Rattle.protocol.specs.WorldLaws.PlanLaws.{IsSoundProspect, IsSoundSetting, IsSoundStation, ProspectKeeps}
+use Rattle.protocol.specs.WorldLaws.PlanLaws.{back_sound}
+use Rattle.protocol.specs.WorldLaws.PlanLaws.{down_keeps, grant_sound, keeps_if_due, keeps_still, moved_keeps}
+use Rattle.protocol.specs.WorldLaws.PlanLaws.{sound_becoming, sound_if_due, sound_unless_spent, whole_plan}
+use Rattle.protocol.specs.WorldLaws.PlanLaws.{whole_prospect}
 use Rattle.protocol.specs.WorldLaws.SendLaws.{IsSendable}
+use Rattle.protocol.specs.WorldLaws.TellLaws.{begins_said, decides_said, hears_said, turn_sendable}
 use Rattle.protocol.specs.WorldLaws.TrafficLaws.{arrives_sound}
 
 -- ---- what is sent
@@ -67,6 +75,11 @@ due_sends : (due : Bool) (prospect : Prospect) (came : Outcome) → packets_by p
 due_sends true prospect came none = none
 due_sends false prospect came none = refl
 
+-- nor where it isn't due
+undue_sends : (due : Bool) (prospect : Prospect) (came : Outcome) → due ≡ false
+    → packets_by (if_due due prospect) came ≡ []
+undue_sends due prospect came is = ap (λ (b : Bool). packets_by (if_due b prospect) came) is
+
 spent_sends : (looks less : Bool) (prospect : Prospect) (came : Outcome) → packets_by prospect came ≡ []
     → packets_by (unless_spent looks less prospect) came ≡ []
 spent_sends looks true prospect came none = none
@@ -76,38 +89,6 @@ pub grant_sends : (job : Option JobView) (node : NodeView) (came : Outcome)
     → packets_by (grant_prospect job node) came ≡ []
 grant_sends None node came = refl
 grant_sends (Some job) node came = becoming_sends (with_grant (Some job) node) came
-
-telling_sends : (packets : List Packet) (node : NodeView) (came : Outcome) → packets ≡ []
-    → packets_by (telling packets node) came ≡ []
-telling_sends packets node outcome.NotDue none = refl
-telling_sends packets node outcome.Made none = none
-telling_sends packets node (outcome.Refused TooLarge) none = refl
-telling_sends packets node (outcome.Refused Spent) none = refl
-telling_sends packets node outcome.Failed none = refl
-
-pub deliver_sends : (net : Network) (place : ℕ) (bytes : Option (List ℕ)) (station : StationView) (came : Outcome)
-    → packets_by (deliver_plan net place bytes station).prospect came ≡ []
-deliver_sends net place None station came = refl
-deliver_sends net place (Some bytes) station came =
-    due_sends (not (is_down station.node.mode)) _ came
-    (becoming_sends (told_by (packet_for net station.number bytes) station.node) came)
-
-silent : (net : Network) (home : ℕ) (kept : RecordView) (version : ℕ) (mode : ModeView) → is_running mode ≡ false
-    → packets_from net home (running_in kept version mode) ≡ []
-silent net home kept version Down none = refl
-silent net home kept version InDoubt none = refl
-silent net home kept version (Runs running) none = absurd (cc)
-
-pub start_sends : (number : ℕ) (node : NodeView) (came : Outcome) → packets_by (start_prospect number node) came ≡ []
-start_sends number node came =
-    let whole = putting true (with_kept (with_own_now number node) node) in
-    due_sends (may_start node) (unless_spent false (nat_lt (highest_seen number node.kept) MAX_COUNT) whole) came
-    (spent_sends false (nat_lt (highest_seen number node.kept) MAX_COUNT) whole came
-    (putting_sends true (with_kept (with_own_now number node) node) came))
-
-pub decide_sends : (number : ℕ) (node : NodeView) (came : Outcome) → packets_by (decide_prospect number node) came ≡ []
-decide_sends number node came =
-    due_sends (may_decide number node) _ came (putting_sends false (with_kept (decided node.kept) node) came)
 
 pub crash_sends : (restarts : Bool) (restart : ℕ) (node : NodeView) (came : Outcome)
     → packets_by (if_due restarts (crash_prospect restart node)) came ≡ []
@@ -122,6 +103,29 @@ recover_sends restarts node came =
     (unless_spent true (nat_lt node.kept.epoch MAX_COUNT) (putting false (restored node))) came
     (spent_sends true (nat_lt node.kept.epoch MAX_COUNT) (putting false (restored node)) came
     (putting_sends false (restored node) came)))
+
+-- a node that is down hears nothing, and neither begins nor decides
+down_start : (node : NodeView) → is_down node.mode ≡ true → may_start node ≡ false
+down_start node down = by node.mode refl
+  where
+    by : (mode : ModeView) → node.mode ≡ mode → may_start node ≡ false
+    by Down is = rw is refl
+    by InDoubt is = absurd (let bad : is_down node.mode ≡ false = ap is_down is in cc)
+    by (Runs running) is = absurd (let bad : is_down node.mode ≡ false = ap is_down is in cc)
+
+down_decides : (home : ℕ) (node : NodeView) → is_down node.mode ≡ true
+    → may_decide home node.kept (live_in node.mode) ≡ false
+down_decides home node down = by node.mode refl
+  where
+    by : (mode : ModeView) → node.mode ≡ mode → may_decide home node.kept (live_in node.mode) ≡ false
+    by Down is = ap (λ (m : ModeView). may_decide home node.kept (live_in m)) is
+    by InDoubt is = absurd (let bad : is_down node.mode ≡ false = ap is_down is in cc)
+    by (Runs running) is = absurd (let bad : is_down node.mode ≡ false = ap is_down is in cc)
+
+down_hears : (net : Network) (place : ℕ) (bytes : Option (List ℕ)) (station : StationView) (came : Outcome)
+    → is_down station.node.mode ≡ true → packets_by (deliver_plan net place bytes station).prospect came ≡ []
+down_hears net place None station came down = refl
+down_hears net place (Some bytes) station came down = undue_sends (not (is_down station.node.mode)) _ came (ap not down)
 
 -- ---- what is dropped
 
@@ -178,10 +182,39 @@ module _ (setting : Setting) (flying : TrafficIsSound setting.net setting.inputs
           (λ none. ∥∥₁_elim sound ⊥_prop
           (λ says. spells_one setting.net setting.inputs old.number flight.packet says none))
 
+-- what is sent may be written
+abbrev pub IsWritten : Prospect → Type 0
+IsWritten Undue = Unit {0}
+IsWritten (Exhausted looks) = Unit {0}
+IsWritten (Planned plan) = All IsWritable plan.packets × All IsWritable plan.refused
+
 -- ---- a packet that comes is sound
 
 module _ (setting : Setting) (sure : IsSoundSetting setting) (old : StationView) (sound : IsSoundStation setting old)
   where
+    -- ---- what it hears
+
+    told_sound : (bytes : List ℕ) (to : ℕ) → BytesAreSound setting.net setting.inputs to bytes
+        → (packet : Option Packet) → packet_for setting.net old.number bytes ≡ packet
+        → IsSoundProspect setting.net setting.inputs old (deliver_prospect setting.net old.number packet old.node)
+    told_sound bytes to says None is =
+        sound_if_due setting.net setting.inputs old (not (is_down old.node.mode)) (becoming old.node)
+        (λ up. sound_becoming setting.net setting.inputs old.node old
+        (moved_keeps setting.net setting.inputs old.node old.failures old.turns old sound.inv.kept sound.inv.runs)
+        refl)
+    told_sound bytes to says (Some packet) is =
+        let right = right_is setting.net old.number (whole_at bytes) packet is in
+        let named = named_here setting.net old.number bytes packet is in
+        sound_if_due setting.net setting.inputs old (not (is_down old.node.mode))
+        (hear_prospect setting.net old.number packet.from packet.body old.node)
+        (λ up. whole_prospect setting.net setting.inputs old.number old
+        (hear_prospect setting.net old.number packet.from packet.body old.node)
+        (hear_keeps setting.net setting.inputs sure.valid sure.fits old sound.inv sound.joined.sure sound.named
+        packet.from packet.body (whole_sound setting.net setting.inputs packet to bytes says right.0)
+        (ap (λ (n : ℕ). names_run setting.net packet.from n packet.body) (sym named.0) ∙ named.1))
+        (hears_said setting.net setting.inputs sure.valid old sound.inv sound.named sound.below sound.joined
+        bytes to says packet is))
+
     came_sound : (k place : ℕ) (flight : Option Flight) → flight_at setting k place ≡ flight
         → IsSoundProspect setting.net setting.inputs old
         (deliver_plan setting.net place (due_bytes setting.round flight) old).prospect
@@ -193,62 +226,61 @@ module _ (setting : Setting) (sure : IsSoundSetting setting) (old : StationView)
             (deliver_plan setting.net place (bytes_when due flight.packet) old).prospect
         at false = tt
         at true =
-            deliver_sound setting.net setting.inputs flight.packet k old sure.valid sure.fits
+            told_sound flight.packet k
             (arrives_sound setting.net setting.inputs setting.traffic k place flight.packet sure.traffic
-            (ap (option_map (λ (f : Flight). f.packet)) is)) sound.inv
+            (ap (option_map (λ (f : Flight). f.packet)) is))
+            (packet_for setting.net old.number flight.packet) refl
 
--- ---- by deeds
+    -- ---- it begins, and decides
 
-module _ (setting : Setting) (sure : IsSoundSetting setting) (old : StationView) (sound : IsSoundStation setting old)
-  where
+    begins_sound : IsSoundProspect setting.net setting.inputs old (start_prospect setting.net old.number old.node)
+    begins_sound =
+        whole_prospect setting.net setting.inputs old.number old (start_prospect setting.net old.number old.node)
+        (keeps_if_due setting.net setting.inputs old (may_start old.node) _
+        (λ due. by due (nat_lt (highest_seen old.number old.node.kept) MAX_COUNT)))
+        (begins_said setting.net setting.inputs sure.valid old sound.inv sound.named sound.below sound.joined)
+      where
+        by : may_start old.node ≡ true → (less : Bool)
+            → ProspectKeeps setting.net setting.inputs old
+            (unless_spent false less (Planned (record {
+              node = begun setting.net old.number old.node;
+              puts = true;
+              grows = true;
+              packets = live_asks setting.net old.number (live_in (begun setting.net old.number old.node).mode);
+              refused = [];
+            })))
+        by due false = tt
+        by due true = start_keeps setting.net setting.inputs old sound.inv sure.valid due _ []
+
+    decides_sound : IsSoundProspect setting.net setting.inputs old (decide_prospect old.number old.node)
+    decides_sound =
+        whole_prospect setting.net setting.inputs old.number old (decide_prospect old.number old.node)
+        (keeps_if_due setting.net setting.inputs old (may_decide old.number old.node.kept (live_in old.node.mode)) _
+        (λ due. decide_keeps setting.net setting.inputs old sound.inv sound.joined due _ []))
+        (decides_said setting.net setting.inputs sure.valid old sound.inv sound.named sound.below sound.joined)
+
+    -- ---- what it says in its turn
+
+    tells_sound : IsSoundProspect setting.net setting.inputs old (plan_of setting old.number event.Send old).prospect
+    tells_sound =
+        sound_if_due setting.net setting.inputs old (not (is_down old.node.mode)) _
+        (λ up. whole_plan setting.net setting.inputs old _
+        (keeps_still setting.net setting.inputs old.node
+        (turn_packets setting.net old.number old.node.kept old.node.mode) [] old
+        (moved_keeps setting.net setting.inputs old.node old.failures old.turns old sound.inv.kept sound.inv.runs)
+        refl)
+        (turn_sendable setting.net setting.inputs sure.valid old sound.inv sound.named sound.below sound.joined)
+        (All-nil (IsSendable setting.net setting.inputs)))
+
+    -- ---- by deeds
+
     pub deed_sound : (k : ℕ) (deed : Deed)
         → IsSoundProspect setting.net setting.inputs old (plan_of setting k deed old).prospect
-    deed_sound k (event.Deliver place) = came_sound setting sure old sound k place (flight_at setting k place) refl
+    deed_sound k (event.Deliver place) = came_sound k place (flight_at setting k place) refl
     deed_sound k event.Grant = grant_sound setting.net setting.inputs old sound.inv
-    deed_sound k event.Send =
-        sound_if_due setting.net setting.inputs old (not (is_down old.node.mode))
-        (Planned
-        (record {
-          node = old.node;
-          puts = false;
-          grows = false;
-          packets =
-              packets_of setting.net old.number old.node;
-          refused = [];
-        })) (λ up. record {
-          keeps = moved_keeps setting.net setting.inputs old.node old.failures old.turns old sound.inv.kept
-              sound.inv.runs;
-          stays = λ none. refl;
-          same_node = refl;
-          ahead = behind_itself old.node.kept.permanent;
-          sendable = station_sendable setting.net setting.inputs sure.valid old sound.inv sound.named;
-          refusable = All-nil (IsSendable setting.net setting.inputs);
-        })
-    deed_sound k event.Start =
-        sound_if_due setting.net setting.inputs old (may_start old.node) _
-        (λ due. sound_unless_spent setting.net setting.inputs old false
-        _ (Planned
-        (record {
-          node = with_kept (with_own_now old.number old.node) old.node;
-          puts = true;
-          grows = true;
-          packets =
-              [];
-          refused = [];
-        }))
-        (start_sound setting.net setting.inputs old sure.valid sound.inv due))
-    deed_sound k event.Decide =
-        sound_if_due setting.net setting.inputs old
-        _ (Planned
-        (record {
-          node = with_kept (decided old.node.kept) old.node;
-          puts = true;
-          grows = false;
-          packets =
-              [];
-          refused = [];
-        }))
-        (λ due. decide_sound setting.net setting.inputs old sound.inv)
+    deed_sound k event.Send = tells_sound
+    deed_sound k event.Start = begins_sound
+    deed_sound k event.Decide = decides_sound
     deed_sound k (event.Crash fill rounds) =
         let down = crashed (round_later setting.round rounds) old.node in
         sound_if_due setting.net setting.inputs old setting.restarts _
@@ -270,24 +302,35 @@ module _ (setting : Setting) (sure : IsSoundSetting setting) (old : StationView)
         sound_becoming setting.net setting.inputs old.node old
         (moved_keeps setting.net setting.inputs old.node old.failures old.turns old sound.inv.kept sound.inv.runs) refl
 
+    -- ---- what it sends may be written, also what it sends where its record is too large
+
+    written : (prospect : Prospect) → IsSoundProspect setting.net setting.inputs old prospect → IsWritten prospect
+    written Undue is = tt
+    written (Exhausted looks) is = tt
+    written (Planned plan) is =
+        (λ k d within. (is.sendable k d within).writable, λ k d within. (is.refusable k d within).writable)
+
+    pub deed_writable : (k : ℕ) (deed : Deed) → IsWritten (plan_of setting k deed old).prospect
+    deed_writable k deed = written (plan_of setting k deed old).prospect (deed_sound k deed)
+
 deed_sends : (setting : Setting) (k : ℕ) (deed : Deed) (station : StationView) (came : Outcome)
-    → is_running station.node.mode ≡ false → packets_by (plan_of setting k deed station).prospect came ≡ []
-deed_sends setting k (event.Deliver place) station came none =
-    deliver_sends setting.net place (due_bytes setting.round (flight_at setting k place)) station came
-deed_sends setting k event.Grant station came none =
+    → is_down station.node.mode ≡ true → packets_by (plan_of setting k deed station).prospect came ≡ []
+deed_sends setting k (event.Deliver place) station came down =
+    down_hears setting.net place (due_bytes setting.round (flight_at setting k place)) station came down
+deed_sends setting k event.Grant station came down =
     grant_sends (node_job setting.net setting.inputs station.node) station.node came
-deed_sends setting k event.Send station came none =
-    due_sends (not (is_down station.node.mode)) _ came
-    (telling_sends (packets_of setting.net station.number station.node) station.node came
-    (silent setting.net station.number station.node.kept station.node.version station.node.mode none))
-deed_sends setting k event.Start station came none = start_sends station.number station.node came
-deed_sends setting k event.Decide station came none = decide_sends station.number station.node came
-deed_sends setting k (event.Crash fill rounds) station came none =
+deed_sends setting k event.Send station came down = undue_sends (not (is_down station.node.mode)) _ came (ap not down)
+deed_sends setting k event.Start station came down =
+    undue_sends (may_start station.node) _ came (down_start station.node down)
+deed_sends setting k event.Decide station came down =
+    undue_sends (may_decide station.number station.node.kept (live_in station.node.mode)) _ came
+    (down_decides station.number station.node down)
+deed_sends setting k (event.Crash fill rounds) station came down =
     crash_sends setting.restarts (round_later setting.round rounds) station.node came
-deed_sends setting k event.Recover station came none = recover_sends setting.restarts station.node came
-deed_sends setting k (event.Arm fault rounds) station came none =
+deed_sends setting k event.Recover station came down = recover_sends setting.restarts station.node came
+deed_sends setting k (event.Arm fault rounds) station came down =
     becoming_sends (with_armed fault.call rounds station.node) came
-deed_sends setting k event.Idle station came none = becoming_sends station.node came
+deed_sends setting k event.Idle station came down = becoming_sends station.node came
 
 module _ (setting : Setting) (flying : TrafficIsSound setting.net setting.inputs setting.traffic) where
   pub deed_is : (k : ℕ) (deed : Deed) (old : StationView) → old.number ≡ k
@@ -302,9 +345,9 @@ module _ (setting : Setting) (flying : TrafficIsSound setting.net setting.inputs
   deed_is k (event.Arm fault rounds) old here = refl
   deed_is k event.Idle old here = refl
 
-pub only_running_send : OnlyRunningSend
-only_running_send setting (ByNode k deed) answer station none =
-    ap (map sending_of) (deed_sends setting k deed station (outcome_of answer) none)
-only_running_send setting (Install done) answer station none = refl
-only_running_send setting (Release k) answer station none = refl
-only_running_send setting (ByNetwork k place act) answer station none = refl
+pub only_nodes_that_are_up_send : OnlyNodesThatAreUpSend
+only_nodes_that_are_up_send setting (ByNode k deed) came station down =
+    ap (map sending_of) (deed_sends setting k deed station came down)
+only_nodes_that_are_up_send setting (Install done) came station down = refl
+only_nodes_that_are_up_send setting (Release k) came station down = refl
+only_nodes_that_are_up_send setting (ByNetwork k place act) came station down = refl

@@ -134,18 +134,18 @@ then_passes test setting (Release k) station all = all
 then_passes test setting (ByNetwork k place act) station all = acted_passes test act setting.traffic k place all
 
 pub nothing_is_made_up : NothingIsMadeUp
-nothing_is_made_up test setting e answer station all sent = at (has_happened answer) sent
+nothing_is_made_up test setting e came answer station all sent = at (has_happened answer) sent
   where
-    at : (b : Bool) → AllSent test (cond b (sendings_then setting e answer station) [])
+    at : (b : Bool) → AllSent test (cond b (sendings_then setting e came station) [])
         → AllInFlight test
-        (cond b (all_sent setting.round (sendings_then setting e answer station) (traffic_then setting e station))
+        (cond b (all_sent setting.round (sendings_then setting e came station) (traffic_then setting e station))
         setting.traffic)
     at false sent = all
     at true sent =
-        all_sent_holds (Passes test) setting.round (sendings_then setting e answer station)
+        all_sent_holds (Passes test) setting.round (sendings_then setting e came station)
         (traffic_then setting e station) (then_passes test setting e station all) sent
 
 pub each_was_sent : EachWasSent
 each_was_sent test fits e old answer new step all sent =
     subst (AllInFlight test) (sym step.traffic)
-    (nothing_is_made_up test (setting_of old) e answer (slice_get old.stations (event_node e)) all sent)
+    (nothing_is_made_up test (setting_of old) e step.came answer (slice_get old.stations (event_node e)) all sent)

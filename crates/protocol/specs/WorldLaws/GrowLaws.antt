@@ -24,6 +24,7 @@ use Rattle.protocol.specs.World.ReplyView.{ReplyView}
 use Rattle.protocol.specs.World.RecordSound.{CoversAll}
 use Rattle.protocol.specs.World.StationView.{OutletView, StationView}
 use Rattle.protocol.specs.World.Steps.{IsRelease, IsReleaseAt, IsStationStep, Setting, next_release}
+use Rattle.protocol.specs.declared.outcome.Outcome.{Outcome}
 
 -- Outputs that begin with what they had
 
@@ -93,16 +94,16 @@ release_or_not round None old answer new step = begins_still old new (ap (λ (s 
 release_or_not round (Some place) old answer new step = release_begins round place old answer new step
 
 -- whatever event happens
-pub step_begins : (setting : Setting) (room : RecordView → Bool) (e : EventView) (old : StationView)
-    (answer : ReplyView) (new : StationView) → IsStationStep setting room e old answer new
+pub step_begins : (setting : Setting) (room : RecordView → Bool) (e : EventView) (came : Outcome)
+    (old : StationView) (answer : ReplyView) (new : StationView) → IsStationStep setting room e came old answer new
     → EachBegins (outputs_of old.outlets) (outputs_of new.outlets)
-step_begins setting room (ByNode k deed) old answer new step =
+step_begins setting room (ByNode k deed) came old answer new step =
     begins_still old new (ap (λ (s : StationView). s.outlets) step.same)
-step_begins setting room (Install done) old answer new step =
+step_begins setting room (Install done) came old answer new step =
     begins_still old new (ap (λ (s : StationView). s.outlets) step.same)
-step_begins setting room (Release k) old answer new step =
+step_begins setting room (Release k) came old answer new step =
     release_or_not setting.round (next_release setting.round old) old answer new step
-step_begins setting room (ByNetwork k place act) old answer new step =
+step_begins setting room (ByNetwork k place act) came old answer new step =
     begins_still old new (ap (λ (s : StationView). s.outlets) step.1)
 
 -- What a crash leaves covers what has left

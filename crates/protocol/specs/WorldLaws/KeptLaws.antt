@@ -8,7 +8,7 @@ use Rattle.protocol.specs.Node.NodeView.{NodeView}
 use Rattle.protocol.specs.World.DoneView.{DoneView}
 use Rattle.protocol.specs.World.EventView.{EventView, ByNode, ByNetwork, Install, Release}
 use Rattle.protocol.specs.World.RecoveryLine.{next_kept}
-use Rattle.protocol.specs.World.Replies.{outcome_of}
+use Rattle.protocol.specs.declared.outcome.Outcome.{Outcome}
 use Rattle.protocol.specs.World.ReplyView.{ReplyView}
 use Rattle.protocol.specs.World.StationView.{StationView}
 use Rattle.protocol.specs.World.Steps.{IsRelease, IsStationStep, Setting, next_release, plan_of}
@@ -27,18 +27,19 @@ release_kept round (Some place) old answer new step = ap (λ (s : StationView). 
 
 module _ (setting : Setting) (sure : IsSoundSetting setting) where
   -- the record at the end of an event is the one of before or the one that the event puts
-  pub step_kept : (room : RecordView → Bool) (e : EventView) (old : StationView) (answer : ReplyView)
-      (new : StationView) → IsSoundStation setting old → IsStationStep setting room e old answer new
+  pub step_kept : (room : RecordView → Bool) (e : EventView) (came : Outcome) (old : StationView) (answer : ReplyView)
+      (new : StationView) → IsSoundStation setting old → IsStationStep setting room e came old answer new
       → (new.node.kept ≡ old.node.kept) ⊎ (new.node.kept ≡ next_kept setting e old)
-  step_kept room (ByNode k deed) old answer new sound step =
+  step_kept room (ByNode k deed) came old answer new sound step =
       made_kept setting.net setting.inputs old (restart_after old.node.armed step.call setting.round)
-      (plan_of setting k deed old).prospect (outcome_of answer) new.node (deed_sound setting sure old sound k deed)
+      (plan_of setting k deed old).prospect came new.node (deed_sound setting sure old sound k deed)
       step.step
-  step_kept room (Install done) old answer new sound step =
+  step_kept room (Install done) came old answer new sound step =
       inl (install_kept setting.net.channels done old.node step.applied new.node step.step)
-  step_kept room (Release k) old answer new sound step =
+  step_kept room (Release k) came old answer new sound step =
       inl (release_kept setting.round (next_release setting.round old) old answer new step)
-  step_kept room (ByNetwork k place act) old answer new sound step = inl (ap (λ (s : StationView). s.node.kept) step.1)
+  step_kept room (ByNetwork k place act) came old answer new sound step =
+      inl (ap (λ (s : StationView). s.node.kept) step.1)
 
   -- the record that an event puts is of the same node
   pub next_node : (e : EventView) (old : StationView) → IsSoundStation setting old
@@ -50,10 +51,10 @@ module _ (setting : Setting) (sure : IsSoundSetting setting) where
   next_node (Release k) old sound = refl
   next_node (ByNetwork k place act) old sound = refl
 
-  pub step_node : (room : RecordView → Bool) (e : EventView) (old : StationView) (answer : ReplyView)
-      (new : StationView) → IsSoundStation setting old → IsStationStep setting room e old answer new
+  pub step_node : (room : RecordView → Bool) (e : EventView) (came : Outcome) (old : StationView) (answer : ReplyView)
+      (new : StationView) → IsSoundStation setting old → IsStationStep setting room e came old answer new
       → new.node.kept.node ≡ old.node.kept.node
-  step_node room e old answer new sound step = at (step_kept room e old answer new sound step)
+  step_node room e came old answer new sound step = at (step_kept room e came old answer new sound step)
     where
       at : (new.node.kept ≡ old.node.kept) ⊎ (new.node.kept ≡ next_kept setting e old)
           → new.node.kept.node ≡ old.node.kept.node
@@ -66,10 +67,11 @@ release_number round None old answer new step = ap (λ (s : StationView). s.numb
 release_number round (Some place) old answer new step = ap (λ (s : StationView). s.number) step.same
 
 -- a station keeps its number
-pub step_number : (setting : Setting) (room : RecordView → Bool) (e : EventView) (old : StationView)
-    (answer : ReplyView) (new : StationView) → IsStationStep setting room e old answer new → new.number ≡ old.number
-step_number setting room (ByNode k deed) old answer new step = ap (λ (s : StationView). s.number) step.same
-step_number setting room (Install done) old answer new step = ap (λ (s : StationView). s.number) step.same
-step_number setting room (Release k) old answer new step =
+pub step_number : (setting : Setting) (room : RecordView → Bool) (e : EventView) (came : Outcome) (old : StationView)
+    (answer : ReplyView) (new : StationView) → IsStationStep setting room e came old answer new
+    → new.number ≡ old.number
+step_number setting room (ByNode k deed) came old answer new step = ap (λ (s : StationView). s.number) step.same
+step_number setting room (Install done) came old answer new step = ap (λ (s : StationView). s.number) step.same
+step_number setting room (Release k) came old answer new step =
     release_number setting.round (next_release setting.round old) old answer new step
-step_number setting room (ByNetwork k place act) old answer new step = ap (λ (s : StationView). s.number) step.1
+step_number setting room (ByNetwork k place act) came old answer new step = ap (λ (s : StationView). s.number) step.1

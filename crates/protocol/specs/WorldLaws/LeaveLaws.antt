@@ -16,6 +16,7 @@ use Rattle.record.specs.ImageView.{ImageView}
 use Rattle.protocol.specs.Node.NodeView.{RunningNode}
 use Rattle.record.specs.Ends.{log_of, log_at, base_in, base_of, sent_in, sent_of}
 use Rattle.record.specs.Changes.{trimmed_image}
+use Rattle.protocol.specs.Node.Layout.{port_on}
 use Rattle.protocol.specs.Node.Trimming.{with_current, HasNext}
 use Rattle.protocol.specs.Node.Reached.{acts_of}
 use Rattle.protocol.specs.NodeLaws.TrimLaws.{laid_out_trimmed, links_trimmed, counts_trimmed, logs_trimmed, job_trimmed}
@@ -155,8 +156,9 @@ module _ (net : Network) (inputs : List (List ℤ)) (node : RunningNode) (output
         current_after = come.reached.current_after;
       };
       inboxes = come.inboxes;
-      out = λ job out. job_trimmed net inputs output.channel (length taken) there.channel node.current node.inboxes job
-          there.there there.outside (come.out job out);
+      out = λ job out. job_trimmed net node.kept.node inputs output.channel (length taken) there.channel node.current
+          node.inboxes job sound.kept.laid_out there.there (ap (port_on net node.kept.node) there.outside)
+          (come.out job out);
       released = released_then come;
     }
 
@@ -172,7 +174,7 @@ module _ (net : Network) (inputs : List (List ℤ)) (node : RunningNode) (output
         laid_out = laid_out_trimmed net node.kept.node output.channel (length taken) node.current sound.kept.laid_out;
         counts =
             counts_trimmed net node.kept.node inputs output.channel (length taken) there.channel node.current
-            sound.kept.laid_out there.there there.outside sound.kept.counts;
+            sound.kept.laid_out there.there (ap (port_on net node.kept.node) there.outside) sound.kept.counts;
         logs = logs_trimmed output.channel (length taken) node.current sound.kept.logs;
         links = links_trimmed net node.kept.node output.channel (length taken) node sound.kept.links;
       };

@@ -22,6 +22,8 @@ use Rattle.protocol.specs.Node.Starting.{AreInOrder}
 use Rattle.protocol.specs.World.Invariant.{output_of, outputs_of, RunsSoundly, StationInvariant, WorldInvariant}
 use Rattle.protocol.specs.WorldLaws.OrderLaws.{behind_itself}
 use Rattle.protocol.specs.WorldLaws.OutputLaws.{map_at}
+use Rattle.protocol.specs.JoinLaws.Lasting.{opening_is_joined}
+use Rattle.protocol.specs.JoinLaws.Whole.{opening_has_run}
 use Rattle.protocol.specs.World.RecordSound.{ImageIsSound}
 use Rattle.protocol.specs.WorldLaws.TrafficLaws.{traffic_opened}
 use Rattle.protocol.specs.WorldLaws.RecordLaws.{record_of}
@@ -139,7 +141,7 @@ station_opened : (net : Network) (inputs : List (List ℤ)) (nodes number failur
     → NothingLeft (outputs_of outlets)
     → StationInvariant net inputs (opening_station net nodes number failures outlets)
 station_opened net inputs nodes number failures outlets valid few listed none = record {
-  kept = record_of net inputs (outputs_of outlets) (opening_running net nodes number) refl
+  kept = record_of net inputs (outputs_of outlets) (opening_running net nodes number)
       (opening_within net nodes number valid few) (image_opened net inputs number (outputs_of outlets))
       (λ tentative is. absurd (cc)) runs.order runs.sound;
   runs = λ node
@@ -273,6 +275,9 @@ world_opened net inputs failures outlets valid fits each listed none = record {
       λ i station is. numbered i station
       (station_from net (node_count net) 0 failures (map opening_outlet outlets) i station is);
   traffic = traffic_opened net inputs;
+  joined = λ i station is. opening_is_joined net failures (map opening_outlet outlets) i station is;
+  run = opening_has_run net failures (map opening_outlet outlets)
+      (λ i outlet is. none i (output_of outlet) (map_at output_of (map opening_outlet outlets) i outlet is));
   stations =
       λ i station is. at i station
       (station_from net (node_count net) 0 failures (map opening_outlet outlets) i station is);

@@ -1,13 +1,15 @@
 -- The images of a node stay one after another.
-use Rattle.std.proofs.Common.{◌≡◌, ℕ, Option, Some, None, refl, subst, arith}
+use Rattle.std.proofs.Common.{◌≡◌, ℕ, List, Option, Some, None, refl, subst, arith}
+use Rattle.record.specs.DecisionView.{DecisionView}
 use Rattle.record.specs.ImageView.{ImageView}
 use Rattle.record.specs.RecordView.{RecordView}
 use Rattle.record.specs.declared.record.Tentative.{Tentative}
 use Rattle.protocol.specs.Node.JobView.{JobView}
 use Rattle.protocol.specs.Node.NodeView.{RunningNode}
 use Rattle.protocol.specs.Node.Choosing.{after_grant}
-use Rattle.record.specs.Moves.{last_image}
-use Rattle.protocol.specs.Node.Starting.{AreInOrder, IsBehind, with_own, decided}
+use Rattle.record.specs.Moves.{last_image, with_decision, with_tentative}
+use Rattle.protocol.specs.Node.Starting.{AreInOrder, IsBehind}
+use Rattle.protocol.specs.NodeLaws.StepLaws.{lessened}
 
 -- Images
 
@@ -37,9 +39,10 @@ order_ahead kept current later more order = record {
   held_behind = λ held is. behind_then held.image current later (order.held_behind held is) more;
 }
 
-pub order_own : (number : ℕ) (kept : RecordView) (current : ImageView) → AreInOrder kept current
-    → AreInOrder (with_own number current kept) current
-order_own number kept current order = record {
+-- an image of what it has now is taken, of whatever instance
+pub order_taken : (x n : ℕ) (kept : RecordView) (current : ImageView) → AreInOrder kept current
+    → AreInOrder (with_tentative x n current kept) current
+order_taken x n kept current order = record {
   current_ahead = order.current_ahead;
   held_ahead =
       λ held is. (let same : current ≡ held.image = cc in subst (IsBehind kept.permanent) same order.current_ahead);
@@ -53,10 +56,21 @@ order_last : (kept : RecordView) (o : Option Tentative) (current : ImageView) �
 order_last kept None current is order = order.current_ahead
 order_last kept (Some held) current is order = order.held_behind held is
 
-pub order_decided : (kept : RecordView) (current : ImageView) → AreInOrder kept current
-    → AreInOrder (decided kept) current
-order_decided kept current order = record {
+-- the tentative image becomes permanent, whatever is decided
+pub order_decided : (n : ℕ) (nodes : List ℕ) (kept : RecordView) (current : ImageView) → AreInOrder kept current
+    → AreInOrder (with_decision n nodes kept) current
+order_decided n nodes kept current order = record {
   current_ahead = order_last kept kept.tentative current refl order;
   held_ahead = λ other e. absurd (cc);
   held_behind = λ other e. absurd (cc);
+}
+
+-- the tentative image stays or is dropped
+pub order_less : (epoch : ℕ) (decisions : List DecisionView) (held : Option Tentative) (kept : RecordView)
+    (current : ImageView) → ((t : Tentative) → held ≡ Some t → kept.tentative ≡ Some t) → AreInOrder kept current
+    → AreInOrder (lessened epoch decisions held kept) current
+order_less epoch decisions held kept current still order = record {
+  current_ahead = order.current_ahead;
+  held_ahead = λ t is. order.held_ahead t (still t is);
+  held_behind = λ t is. order.held_behind t (still t is);
 }

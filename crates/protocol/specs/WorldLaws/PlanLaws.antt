@@ -1,32 +1,22 @@
 -- Laws of deeds: what a plan makes of a sound station is sound, and what follows of it however it comes out.
-use Rattle.std.proofs.Common.{◌≡◌, ◌⊎◌, inl, inr, ⊎_elim, ℕ, ◌&&◌, Bool, true, false, cond, List, ℤ, [], Option, Some}
+use Rattle.std.proofs.Common.{◌≡◌, ◌⊎◌, inl, inr, ⊎_elim, ℕ, ◌<◌, ◌&&◌, Bool, true, false, cond, List, ℤ, [], Option}
+use Rattle.std.proofs.Common.{Some}
 use Rattle.std.proofs.Common.{None, refl, sym, ap, subst, ◌∙◌, All}
-use Rattle.std.specs.Prelude.{◌==◌, not}
 use Rattle.std.proofs.lemmas.List.Elements.{All-nil}
-use Rattle.std.proofs.Math.Logic.{∥∥₁_map}
 use Rattle.kahn_net.specs.Fits.{Fits}
 use Rattle.kahn_net.specs.Syntax.{Network}
 use Rattle.kahn_net.specs.Valid.{IsValid}
-use Rattle.datagram.proofs.Exactness.{whole_again}
-use Rattle.datagram.specs.Reading.{whole_at}
-use Rattle.datagram.specs.declared.packet.Body.{Body}
 use Rattle.datagram.specs.declared.packet.Packet.{Packet}
 use Rattle.record.specs.Moves.{with_epoch}
 use Rattle.record.specs.RecordView.{RecordView}
 use Rattle.record.specs.declared.record.Tentative.{Tentative}
-use Rattle.protocol.specs.Node.Addresses.{names_right}
-use Rattle.protocol.specs.Node.Choosing.{after_grant, granted, grant_prospect, job_at, next_job, node_job, with_grant}
-use Rattle.protocol.specs.Node.Delivering.{deliver_prospect, heard, hearing, if_right, packet_for}
 use Rattle.protocol.specs.Node.JobView.{JobView}
 use Rattle.protocol.specs.Node.Layout.{AllHere}
-use Rattle.protocol.specs.Node.Modes.{crashed, is_down, is_running, keeping, with_kept}
 use Rattle.protocol.specs.Node.NodeView.{NodeView, ModeView, Down, InDoubt, Runs, RunningView, RunningNode}
 use Rattle.protocol.specs.Node.NodeView.{running_node, running_in, running_of, on_mode}
 use Rattle.protocol.specs.Node.Plans.{Plan, Prospect, Undue, Exhausted, Planned, becoming, if_due, unless_spent}
 use Rattle.protocol.specs.Node.Plans.{HasFailedAt, IsCarriedOut, IsHeldUp, IsMade, next_record, plan_record}
 use Rattle.protocol.specs.Node.Recovering.{restored, restored_with}
-use Rattle.protocol.specs.Node.Sending.{packets_from, packets_of, IsWritable}
-use Rattle.protocol.specs.Node.Starting.{IsBehind, decided, may_start, own_at, with_own, with_own_now}
 use Rattle.protocol.specs.declared.outcome.Outcome.{Outcome}
 use Rattle.protocol.specs.declared.outcome.Outcome.TheVariants as outcome
 use Rattle.protocol.specs.declared.outcome.Refusal.TheVariants.{TooLarge, Spent}
@@ -35,14 +25,18 @@ use Rattle.protocol.specs.World.Invariant.{outputs_of, RunsSoundly, StationInvar
 use Rattle.protocol.specs.World.RecordSound.{RecordIsSound}
 use Rattle.protocol.specs.World.StationView.{StationView}
 use Rattle.protocol.specs.World.Steps.{Setting, moved_to}
-use Rattle.protocol.specs.World.Traffic.{BodyIsSound, BytesAreSound, TrafficIsSound}
-use Rattle.protocol.specs.WorldLaws.BoundLaws.{own_bounded}
-use Rattle.protocol.specs.WorldLaws.HearLaws.{body_known, hear_sound, order_heard}
-use Rattle.protocol.specs.WorldLaws.OrderLaws.{behind_itself, order_granted, order_own, order_decided}
-use Rattle.protocol.specs.WorldLaws.RecordLaws.{current_sound, record_of, record_own, record_decided, record_epoch}
-use Rattle.protocol.specs.WorldLaws.RecordLaws.{last_more, restarted, restarted_sound, restarted_order}
-use Rattle.protocol.specs.WorldLaws.SendLaws.{running_sendable, IsSendable}
-use Rattle.protocol.specs.WorldLaws.SoundLaws.{granted_sound, stored_sound, decided_sound}
+use Rattle.kahn_net.specs.Nodes.{node_count}
+use Rattle.protocol.specs.Node.Choosing.{after_grant, granted, grant_prospect, job_at, next_job, node_job, with_grant}
+use Rattle.protocol.specs.Node.Modes.{crashed, is_running, with_kept}
+use Rattle.protocol.specs.Node.Starting.{IsBehind}
+use Rattle.protocol.specs.Join.Joined.{IsJoined}
+use Rattle.protocol.specs.World.Traffic.{TrafficIsSound}
+use Rattle.protocol.specs.JoinLaws.Sayable.{ProspectSays}
+use Rattle.protocol.specs.JoinLaws.Spelled.{all_sendable}
+use Rattle.protocol.specs.WorldLaws.OrderLaws.{behind_itself, order_granted}
+use Rattle.protocol.specs.WorldLaws.RecordLaws.{record_epoch, restarted, restarted_sound, restarted_order}
+use Rattle.protocol.specs.WorldLaws.SendLaws.{IsSendable}
+use Rattle.protocol.specs.WorldLaws.SoundLaws.{granted_sound}
 
 -- ---- what is known of a station and what is around it
 
@@ -58,6 +52,9 @@ pub record IsSoundStation (setting : Setting) (station : StationView) : Type 0 w
   pub named : station.node.kept.node ≡ station.number
   -- where nodes may restart there is but this one
   pub here : setting.restarts ≡ true → AllHere setting.net station.node.kept.node
+  -- it is one of the network's nodes, and what it keeps and collects may be said
+  pub below : station.number < node_count setting.net
+  pub joined : IsJoined setting.net station
 
 -- What is known of a plan: the station afterwards is sound; no record changes but by a put; it is of the same node, and
 -- its permanent image isn't behind; and what is sent may be in flight.
@@ -68,6 +65,18 @@ pub record IsSoundPlan (net : Network) (inputs : List (List ℤ)) (old : Station
   pub ahead : IsBehind old.node.kept.permanent plan.node.kept.permanent
   pub sendable : All (IsSendable net inputs) plan.packets
   pub refusable : All (IsSendable net inputs) plan.refused
+
+-- of that, what is known of the station alone
+pub record KeepsStation (net : Network) (inputs : List (List ℤ)) (old : StationView) (plan : Plan) : Type 0 where
+  pub keeps : StationInvariant net inputs (moved_to plan.node old.failures old.turns old)
+  pub stays : plan.puts ≡ false → plan.node.kept ≡ old.node.kept
+  pub same_node : plan.node.kept.node ≡ old.node.kept.node
+  pub ahead : IsBehind old.node.kept.permanent plan.node.kept.permanent
+
+abbrev pub ProspectKeeps : Network → List (List ℤ) → StationView → Prospect → Type 0
+ProspectKeeps net inputs old Undue = Unit {0}
+ProspectKeeps net inputs old (Exhausted looks) = Unit {0}
+ProspectKeeps net inputs old (Planned plan) = KeepsStation net inputs old plan
 
 abbrev pub IsSoundProspect : Network → List (List ℤ) → StationView → Prospect → Type 0
 IsSoundProspect net inputs old Undue = Unit {0}
@@ -89,7 +98,7 @@ runs_now Down is = absurd (cc)
 runs_now InDoubt is = absurd (cc)
 runs_now (Runs running) is = (running, refl)
 
-first_true : (a b : Bool) → (a && b) ≡ true → a ≡ true
+pub first_true : (a b : Bool) → (a && b) ≡ true → a ≡ true
 first_true true b is = refl
 first_true false b is = absurd (cc)
 
@@ -143,6 +152,45 @@ module _ (net : Network) (inputs : List (List ℤ)) where
   sound_unless_spent old looks true prospect sound = sound
   sound_unless_spent old looks false prospect sound = tt
 
+  pub keeps_if_due : (old : StationView) (due : Bool) (prospect : Prospect)
+      → (due ≡ true → ProspectKeeps net inputs old prospect) → ProspectKeeps net inputs old (if_due due prospect)
+  keeps_if_due old true prospect keeps = keeps refl
+  keeps_if_due old false prospect keeps = tt
+
+  -- where the record stays, and the node runs soundly with it
+  pub keeps_still : (node : NodeView) (packets refused : List Packet) (old : StationView)
+      → StationInvariant net inputs (moved_to node old.failures old.turns old) → node.kept ≡ old.node.kept
+      → KeepsStation net inputs old
+      (record { node = node; puts = false; grows = false; packets = packets; refused = refused })
+  keeps_still node packets refused old keeps same = record {
+    keeps = keeps;
+    stays = λ none. same;
+    same_node = ap (λ (r : RecordView). r.node) same;
+    ahead = subst (λ (r : RecordView). IsBehind old.node.kept.permanent r.permanent) (sym same)
+        (behind_itself old.node.kept.permanent);
+  }
+
+  -- and what the packets of a plan are
+  pub whole_plan : (old : StationView) (plan : Plan) → KeepsStation net inputs old plan
+      → All (IsSendable net inputs) plan.packets → All (IsSendable net inputs) plan.refused
+      → IsSoundPlan net inputs old plan
+  whole_plan old plan keeps sendable refusable = record {
+    keeps = keeps.keeps;
+    stays = keeps.stays;
+    same_node = keeps.same_node;
+    ahead = keeps.ahead;
+    sendable = sendable;
+    refusable = refusable;
+  }
+
+  pub whole_prospect : (home : ℕ) (old : StationView) (prospect : Prospect) → ProspectKeeps net inputs old prospect
+      → ProspectSays net inputs home prospect → IsSoundProspect net inputs old prospect
+  whole_prospect home old Undue keeps says = tt
+  whole_prospect home old (Exhausted looks) keeps says = tt
+  whole_prospect home old (Planned plan) keeps says =
+      whole_plan old plan keeps (all_sendable net inputs plan.packets says.sendable)
+      (all_sendable net inputs plan.refused says.refusable)
+
   -- ---- a job that is granted
 
   after_grant_is : (kept : RecordView) (version : ℕ) (job : Option JobView) (running : RunningView)
@@ -186,145 +234,6 @@ module _ (net : Network) (inputs : List (List ℤ)) where
           (subst (λ (o : Option JobView). StationInvariant net inputs
           (moved_to (with_grant o old.node) old.failures old.turns old)) is (grant_keeps old inv)) refl
 
-  -- ---- a checkpoint
-
-  -- the record of a start, and the node that runs on with it
-  own_sound : (old : StationView) (running : RunningView) → StationInvariant net inputs old
-      → old.node.mode ≡ Runs running
-      → RunsSoundly net inputs
-      (keeping (with_own old.number running.current old.node.kept)
-      (running_node old.node.kept old.node.version running)) (outputs_of old.outlets)
-  own_sound old running inv is =
-      let now = running_node old.node.kept old.node.version running in
-      let sound = runs_at old inv running is in
-      record {
-        order = order_own old.number now.kept now.current sound.order;
-        sound =
-            stored_sound net inputs (outputs_of old.outlets) old.number now sound.sound;
-      }
-
-  own_kept : (old : StationView) (running : RunningView) → IsValid net → StationInvariant net inputs old
-      → old.node.mode ≡ Runs running
-      → RecordIsSound net inputs (with_own old.number running.current old.node.kept) (outputs_of old.outlets)
-  own_kept old running valid inv is =
-      let now = running_node old.node.kept old.node.version running in
-      let next = own_sound old running inv is in
-      let bounded =
-      own_bounded net inputs valid (outputs_of old.outlets) old.number now (runs_at old inv running is).sound
-      inv.kept.bounded in
-      record_of net inputs (outputs_of old.outlets) (keeping (with_own old.number running.current old.node.kept) now)
-      inv.kept.undecided bounded inv.kept.permanent
-      (record_own net inputs (outputs_of old.outlets) old.number old.node.kept running.current
-      (current_sound net inputs (outputs_of old.outlets) now (runs_at old inv running is).sound) inv.kept)
-      next.order next.sound
-
-  own_now : (old : StationView) (running : RunningView) → old.node.mode ≡ Runs running
-      → with_own_now old.number old.node ≡ with_own old.number running.current old.node.kept
-  own_now old running is =
-      ap (λ (m : ModeView). own_at old.number old.node.kept (running_in old.node.kept old.node.version m)) is
-
-  -- of a node that doesn't run, the record stays
-  own_now_kept : (old : StationView) → IsValid net → StationInvariant net inputs old
-      → RecordIsSound net inputs (with_own_now old.number old.node) (outputs_of old.outlets)
-  own_now_kept old valid inv = at old.node.mode refl
-    where
-      at : (m : ModeView) → old.node.mode ≡ m
-          → RecordIsSound net inputs (own_at old.number old.node.kept (running_in old.node.kept old.node.version m))
-          (outputs_of old.outlets)
-      at Down is = inv.kept
-      at InDoubt is = inv.kept
-      at (Runs running) is = own_kept old running valid inv is
-
-  own_node : (old : StationView) (m : ModeView)
-      → (own_at old.number old.node.kept (running_in old.node.kept old.node.version m)).node ≡ old.node.kept.node
-  own_node old Down = refl
-  own_node old InDoubt = refl
-  own_node old (Runs running) = refl
-
-  -- a start leaves the permanent image alone
-  own_ahead : (old : StationView) (m : ModeView)
-      → IsBehind old.node.kept.permanent
-      (own_at old.number old.node.kept (running_in old.node.kept old.node.version m)).permanent
-  own_ahead old Down = behind_itself old.node.kept.permanent
-  own_ahead old InDoubt = behind_itself old.node.kept.permanent
-  own_ahead old (Runs running) = behind_itself old.node.kept.permanent
-
-  pub start_sound : (old : StationView) → IsValid net → StationInvariant net inputs old → may_start old.node ≡ true
-      → IsSoundPlan net inputs old
-      (record {
-        node = with_kept (with_own_now old.number old.node) old.node;
-        puts = true;
-        grows = true;
-        packets =
-            [];
-        refused = [];
-      })
-  start_sound old valid inv due = record {
-    keeps = moved_keeps (with_kept (with_own_now old.number old.node) old.node) old.failures old.turns old
-        (own_now_kept old valid inv) runs;
-    stays = λ none. absurd (cc);
-    same_node = own_node old old.node.mode;
-    ahead = own_ahead old old.node.mode;
-    sendable = All-nil (IsSendable net inputs);
-    refusable = All-nil (IsSendable net inputs);
-  }
-    where
-      now : (running : RunningView) × (old.node.mode ≡ Runs running)
-      now = runs_now old.node.mode (first_true (is_running old.node.mode) _ due)
-
-      runs : (run : RunningNode)
-          → running_in (with_own_now old.number old.node) old.node.version old.node.mode ≡ Some run
-          → RunsSoundly net inputs run (outputs_of old.outlets)
-      runs run is =
-          let whole : running_in (with_own old.number now.0.current old.node.kept) old.node.version (Runs now.0)
-          ≡ Some run =
-          sym (ap (λ (kept : RecordView). running_in kept old.node.version (Runs now.0)) (own_now old now.0 now.1))
-          ∙ (sym (ap (running_in (with_own_now old.number old.node) old.node.version) now.1) ∙ is) in
-          let same : keeping (with_own old.number now.0.current old.node.kept)
-          (running_node old.node.kept old.node.version now.0) ≡ run = cc in
-          subst (λ (n : RunningNode). RunsSoundly net inputs n (outputs_of old.outlets)) same
-          (own_sound old now.0 inv now.1)
-
-  pub decide_sound : (old : StationView) → StationInvariant net inputs old
-      → IsSoundPlan net inputs old
-      (record {
-        node = with_kept (decided old.node.kept) old.node;
-        puts = true;
-        grows = false;
-        packets = [];
-        refused =
-            [];
-      })
-  decide_sound old inv = record {
-    keeps = moved_keeps (with_kept (decided old.node.kept) old.node) old.failures old.turns old
-        (record_decided net inputs (outputs_of old.outlets) old.node.kept inv.kept) runs;
-    stays = λ none. absurd (cc);
-    same_node = refl;
-    ahead = last_more net inputs (outputs_of old.outlets) old.node.kept inv.kept old.node.kept.tentative refl;
-    sendable = All-nil (IsSendable net inputs);
-    refusable = All-nil (IsSendable net inputs);
-  }
-    where
-      runs : (run : RunningNode) → running_in (decided old.node.kept) old.node.version old.node.mode ≡ Some run
-          → RunsSoundly net inputs run (outputs_of old.outlets)
-      runs run is = at old.node.mode refl is
-        where
-          at : (m : ModeView) → old.node.mode ≡ m → running_in (decided old.node.kept) old.node.version m ≡ Some run
-              → RunsSoundly net inputs run (outputs_of old.outlets)
-          at Down mode e = absurd (cc)
-          at InDoubt mode e = absurd (cc)
-          at (Runs running) mode e =
-              let before = running_node old.node.kept old.node.version running in
-              let sound = runs_at old inv running mode in
-              let same : keeping (decided old.node.kept) before ≡ run = cc in
-              subst (λ (n : RunningNode). RunsSoundly net inputs n (outputs_of old.outlets)) same
-              (record {
-                order = order_decided old.node.kept running.current sound.order;
-                sound = decided_sound net inputs (outputs_of old.outlets) before
-                    (last_more net inputs (outputs_of old.outlets) old.node.kept inv.kept old.node.kept.tentative refl)
-                    sound.sound;
-              })
-
   -- ---- a recovery
 
   epoch_kept : (old : StationView) → StationInvariant net inputs old
@@ -367,81 +276,6 @@ module _ (net : Network) (inputs : List (List ℤ)) where
     refusable = All-nil (IsSendable net inputs);
   }
 
-  -- ---- a packet that comes
-
-  heard_keeps : (old : StationView) (body : Body) → IsValid net → Fits net inputs → BodyIsSound net inputs body
-      → StationInvariant net inputs old
-      → StationInvariant net inputs (moved_to (heard body old.node) old.failures old.turns old)
-  heard_keeps old body valid fits sound inv = moved_keeps (heard body old.node) old.failures old.turns old inv.kept runs
-    where
-      runs : (run : RunningNode) → running_of (heard body old.node) ≡ Some run
-          → RunsSoundly net inputs run (outputs_of old.outlets)
-      runs run is =
-          let before = ran old.node.kept old.node.version (hearing body) old.node.mode run is in
-          let now = runs_at old inv before.0 before.1 in
-          subst (λ (n : RunningNode). RunsSoundly net inputs n (outputs_of old.outlets)) before.2
-          (record {
-            order = order_heard body old.node.kept before.0 now.order;
-            sound = hear_sound net inputs valid fits old.node.kept old.node.version before.0 (outputs_of old.outlets)
-                body sound now.sound;
-          })
-
-  -- the packet that bytes spell is sound where they are
-  whole_sound : (packet : Packet) (to : ℕ) (bytes : List ℕ) → BytesAreSound net inputs to bytes
-      → whole_at bytes ≡ Some packet → BodyIsSound net inputs packet.body
-  whole_sound packet to bytes sound whole = body_known net inputs packet.body (∥∥₁_map sound (λ says.
-      let again : whole_at bytes ≡ Some says.packet = whole_again bytes says.packet says.text in
-      let same : says.packet ≡ packet = cc in
-      subst (λ (p : Packet). BodyIsSound net inputs p.body) same says.sound))
-
-  right_is : (home : ℕ) (found : Option Packet) (packet : Packet) → if_right net home found ≡ Some packet
-      → found ≡ Some packet
-  right_is home None packet is = absurd (cc)
-  right_is home (Some other) packet is = at ((other.to == home) && names_right net other) is
-    where
-      at : (b : Bool) → cond b (Some other) None ≡ Some packet → Some other ≡ Some packet
-      at true e = e
-      at false e = absurd (cc)
-
-  pub deliver_sound : (bytes : List ℕ) (to : ℕ) (old : StationView) → IsValid net → Fits net inputs
-      → BytesAreSound net inputs to bytes → StationInvariant net inputs old
-      → IsSoundProspect net inputs old (deliver_prospect (packet_for net old.number bytes) old.node)
-  deliver_sound bytes to old valid fits sound inv = at (packet_for net old.number bytes) refl
-    where
-      at : (packet : Option Packet) → packet_for net old.number bytes ≡ packet
-          → IsSoundProspect net inputs old (deliver_prospect packet old.node)
-      at None is =
-          sound_if_due old (not (is_down old.node.mode)) (becoming old.node)
-          (λ up. sound_becoming old.node old (moved_keeps old.node old.failures old.turns old inv.kept inv.runs) refl)
-      at (Some packet) is =
-          sound_if_due old (not (is_down old.node.mode)) (becoming (heard packet.body old.node))
-          (λ up. sound_becoming (heard packet.body old.node) old
-          (heard_keeps old packet.body valid fits
-          (whole_sound packet to bytes sound (right_is old.number (whole_at bytes) packet is)) inv) refl)
-
--- what a station sends may be in flight
-module _ (net : Network) (inputs : List (List ℤ)) (valid : IsValid net) (station : StationView)
-    (inv : StationInvariant net inputs station) (named : station.node.kept.node ≡ station.number) where
-  sendable_in : (mode : ModeView) → station.node.mode ≡ mode
-      → All (IsSendable net inputs)
-      (packets_from net station.number (running_in station.node.kept station.node.version mode))
-  sendable_in Down is = All-nil (IsSendable net inputs)
-  sendable_in InDoubt is = All-nil (IsSendable net inputs)
-  sendable_in (Runs running) is =
-      running_sendable net inputs valid station.number (outputs_of station.outlets)
-      (running_node station.node.kept station.node.version running) named
-      (inv.runs (running_node station.node.kept station.node.version running)
-      (ap (running_in station.node.kept station.node.version) is))
-
-  pub station_sendable : All (IsSendable net inputs) (packets_of net station.number station.node)
-  station_sendable = sendable_in station.node.mode refl
-
-  -- what it sends may be written
-  pub station_writable : All IsWritable (packets_of net station.number station.node)
-  station_writable =
-      (let may : All (IsSendable net inputs) (packets_of net station.number station.node) = station_sendable in
-      λ k d within. (may k d within).writable)
-
 -- ---- however a plan comes out
 
 module _ (net : Network) (inputs : List (List ℤ)) (old : StationView) where
@@ -460,13 +294,6 @@ module _ (net : Network) (inputs : List (List ℤ)) (old : StationView) where
   next_by P was Undue sound of_plan = was
   next_by P was (Exhausted looks) sound of_plan = was
   next_by P was (Planned plan) sound of_plan = subst P (record_is plan sound) (of_plan plan sound)
-
-  pub next_record_sound : (prospect : Prospect) → IsSoundProspect net inputs old prospect
-      → StationInvariant net inputs old
-      → RecordIsSound net inputs (next_record prospect old.node.kept) (outputs_of old.outlets)
-  next_record_sound prospect sound inv =
-      next_by (λ (r : RecordView). RecordIsSound net inputs r (outputs_of old.outlets)) inv.kept prospect sound
-      (λ plan is. is.keeps.kept)
 
   pub next_record_node : (prospect : Prospect) → IsSoundProspect net inputs old prospect
       → (next_record prospect old.node.kept).node ≡ old.node.kept.node

@@ -1,5 +1,6 @@
 -- What is true of a record stays so: as images are taken and become permanent, as items leave, and over a crash.
-use Rattle.std.proofs.Common.{◌≡◌, ◌⊎◌, inl, inr, ℕ, zero, suc, ◌<◌, ◌≤◌, Bool, true, false, ◌&&◌, cond, eqb, ℤ, List}
+use Rattle.std.proofs.Common.{◌≡◌, ◌⊎◌, inl, inr, ℕ, zero, suc, ◌+◌, ◌<◌, ◌≤◌, Bool, true, false, ◌&&◌, cond, eqb, ℤ}
+use Rattle.std.proofs.Common.{List}
 use Rattle.std.proofs.Common.{[], ◌∷◌, length, map, take, get_or, Option, Some, None, refl, sym, ap, subst, ◌∙◌, arith}
 use Rattle.std.specs.Prelude.{slice_get, not, IsTrue}
 use Rattle.std.proofs.Math.Logic.{∥∥₁_map}
@@ -17,7 +18,8 @@ use Rattle.kahn_net.specs.Laws.Prefixes.{prefix_trans}
 use Rattle.record.specs.Ends.{sent_of}
 use Rattle.record.specs.ImageView.{ImageView}
 use Rattle.record.specs.RecordView.{RecordView}
-use Rattle.record.specs.Moves.{last_image, with_epoch, without_own}
+use Rattle.record.specs.DecisionView.{DecisionView}
+use Rattle.record.specs.Moves.{last_image, with_decision, with_epoch, with_tentative, without_own}
 use Rattle.record.specs.declared.record.Tentative.{Tentative}
 use Rattle.ckpt_codec.specs.SizeLaws.{IsRecordWithin, within_epoch}
 use Rattle.ckpt_codec.specs.declared.lengths.TheConstants.{MAX_RETAINED_ITEMS}
@@ -27,8 +29,8 @@ use Rattle.protocol.specs.Node.Layout.{is_outgoing, AllHere}
 use Rattle.protocol.specs.Node.Reached.{ImageStands, LinksAreLaidOut, acts_of}
 use Rattle.protocol.specs.NodeLaws.ReleaseLaws.{acts_grow}
 use Rattle.protocol.specs.NodeLaws.SentLaws.{sent_stands}
-use Rattle.protocol.specs.NodeLaws.SizeLaws.{decided_within}
-use Rattle.protocol.specs.Node.Starting.{AreInOrder, IsBehind, with_own, decided}
+use Rattle.protocol.specs.NodeLaws.StepLaws.{lessened}
+use Rattle.protocol.specs.Node.Starting.{AreInOrder, IsBehind}
 use Rattle.protocol.specs.WorldLaws.OrderLaws.{behind_itself}
 use Rattle.protocol.specs.World.OutputView.{OutputView}
 use Rattle.protocol.specs.World.RecordSound.{ImageIsSound, RecordHasCome, RecordIsSound}
@@ -139,30 +141,29 @@ module _ (net : Network) (inputs : List (List ℤ)) (outputs : List OutputView) 
         (omega (arith, few, count)));
   }
 
-  -- so the record of a node that runs is sound where its images are, no decision stands in it, and it is within bounds
-  pub record_of : (node : RunningNode) → node.kept.decisions ≡ [] → IsRecordWithin MAX_RETAINED_ITEMS node.kept
+  -- so the record of a node that runs is sound where its images are, and it is within bounds
+  pub record_of : (node : RunningNode) → IsRecordWithin MAX_RETAINED_ITEMS node.kept
       → ImageIsSound net node.kept.node inputs node.kept.permanent outputs
       → ((tentative : Tentative) → node.kept.tentative ≡ Some tentative
       → ImageIsSound net node.kept.node inputs tentative.image outputs) → AreInOrder node.kept node.current
       → IsSound net inputs node outputs → RecordIsSound net inputs node.kept outputs
-  record_of node undecided bounded permanent held order sound = record {
+  record_of node bounded permanent held order sound = record {
     listed = sound.listed;
     permanent = permanent;
     held = held;
     ahead = order.held_ahead;
     covered = λ j output is. (sound.covered j output is).covered;
-    undecided = undecided;
     bounded = bounded;
     come = ∥∥₁_map sound.come
         (come_of node sound.listed permanent (λ j output is. (sound.covered j output is).covered));
   }
 
-  -- a start
-  pub record_own : (number : ℕ) (kept : RecordView) (image : ImageView)
-      → ImageIsSound net kept.node inputs image outputs → RecordIsSound net inputs kept outputs
-      → (tentative : Tentative) → (with_own number image kept).tentative ≡ Some tentative
+  -- an image is taken, of whatever instance
+  pub record_taken : (x n : ℕ) (kept : RecordView) (image : ImageView)
+      → ImageIsSound net kept.node inputs image outputs
+      → (tentative : Tentative) → (with_tentative x n image kept).tentative ≡ Some tentative
       → ImageIsSound net kept.node inputs tentative.image outputs
-  record_own number kept image sound record_sound tentative is = let same : image ≡ tentative.image = cc in
+  record_taken x n kept image sound tentative is = let same : image ≡ tentative.image = cc in
       subst (λ (i : ImageView). ImageIsSound net kept.node inputs i outputs) same sound
 
   -- the last image of a record
@@ -176,53 +177,82 @@ module _ (net : Network) (inputs : List (List ℤ)) (outputs : List OutputView) 
   last_more kept sound None is = behind_itself kept.permanent
   last_more kept sound (Some held) is = sound.ahead held is
 
-  come_decided : (kept : RecordView) → (o : Option Tentative) → kept.tentative ≡ o
-      → RecordHasCome net inputs kept outputs → RecordHasCome net inputs (decided kept) outputs
-  come_decided kept None is come = record {
-    n = come.n;
-    permanent_acts = come.permanent_acts;
-    held_acts = come.permanent_acts;
-    permanent =
-        subst (λ (t : Option Tentative). ImageStands net (approximation net inputs come.n) come.permanent_acts
-        (last_image kept.permanent t)) (sym is) come.permanent;
-    held = λ tentative e. absurd (cc);
-    held_after = λ p. omega arith;
-    released = come.released;
-  }
-  come_decided kept (Some held) is come = record {
-    n = come.n;
-    permanent_acts = come.held_acts;
-    held_acts = come.held_acts;
-    permanent =
-        subst (λ (t : Option Tentative). ImageStands net (approximation net inputs come.n) come.held_acts
-        (last_image kept.permanent t)) (sym is) (come.held held is);
-    held = λ tentative e. absurd (cc);
-    held_after = λ p. omega arith;
-    released = λ j p output channel there on from.
-        prefix_trans output.taken
-        (sent_on output.channel (acts_of net (approximation net inputs come.n) come.permanent_acts p))
-        (sent_on output.channel (acts_of net (approximation net inputs come.n) come.held_acts p))
-        (come.released j p output channel there on from)
-        (acts_grow net (approximation net inputs come.n) come.permanent_acts come.held_acts output.channel p
-        (come.held_after p));
-  }
+  module _ (number : ℕ) (nodes : List ℕ) where
+    come_decided : (kept : RecordView) → (o : Option Tentative) → kept.tentative ≡ o
+        → RecordHasCome net inputs kept outputs → RecordHasCome net inputs (with_decision number nodes kept) outputs
+    come_decided kept None is come = record {
+      n = come.n;
+      permanent_acts = come.permanent_acts;
+      held_acts = come.permanent_acts;
+      permanent =
+          subst (λ (t : Option Tentative). ImageStands net (approximation net inputs come.n) come.permanent_acts
+          (last_image kept.permanent t)) (sym is) come.permanent;
+      held = λ tentative e. absurd (cc);
+      held_after = λ p. omega arith;
+      released = come.released;
+    }
+    come_decided kept (Some held) is come = record {
+      n = come.n;
+      permanent_acts = come.held_acts;
+      held_acts = come.held_acts;
+      permanent =
+          subst (λ (t : Option Tentative). ImageStands net (approximation net inputs come.n) come.held_acts
+          (last_image kept.permanent t)) (sym is) (come.held held is);
+      held = λ tentative e. absurd (cc);
+      held_after = λ p. omega arith;
+      released = λ j p output channel there on from.
+          prefix_trans output.taken
+          (sent_on output.channel (acts_of net (approximation net inputs come.n) come.permanent_acts p))
+          (sent_on output.channel (acts_of net (approximation net inputs come.n) come.held_acts p))
+          (come.released j p output channel there on from)
+          (acts_grow net (approximation net inputs come.n) come.permanent_acts come.held_acts output.channel p
+          (come.held_after p));
+    }
 
-  -- a decision
-  pub record_decided : (kept : RecordView) → RecordIsSound net inputs kept outputs
-      → RecordIsSound net inputs (decided kept) outputs
-  record_decided kept sound = record {
-    listed = sound.listed;
-    permanent = last_sound kept sound kept.tentative refl;
-    held = λ tentative e. absurd (cc);
-    ahead = λ tentative e. absurd (cc);
-    covered =
-        λ j output
-        is. (let few = sound.covered j output is in let more =
-        (last_more kept sound kept.tentative refl).sent output.channel in omega (arith, few, more));
-    undecided = sound.undecided;
-    bounded = decided_within kept sound.bounded;
-    come = ∥∥₁_map sound.come (come_decided kept kept.tentative refl);
-  }
+    -- the tentative image becomes permanent, whatever is decided
+    pub record_decided : (kept : RecordView)
+        → IsRecordWithin MAX_RETAINED_ITEMS (with_decision number nodes kept) → RecordIsSound net inputs kept outputs
+        → RecordIsSound net inputs (with_decision number nodes kept) outputs
+    record_decided kept bounded sound = record {
+      listed = sound.listed;
+      permanent = last_sound kept sound kept.tentative refl;
+      held = λ tentative e. absurd (cc);
+      ahead = λ tentative e. absurd (cc);
+      covered =
+          λ j output
+          is. (let few = sound.covered j output is in let more =
+          (last_more kept sound kept.tentative refl).sent output.channel in omega (arith, few, more));
+      bounded = bounded;
+      come = ∥∥₁_map sound.come (come_decided kept kept.tentative refl);
+    }
+
+  -- the tentative image stays or is dropped
+  module _ (epoch : ℕ) (decisions : List DecisionView) (held : Option Tentative) (kept : RecordView)
+      (still : (t : Tentative) → held ≡ Some t → kept.tentative ≡ Some t) where
+    come_less : RecordHasCome net inputs kept outputs
+        → RecordHasCome net inputs (lessened epoch decisions held kept) outputs
+    come_less come = record {
+      n = come.n;
+      permanent_acts = come.permanent_acts;
+      held_acts = come.held_acts;
+      permanent = come.permanent;
+      held = λ tentative is. come.held tentative (still tentative is);
+      held_after = come.held_after;
+      released = come.released;
+    }
+
+    pub record_less : IsRecordWithin MAX_RETAINED_ITEMS (lessened epoch decisions held kept)
+        → RecordIsSound net inputs kept outputs
+        → RecordIsSound net inputs (lessened epoch decisions held kept) outputs
+    record_less bounded sound = record {
+      listed = sound.listed;
+      permanent = sound.permanent;
+      held = λ tentative is. sound.held tentative (still tentative is);
+      ahead = λ tentative is. sound.ahead tentative (still tentative is);
+      covered = sound.covered;
+      bounded = bounded;
+      come = ∥∥₁_map sound.come come_less;
+    }
 
   -- a new epoch
   still_held : (node : ℕ) (o : Option Tentative) (tentative : Tentative) → without_own node o ≡ Some tentative
@@ -234,30 +264,11 @@ module _ (net : Network) (inputs : List (List ℤ)) (outputs : List OutputView) 
       at true e = absurd (cc)
       at false e = e
 
-  come_epoch : (kept : RecordView) → RecordHasCome net inputs kept outputs
-      → RecordHasCome net inputs (with_epoch kept) outputs
-  come_epoch kept come = record {
-    n = come.n;
-    permanent_acts = come.permanent_acts;
-    held_acts = come.held_acts;
-    permanent = come.permanent;
-    held = λ tentative is. come.held tentative (still_held kept.node kept.tentative tentative is);
-    held_after = come.held_after;
-    released = come.released;
-  }
-
   pub record_epoch : (kept : RecordView) → RecordIsSound net inputs kept outputs
       → RecordIsSound net inputs (with_epoch kept) outputs
-  record_epoch kept sound = record {
-    listed = sound.listed;
-    permanent = sound.permanent;
-    held = λ tentative is. sound.held tentative (still_held kept.node kept.tentative tentative is);
-    ahead = λ tentative is. sound.ahead tentative (still_held kept.node kept.tentative tentative is);
-    covered = sound.covered;
-    undecided = sound.undecided;
-    bounded = within_epoch MAX_RETAINED_ITEMS kept sound.bounded;
-    come = ∥∥₁_map sound.come (come_epoch kept);
-  }
+  record_epoch kept sound =
+      record_less (kept.epoch + 1) kept.decisions (without_own kept.node kept.tentative) kept
+      (still_held kept.node kept.tentative) (within_epoch MAX_RETAINED_ITEMS kept sound.bounded) sound
 
   -- ---- a node that starts again
 

@@ -13,17 +13,28 @@ use Rattle.ckpt_codec.specs.declared.version.TheConstants.{VERSION}
 use Rattle.ckpt_codec.proofs.Sizes.{length-record}
 use Rattle.ckpt_store.specs.Spelling.{fits_in, held_fits}
 use Rattle.ckpt_store.proofs.Room.{fits_so}
+use Rattle.datagram.specs.declared.packet.Packet.{Packet}
+use Rattle.record.specs.Moves.{with_epoch}
+use Rattle.protocol.specs.Node.Choosing.{node_job}
+use Rattle.protocol.specs.Node.Delivering.{delivery_of, packet_for}
+use Rattle.protocol.specs.Node.JobView.{JobView}
+use Rattle.protocol.specs.Node.NodeView.{Down, InDoubt, ModeView, Runs}
+use Rattle.protocol.specs.Node.Recovering.{restored_mode}
 use Rattle.protocol.specs.Node.Plans.{Prospect, Undue, Exhausted, Planned, IsPut, room_for}
+use Rattle.protocol.specs.declared.outcome.Outcome.{Outcome}
 use Rattle.protocol.specs.declared.outcome.Outcome.TheVariants as outcome
-use Rattle.protocol.specs.declared.outcome.Refusal.TheVariants.{TooLarge}
-use Rattle.protocol.specs.World.EventView.{EventView, ByNode, ByNetwork, Install, Release}
+use Rattle.protocol.specs.declared.outcome.Refusal.TheVariants.{TooLarge, Spent}
+use Rattle.protocol.specs.World.EventView.{Deed, EventView, ByNode, ByNetwork, Install, Release}
+use Rattle.protocol.specs.World.EventView as event
 use Rattle.protocol.specs.World.Invariant.{WorldInvariant}
-use Rattle.protocol.specs.World.Replies.{act_reply, install_reply, outcome_of, IsTooLarge}
+use Rattle.protocol.specs.World.Replies.{act_reply, answer_by, back_reply, delivery_reply, grant_reply, install_reply}
+use Rattle.protocol.specs.World.Replies.{IsTooLarge}
 use Rattle.protocol.specs.World.ReplyView.{ReplyView}
 use Rattle.protocol.specs.World.ReplyView as reply
 use Rattle.protocol.specs.World.Roomy.{HasFullRoom}
 use Rattle.protocol.specs.World.StationView.{StationView}
-use Rattle.protocol.specs.World.Steps.{IsAct, IsActOf, IsRelease, IsStationStep, Setting, WorldView, flight_at}
+use Rattle.protocol.specs.World.Steps.{IsAct, IsActOf, IsRelease, IsStationStep, Setting, WorldView, deliver_plan}
+use Rattle.protocol.specs.World.Steps.{due_bytes, flight_at}
 use Rattle.protocol.specs.World.Steps.{next_release, plan_of, setting_of}
 use Rattle.protocol.specs.WorldLaws.DeedLaws.{deed_sound}
 use Rattle.protocol.specs.WorldLaws.PlanLaws.{IsSoundProspect, IsSoundSetting, IsSoundStation}
@@ -98,46 +109,96 @@ prospect_fits net inputs capacity room old (Planned plan) sound = at plan.puts
     at true = bounded_fits capacity plan.node.kept room sound.keeps.kept.bounded
     at false = refl
 
+-- what is answered where a deed is made is no such refusal
+job_fits : (job : Option JobView) → ¬ (IsTooLarge (grant_reply job))
+job_fits None large = cc
+job_fits (Some job) large = cc
+
+back_fits : (mode : ModeView) → ¬ (IsTooLarge (back_reply mode))
+back_fits Down large = cc
+back_fits InDoubt large = cc
+back_fits (Runs running) large = cc
+
+packet_fits : (packet : Option Packet) → ¬ (IsTooLarge (delivery_reply (delivery_of false packet)))
+packet_fits None large = cc
+packet_fits (Some packet) large = cc
+
+bytes_fit : (net : Network) (place : ℕ) (bytes : Option (List ℕ)) (station : StationView)
+    → ¬ (IsTooLarge (deliver_plan net place bytes station).answer)
+bytes_fit net place None station large = cc
+bytes_fit net place (Some bytes) station large = packet_fits (packet_for net station.number bytes) large
+
+made_fits : (setting : Setting) (k : ℕ) (deed : Deed) (station : StationView)
+    → ¬ (IsTooLarge (plan_of setting k deed station).answer)
+made_fits setting k (event.Deliver place) station =
+    bytes_fit setting.net place (due_bytes setting.round (flight_at setting k place)) station
+made_fits setting k event.Grant station = job_fits (node_job setting.net setting.inputs station.node)
+made_fits setting k event.Send station = λ large. cc
+made_fits setting k event.Start station = λ large. cc
+made_fits setting k event.Decide station = λ large. cc
+made_fits setting k (event.Crash fill rounds) station = λ large. cc
+made_fits setting k event.Recover station = back_fits (restored_mode (with_epoch station.node.kept))
+made_fits setting k (event.Arm fault rounds) station = λ large. cc
+made_fits setting k event.Idle station = λ large. cc
+
 module _ (setting : Setting) (sure : IsSoundSetting setting) (capacity : ℕ) (room : MAX_RECORD_BYTES ≤ capacity) where
-  pub station_fits : (e : EventView) (old : StationView) (answer : ReplyView) (new : StationView)
-      → IsSoundStation setting old → IsStationStep setting (fits_in capacity) e old answer new → ¬ (IsTooLarge answer)
-  station_fits (ByNode k deed) old answer new sound step = λ large.
+  -- No record is too large: no start is refused for that, and nobody who is asked declines for it.
+  pub deed_fits : (k : ℕ) (deed : Deed) (came : Outcome) (old : StationView) (answer : ReplyView) (new : StationView)
+      → IsSoundStation setting old → IsStationStep setting (fits_in capacity) (ByNode k deed) came old answer new
+      → ¬ (came ≡ outcome.Refused TooLarge)
+  deed_fits k deed came old answer new sound step large =
       let prospect = (plan_of setting k deed old).prospect in
       let put : IsPut (room_for (fits_in capacity) prospect) old.failures new.failures (outcome.Refused TooLarge) =
-      subst (IsPut (room_for (fits_in capacity) prospect) old.failures new.failures) (ap outcome_of large)
-      step.put in
+      subst (IsPut (room_for (fits_in capacity) prospect) old.failures new.failures) large step.put in
       let none : room_for (fits_in capacity) prospect ≡ false = put.0 in
       let some : room_for (fits_in capacity) prospect ≡ true =
       prospect_fits setting.net setting.inputs capacity room old prospect
       (deed_sound setting sure old sound k deed) in
-      absurd (cc)
-  station_fits (Install done) old answer new sound step =
+      cc
+
+  answered_fits : (made otherwise answer : ReplyView) (came : Outcome) → ¬ (IsTooLarge made)
+      → ¬ (came ≡ outcome.Refused TooLarge) → answer ≡ answer_by made otherwise came → ¬ (IsTooLarge answer)
+  answered_fits made otherwise answer outcome.NotDue other fit is = is_not reply.NotDue answer is (λ large. cc)
+  answered_fits made otherwise answer outcome.Made other fit is = is_not made answer is other
+  answered_fits made otherwise answer (outcome.Refused TooLarge) other fit is = absurd (fit refl)
+  answered_fits made otherwise answer (outcome.Refused Spent) other fit is =
+      is_not (reply.Refused Spent) answer is (λ large. cc)
+  answered_fits made otherwise answer outcome.Failed other fit is = is_not reply.Down answer is (λ large. cc)
+
+  pub station_fits : (e : EventView) (came : Outcome) (old : StationView) (answer : ReplyView) (new : StationView)
+      → IsSoundStation setting old → IsStationStep setting (fits_in capacity) e came old answer new
+      → ¬ (IsTooLarge answer)
+  station_fits (ByNode k deed) came old answer new sound step =
+      answered_fits (plan_of setting k deed old).answer (plan_of setting k deed old).declined answer came
+      (made_fits setting k deed old) (deed_fits k deed came old answer new sound step) step.answers
+  station_fits (Install done) came old answer new sound step =
       is_not (install_reply step.applied) answer step.answers (install_fits step.applied)
-  station_fits (Release k) old answer new sound step =
+  station_fits (Release k) came old answer new sound step =
       release_fits setting.round (next_release setting.round old) old answer new step
-  station_fits (ByNetwork k place act) old answer new sound step =
+  station_fits (ByNetwork k place act) came old answer new sound step =
       is_not (act_reply (is_some (flight_at setting k place))) answer step.0
       (acted_fits (is_some (flight_at setting k place)))
 
 module _ (setting : Setting) (sure : IsSoundSetting setting) where
   -- at the station of this place, where there is one
   place_fits : (place : ℕ) (capacity : Option ℕ) (station : Option StationView) (e : EventView)
-      (old : List StationView) (answer : ReplyView) (new : List StationView)
+      (came : Outcome) (old : List StationView) (answer : ReplyView) (new : List StationView)
       → ((n : ℕ) → capacity ≡ Some n → MAX_RECORD_BYTES ≤ n)
       → ((s : StationView) → station ≡ Some s → IsSoundStation setting s)
-      → IsActOf setting place (option_map fits_in capacity) station e old answer new → ¬ (IsTooLarge answer)
-  place_fits place None station e old answer new room sound act = is_not reply.NotDue answer act.0 (λ large. cc)
-  place_fits place (Some n) None e old answer new room sound act = is_not reply.NotDue answer act.0 (λ large. cc)
-  place_fits place (Some n) (Some s) e old answer new room sound act =
-      station_fits setting sure n (room n refl) e s answer act.later (sound s refl) act.step
+      → IsActOf setting place (option_map fits_in capacity) station e came old answer new → ¬ (IsTooLarge answer)
+  place_fits place None station e came old answer new room sound act = is_not reply.NotDue answer act.0 (λ large. cc)
+  place_fits place (Some n) None e came old answer new room sound act = is_not reply.NotDue answer act.0 (λ large. cc)
+  place_fits place (Some n) (Some s) e came old answer new room sound act =
+      station_fits setting sure n (room n refl) e came s answer act.later (sound s refl) act.step
 
-  act_fits : (place : ℕ) (capacities : List ℕ) (e : EventView) (old : List StationView) (answer : ReplyView)
+  act_fits : (place : ℕ) (capacities : List ℕ) (e : EventView) (came : Outcome) (old : List StationView)
+      (answer : ReplyView)
       (new : List StationView) → HasFullRoom place capacities
       → ((s : StationView) → slice_get old place ≡ Some s → IsSoundStation setting s)
-      → IsAct setting place (map fits_in capacities) e old answer new → ¬ (IsTooLarge answer)
-  act_fits place capacities e old answer new room sound act =
-      place_fits place (slice_get capacities place) (slice_get old place) e old answer new room sound
-      (subst (λ (o : Option (RecordView → Bool)). IsActOf setting place o (slice_get old place) e old answer new)
+      → IsAct setting place (map fits_in capacities) e came old answer new → ¬ (IsTooLarge answer)
+  act_fits place capacities e came old answer new room sound act =
+      place_fits place (slice_get capacities place) (slice_get old place) e came old answer new room sound
+      (subst (λ (o : Option (RecordView → Bool)). IsActOf setting place o (slice_get old place) e came old answer new)
       (got capacities place) act)
     where
       got : (xs : List ℕ) (k : ℕ) → slice_get (map fits_in xs) k ≡ option_map fits_in (slice_get xs k)
@@ -155,16 +216,19 @@ rooms_of capacity (x ∷ xs) =
 -- An event at the station of this number is never refused as too large, where that one's cell has room for the longest
 -- record.
 pub never_too_large : {S : Type 0} (world : WorldView) (setting : Setting) (capacity : S → ℕ) (stations : List S)
-    (number place : ℕ) (e : EventView) (answer : ReplyView) (new : List StationView)
+    (number place : ℕ) (e : EventView) (came : Outcome) (answer : ReplyView) (new : List StationView)
     → WorldInvariant world → setting ≡ setting_of world → number ≡ place → HasFullRoom place (map capacity stations)
-    → IsAct setting number (map (λ (s : S). fits_in (capacity s)) stations) e world.stations answer new
+    → IsAct setting number (map (λ (s : S). fits_in (capacity s)) stations) e came world.stations answer new
     → ¬ (IsTooLarge answer)
-never_too_large {S} world setting capacity stations number place e answer new inv same_setting same_number room act =
-    act_fits (setting_of world) (world_sure world inv) place (map capacity stations) e world.stations answer new room
+never_too_large {S} world setting capacity stations number place e came answer new inv same_setting same_number room
+    act =
+    act_fits (setting_of world) (world_sure world inv) place (map capacity stations) e came world.stations answer new
+    room
     (world_station world inv place)
-    (subst (λ (rooms : List (RecordView → Bool)). IsAct (setting_of world) place rooms e world.stations answer new)
+    (subst (λ (rooms : List (RecordView → Bool)). IsAct (setting_of world) place rooms e came world.stations answer new)
     (rooms_of capacity stations)
-    (subst (λ (n : ℕ). IsAct (setting_of world) n (map (λ (s : S). fits_in (capacity s)) stations) e world.stations
+    (subst (λ (n : ℕ). IsAct (setting_of world) n (map (λ (s : S). fits_in (capacity s)) stations) e came world.stations
     answer new) same_number
-    (subst (λ (s : Setting). IsAct s number (map (λ (s : S). fits_in (capacity s)) stations) e world.stations answer
+    (subst (λ (s : Setting). IsAct s number (map (λ (s : S). fits_in (capacity s)) stations) e came world.stations
+    answer
     new) same_setting act)))

@@ -1,4 +1,5 @@
--- What a sound node sends is right: it may be spelled, it names what there is, and its items belong.
+-- What a sound node says of channels between nodes is right: it may be spelled, it names what there is, and its items
+-- belong. (What it says of checkpoints besides: `Spelled` in `JoinLaws`.)
 use Rattle.std.proofs.Common.{◌≡◌, ◌≢◌, ◌⊎◌, inl, inr, ℕ, zero, suc, ◌+◌, ◌-◌, ◌<◌, ◌≤◌, Bool, true, false, eqb, cond}
 use Rattle.std.proofs.Common.{ℤ, List, [], ◌∷◌, length, take, drop, get_or, Option, Some, None, refl, sym, ap, subst}
 use Rattle.std.proofs.Common.{◌∙◌, arith}
@@ -31,8 +32,7 @@ use Rattle.protocol.specs.Node.Layout.{port_away, port_on}
 use Rattle.protocol.specs.Node.NodeView.{RunningNode}
 use Rattle.protocol.specs.Node.Reached.{InboxIsSound, LinksAreLaidOut, acts_of}
 use Rattle.protocol.specs.Node.Sending.{inbox_packets, data_packets, first_due, items_due, log_packets, outbox_packets}
-use Rattle.protocol.specs.Node.Sending.{packets_from, IsWritable}
-use Rattle.protocol.specs.Node.Modes.{is_none}
+use Rattle.protocol.specs.Node.Sending.{IsWritable}
 use Rattle.protocol.specs.NodeLaws.ImageLaws.{entry_of}
 use Rattle.protocol.specs.NodeLaws.NumberedLaws.{where_mark}
 use Rattle.protocol.specs.NodeLaws.ReleaseLaws.{acts_put_prefix, log_entry, log_stands}
@@ -321,51 +321,48 @@ module _ (net : Network) (inputs : List (List ℤ)) (valid : IsValid net) (home 
             sound = belongs (skip + j) n item there place;
           }
 
-  -- all of it, of a node that runs
-  pub running_sendable : (outputs : List OutputView) (node : RunningNode) → node.kept.node ≡ home
-      → RunsSoundly net inputs node outputs → All (IsSendable net inputs) (packets_from net home (Some node))
-  running_sendable outputs node named runs =
-      All-append (IsSendable net inputs) (flat_map (inbox_packets net home node.kept.permanent) node.inboxes) _ answers
-      (items (is_none node.kept.tentative))
-    where
-      links : LinksAreLaidOut net home node
-      links = subst (λ (h : ℕ). LinksAreLaidOut net h node) named runs.sound.kept.links
+  -- of a node that runs: what it says of each channel from another node, and the items that it sends
+  module _ (outputs : List OutputView) (node : RunningNode) (named : node.kept.node ≡ home)
+      (runs : RunsSoundly net inputs node outputs) where
+    links : LinksAreLaidOut net home node
+    links = subst (λ (h : ℕ). LinksAreLaidOut net h node) named runs.sound.kept.links
 
-      answers : All (IsSendable net inputs) (flat_map (inbox_packets net home node.kept.permanent) node.inboxes)
-      answers = all_of (IsSendable net inputs) (inbox_packets net home node.kept.permanent) node.inboxes
-          (λ k inbox is. (
-          let mark =
-          where_mark (λ (i : Inbox). i.channel) (is_incoming net home) 0 (length net.channels) node.inboxes k inbox
-          links.incoming is in
-          answers_sendable node.kept.permanent node.current inbox (comes_from net valid home inbox.channel mark.0)
-          (links.inboxes k inbox is) (runs.order.current_ahead.received inbox.channel)))
+    pub inboxes_sendable : All (IsSendable net inputs)
+        (flat_map (inbox_packets net home node.kept.permanent) node.inboxes)
+    inboxes_sendable = all_of (IsSendable net inputs) (inbox_packets net home node.kept.permanent) node.inboxes
+        (λ k inbox is. (
+        let mark =
+        where_mark (λ (i : Inbox). i.channel) (is_incoming net home) 0 (length net.channels) node.inboxes k inbox
+        links.incoming is in
+        answers_sendable node.kept.permanent node.current inbox (comes_from net valid home inbox.channel mark.0)
+        (links.inboxes k inbox is) (runs.order.current_ahead.received inbox.channel)))
 
-      by_log : (outbox : Outbox) → IsTo net valid home outbox.channel → (o : Option LogState)
-          → log_of node.current outbox.channel ≡ o → All (IsSendable net inputs) (log_packets net home outbox o)
-      by_log outbox to None has = All-nil (IsSendable net inputs)
-      by_log outbox to (Some log) has = due_sendable node.current outbox log to (last_of log has) belongs
-        where
-          last_of : (log : LogState) → log_of node.current outbox.channel ≡ Some log → log_end log ≤ MAX_COUNT
-          last_of log has =
-              let found = log_entry node.current outbox.channel log has in
-              let entry = entry_of node.current outbox.channel found.0 found.1 in
-              (runs.sound.kept.logs entry.place entry.saved log entry.is
-              (ap (λ (e : End). log_at (Some e)) entry.is_end ∙ found.2)).last
+    by_log : (outbox : Outbox) → IsTo net valid home outbox.channel → (o : Option LogState)
+        → log_of node.current outbox.channel ≡ o → All (IsSendable net inputs) (log_packets net home outbox o)
+    by_log outbox to None has = All-nil (IsSendable net inputs)
+    by_log outbox to (Some log) has = due_sendable node.current outbox log to (last_of log has) belongs
+      where
+        last_of : (log : LogState) → log_of node.current outbox.channel ≡ Some log → log_end log ≤ MAX_COUNT
+        last_of log has =
+            let found = log_entry node.current outbox.channel log has in
+            let entry = entry_of node.current outbox.channel found.0 found.1 in
+            (runs.sound.kept.logs entry.place entry.saved log entry.is
+            (ap (λ (e : End). log_at (Some e)) entry.is_end ∙ found.2)).last
 
-          belongs : (k position : ℕ) (item : ℤ) → slice_get log.items k ≡ Some item → position ≡ log.base + k
-              → ∥ Belongs net inputs outbox.channel position item ∥₁
-          belongs k position item is sum = ∥∥₁_map runs.sound.come
-              (λ come. logged_belongs come.reached.n come.reached.current_acts outbox.channel to.q to.channel log to.on
-              to.from
-              (log_stands net (approximation net inputs come.reached.n) come.reached.current_acts node.current
-              outbox.channel to.q to.channel log come.reached.current to.on to.from has) k position item is sum)
+        belongs : (k position : ℕ) (item : ℤ) → slice_get log.items k ≡ Some item → position ≡ log.base + k
+            → ∥ Belongs net inputs outbox.channel position item ∥₁
+        belongs k position item is sum = ∥∥₁_map runs.sound.come
+            (λ come. logged_belongs come.reached.n come.reached.current_acts outbox.channel to.q to.channel log to.on
+            to.from
+            (log_stands net (approximation net inputs come.reached.n) come.reached.current_acts node.current
+            outbox.channel to.q to.channel log come.reached.current to.on to.from has) k position item is sum)
 
-      items : (free : Bool)
-          → All (IsSendable net inputs) (cond free (flat_map (outbox_packets net home node.current) node.outboxes) [])
-      items false = All-nil (IsSendable net inputs)
-      items true = all_of (IsSendable net inputs) (outbox_packets net home node.current) node.outboxes
-          (λ k outbox is. (
-          let mark =
-          where_mark (λ (o : Outbox). o.channel) (is_outgoing net home) 0 (length net.channels) node.outboxes k
-          outbox links.outgoing is in
-          by_log outbox (goes_to net valid home outbox.channel mark.0) (log_of node.current outbox.channel) refl))
+    pub outboxes_sendable : (free : Bool)
+        → All (IsSendable net inputs) (cond free (flat_map (outbox_packets net home node.current) node.outboxes) [])
+    outboxes_sendable false = All-nil (IsSendable net inputs)
+    outboxes_sendable true = all_of (IsSendable net inputs) (outbox_packets net home node.current) node.outboxes
+        (λ k outbox is. (
+        let mark =
+        where_mark (λ (o : Outbox). o.channel) (is_outgoing net home) 0 (length net.channels) node.outboxes k
+        outbox links.outgoing is in
+        by_log outbox (goes_to net valid home outbox.channel mark.0) (log_of node.current outbox.channel) refl))

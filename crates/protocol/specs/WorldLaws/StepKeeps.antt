@@ -2,6 +2,7 @@
 use Rattle.std.proofs.Common.{◌≡◌, ◌≢◌, ◌⊎◌, inl, inr, ℕ, zero, suc, ◌<◌, ◌≤◌, Bool, true, false, cond, List, ℤ, []}
 use Rattle.std.proofs.Common.{◌∷◌, length, map, get_or, Option, Some, None, refl, sym, ap, subst, ◌∙◌, arith}
 use Rattle.std.specs.Prelude.{All, slice_get, slice_set}
+use Rattle.std.proofs.Math.Logic.{∥∥₁_map}
 use Rattle.std.proofs.lemmas.List.{map-set}
 use Rattle.std.proofs.lemmas.List.Elements.{All-map, All-nil}
 use Rattle.std.proofs.lemmas.Bool.{eqb-true, eq-eqb}
@@ -38,11 +39,17 @@ use Rattle.protocol.specs.declared.outcome.Refusal.TheVariants.{TooLarge, Spent}
 use Rattle.protocol.specs.World.DoneView.{DoneView, IsTurnOfJob}
 use Rattle.protocol.specs.World.EventView.{NetworkAct, EventView, ByNode, ByNetwork, Install, Release, event_node}
 use Rattle.protocol.specs.World.EventView as event
-use Rattle.protocol.specs.World.Invariant.{output_of, outputs_of, AreSound, IsNumbered, RunsSoundly, StationInvariant}
-use Rattle.protocol.specs.World.Invariant.{WorldInvariant}
+use Rattle.protocol.specs.Join.Joined.{IsJoined}
+use Rattle.protocol.specs.JoinLaws.Promises.{StandsIn}
+use Rattle.protocol.specs.Join.Runs.{HasRun, RunsOn}
+use Rattle.protocol.specs.JoinLaws.Lasting.{deeds_stay_joined, install_joined, release_joined}
+use Rattle.protocol.specs.JoinLaws.Leading.{set_there}
+use Rattle.protocol.specs.JoinLaws.Whole.{deeds_run, has_run_then, installs_run, network_runs, releases_run, runs_still}
+use Rattle.protocol.specs.World.Invariant.{output_of, outputs_of, AreJoined, AreSound, IsNumbered, RunsSoundly}
+use Rattle.protocol.specs.World.Invariant.{StationInvariant, WorldInvariant}
 use Rattle.protocol.specs.World.OutputView.{OutputView}
 use Rattle.protocol.specs.World.RecordSound.{ImageIsSound, RecordIsSound}
-use Rattle.protocol.specs.World.Replies.{has_happened, outcome_of}
+use Rattle.protocol.specs.World.Replies.{has_happened}
 use Rattle.protocol.specs.World.ReplyView.{ReplyView}
 use Rattle.protocol.specs.World.ReplyView as reply
 use Rattle.protocol.specs.World.Sound.{IsSound}
@@ -57,7 +64,7 @@ use Rattle.protocol.specs.WorldLaws.HandedLaws.{took_goes_on}
 use Rattle.protocol.specs.WorldLaws.KeptLaws.{step_node, step_number}
 use Rattle.protocol.specs.WorldLaws.LeaveLaws.{sound_released}
 use Rattle.protocol.specs.WorldLaws.OrderLaws.{order_ahead}
-use Rattle.protocol.specs.WorldLaws.OutputLaws.{map_at, set_cases}
+use Rattle.protocol.specs.WorldLaws.OutputLaws.{map_at, set_cases, set_same}
 use Rattle.protocol.specs.WorldLaws.DeedLaws.{deed_sound}
 use Rattle.protocol.specs.WorldLaws.PlanLaws.{IsSoundPlan, IsSoundProspect, IsSoundSetting, IsSoundStation, made_keeps}
 use Rattle.protocol.specs.WorldLaws.PlanLaws.{moved_keeps, ran, runs_at, runs_now, same_keeps}
@@ -211,7 +218,7 @@ module _ (net : Network) (inputs : List (List ℤ)) where
           (record { channel = step.outlet.channel; taken = step.later.taken }))
       kept = record_of net inputs
           _ (with_current (trimmed_image step.outlet.channel (length step.later.taken) running.current)
-          (running_node old.node.kept old.node.version running)) inv.kept.undecided inv.kept.bounded
+          (running_node old.node.kept old.node.version running)) inv.kept.bounded
           (image_set old.node.kept.node old.node.kept.permanent (outputs_of old.outlets) place (output_of step.outlet)
           (record { channel = step.outlet.channel; taken = step.later.taken }) there refl more_items
           inv.kept.permanent)
@@ -268,37 +275,38 @@ module _ (net : Network) (inputs : List (List ℤ)) where
 
 -- Each event of a station
 module _ (setting : Setting) (sure : IsSoundSetting setting) where
-  pub station_keeps : (fits : RecordView → Bool) (e : EventView) (old : StationView) (answer : ReplyView)
+  pub station_keeps : (fits : RecordView → Bool) (e : EventView) (came : Outcome) (old : StationView)
+      (answer : ReplyView)
       (new : StationView) → IsSoundStation setting old
-      → IsStationStep setting fits e old answer new → StationInvariant setting.net setting.inputs new
-  station_keeps fits (ByNode k deed) old answer new sound step =
+      → IsStationStep setting fits e came old answer new → StationInvariant setting.net setting.inputs new
+  station_keeps fits (ByNode k deed) came old answer new sound step =
       same_keeps setting.net setting.inputs _ new step.same
       (made_keeps setting.net setting.inputs old (restart_after old.node.armed step.call setting.round)
-      (plan_of setting k deed old).prospect (outcome_of answer) new.node new.failures _ sound.inv
+      (plan_of setting k deed old).prospect came new.node new.failures _ sound.inv
       (deed_sound setting sure old sound k deed) step.step)
-  station_keeps fits (Install done) old answer new sound step =
+  station_keeps fits (Install done) came old answer new sound step =
       same_keeps setting.net setting.inputs _ new step.same
       (turn_keeps setting.net setting.inputs done old step.applied new.node sure.valid sure.fits sound.inv
       step.turn step.step)
-  station_keeps fits (Release k) old answer new sound step =
+  station_keeps fits (Release k) came old answer new sound step =
       release_or_not setting.net setting.inputs setting.round (next_release setting.round old) old answer new refl
       sound.inv step
-  station_keeps fits (ByNetwork k place act) old answer new sound step =
+  station_keeps fits (ByNetwork k place act) came old answer new sound step =
       same_keeps setting.net setting.inputs old new step.1 sound.inv
 
-  act_keeps : (place : ℕ) (room : Option (RecordView → Bool)) (o : Option StationView) (e : EventView)
-      (old : List StationView) (answer : ReplyView) (new : List StationView) → slice_get old place ≡ o
+  pub act_keeps : (place : ℕ) (room : Option (RecordView → Bool)) (o : Option StationView) (e : EventView)
+      (came : Outcome) (old : List StationView) (answer : ReplyView) (new : List StationView) → slice_get old place ≡ o
       → ((station : StationView) → slice_get old place ≡ Some station → IsSoundStation setting station)
       → AreSound setting.net setting.inputs old
-      → IsActOf setting place room o e old answer new → AreSound setting.net setting.inputs new
-  act_keeps place None o e old answer new there here sound act =
+      → IsActOf setting place room o e came old answer new → AreSound setting.net setting.inputs new
+  act_keeps place None o e came old answer new there here sound act =
       subst (AreSound setting.net setting.inputs) (sym act.1) sound
-  act_keeps place (Some room) None e old answer new there here sound act =
+  act_keeps place (Some room) None e came old answer new there here sound act =
       subst (AreSound setting.net setting.inputs) (sym act.1) sound
-  act_keeps place (Some room) (Some station) e old answer new there here sound act =
+  act_keeps place (Some room) (Some station) e came old answer new there here sound act =
       subst (AreSound setting.net setting.inputs) (sym act.stations)
       (set_keeps setting.net setting.inputs old place act.later sound
-      (station_keeps room e station answer act.later (here station there) act.step))
+      (station_keeps room e came station answer act.later (here station there) act.step))
 
 -- there are as many as before
 set_length : (xs : List StationView) (place : ℕ) (y : StationView) → length (slice_set xs place y) ≡ length xs
@@ -307,11 +315,11 @@ set_length (x ∷ xs) zero y = refl
 set_length (x ∷ xs) (suc place) y = ap suc (set_length xs place y)
 
 act_length : (setting : Setting) (place : ℕ) (room : Option (RecordView → Bool)) (o : Option StationView)
-    (e : EventView) (old : List StationView) (answer : ReplyView) (new : List StationView)
-    → IsActOf setting place room o e old answer new → length new ≡ length old
-act_length setting place None o e old answer new act = ap (length {A = StationView}) act.1
-act_length setting place (Some room) None e old answer new act = ap (length {A = StationView}) act.1
-act_length setting place (Some room) (Some station) e old answer new act =
+    (e : EventView) (came : Outcome) (old : List StationView) (answer : ReplyView) (new : List StationView)
+    → IsActOf setting place room o e came old answer new → length new ≡ length old
+act_length setting place None o e came old answer new act = ap (length {A = StationView}) act.1
+act_length setting place (Some room) None e came old answer new act = ap (length {A = StationView}) act.1
+act_length setting place (Some room) (Some station) e came old answer new act =
     ap (length {A = StationView}) act.stations ∙ set_length old place act.later
 
 -- each has its number still
@@ -327,19 +335,20 @@ set_numbered xs place x y numbered there number node i station is = at (set_case
         subst (λ (s : StationView). (s.number ≡ i) × (s.node.kept.node ≡ i)) here.1
         (number ∙ (before.0 ∙ sym here.0), node ∙ (before.1 ∙ sym here.0))
 
-act_numbered : (setting : Setting) (sure : IsSoundSetting setting) (place : ℕ) (room : Option (RecordView → Bool))
-    (o : Option StationView) (e : EventView) (old : List StationView) (answer : ReplyView) (new : List StationView)
-    → slice_get old place ≡ o
+pub act_numbered : (setting : Setting) (sure : IsSoundSetting setting) (place : ℕ) (room : Option (RecordView → Bool))
+    (o : Option StationView) (e : EventView) (came : Outcome) (old : List StationView) (answer : ReplyView)
+    (new : List StationView) → slice_get old place ≡ o
     → ((station : StationView) → slice_get old place ≡ Some station → IsSoundStation setting station)
-    → IsNumbered old → IsActOf setting place room o e old answer new → IsNumbered new
-act_numbered setting sure place None o e old answer new there here numbered act = subst IsNumbered (sym act.1) numbered
-act_numbered setting sure place (Some room) None e old answer new there here numbered act =
+    → IsNumbered old → IsActOf setting place room o e came old answer new → IsNumbered new
+act_numbered setting sure place None o e came old answer new there here numbered act =
     subst IsNumbered (sym act.1) numbered
-act_numbered setting sure place (Some room) (Some station) e old answer new there here numbered act =
+act_numbered setting sure place (Some room) None e came old answer new there here numbered act =
+    subst IsNumbered (sym act.1) numbered
+act_numbered setting sure place (Some room) (Some station) e came old answer new there here numbered act =
     subst IsNumbered (sym act.stations)
     (set_numbered old place station act.later numbered there
-    (step_number setting room e station answer act.later act.step)
-    (step_node setting sure room e station answer act.later (here station there) act.step))
+    (step_number setting room e came station answer act.later act.step)
+    (step_node setting sure room e came station answer act.later (here station there) act.step))
 
 -- ---- what is in flight
 
@@ -383,8 +392,8 @@ module _ (net : Network) (inputs : List (List ℤ)) where
   acted_sound (event.Delay rounds) traffic k place flying = delayed_sound net inputs traffic k place rounds flying
 
 -- whatever happens to it
-module _ (setting : Setting) (sure : IsSoundSetting setting) (place : ℕ) (old : List StationView) (answer : ReplyView)
-    (new : List StationView) where
+module _ (setting : Setting) (sure : IsSoundSetting setting) (place : ℕ) (came : Outcome) (old : List StationView)
+    (answer : ReplyView) (new : List StationView) where
   not_due : answer ≡ reply.NotDue → has_happened answer ≡ true → ⊥
   not_due is happened = (let none : has_happened answer ≡ false = ap has_happened is in absurd (cc))
 
@@ -399,32 +408,32 @@ module _ (setting : Setting) (sure : IsSoundSetting setting) (place : ℕ) (old 
 
   sent_sound : (e : EventView) (room : Option (RecordView → Bool)) (o : Option StationView)
       → ((station : StationView) → o ≡ Some station → IsSoundStation setting station)
-      → has_happened answer ≡ true → IsActOf setting place room o e old answer new
-      → All (SendingIsSound setting.net setting.inputs) (sendings_then setting e answer o)
+      → has_happened answer ≡ true → IsActOf setting place room o e came old answer new
+      → All (SendingIsSound setting.net setting.inputs) (sendings_then setting e came o)
   sent_sound (ByNode k deed) room None sound happened act = All-nil (SendingIsSound setting.net setting.inputs)
   sent_sound (ByNode k deed) None (Some station) sound happened act = absurd (not_due act.0 happened)
   sent_sound (ByNode k deed) (Some room) (Some station) sound happened act =
       sendings_sound setting.net setting.inputs
-      (packets_by (plan_of setting k deed station).prospect (outcome_of answer))
+      (packets_by (plan_of setting k deed station).prospect came)
       (sendable setting.net setting.inputs station (plan_of setting k deed station).prospect
-      (deed_sound setting sure station (sound station refl) k deed) (outcome_of answer)) act.step.allowed
+      (deed_sound setting sure station (sound station refl) k deed) came) act.step.allowed
   sent_sound (Install done) room o sound happened act = All-nil (SendingIsSound setting.net setting.inputs)
   sent_sound (Release k) room o sound happened act = All-nil (SendingIsSound setting.net setting.inputs)
   sent_sound (ByNetwork k at act) room o sound happened step = All-nil (SendingIsSound setting.net setting.inputs)
 
   traffic_keeps : (e : EventView) (room : Option (RecordView → Bool)) (o : Option StationView)
       → ((station : StationView) → o ≡ Some station → IsSoundStation setting station)
-      → IsActOf setting place room o e old answer new
-      → TrafficIsSound setting.net setting.inputs (traffic_after setting e answer o)
+      → IsActOf setting place room o e came old answer new
+      → TrafficIsSound setting.net setting.inputs (traffic_after setting e came answer o)
   traffic_keeps e room o sound act = at (has_happened answer) refl
     where
       at : (b : Bool) → has_happened answer ≡ b
           → TrafficIsSound setting.net setting.inputs
-          (cond b (all_sent setting.round (sendings_then setting e answer o) (traffic_then setting e o))
+          (cond b (all_sent setting.round (sendings_then setting e came o) (traffic_then setting e o))
           setting.traffic)
       at false none = sure.traffic
       at true happened =
-          all_sent_sound setting.net setting.inputs setting.round (sendings_then setting e answer o)
+          all_sent_sound setting.net setting.inputs setting.round (sendings_then setting e came o)
           (traffic_then setting e o) (then_sound e o) (sent_sound e room o sound happened act)
 
 -- ---- a world
@@ -453,9 +462,141 @@ world_station world inv place station there = record {
   inv = inv.stations place station there;
   named = (let named = inv.numbered place station there in named.1 ∙ sym named.0);
   here = all_here world.net world.stations inv.count inv.numbered place station there;
+  below = (let within = slice_get_within world.stations place station there in let count = inv.count in
+      let named = (inv.numbered place station there).0 in omega (arith, within, count, named));
+  joined = inv.joined place station there;
 }
 
--- whatever event happens, and whatever is answered
+-- ---- each is joined, and the world has run
+
+-- all that the laws of runs ask of a station
+pub stands_in : (world : WorldView) → WorldInvariant world → (k : ℕ) (station : StationView)
+    → slice_get world.stations k ≡ Some station → StandsIn (setting_of world) world.stations k station
+stands_in world inv k station there = record {
+  valid = inv.valid;
+  count = inv.count;
+  there = there;
+  number = (inv.numbered k station there).0;
+  node = (inv.numbered k station there).1;
+  sound = inv.stations k station there;
+  joined = inv.joined k station there;
+  alone = λ may. (let one : length world.stations ≡ 1 = eqb-true (length world.stations) 1 may in
+      let count = inv.count in omega (arith, one, count));
+  traffic = inv.traffic;
+}
+
+module _ (world : WorldView) (inv : WorldInvariant world) (answer : ReplyView) (came : Outcome) where
+  set_joined : (k : ℕ) (later : StationView) → IsJoined world.net later
+      → AreJoined world.net (slice_set world.stations k later)
+  set_joined k later joined i station is = at (set_cases world.stations k i later station is)
+    where
+      at : ((i ≡ k) × (later ≡ station)) ⊎ ((i ≢ k) × (slice_get world.stations i ≡ Some station))
+          → IsJoined world.net station
+      at (inl here) = subst (IsJoined world.net) here.1 joined
+      at (inr other) = inv.joined i station other.1
+
+  -- an event of a station leaves it joined
+  joined_then : (room : RecordView → Bool) (e : EventView) (station later : StationView)
+      → slice_get world.stations (event_node e) ≡ Some station
+      → IsStationStep (setting_of world) room e came station answer later → IsJoined world.net later
+  joined_then room (ByNode k deed) station later there step =
+      deeds_stay_joined (setting_of world) world.stations k station later deed room came answer
+      (stands_in world inv k station there) step
+  joined_then room (Install done) station later there step =
+      install_joined world.net station later done answer step
+      (inv.joined (event_node (Install done)) station there)
+  joined_then room (Release k) station later there step =
+      release_joined world.net station later world.round answer step (inv.joined k station there)
+  joined_then room (ByNetwork k place act) station later there step =
+      subst (IsJoined world.net) (sym step.1) (inv.joined k station there)
+
+  act_joined : (e : EventView) (room : Option (RecordView → Bool)) (o : Option StationView)
+      (new : List StationView) → slice_get world.stations (event_node e) ≡ o
+      → IsActOf (setting_of world) (event_node e) room o e came world.stations answer new → AreJoined world.net new
+  act_joined e None o new there act = subst (AreJoined world.net) (sym act.1) inv.joined
+  act_joined e (Some room) None new there act = subst (AreJoined world.net) (sym act.1) inv.joined
+  act_joined e (Some room) (Some station) new there act =
+      subst (AreJoined world.net) (sym act.stations)
+      (set_joined (event_node e) act.later (joined_then room e station act.later there act.step))
+
+  -- what is in flight afterwards, where nothing happened
+  traffic_stays : (e : EventView) (o : Option StationView) → answer ≡ reply.NotDue
+      → traffic_after (setting_of world) e came answer o ≡ world.traffic
+  traffic_stays e o is =
+      ap (λ (a : ReplyView). traffic_after (setting_of world) e came a o) is
+
+  -- where nothing is sent, and nothing came
+  traffic_same : (b : Bool) (then_is : Traffic) → then_is ≡ world.traffic
+      → cond b (all_sent world.round [] then_is) world.traffic ≡ world.traffic
+  traffic_same true then_is same = same
+  traffic_same false then_is same = refl
+
+  still : ∥ RunsOn world.net world.stations world.traffic world.stations world.traffic ∥₁
+  still = ∥∥₁_map inv.run (runs_still world.net world.stations world.traffic)
+
+  run_with : (stations : List StationView) (traffic : Traffic) → traffic ≡ world.traffic
+      → ∥ RunsOn world.net world.stations world.traffic stations world.traffic ∥₁
+      → ∥ RunsOn world.net world.stations world.traffic stations traffic ∥₁
+  run_with stations traffic same run =
+      subst (λ (t : Traffic). ∥ RunsOn world.net world.stations world.traffic stations t ∥₁) (sym same) run
+
+  run_then : (room : RecordView → Bool) (e : EventView) (station later : StationView)
+      → slice_get world.stations (event_node e) ≡ Some station
+      → IsNumbered (slice_set world.stations (event_node e) later)
+      → AreSound world.net world.inputs (slice_set world.stations (event_node e) later)
+      → IsStationStep (setting_of world) room e came station answer later
+      → ∥ RunsOn world.net world.stations world.traffic (slice_set world.stations (event_node e) later)
+      (traffic_after (setting_of world) e came answer (Some station)) ∥₁
+  run_then room (ByNode k deed) station later there numbered sound step =
+      deeds_run (setting_of world) world.stations k station later deed room came answer
+      (stands_in world inv k station there) step inv.run
+  run_then room (Install done) station later there numbered sound step =
+      run_with (slice_set world.stations (event_node (Install done)) later) _
+      (traffic_same (has_happened answer) world.traffic refl)
+      (installs_run world.net world.inputs world.stations (event_node (Install done)) station later done answer
+      world.traffic there (inv.numbered (event_node (Install done)) station there).1
+      (inv.stations (event_node (Install done)) station there)
+      (sound (event_node (Install done)) later (set_there world.stations (event_node (Install done)) station later
+      there)) step inv.run)
+  run_then room (Release k) station later there numbered sound step =
+      run_with (slice_set world.stations k later) _ (traffic_same (has_happened answer) world.traffic refl)
+      (releases_run world.net world.inputs world.stations k station later world.round answer world.traffic there
+      inv.numbered inv.stations numbered sound step inv.run)
+  run_then room (ByNetwork k place act) station later there numbered sound step = by (has_happened answer)
+    where
+      same : slice_set world.stations k later ≡ world.stations
+      same = ap (slice_set world.stations k) step.1 ∙ set_same world.stations k station there
+
+      by : (b : Bool) → ∥ RunsOn world.net world.stations world.traffic (slice_set world.stations k later)
+          (cond b (traffic_acted act world.traffic k place) world.traffic) ∥₁
+      by true =
+          subst (λ (xs : List StationView). ∥ RunsOn world.net world.stations world.traffic xs
+          (traffic_acted act world.traffic k place) ∥₁)
+          (sym same) (network_runs world.net world.stations k place act world.traffic inv.run)
+      by false =
+          subst (λ (xs : List StationView). ∥ RunsOn world.net world.stations world.traffic xs world.traffic ∥₁)
+          (sym same) still
+
+  act_run : (e : EventView) (room : Option (RecordView → Bool)) (o : Option StationView)
+      (new : List StationView) → slice_get world.stations (event_node e) ≡ o → IsNumbered new
+      → AreSound world.net world.inputs new
+      → IsActOf (setting_of world) (event_node e) room o e came world.stations answer new
+      → ∥ RunsOn world.net world.stations world.traffic new (traffic_after (setting_of world) e came answer o) ∥₁
+  act_run e None o new there numbered sound act =
+      run_with new _ (traffic_stays e o act.0)
+      (subst (λ (xs : List StationView). ∥ RunsOn world.net world.stations world.traffic xs world.traffic ∥₁)
+      (sym act.1) still)
+  act_run e (Some room) None new there numbered sound act =
+      run_with new _ (traffic_stays e None act.0)
+      (subst (λ (xs : List StationView). ∥ RunsOn world.net world.stations world.traffic xs world.traffic ∥₁)
+      (sym act.1) still)
+  act_run e (Some room) (Some station) new there numbered sound act =
+      subst (λ (xs : List StationView). ∥ RunsOn world.net world.stations world.traffic xs
+      (traffic_after (setting_of world) e came answer (Some station)) ∥₁) (sym act.stations)
+      (run_then room e station act.later there (subst IsNumbered act.stations numbered)
+      (subst (AreSound world.net world.inputs) act.stations sound) act.step)
+
+-- whatever event happens, however it comes out, and whatever is answered
 pub step_keeps : (rooms : List (RecordView → Bool)) (e : EventView) (old : WorldView) (answer : ReplyView)
     (new : WorldView) → WorldInvariant old → IsStep rooms e old answer new → WorldInvariant new
 step_keeps rooms e old answer new inv step =
@@ -464,49 +605,77 @@ step_keeps rooms e old answer new inv step =
     let room = slice_get rooms (event_node e) in
     let found = slice_get old.stations (event_node e) in
     let stations =
-    act_keeps setting sure (event_node e) room found e old.stations answer new.stations refl
+    act_keeps setting sure (event_node e) room found e step.came old.stations answer new.stations refl
     (world_station old inv (event_node e)) inv.stations step.act in
+    let numbered =
+    act_numbered setting sure (event_node e) room found e step.came old.stations answer new.stations refl
+    (world_station old inv (event_node e)) inv.numbered step.act in
+    let joined = act_joined old inv answer step.came e room found new.stations refl step.act in
     let count : length new.stations ≡ length old.stations =
-    act_length setting (event_node e) room found e old.stations answer new.stations step.act in
-    let flying : TrafficIsSound old.net old.inputs (traffic_after setting e answer found) =
-    traffic_keeps setting sure (event_node e) old.stations answer new.stations e room found
+    act_length setting (event_node e) room found e step.came old.stations answer new.stations step.act in
+    let flying : TrafficIsSound old.net old.inputs (traffic_after setting e step.came answer found) =
+    traffic_keeps setting sure (event_node e) step.came old.stations answer new.stations e room found
     (λ station there. world_station old inv (event_node e) station there) step.act in
     let flown : TrafficIsSound old.net old.inputs new.traffic =
     subst (TrafficIsSound old.net old.inputs) (sym step.traffic) flying in
+    let run : ∥ HasRun old.net new.stations new.traffic ∥₁ =
+    subst (λ (t : Traffic). ∥ HasRun old.net new.stations t ∥₁) (sym step.traffic)
+    (∥∥₁_map (act_run old inv answer step.came e room found new.stations refl numbered stations step.act)
+    (has_run_then old.net old.stations new.stations old.traffic (traffic_after setting e step.came answer found))) in
     record {
       valid = subst IsValid (sym step.net) inv.valid;
       fits = subst (λ (n : Network). Fits n new.inputs) (sym step.net)
           (subst (Fits old.net) (sym step.inputs) inv.fits);
       count = count ∙ (inv.count ∙ sym (ap node_count step.net));
-      numbered =
-          act_numbered setting sure (event_node e) room found e old.stations answer new.stations refl
-          (world_station old inv (event_node e)) inv.numbered step.act;
+      numbered = numbered;
       stations =
           subst (λ (n : Network). AreSound n new.inputs new.stations) (sym step.net)
           (subst (λ (i : List (List ℤ)). AreSound old.net i new.stations) (sym step.inputs) stations);
+      joined = subst (λ (n : Network). AreJoined n new.stations) (sym step.net) joined;
       traffic =
           subst (λ (n : Network). TrafficIsSound n new.inputs new.traffic) (sym step.net)
           (subst (λ (i : List (List ℤ)). TrafficIsSound old.net i new.traffic) (sym step.inputs) flown);
+      run = subst (λ (n : Network). ∥ HasRun n new.stations new.traffic ∥₁) (sym step.net) run;
     }
 
+-- And the world goes on by steps of the abstract machine: what is true of two worlds of that machine of which one comes
+-- after the other is true of the worlds before and after each event.
+pub step_runs_on : (rooms : List (RecordView → Bool)) (e : EventView) (old : WorldView) (answer : ReplyView)
+    (new : WorldView) → WorldInvariant old → IsStep rooms e old answer new
+    → ∥ RunsOn old.net old.stations old.traffic new.stations new.traffic ∥₁
+step_runs_on rooms e old answer new inv step =
+    let setting = setting_of old in
+    let sure = world_sure old inv in
+    let room = slice_get rooms (event_node e) in
+    let found = slice_get old.stations (event_node e) in
+    subst (λ (t : Traffic). ∥ RunsOn old.net old.stations old.traffic new.stations t ∥₁) (sym step.traffic)
+    (act_run old inv answer step.came e room found new.stations refl
+    (act_numbered setting sure (event_node e) room found e step.came old.stations answer new.stations refl
+    (world_station old inv (event_node e)) inv.numbered step.act)
+    (act_keeps setting sure (event_node e) room found e step.came old.stations answer new.stations refl
+    (world_station old inv (event_node e)) inv.stations step.act) step.act)
+
 -- the same of an event at the station of this number
-pub act_keeps_world : (rooms : List (RecordView → Bool)) (e : EventView) (old : WorldView) (answer : ReplyView)
-    (setting : Setting) (number round : ℕ) (stations : List StationView) (traffic : Traffic) → WorldInvariant old
-    → setting ≡ setting_of old → number ≡ event_node e → IsAct setting number rooms e old.stations answer stations
-    → traffic ≡ traffic_after setting e answer (slice_get old.stations number)
+pub act_keeps_world : (rooms : List (RecordView → Bool)) (e : EventView) (came : Outcome) (old : WorldView)
+    (answer : ReplyView) (setting : Setting) (number round : ℕ) (stations : List StationView) (traffic : Traffic)
+    → WorldInvariant old → setting ≡ setting_of old → number ≡ event_node e
+    → IsAct setting number rooms e came old.stations answer stations
+    → traffic ≡ traffic_after setting e came answer (slice_get old.stations number)
     → round ≡ round_after answer old.round stations
     → WorldInvariant
     (record { net = old.net; inputs = old.inputs; stations = stations; traffic = traffic; round = round })
-act_keeps_world rooms e old answer setting number round stations traffic inv same_setting same_number act flown later =
+act_keeps_world rooms e came old answer setting number round stations traffic inv same_setting same_number act flown
+    later =
     step_keeps rooms e old answer
     (record { net = old.net; inputs = old.inputs; stations = stations; traffic = traffic; round = round }) inv
     (record {
       net = refl;
       inputs = refl;
-      act = subst (λ (n : ℕ). IsAct (setting_of old) n rooms e old.stations answer stations) same_number
-          (subst (λ (s : Setting). IsAct s number rooms e old.stations answer stations) same_setting act);
+      came = came;
+      act = subst (λ (n : ℕ). IsAct (setting_of old) n rooms e came old.stations answer stations) same_number
+          (subst (λ (s : Setting). IsAct s number rooms e came old.stations answer stations) same_setting act);
       traffic =
-          flown ∙ (ap (λ (s : Setting). traffic_after s e answer (slice_get old.stations number)) same_setting
-          ∙ ap (λ (n : ℕ). traffic_after (setting_of old) e answer (slice_get old.stations n)) same_number);
+          flown ∙ (ap (λ (s : Setting). traffic_after s e came answer (slice_get old.stations number)) same_setting
+          ∙ ap (λ (n : ℕ). traffic_after (setting_of old) e came answer (slice_get old.stations n)) same_number);
       round = later;
     })

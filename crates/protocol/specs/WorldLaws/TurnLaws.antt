@@ -1,5 +1,6 @@
 -- A turn that comes back fits what the node has now, and what is true of a station stays so.
 use Rattle.std.proofs.Common.{◌≡◌, ℕ, suc, List, ℤ, length, Option, Some, None, refl, sym, subst, ◌∙◌, arith}
+use Rattle.std.proofs.Common.{ap}
 use Rattle.std.proofs.Math.Logic.{∥∥₁_elim, ∥∥₁_map₂}
 use Rattle.std.proofs.Math.Bridge.{le_prop}
 use mathlib.Core.HLevel.{⊥_prop}
@@ -22,6 +23,7 @@ use Rattle.protocol.specs.Node.Reached.{IsJobOf, IsTurnOf, LinksAreLaidOut, Inbo
 use Rattle.protocol.specs.Node.Reached.{CountsAreWithin, LogsAreWithin}
 use Rattle.protocol.specs.NodeLaws.ImageLaws.{map_keeps}
 use Rattle.protocol.specs.NodeLaws.InboxLaws.{inboxes_installed, links_installed}
+use Rattle.protocol.specs.Node.Layout.{port_on}
 use Rattle.protocol.specs.NodeLaws.InnerLaws.{output_apart}
 use Rattle.protocol.specs.NodeLaws.LinkLaws.{inboxes_on_next}
 use Rattle.protocol.specs.NodeLaws.InstallLaws.{job_here, reached_install, on_install}
@@ -209,7 +211,7 @@ module _ (net : Network) (inputs : List (List ℤ)) (valid : IsValid net) (node 
       ≡ base_of node.current output.channel =
       base_installed net.channels job.process after taken sent node.current output.channel
       (λ received log. output_apart net node.kept.node node.current output.channel received there.channel log
-      sound.kept.laid_out there.there there.outside) in
+      sound.kept.laid_out there.there (ap (port_on net node.kept.node) there.outside)) in
       let gap = before.no_gap in
       record { no_gap = omega (arith, base, gap); covered = before.covered }
 

@@ -2,7 +2,7 @@ use Rattle.std.proofs.Common.{rules, sym, ◌∙◌, arith}
 use Rattle.kahn_net.specs.Syntax.{network_of}
 use Rattle.protocol.specs.Node.Layout.{is_incoming}
 use Rattle.protocol.specs.Node.Opening.{new_inbox}
-use Rattle.node.proofs.Walking.{taken_next, passed_next}
+use Rattle.layout.proofs.Walking.{taken_next, passed_next}
 use Rattle.node.proofs.opening.open_inboxes.Goals as goal
 use Rattle.node.proofs.opening.open_inboxes.Goals.{then-is_incoming+in_ok-new_inbox+in_ok-push, else-is_incoming}
 

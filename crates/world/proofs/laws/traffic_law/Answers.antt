@@ -1,4 +1,4 @@
-use Rattle.protocol.specs.WorldLaws.DeedLaws.{only_running_send}
+use Rattle.protocol.specs.WorldLaws.DeedLaws.{only_nodes_that_are_up_send}
 use Rattle.protocol.specs.WorldLaws.FlightLaws.{each_was_sent, nothing_at_first, nothing_is_made_up}
 use Rattle.world.proofs.laws.traffic_law.Goals as goal
 
@@ -11,5 +11,5 @@ returns-clause-made c = nothing_is_made_up
 pub returns-clause-step : goal.returns-clause-step
 returns-clause-step c = each_was_sent
 
-pub returns-clause-running : goal.returns-clause-running
-returns-clause-running c = only_running_send
+pub returns-clause-up : goal.returns-clause-up
+returns-clause-up c = only_nodes_that_are_up_send

@@ -1,24 +1,47 @@
-use Rattle.std.proofs.Common.{refl, sym, subst, ap}
+use Rattle.std.proofs.Common.{rules, ◌≡◌, ◌<◌, Err, Result, ℤ, Bool, List, Ok, true, false, refl, sym, subst, ap, ◌∙◌, arith}
+use Rattle.std.specs.Prelude.{All, IfOk, slice_get}
+use Rattle.std.specs.declared.alloc.AllocError.{AllocError}
+use Rattle.wire.specs.declared.queue.TheConstants.{NODES}
+use Rattle.protocol.specs.World.ReplyView.{Down}
+use Rattle.world.specs.ReplyView.{reply_view}
+use Rattle.world.specs.declared.event.Event.{Event}
+use Rattle.world.specs.declared.event.Reply.{Reply}
 use Rattle.kahn_net.specs.Syntax.{network_of}
+use Rattle.kahn_net.specs.Nodes.{node_count}
+use Rattle.datagram.specs.PacketText.{IsPacket}
 use Rattle.net_check.specs.declared.net.Net.{Net}
-use Rattle.protocol.specs.Node.Installing.{TakesTurn}
-use Rattle.protocol.specs.WorldLaws.ActLaws.{takes_turn, like_now}
-use Rattle.world.specs.DoneView.{done_view}
-use Rattle.std.specs.Prelude.{All}
-use Rattle.protocol.specs.Node.Sending.{packets_of, IsWritable}
-use Rattle.protocol.specs.WorldLaws.PlanLaws.{station_writable}
-use Rattle.protocol.specs.WorldLaws.HandedLaws.{next_reached, next_there}
 use Rattle.ckpt_store.specs.Spelling.{fits_in}
 use Rattle.ckpt_store.specs.StoreView.{cell_in}
+use Rattle.wire.specs.Traffic.{flights_to, traffic_of}
+use Rattle.protocol.specs.Node.ArmedRestarts.{round_later, with_armed}
+use Rattle.protocol.specs.Node.Beginning.{start_prospect}
 use Rattle.protocol.specs.Node.Choosing.{node_job}
+use Rattle.protocol.specs.Node.Installing.{TakesTurn}
+use Rattle.protocol.specs.Node.Plans.{next_record, packets_by}
+use Rattle.protocol.specs.Node.Sending.{IsWritable}
+use Rattle.protocol.specs.Node.Telling.{turn_packets}
+use Rattle.protocol.specs.NodeLaws.PlaceLaws.{nodes_few}
+use Rattle.protocol.specs.World.EventView.{EventView}
 use Rattle.protocol.specs.World.EventView as view
-use Rattle.protocol.specs.WorldLaws.DeedLaws.{grant_sends, recover_sends}
-use Rattle.protocol.specs.World.Steps.{setting_in}
-use Rattle.wire.specs.Traffic.{traffic_of}
+use Rattle.protocol.specs.World.Pairs.{HasMoved}
+use Rattle.protocol.specs.World.RecoveryLine.{next_kept}
+use Rattle.protocol.specs.World.Steps.{crash_plan, decide_plan, deliver_plan, due_bytes, grant_plan, idle_plan, recover_plan}
+use Rattle.protocol.specs.World.Steps.{IsInstalled, arm_plan, send_plan, setting_in, start_plan}
+use Rattle.protocol.specs.WorldLaws.ActLaws.{takes_turn, like_now}
+use Rattle.protocol.specs.WorldLaws.DeedLaws.{becoming_sends, crash_sends, grant_sends, recover_sends}
+use Rattle.protocol.specs.WorldLaws.HandedLaws.{next_reached, next_there}
+use Rattle.protocol.specs.WorldLaws.MoveLaws.{decision_others, decision_room}
+use Rattle.protocol.specs.WorldLaws.TellLaws.{decide_allowed, start_allowed, station_writable}
+use Rattle.world.specs.DoneView.{done_view}
 use Rattle.world.specs.EventView.{event_view}
+use Rattle.world.specs.StationView.{outlet_views}
 use Rattle.world.specs.WorldView.{station_view}
-use Rattle.world.proofs.Planned.{delivered_in, nothing_sent}
+use Rattle.world.proofs.Arriving.{arrives_allowed, arrives_heard}
+use Rattle.world.proofs.Events.{acted_came, installed_came, moved_put, released_came, undue_came}
+use Rattle.world.proofs.Planned.{deed_came, quiet_came}
 use Rattle.world.proofs.station.Station.act.Goals as goal
+
+-- ---- what each event asks for
 
 pub install-requires : goal.install-requires
 install-requires g c = λ out.
@@ -27,13 +50,59 @@ install-requires g c = λ out.
     let done = done_view c.in-Install.done in
     subst (λ (n : Net). TakesTurn (network_of n.program).channels done.job.process done.taken done.sent was.node.mode)
     (sym c.deref-in-Install.ensures)
-    (takes_turn (network_of net.program) c.args.inputs.now.value net.valid c.requires.fits was c.requires.sound done
-    c.in-Install.done.turn out)
+    (takes_turn (network_of net.program) c.args.inputs.now.value net.valid c.requires.sure.fits was c.requires.sound.inv
+    done c.in-Install.done.turn out)
 
 pub start-requires : goal.start-requires
 start-requires g c =
-    like_now (network_of c.args.net.now.value.program) c.args.inputs.now.value c.args.net.now.value.valid c.requires.fits
-    (station_view g.O.Outlet.taken g.O.Outlet.failures c.args.self.now) c.requires.sound
+    let net = c.args.net.now.value in
+    let was = station_view g.O.Outlet.taken g.O.Outlet.failures c.args.self.now in
+    record {
+      like = like_now (network_of net.program) c.args.inputs.now.value net.valid c.requires.sure.fits was
+          c.requires.sound.inv;
+      allowed = λ came. subst
+          (λ (n : Net). All IsPacket (packets_by (start_prospect (network_of n.program) was.number was.node) came))
+          (sym c.deref-in-Start.ensures)
+          (start_allowed (network_of net.program) c.args.inputs.now.value net.valid was c.requires.sound.inv
+          c.requires.sound.named c.requires.sound.below c.requires.sound.joined came);
+    }
+
+pub decide-requires : goal.decide-requires
+decide-requires g c =
+    let net = network_of c.args.net.now.value.program in
+    let was = station_view g.O.Outlet.taken g.O.Outlet.failures c.args.self.now in
+    let few = nodes_few net c.args.net.now.value.valid in
+    let listed = c.requires.sound.joined.kept.listed in
+    record {
+      decided = record {
+        others = decision_others net was c.requires.sound.joined;
+        room = decision_room net was c.requires.sound.joined;
+        few = omega (arith, few, listed);
+        bounded = c.requires.sound.inv.kept.bounded;
+      };
+      allowed = decide_allowed net c.args.inputs.now.value c.args.net.now.value.valid was c.requires.sound.inv
+          c.requires.sound.named c.requires.sound.below c.requires.sound.joined;
+    }
+
+pub deliver-requires : goal.deliver-requires
+deliver-requires g c =
+    let net = c.args.net.now.value in
+    let was = station_view g.O.Outlet.taken g.O.Outlet.failures c.args.self.now in
+    let setting =
+    setting_in (network_of net.program) c.args.inputs.now.value (traffic_of c.args.wire.now) c.args.restarts
+    c.args.round in
+    let is = ap (λ (n : Net). network_of n.program) (sym c.deref.ensures) in
+    record {
+      to = subst (λ (e : Event). view.event_node (event_view e) < NODES) c.in-Deliver.is c.requires.node;
+      like = like_now (network_of net.program) c.args.inputs.now.value net.valid c.requires.sure.fits was
+          c.requires.sound.inv;
+      listed = c.requires.sound.joined.kept.listed ∙ ap node_count is;
+      bounded = c.requires.sound.inv.kept.bounded;
+      right = arrives_heard setting c.requires.sure was c.requires.sound c.in-Deliver.node c.in-Deliver.place
+          (network_of c.deref.result.now.program) is;
+      allowed = arrives_allowed setting c.requires.sure was c.requires.sound c.in-Deliver.node c.in-Deliver.place
+          (network_of c.deref.result.now.program) is;
+    }
 
 pub release-requires : goal.release-requires
 release-requires g c =
@@ -41,45 +110,261 @@ release-requires g c =
     let was = station_view g.O.Outlet.taken g.O.Outlet.failures c.args.self.now in
     record {
       next = λ place outlet next there. next_there net c.args.inputs.now.value was c.args.round place outlet
-          c.requires.sound next there;
+          c.requires.sound.inv next there;
       reached = λ place outlet next there. next_reached net c.args.inputs.now.value was c.args.round place outlet
-          c.requires.sound next there;
+          c.requires.sound.inv next there;
     }
 
 pub send-requires : goal.send-requires
 send-requires g c =
     let net = c.args.net.now.value in
     let was = station_view g.O.Outlet.taken g.O.Outlet.failures c.args.self.now in
-    subst (λ (n : Net). All IsWritable (packets_of (network_of n.program) was.number was.node))
+    subst (λ (n : Net). All IsWritable (turn_packets (network_of n.program) was.number was.node.kept was.node.mode))
     (sym c.deref-in-Send.ensures)
-    (station_writable (network_of net.program) c.args.inputs.now.value net.valid was c.requires.sound c.requires.named)
+    (station_writable (network_of net.program) c.args.inputs.now.value net.valid was c.requires.sound.inv
+    c.requires.sound.named c.requires.sound.below c.requires.sound.joined)
 
-pub returns-in-Deliver-clause-traffic : goal.returns-in-Deliver-clause-traffic
-returns-in-Deliver-clause-traffic g c =
+-- ---- how it came out
+
+pub returns-in-Deliver-clause-come : goal.returns-in-Deliver-clause-come
+returns-in-Deliver-clause-come g c =
     let was = station_view {cell = g.C.StableCell} {slots = g.C.SlotCell} g.O.Outlet.taken g.O.Outlet.failures c.args.self.now in
     let setting =
     setting_in (network_of c.args.net.now.value.program) c.args.inputs.now.value (traffic_of c.args.wire.now)
     c.args.restarts c.args.round in
-    delivered_in (fits_in (g.C.SlotCell.slot_capacity (cell_in c.args.self.now.node.store))) setting c.in-Deliver.node
-    c.in-Deliver.place (network_of c.deref.result.now.program) (event_view c.args.event.now) was _
-    (traffic_of c.deliver.new.wire) c.deliver.result (ap (λ (n : Net). network_of n.program) c.deref.ensures)
-    (ap event_view c.in-Deliver.is) c.deliver.ensures.step c.deliver.ensures.traffic
+    let fits = fits_in (g.C.SlotCell.slot_capacity (cell_in c.args.self.now.node.store)) in
+    let found = due_bytes c.args.round
+    (slice_get (flights_to (traffic_of c.args.wire.now) c.in-Deliver.node) c.in-Deliver.place) in
+    deed_came setting fits (event_view c.args.event.now) was _ (traffic_of c.deliver.new.wire) c.deliver.result
+    c.in-Deliver.node (view.Deliver c.in-Deliver.place)
+    (deliver_plan (network_of c.deref.result.now.program) c.in-Deliver.place found was) (ap event_view c.in-Deliver.is)
+    (ap (λ (n : Net). deliver_plan (network_of n.program) c.in-Deliver.place found was) c.deref.ensures)
+    c.deliver.ensures.come
 
-pub returns-in-Grant-clause-traffic : goal.returns-in-Grant-clause-traffic
-returns-in-Grant-clause-traffic g c =
+pub returns-in-Grant-clause-come : goal.returns-in-Grant-clause-come
+returns-in-Grant-clause-come g c =
     let was = station_view {cell = g.C.StableCell} {slots = g.C.SlotCell} g.O.Outlet.taken g.O.Outlet.failures c.args.self.now in
     let setting =
     setting_in (network_of c.args.net.now.value.program) c.args.inputs.now.value (traffic_of c.args.wire.now)
     c.args.restarts c.args.round in
-    nothing_sent setting _ view.Grant (event_view c.args.event.now) was (traffic_of c.args.wire.now) c.grant.result
-    (ap event_view c.in-Grant.is) refl refl
-    (λ came. grant_sends (node_job setting.net setting.inputs was.node) was.node came)
+    let fits = fits_in (g.C.SlotCell.slot_capacity (cell_in c.args.self.now.node.store)) in
+    quiet_came setting fits (event_view c.args.event.now) was _ (traffic_of c.args.wire.now) c.grant.result _ view.Grant _
+    (ap event_view c.in-Grant.is)
+    (ap (λ (i : List (List ℤ)). grant_plan (node_job setting.net i was.node) c.args.round was) c.deref-in-Grant.ensures)
+    refl refl (λ came. grant_sends (node_job setting.net setting.inputs was.node) was.node came) c.grant.ensures.step
 
-pub returns-else-not-restarts-2-clause-traffic : goal.returns-else-not-restarts-2-clause-traffic
-returns-else-not-restarts-2-clause-traffic g c =
+pub returns-in-Install-clause-come : goal.returns-in-Install-clause-come
+returns-in-Install-clause-come g c =
     let was = station_view {cell = g.C.StableCell} {slots = g.C.SlotCell} g.O.Outlet.taken g.O.Outlet.failures c.args.self.now in
     let setting =
     setting_in (network_of c.args.net.now.value.program) c.args.inputs.now.value (traffic_of c.args.wire.now)
     c.args.restarts c.args.round in
-    nothing_sent setting _ view.Recover (event_view c.args.event.now) was (traffic_of c.args.wire.now) c.recover.result
-    (ap event_view c.in-Recover.is) refl refl (λ came. recover_sends c.args.restarts was.node came)
+    let fits = fits_in (g.C.SlotCell.slot_capacity (cell_in c.args.self.now.node.store)) in
+    installed_came setting fits (event_view c.args.event.now) was _ (traffic_of c.args.wire.now) c.install.result
+    (done_view c.in-Install.done) (ap event_view c.in-Install.is) refl
+    (subst (λ (n : Net). IfOk c.install.result (λ (r : Reply). IsInstalled n.program.channels.items (done_view c.in-Install.done)
+    was (reply_view r) (station_view g.O.Outlet.taken g.O.Outlet.failures c.install.new.self))) c.deref-in-Install.ensures
+    c.install.ensures.step)
+
+pub returns-in-Send-clause-come : goal.returns-in-Send-clause-come
+returns-in-Send-clause-come g c =
+    let was = station_view {cell = g.C.StableCell} {slots = g.C.SlotCell} g.O.Outlet.taken g.O.Outlet.failures c.args.self.now in
+    let setting =
+    setting_in (network_of c.args.net.now.value.program) c.args.inputs.now.value (traffic_of c.args.wire.now)
+    c.args.restarts c.args.round in
+    let fits = fits_in (g.C.SlotCell.slot_capacity (cell_in c.args.self.now.node.store)) in
+    deed_came setting fits (event_view c.args.event.now) was _ (traffic_of c.send.new.wire) c.send.result _ view.Send
+    (send_plan (network_of c.deref-in-Send.result.now.program) c.args.round was) (ap event_view c.in-Send.is)
+    (ap (λ (n : Net). send_plan (network_of n.program) c.args.round was) c.deref-in-Send.ensures)
+    (c.send.ensures.come _)
+
+pub returns-in-Start-clause-come : goal.returns-in-Start-clause-come
+returns-in-Start-clause-come g c =
+    let was = station_view {cell = g.C.StableCell} {slots = g.C.SlotCell} g.O.Outlet.taken g.O.Outlet.failures c.args.self.now in
+    let setting =
+    setting_in (network_of c.args.net.now.value.program) c.args.inputs.now.value (traffic_of c.args.wire.now)
+    c.args.restarts c.args.round in
+    let fits = fits_in (g.C.SlotCell.slot_capacity (cell_in c.args.self.now.node.store)) in
+    deed_came setting fits (event_view c.args.event.now) was _ (traffic_of c.start.new.wire) c.start.result _ view.Start
+    (start_plan (network_of c.deref-in-Start.result.now.program) c.args.round was) (ap event_view c.in-Start.is)
+    (ap (λ (n : Net). start_plan (network_of n.program) c.args.round was) c.deref-in-Start.ensures)
+    (c.start.ensures.come _)
+
+pub returns-in-Decide-clause-come : goal.returns-in-Decide-clause-come
+returns-in-Decide-clause-come g c =
+    let was = station_view {cell = g.C.StableCell} {slots = g.C.SlotCell} g.O.Outlet.taken g.O.Outlet.failures c.args.self.now in
+    let setting =
+    setting_in (network_of c.args.net.now.value.program) c.args.inputs.now.value (traffic_of c.args.wire.now)
+    c.args.restarts c.args.round in
+    let fits = fits_in (g.C.SlotCell.slot_capacity (cell_in c.args.self.now.node.store)) in
+    deed_came setting fits (event_view c.args.event.now) was _ (traffic_of c.decide.new.wire) c.decide.result _ view.Decide
+    (decide_plan was) (ap event_view c.in-Decide.is) refl (c.decide.ensures.come _)
+
+pub returns-in-Release-clause-come : goal.returns-in-Release-clause-come
+returns-in-Release-clause-come g c =
+    let was = station_view {cell = g.C.StableCell} {slots = g.C.SlotCell} g.O.Outlet.taken g.O.Outlet.failures c.args.self.now in
+    let setting =
+    setting_in (network_of c.args.net.now.value.program) c.args.inputs.now.value (traffic_of c.args.wire.now)
+    c.args.restarts c.args.round in
+    let fits = fits_in (g.C.SlotCell.slot_capacity (cell_in c.args.self.now.node.store)) in
+    released_came setting fits (event_view c.args.event.now) was _ (traffic_of c.args.wire.now) c.release.result _
+    (ap event_view c.in-Release.is) refl c.release.ensures.step
+
+pub returns-then-not-restarts-clause-come : goal.returns-then-not-restarts-clause-come
+returns-then-not-restarts-clause-come g c =
+    let was = station_view {cell = g.C.StableCell} {slots = g.C.SlotCell} g.O.Outlet.taken g.O.Outlet.failures c.args.self.now in
+    let setting =
+    setting_in (network_of c.args.net.now.value.program) c.args.inputs.now.value (traffic_of c.args.wire.now)
+    c.args.restarts c.args.round in
+    let fits = fits_in (g.C.SlotCell.slot_capacity (cell_in c.args.self.now.node.store)) in
+    let none : c.args.restarts ≡ false = search rules in
+    undue_came setting fits (event_view c.args.event.now) was _ (view.Crash c.in-Crash.fill c.in-Crash.rounds)
+    (ap event_view c.in-Crash.is)
+    (ap (λ (b : Bool). (crash_plan b (round_later c.args.round c.in-Crash.rounds) was).prospect) none)
+
+pub returns-else-not-restarts-clause-come : goal.returns-else-not-restarts-clause-come
+returns-else-not-restarts-clause-come g c =
+    let was = station_view {cell = g.C.StableCell} {slots = g.C.SlotCell} g.O.Outlet.taken g.O.Outlet.failures c.args.self.now in
+    let setting =
+    setting_in (network_of c.args.net.now.value.program) c.args.inputs.now.value (traffic_of c.args.wire.now)
+    c.args.restarts c.args.round in
+    let fits = fits_in (g.C.SlotCell.slot_capacity (cell_in c.args.self.now.node.store)) in
+    let some : true ≡ c.args.restarts = search rules in
+    let restart = round_later c.args.round c.in-Crash.rounds in
+    quiet_came setting fits (event_view c.args.event.now) was _ (traffic_of c.args.wire.now) (Ok c.crash.result) _
+    (view.Crash c.in-Crash.fill c.in-Crash.rounds) (crash_plan true restart was) (ap event_view c.in-Crash.is)
+    (ap (λ (b : Bool). crash_plan b restart was) some) refl refl
+    (λ came. crash_sends c.args.restarts restart was.node came) c.crash.ensures.step
+
+pub returns-then-not-restarts-2-clause-come : goal.returns-then-not-restarts-2-clause-come
+returns-then-not-restarts-2-clause-come g c =
+    let was = station_view {cell = g.C.StableCell} {slots = g.C.SlotCell} g.O.Outlet.taken g.O.Outlet.failures c.args.self.now in
+    let setting =
+    setting_in (network_of c.args.net.now.value.program) c.args.inputs.now.value (traffic_of c.args.wire.now)
+    c.args.restarts c.args.round in
+    let fits = fits_in (g.C.SlotCell.slot_capacity (cell_in c.args.self.now.node.store)) in
+    let none : c.args.restarts ≡ false = search rules in
+    undue_came setting fits (event_view c.args.event.now) was _ view.Recover (ap event_view c.in-Recover.is)
+    (ap (λ (b : Bool). (recover_plan b was).prospect) none)
+
+pub returns-else-not-restarts-2-clause-come : goal.returns-else-not-restarts-2-clause-come
+returns-else-not-restarts-2-clause-come g c =
+    let was = station_view {cell = g.C.StableCell} {slots = g.C.SlotCell} g.O.Outlet.taken g.O.Outlet.failures c.args.self.now in
+    let setting =
+    setting_in (network_of c.args.net.now.value.program) c.args.inputs.now.value (traffic_of c.args.wire.now)
+    c.args.restarts c.args.round in
+    let fits = fits_in (g.C.SlotCell.slot_capacity (cell_in c.args.self.now.node.store)) in
+    let some : true ≡ c.args.restarts = search rules in
+    quiet_came setting fits (event_view c.args.event.now) was _ (traffic_of c.args.wire.now) c.recover.result _
+    view.Recover (recover_plan true was) (ap event_view c.in-Recover.is) (ap (λ (b : Bool). recover_plan b was) some)
+    refl refl (λ came. recover_sends c.args.restarts was.node came) c.recover.ensures.step
+
+pub returns-in-Arm-clause-come : goal.returns-in-Arm-clause-come
+returns-in-Arm-clause-come g c =
+    let was = station_view {cell = g.C.StableCell} {slots = g.C.SlotCell} g.O.Outlet.taken g.O.Outlet.failures c.args.self.now in
+    let setting =
+    setting_in (network_of c.args.net.now.value.program) c.args.inputs.now.value (traffic_of c.args.wire.now)
+    c.args.restarts c.args.round in
+    let fits = fits_in (g.C.SlotCell.slot_capacity (cell_in c.args.self.now.node.store)) in
+    quiet_came setting fits (event_view c.args.event.now) was _ (traffic_of c.args.wire.now) c.arm.result _
+    (view.Arm c.in-Arm.fault c.in-Arm.rounds) (arm_plan c.in-Arm.fault.call c.in-Arm.rounds was)
+    (ap event_view c.in-Arm.is) refl refl refl
+    (λ came. becoming_sends (with_armed c.in-Arm.fault.call c.in-Arm.rounds was.node) came) c.arm.ensures.step
+
+pub returns-in-Idle-clause-come : goal.returns-in-Idle-clause-come
+returns-in-Idle-clause-come g c =
+    let was = station_view {cell = g.C.StableCell} {slots = g.C.SlotCell} g.O.Outlet.taken g.O.Outlet.failures c.args.self.now in
+    let setting =
+    setting_in (network_of c.args.net.now.value.program) c.args.inputs.now.value (traffic_of c.args.wire.now)
+    c.args.restarts c.args.round in
+    let fits = fits_in (g.C.SlotCell.slot_capacity (cell_in c.args.self.now.node.store)) in
+    quiet_came setting fits (event_view c.args.event.now) was _ (traffic_of c.args.wire.now) (Ok c.idle.result) _ view.Idle
+    (idle_plan c.args.round was) (ap event_view c.in-Idle.is) refl refl refl (λ came. becoming_sends was.node came)
+    c.idle.ensures.step
+
+pub returns-in-Lose-clause-come : goal.returns-in-Lose-clause-come
+returns-in-Lose-clause-come g c =
+    let was = station_view {cell = g.C.StableCell} {slots = g.C.SlotCell} g.O.Outlet.taken g.O.Outlet.failures c.args.self.now in
+    let setting =
+    setting_in (network_of c.args.net.now.value.program) c.args.inputs.now.value (traffic_of c.args.wire.now)
+    c.args.restarts c.args.round in
+    let fits = fits_in (g.C.SlotCell.slot_capacity (cell_in c.args.self.now.node.store)) in
+    acted_came setting fits (event_view c.args.event.now) was was (traffic_of c.lose.new.wire) (Ok c.lose.result)
+    c.in-Lose.node c.in-Lose.place view.Lose (ap event_view c.in-Lose.is) refl c.lose.ensures.reply
+    c.lose.ensures.traffic
+
+pub returns-in-Repeat-clause-come : goal.returns-in-Repeat-clause-come
+returns-in-Repeat-clause-come g c =
+    let was = station_view {cell = g.C.StableCell} {slots = g.C.SlotCell} g.O.Outlet.taken g.O.Outlet.failures c.args.self.now in
+    let setting =
+    setting_in (network_of c.args.net.now.value.program) c.args.inputs.now.value (traffic_of c.args.wire.now)
+    c.args.restarts c.args.round in
+    let fits = fits_in (g.C.SlotCell.slot_capacity (cell_in c.args.self.now.node.store)) in
+    acted_came setting fits (event_view c.args.event.now) was was (traffic_of c.repeat.new.wire) c.repeat.result
+    c.in-Repeat.node c.in-Repeat.place view.Repeat (ap event_view c.in-Repeat.is) refl c.repeat.ensures.reply
+    c.repeat.ensures.traffic
+
+pub returns-in-Delay-clause-come : goal.returns-in-Delay-clause-come
+returns-in-Delay-clause-come g c =
+    let was = station_view {cell = g.C.StableCell} {slots = g.C.SlotCell} g.O.Outlet.taken g.O.Outlet.failures c.args.self.now in
+    let setting =
+    setting_in (network_of c.args.net.now.value.program) c.args.inputs.now.value (traffic_of c.args.wire.now)
+    c.args.restarts c.args.round in
+    let fits = fits_in (g.C.SlotCell.slot_capacity (cell_in c.args.self.now.node.store)) in
+    acted_came setting fits (event_view c.args.event.now) was was (traffic_of c.delay.new.wire) (Ok c.delay.result)
+    c.in-Delay.node c.in-Delay.place (view.Delay c.in-Delay.rounds) (ap event_view c.in-Delay.is) refl
+    c.delay.ensures.reply c.delay.ensures.traffic
+
+-- ---- the cell, and what has left
+
+pub returns-in-Deliver-clause-moved : goal.returns-in-Deliver-clause-moved
+returns-in-Deliver-clause-moved g c =
+    let was = station_view {cell = g.C.StableCell} {slots = g.C.SlotCell} g.O.Outlet.taken g.O.Outlet.failures c.args.self.now in
+    let setting =
+    setting_in (network_of c.args.net.now.value.program) c.args.inputs.now.value (traffic_of c.args.wire.now)
+    c.args.restarts c.args.round in
+    let fits = fits_in (g.C.SlotCell.slot_capacity (cell_in c.args.self.now.node.store)) in
+    let found = due_bytes c.args.round
+    (slice_get (flights_to (traffic_of c.args.wire.now) c.in-Deliver.node) c.in-Deliver.place) in
+    let seen = ap event_view c.in-Deliver.is in
+    subst (λ (e : EventView). HasMoved g.C.StableCell.moment g.C.SlotCell.left_since_whole (cell_in c.args.self.now.node.store)
+    (cell_in c.deliver.new.self.node.store) was.node.kept (next_kept setting e was)
+    (outlet_views g.O.Outlet.taken g.O.Outlet.failures c.args.self.now.outputs.items)
+    (outlet_views g.O.Outlet.taken g.O.Outlet.failures c.deliver.new.self.outputs.items)) (sym seen)
+    (moved_put g.C.StableCell.moment g.C.SlotCell.left_since_whole (cell_in c.args.self.now.node.store)
+    (cell_in c.deliver.new.self.node.store) was.node.kept
+    (next_kept setting (view.ByNode c.in-Deliver.node (view.Deliver c.in-Deliver.place)) was)
+    (outlet_views g.O.Outlet.taken g.O.Outlet.failures c.args.self.now.outputs.items)
+    (outlet_views g.O.Outlet.taken g.O.Outlet.failures c.deliver.new.self.outputs.items) _
+    c.deliver.ensures.later c.deliver.ensures.outputs
+    (ap (λ (n : Net). next_record (deliver_plan (network_of n.program) c.in-Deliver.place found was).prospect
+    was.node.kept) c.deref.ensures) c.deliver.ensures.leaves)
+
+pub returns-in-Start-clause-moved : goal.returns-in-Start-clause-moved
+returns-in-Start-clause-moved g c =
+    let was = station_view {cell = g.C.StableCell} {slots = g.C.SlotCell} g.O.Outlet.taken g.O.Outlet.failures c.args.self.now in
+    let setting =
+    setting_in (network_of c.args.net.now.value.program) c.args.inputs.now.value (traffic_of c.args.wire.now)
+    c.args.restarts c.args.round in
+    let fits = fits_in (g.C.SlotCell.slot_capacity (cell_in c.args.self.now.node.store)) in
+    let seen = ap event_view c.in-Start.is in
+    subst (λ (e : EventView). HasMoved g.C.StableCell.moment g.C.SlotCell.left_since_whole (cell_in c.args.self.now.node.store)
+    (cell_in c.start.new.self.node.store) was.node.kept (next_kept setting e was)
+    (outlet_views g.O.Outlet.taken g.O.Outlet.failures c.args.self.now.outputs.items)
+    (outlet_views g.O.Outlet.taken g.O.Outlet.failures c.start.new.self.outputs.items)) (sym seen)
+    (moved_put g.C.StableCell.moment g.C.SlotCell.left_since_whole (cell_in c.args.self.now.node.store)
+    (cell_in c.start.new.self.node.store) was.node.kept (next_kept setting (view.ByNode 0 view.Start) was)
+    (outlet_views g.O.Outlet.taken g.O.Outlet.failures c.args.self.now.outputs.items)
+    (outlet_views g.O.Outlet.taken g.O.Outlet.failures c.start.new.self.outputs.items) _
+    c.start.ensures.later c.start.ensures.outputs
+    (ap (λ (n : Net). next_record (start_prospect (network_of n.program) was.number was.node) was.node.kept)
+    c.deref-in-Start.ensures) c.start.ensures.leaves)
+
+-- what nobody answers needs no reason
+never_down : (P : Reply → Type 0) (result : Result Reply AllocError) → IfOk result (λ (r : Reply). reply_view r ≡ Down → ⊥)
+    → IfOk result (λ (r : Reply). reply_view r ≡ Down → P r)
+never_down P (Ok r) none = λ down. absurd (none down)
+never_down P (Err e) none = none
+
+pub returns-in-Send-clause-armed : goal.returns-in-Send-clause-armed
+returns-in-Send-clause-armed g c = never_down _ c.send.result c.send.ensures.up

@@ -1,16 +1,28 @@
 use Rattle.std.proofs.Common.{rules, ◌≡◌, refl, ap, ◌∙◌}
-use Rattle.ckpt_store.specs.Spelling.{fits_in}
+use Rattle.kahn_net.specs.Syntax.{network_of}
 use Rattle.ckpt_store.specs.StoreView.{cell_in}
 use Rattle.node.specs.NodeOf.{view_of}
-use Rattle.protocol.specs.World.ReplyView.{Started}
-use Rattle.protocol.specs.World.Steps.{start_plan, turns_by}
+use Rattle.protocol.specs.Node.Beginning.{start_prospect}
+use Rattle.protocol.specs.World.Steps.{turns_by}
 use Rattle.protocol.specs.World.Turns.{turns_of, count_start}
 use Rattle.protocol.specs.declared.round_turns.RoundTurns.{RoundTurns}
-use Rattle.protocol.specs.WorldLaws.DeedLaws.{start_sends}
+use Rattle.protocol.specs.World.ReplyView.{Refused, Started}
+use Rattle.protocol.specs.declared.outcome.Refusal.TheVariants.{TooLarge}
+use Rattle.wire.specs.Traffic.{traffic_of}
 use Rattle.world.specs.WorldView.{station_view}
-use Rattle.world.proofs.Cells.{through}
-use Rattle.world.proofs.Planned.{planned, seen_moved}
+use Rattle.world.proofs.Cells.{through, untouched}
+use Rattle.world.proofs.Planned.{own_traffic, seen_moved, undue_silent}
+use Rattle.world.proofs.Ready.{start_declines, own_sent}
 use Rattle.world.proofs.station.Station.start.Goals as goal
+
+pub send_by-requires : goal.send_by-requires
+send_by-requires g c =
+    record { made = c.in_ok-ready.ensures.made.room; declined = c.in_ok-ready.ensures.declined.room }
+
+pub returns-in_err-ready-clause-leaves : goal.returns-in_err-ready-clause-leaves
+returns-in_err-ready-clause-leaves g c =
+    let was = c.args.self.now in
+    untouched g.C.StableCell g.C.SlotCell g.met.C.SlotCell.only_now_whole was.node.store was.node.kept.settled _
 
 pub returns-in_err-outcome-clause-leaves : goal.returns-in_err-outcome-clause-leaves
 returns-in_err-outcome-clause-leaves g c =
@@ -24,16 +36,31 @@ returns-clause-leaves g c =
     through g.C.StableCell g.C.SlotCell was.node.store c.start.new.self.store was.node.kept.settled
     _ c.start.ensures.event.any_moment
 
-pub returns-clause-step : goal.returns-clause-step
-returns-clause-step g c =
+pub returns-clause-come : goal.returns-clause-come
+returns-clause-come g c = λ k.
     let was = c.args.self.now in
     let cell = g.C.StableCell in
-    let slots = g.C.SlotCell in
     let seen = station_view g.O.Outlet.taken g.O.Outlet.failures was in
     let event = c.in_ok-outcome.ensures.event in
+    let came = c.in_ok-outcome.outcome in
+    let ready = c.in_ok-ready.ensures in
+    let prospect = start_prospect (network_of c.args.net.now.program) was.node.number (view_of was.node) in
     let noted : c.with_start-noted.result ≡ count_start (turns_of c.args.round was.turns) = search rules in
-    planned (fits_in (slots.slot_capacity (cell_in was.node.store))) c.args.round (start_plan c.args.round seen) seen
-    _ (cell.failed_call (cell_in c.start.new.self.store)) c.in_ok-outcome.outcome _ Started refl (λ made. refl)
-    c.answer_by.ensures (start_sends was.node.number (view_of was.node)) event.step event.put
-    (seen_moved seen _ _ _ _ _ c.start.ensures.same_number
-    (c.note.ensures ∙ ap (λ (noted : RoundTurns). turns_by noted was.turns c.in_ok-outcome.outcome) noted))
+    record {
+      came = came;
+      step = record {
+        call = cell.failed_call (cell_in c.start.new.self.store);
+        step = event.step;
+        put = event.put;
+        answers = c.answer_by.ensures;
+        allowed = c.requires.allowed came;
+        same = seen_moved seen _ _ _ _ _ c.start.ensures.same_number
+            (c.note.ensures ∙ ap (λ (noted : RoundTurns). turns_by noted was.turns came) noted);
+      };
+      traffic = own_traffic c.args.round prospect came Started (Refused TooLarge) _ (traffic_of c.args.wire.now)
+          (traffic_of c.send_by.new.wire) c.answer_by.ensures refl refl (undue_silent prospect)
+          (own_sent c.args.round prospect came (traffic_of c.ready_to_start.new.wire) (traffic_of c.args.wire.now)
+          (traffic_of c.send_by.new.wire) c.ready_to_start.ensures.same (start_declines (network_of c.args.net.now.program) was.node.number (view_of was.node))
+          (c.send_by.ensures c.args.round _ _ ready.made.nodes ready.declined.nodes ready.made.staged
+          ready.declined.staged));
+    }

@@ -1,24 +1,42 @@
-use Rattle.std.proofs.Common.{List, length, map, ap, sym, subst, ◌∙◌}
+use Rattle.std.proofs.Common.{List, [], length, map, refl, ap, sym, subst, ◌∙◌}
 use Rattle.kahn_net.specs.Syntax.{network_of}
 use Rattle.ckpt_store.specs.Spelling.{fits_in}
 use Rattle.ckpt_store.specs.StoreView.{cell_in}
 use Rattle.world.specs.EventView.{event_view}
 use Rattle.protocol.specs.World.Headline.{AreApproximated}
+use Rattle.protocol.specs.World.Coordination.{AreCoordinated}
+use Rattle.protocol.specs.WorldLaws.CoordinationLaws.{coordinated_still, events_are_coordinated}
 use Rattle.protocol.specs.WorldLaws.PrefixLaws.{released_prefix}
-use Rattle.protocol.specs.World.Invariant.{WorldInvariant}
 use Rattle.world.specs.ReplyView.{reply_view}
 use Rattle.protocol.specs.WorldLaws.DropLaws.{never_dropped}
 use Rattle.protocol.specs.WorldLaws.RoomLaws.{never_too_large, rooms_of}
+use Rattle.protocol.specs.World.ReplyView.{NotDue}
 use Rattle.protocol.specs.World.StationView.{StationView}
+use Rattle.protocol.specs.declared.outcome.Outcome.TheVariants as outcome
 use Rattle.protocol.specs.World.Steps.{may_restart, round_after, setting_in}
-use Rattle.protocol.specs.WorldLaws.StepKeeps.{act_keeps_world}
-use Rattle.wire.specs.Traffic.{traffic_of}
+use Rattle.protocol.specs.WorldLaws.StepKeeps.{step_keeps}
+use Rattle.wire.specs.Traffic.{Traffic, traffic_of}
 use Rattle.world.specs.WholeView.{world_of}
 use Rattle.world.specs.WorldView.{rooms, station_view, world_view}
 use Rattle.world.specs.declared.station.Station.{Station}
 use Rattle.world.proofs.Lines.{keeps_line, one_line}
-use Rattle.world.proofs.Views.{setting_is}
+use Rattle.world.proofs.Views.{setting_is, world_steps}
 use Rattle.world.proofs.world.World.apply.Goals as goal
+
+-- it is a step of the world
+pub returns-in-Ok-clause-step : goal.returns-in-Ok-clause-step
+returns-in-Ok-clause-step g c =
+    let was = c.args.self.now in
+    let view = station_view {cell = g.C.StableCell} {slots = g.C.SlotCell} g.O.Outlet.taken g.O.Outlet.failures in
+    world_steps (rooms was.stations.items) (event_view c.args.event) (world_of was) (reply_view c.in-Ok.reply)
+    (setting_in (network_of was.net.value.program) was.inputs.value (traffic_of was.wire)
+    (may_restart (length was.stations.items)) was.round) c.from-number.result c.round_after-self.result
+    (map view c.act_at.new.stations.items) (traffic_of c.act_at.new.wire)
+    (setting_is view (network_of was.net.value.program) was.inputs.value (traffic_of was.wire)
+    was.stations.items was.round) (c.from-number.ensures ∙ c.node.ensures) c.in-Ok.ensures.come
+    (c.round_after-self.ensures
+    ∙ ap (λ (l : List (Station g.row.C.Denot g.row.O.Denot g.C.SlotCell g.C.StableCell)). round_after
+    (reply_view c.in-Ok.reply) was.round (map view l)) c.deref.ensures.value)
 
 -- the one law keeps what the type says
 pub invariant_of-self : goal.invariant_of-self
@@ -26,17 +44,18 @@ invariant_of-self g c =
     let was = c.args.self.now in
     let view = station_view {cell = g.C.StableCell} {slots = g.C.SlotCell} g.O.Outlet.taken g.O.Outlet.failures in
     record {
-      sound = act_keeps_world (rooms was.stations.items) (event_view c.args.event) (world_of was)
-          (reply_view c.in-Ok.reply)
+      sound = step_keeps (rooms was.stations.items) (event_view c.args.event) (world_of was) (reply_view c.in-Ok.reply)
+          (world_view {cell = g.C.StableCell} {slots = g.C.SlotCell} g.O.Outlet.taken g.O.Outlet.failures was.net was.inputs
+          c.act_at.new.stations.items (traffic_of c.act_at.new.wire) c.round_after-self.result) was.sound
+          (world_steps (rooms was.stations.items) (event_view c.args.event) (world_of was) (reply_view c.in-Ok.reply)
           (setting_in (network_of was.net.value.program) was.inputs.value (traffic_of was.wire)
           (may_restart (length was.stations.items)) was.round) c.from-number.result c.round_after-self.result
-          (map view c.act_at.new.stations.items) (traffic_of c.act_at.new.wire) was.sound
+          (map view c.act_at.new.stations.items) (traffic_of c.act_at.new.wire)
           (setting_is view (network_of was.net.value.program) was.inputs.value (traffic_of was.wire)
-          was.stations.items was.round) (c.from-number.ensures ∙ c.node.ensures)
-          c.in-Ok.ensures.step (c.in-Ok.ensures.traffic)
+          was.stations.items was.round) (c.from-number.ensures ∙ c.node.ensures) c.in-Ok.ensures.come
           (c.round_after-self.ensures
           ∙ ap (λ (l : List (Station g.row.C.Denot g.row.O.Denot g.C.SlotCell g.C.StableCell)). round_after
-          (reply_view c.in-Ok.reply) was.round (map view l)) c.deref.ensures.value);
+          (reply_view c.in-Ok.reply) was.round (map view l)) c.deref.ensures.value));
     }
 
 pub returns-in-Ok-clause-prefix : goal.returns-in-Ok-clause-prefix
@@ -46,16 +65,18 @@ returns-in-Ok-clause-prefix g c =
     released_prefix
     (world_view {cell = g.C.StableCell} {slots = g.C.SlotCell} g.O.Outlet.taken g.O.Outlet.failures was.net was.inputs
     c.act_at.new.stations.items (traffic_of c.act_at.new.wire) c.round_after-self.result)
-    (act_keeps_world (rooms was.stations.items) (event_view c.args.event) (world_of was) (reply_view c.in-Ok.reply)
+    (step_keeps (rooms was.stations.items) (event_view c.args.event) (world_of was) (reply_view c.in-Ok.reply)
+    (world_view {cell = g.C.StableCell} {slots = g.C.SlotCell} g.O.Outlet.taken g.O.Outlet.failures was.net was.inputs
+    c.act_at.new.stations.items (traffic_of c.act_at.new.wire) c.round_after-self.result) was.sound
+    (world_steps (rooms was.stations.items) (event_view c.args.event) (world_of was) (reply_view c.in-Ok.reply)
     (setting_in (network_of was.net.value.program) was.inputs.value (traffic_of was.wire)
     (may_restart (length was.stations.items)) was.round) c.from-number.result c.round_after-self.result
-    (map view c.act_at.new.stations.items) (traffic_of c.act_at.new.wire) was.sound
+    (map view c.act_at.new.stations.items) (traffic_of c.act_at.new.wire)
     (setting_is view (network_of was.net.value.program) was.inputs.value (traffic_of was.wire)
-    was.stations.items was.round) (c.from-number.ensures ∙ c.node.ensures) c.in-Ok.ensures.step
-    (c.in-Ok.ensures.traffic)
+    was.stations.items was.round) (c.from-number.ensures ∙ c.node.ensures) c.in-Ok.ensures.come
     (c.round_after-self.ensures
-    ∙ ap (λ (l : List (Station g.row.C.Denot g.row.O.Denot g.C.SlotCell g.C.StableCell)). round_after (reply_view c.in-Ok.reply)
-    was.round (map view l)) c.deref.ensures.value))
+    ∙ ap (λ (l : List (Station g.row.C.Denot g.row.O.Denot g.C.SlotCell g.C.StableCell)). round_after
+    (reply_view c.in-Ok.reply) was.round (map view l)) c.deref.ensures.value)))
 
 pub returns-in-Err-clause-prefix : goal.returns-in-Err-clause-prefix
 returns-in-Err-clause-prefix g c =
@@ -76,37 +97,55 @@ pub returns-in-Ok-clause-line : goal.returns-in-Ok-clause-line
 returns-in-Ok-clause-line g c =
     let was = c.args.self.now in
     let view = station_view {cell = g.C.StableCell} {slots = g.C.SlotCell} g.O.Outlet.taken g.O.Outlet.failures in
-    keeps_line {cell = g.C.StableCell} {slots = g.C.SlotCell} g.O.Outlet.taken g.O.Outlet.failures (network_of was.net.value.program)
-    was.inputs.value was.stations.items c.act_at.new.stations.items was.round c.round_after-self.result
-    (traffic_of was.wire) (traffic_of c.act_at.new.wire) was.sound
-    (act_keeps_world (rooms was.stations.items) (event_view c.args.event) (world_of was) (reply_view c.in-Ok.reply)
+    keeps_line {cell = g.C.StableCell} {slots = g.C.SlotCell} g.O.Outlet.taken g.O.Outlet.failures
     (setting_in (network_of was.net.value.program) was.inputs.value (traffic_of was.wire)
-    (may_restart (length was.stations.items)) was.round) c.from-number.result c.round_after-self.result
-    (map view c.act_at.new.stations.items) (traffic_of c.act_at.new.wire) was.sound
+    (may_restart (length was.stations.items)) was.round) (event_view c.args.event)
+    (network_of was.net.value.program) was.inputs.value was.stations.items c.act_at.new.stations.items was.round
+    (traffic_of was.wire) (rooms was.stations.items) c.in-Ok.ensures.come.came (reply_view c.in-Ok.reply)
+    c.from-number.result was.sound
     (setting_is view (network_of was.net.value.program) was.inputs.value (traffic_of was.wire)
-    was.stations.items was.round) (c.from-number.ensures ∙ c.node.ensures) c.in-Ok.ensures.step
-    (c.in-Ok.ensures.traffic)
-    (c.round_after-self.ensures
-    ∙ ap (λ (l : List (Station g.row.C.Denot g.row.O.Denot g.C.SlotCell g.C.StableCell)). round_after (reply_view c.in-Ok.reply)
-    was.round (map view l)) c.deref.ensures.value))
+    was.stations.items was.round) (c.from-number.ensures ∙ c.node.ensures) c.in-Ok.ensures.come.act
     c.act_at.ensures.line
 
 pub returns-in-Err-clause-line : goal.returns-in-Err-clause-line
 returns-in-Err-clause-line g c =
     let was = c.args.self.now in
-    let kept =
-    subst (λ (stations : List StationView). WorldInvariant
-    (record {
-      net = network_of was.net.value.program;
-      inputs = was.inputs.value;
-      stations = stations;
-      traffic =
-          traffic_of was.wire;
-      round = was.round;
-    })) (sym c.in-Err.ensures.refused.0) was.sound in
-    keeps_line {cell = g.C.StableCell} {slots = g.C.SlotCell} g.O.Outlet.taken g.O.Outlet.failures (network_of was.net.value.program)
-    was.inputs.value was.stations.items c.act_at.new.stations.items was.round was.round (traffic_of was.wire)
-    (traffic_of was.wire) was.sound kept c.act_at.ensures.line
+    let view = station_view {cell = g.C.StableCell} {slots = g.C.SlotCell} g.O.Outlet.taken g.O.Outlet.failures in
+    keeps_line {cell = g.C.StableCell} {slots = g.C.SlotCell} g.O.Outlet.taken g.O.Outlet.failures
+    (setting_in (network_of was.net.value.program) was.inputs.value (traffic_of was.wire)
+    (may_restart (length was.stations.items)) was.round) (event_view c.args.event)
+    (network_of was.net.value.program) was.inputs.value was.stations.items c.act_at.new.stations.items was.round
+    (traffic_of was.wire) [] outcome.NotDue NotDue c.from-number.result was.sound
+    (setting_is view (network_of was.net.value.program) was.inputs.value (traffic_of was.wire)
+    was.stations.items was.round) (c.from-number.ensures ∙ c.node.ensures) (refl, c.in-Err.ensures.refused.0)
+    c.act_at.ensures.line
+
+-- checkpoints are coordinated
+pub returns-in-Ok-clause-coordinated : goal.returns-in-Ok-clause-coordinated
+returns-in-Ok-clause-coordinated g c =
+    let was = c.args.self.now in
+    let view = station_view {cell = g.C.StableCell} {slots = g.C.SlotCell} g.O.Outlet.taken g.O.Outlet.failures in
+    events_are_coordinated (rooms was.stations.items) (event_view c.args.event) (world_of was)
+    (reply_view c.in-Ok.reply)
+    (world_view {cell = g.C.StableCell} {slots = g.C.SlotCell} g.O.Outlet.taken g.O.Outlet.failures was.net was.inputs
+    c.act_at.new.stations.items (traffic_of c.act_at.new.wire) c.round_after-self.result) was.sound
+    (world_steps (rooms was.stations.items) (event_view c.args.event) (world_of was) (reply_view c.in-Ok.reply)
+    (setting_in (network_of was.net.value.program) was.inputs.value (traffic_of was.wire)
+    (may_restart (length was.stations.items)) was.round) c.from-number.result c.round_after-self.result
+    (map view c.act_at.new.stations.items) (traffic_of c.act_at.new.wire)
+    (setting_is view (network_of was.net.value.program) was.inputs.value (traffic_of was.wire)
+    was.stations.items was.round) (c.from-number.ensures ∙ c.node.ensures) c.in-Ok.ensures.come
+    (c.round_after-self.ensures
+    ∙ ap (λ (l : List (Station g.row.C.Denot g.row.O.Denot g.C.SlotCell g.C.StableCell)). round_after
+    (reply_view c.in-Ok.reply) was.round (map view l)) c.deref.ensures.value))
+
+pub returns-in-Err-clause-coordinated : goal.returns-in-Err-clause-coordinated
+returns-in-Err-clause-coordinated g c =
+    let was = c.args.self.now in
+    subst (λ (stations : List StationView). AreCoordinated (network_of was.net.value.program) (world_of was).stations
+    stations (traffic_of c.act_at.new.wire)) (sym c.in-Err.ensures.refused.0)
+    (subst (λ (traffic : Traffic). AreCoordinated (network_of was.net.value.program) (world_of was).stations
+    (world_of was).stations traffic) (sym c.in-Err.ensures.same_traffic) (coordinated_still (world_of was) was.sound))
 
 pub returns-in-Ok-clause-settled : goal.returns-in-Ok-clause-settled
 returns-in-Ok-clause-settled g c =
@@ -142,10 +181,10 @@ returns-in-Ok-clause-roomy g c = λ room.
     (may_restart (length was.stations.items)) was.round)
     (λ (station : Station g.row.C.Denot g.row.O.Denot g.C.SlotCell g.C.StableCell). g.C.SlotCell.slot_capacity
     (cell_in station.node.store)) was.stations.items c.from-number.result _ (event_view c.args.event)
-    (reply_view c.in-Ok.reply) (map view c.act_at.new.stations.items)
+    c.in-Ok.ensures.come.came (reply_view c.in-Ok.reply) (map view c.act_at.new.stations.items)
     was.sound
     (setting_is view (network_of was.net.value.program) was.inputs.value (traffic_of was.wire)
-    was.stations.items was.round) (c.from-number.ensures ∙ c.node.ensures) room c.in-Ok.ensures.step
+    was.stations.items was.round) (c.from-number.ensures ∙ c.node.ensures) room c.in-Ok.ensures.come.act
 
 pub returns-in-Ok-clause-heard : goal.returns-in-Ok-clause-heard
 returns-in-Ok-clause-heard g c =
@@ -154,7 +193,7 @@ returns-in-Ok-clause-heard g c =
     never_dropped (world_of was)
     (setting_in (network_of was.net.value.program) was.inputs.value (traffic_of was.wire)
     (may_restart (length was.stations.items)) was.round) (rooms was.stations.items) c.from-number.result
-    (event_view c.args.event)
+    (event_view c.args.event) c.in-Ok.ensures.come.came
     (reply_view c.in-Ok.reply) (map view c.act_at.new.stations.items) was.sound
     (setting_is view (network_of was.net.value.program) was.inputs.value (traffic_of was.wire)
-    was.stations.items was.round) (c.from-number.ensures ∙ c.node.ensures) c.in-Ok.ensures.step
+    was.stations.items was.round) (c.from-number.ensures ∙ c.node.ensures) c.in-Ok.ensures.come.act

@@ -1,0 +1,12 @@
+use Rattle.std.proofs.Common.{◌≡◌, ◌++◌, drop, map}
+use Rattle.kahn_net.specs.Syntax.{network_of}
+use Rattle.protocol.specs.Node.Collecting.{new_asks}
+use Rattle.decide_core.specs.InitiatorView.{question_view}
+use Rattle.decide_core.proofs.initiator.add_new_asks.Given as goal
+
+abbrev pub invariant-loop-need : goal.invariant-loop-need
+invariant-loop-need l =
+    l.packets.items
+    ++ new_asks (network_of l.net.program) l.home l.number (drop l.need-index l.needs) (map question_view l.questions)
+    ≡ l.fn.packets.items
+    ++ new_asks (network_of l.net.program) l.home l.number l.needs (map question_view l.fn.questions)

@@ -1,0 +1,48 @@
+-- What a node says to a packet, and what it runs from once it was in doubt.
+use Rattle.std.specs.Prelude.{◌≡◌, ◌<◌, ◌≤◌, ◌&&◌, ◌==◌, ℕ, true, false, if◌then◌else◌, List, length, Option, Some, None}
+use Rattle.datagram.specs.declared.packet.Packet.{Packet}
+use Rattle.record.specs.ImageView.{ImageView}
+use Rattle.record.specs.declared.record.Tentative.{Tentative}
+use Rattle.ckpt_codec.specs.SizeLaws.{IsRecordWithin}
+use Rattle.ckpt_codec.specs.declared.lengths.TheConstants.{MAX_RETAINED_ITEMS}
+use Rattle.kahn_net.specs.declared.limits.TheConstants.{MAX_NODES}
+use Rattle.record.specs.declared.record.TheConstants.{MAX_DECISIONS}
+use Rattle.recovery_line.specs.Observers.{has_node}
+use Rattle.protocol.specs.Node.Beginning.{live_in}
+use Rattle.protocol.specs.Node.LiveView.{LiveView}
+use Rattle.protocol.specs.Node.NodeView.{NodeView, ModeView, Down, InDoubt, Runs}
+use Rattle.protocol.specs.Node.Plans.{Prospect, packets_by}
+use Rattle.protocol.specs.Node.Verdicts.{may_decide}
+use Rattle.protocol.specs.declared.outcome.Outcome.TheVariants as outcome
+use Rattle.protocol.specs.declared.outcome.Refusal.TheVariants.{TooLarge}
+
+-- what is sent where an event is made, and where its record is too large
+abbrev pub IsSaid : List Packet → List Packet → Prospect → Type 0
+IsSaid made declined prospect =
+    (made ≡ packets_by prospect outcome.Made) × (declined ≡ packets_by prospect (outcome.Refused TooLarge))
+
+-- the image that is held, of this initiator's checkpoint of this number
+abbrev pub held_image : ℕ → ℕ → Option Tentative → Option ImageView
+held_image initiator number None = None
+held_image initiator number (Some held) =
+    if (held.initiator == initiator) && (held.number == number) then Some held.image else None
+
+-- an image, for a node that is in doubt
+abbrev pub image_if_doubtful : ModeView → ImageView → Option ImageView
+image_if_doubtful Down image = None
+image_if_doubtful InDoubt image = Some image
+image_if_doubtful (Runs running) image = None
+
+-- where a node stands that runs
+abbrev pub current_in : ModeView → Option ImageView
+current_in Down = None
+current_in InDoubt = None
+current_in (Runs running) = Some running.current
+
+-- Where a checkpoint is decided for which answers are collected, its decision names other nodes, of no more than there may
+-- be, there is room for it, and the record is within the bounds in which it fits.
+pub record MayBeDecided (number : ℕ) (node : NodeView) : Type 0 where
+  pub others : (live : LiveView) → live_in node.mode ≡ Some live → has_node number live.takers ≡ false
+  pub room : may_decide number node.kept (live_in node.mode) ≡ true → length node.kept.decisions < MAX_DECISIONS
+  pub few : length node.kept.highest ≤ MAX_NODES
+  pub bounded : IsRecordWithin MAX_RETAINED_ITEMS node.kept

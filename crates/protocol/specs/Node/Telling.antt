@@ -1,0 +1,61 @@
+-- What a node sends in its turn, where checkpoints are coordinated.
+use Rattle.std.specs.Prelude.{◌==◌, ◌++◌, ℕ, not, Bool, true, false, if◌then◌else◌, List, [], ◌∷◌, map, Option, Some}
+use Rattle.std.specs.Prelude.{None}
+use Rattle.std.specs.List.{flat_map}
+use Rattle.datagram.specs.declared.packet.Body.TheVariants.{Kept, Query}
+use Rattle.datagram.specs.declared.packet.Packet.{Packet}
+use Rattle.kahn_net.specs.Syntax.{Network}
+use Rattle.record.specs.DecisionView.{DecisionView}
+use Rattle.record.specs.Ends.{received_of}
+use Rattle.record.specs.ImageView.{ImageView}
+use Rattle.record.specs.RecordView.{RecordView}
+use Rattle.record.specs.declared.record.Tentative.{Tentative}
+use Rattle.protocol.specs.Node.Beginning.{live_asks}
+use Rattle.protocol.specs.Node.Verdicts.{commit_to}
+use Rattle.protocol.specs.Node.Addresses.{producer_node}
+use Rattle.protocol.specs.Node.Layout.{incoming_on}
+use Rattle.protocol.specs.Node.Modes.{is_none, is_down}
+use Rattle.protocol.specs.Node.NodeView.{NodeView, ModeView, Down, InDoubt, Runs}
+use Rattle.protocol.specs.Node.Plans.{Prospect, if_due, telling}
+use Rattle.protocol.specs.Node.Sending.{inbox_packets, outbox_packets}
+
+-- to each node that a decision names
+abbrev pub decision_packets : ℕ → DecisionView → List Packet
+decision_packets home decision = map (commit_to home decision.number) decision.participants
+
+abbrev pub packet_if : Bool → Packet → List Packet
+packet_if false packet = []
+packet_if true packet = packet ∷ []
+
+-- the question for the verdict, where another's image is held
+abbrev pub query_packets : ℕ → Option Tentative → List Packet
+query_packets home None = []
+query_packets home (Some held) =
+    packet_if (not (held.initiator == home))
+    (record { from = home; to = held.initiator; body = Query held.number })
+
+-- both, of a node with this record
+abbrev pub verdicts_told : ℕ → RecordView → List Packet
+verdicts_told home kept = flat_map (decision_packets home) kept.decisions ++ query_packets home kept.tentative
+
+-- how much of a channel from another node is kept for good
+abbrev pub kept_packet : Network → ℕ → ImageView → ℕ → Packet
+kept_packet net home permanent c =
+    record { from = home; to = producer_node net c; body = Kept c (received_of permanent c) }
+
+-- A node that runs says of each channel from another node what comes next there and what it keeps for good; then what
+-- it still asks, what it decided, and what it waits for; and then it sends items, unless it holds an image. One in
+-- doubt says what it keeps, what it decided and what it waits for.
+abbrev pub turn_packets : Network → ℕ → RecordView → ModeView → List Packet
+turn_packets net home kept Down = []
+turn_packets net home kept InDoubt =
+    map (kept_packet net home kept.permanent) (incoming_on net home) ++ verdicts_told home kept
+turn_packets net home kept (Runs running) =
+    flat_map (inbox_packets net home kept.permanent) running.inboxes
+    ++ (live_asks net home running.live ++ (verdicts_told home kept
+    ++ (if is_none kept.tentative then flat_map (outbox_packets net home running.current) running.outboxes else [])))
+
+-- a node that is up sends that
+abbrev pub send_prospect : Network → ℕ → NodeView → Prospect
+send_prospect net home node =
+    if_due (not (is_down node.mode)) (telling (turn_packets net home node.kept node.mode) node)
