@@ -4,7 +4,7 @@ use crate::asserting::{holds, same};
 use datagram::{
     Body, Need, Needs, Packet, PacketFault, Reason, is_packet, read_packet, write_packet,
 };
-use std::alloc::Global;
+use std::alloc::{AllocError, Global};
 use std::process::Abort;
 use std::test::Fail;
 
@@ -16,63 +16,60 @@ fn refusal(alloc: Global, bytes: &[u8]) -> u8 {
     }
 }
 
-/// These bytes are read as a packet that is spelled so again. Each beginning of them is refused, and they are with a byte more.
-fn is_spelling(rt: &impl Abort, alloc: Global, bytes: &[u8], what: &str) -> Result<(), Fail> {
-    let packet = read_packet(alloc, bytes).ok().ok_or("no packet")?;
-    holds(rt, is_packet(&packet), what);
-    if is_packet(&packet) {
-        let written = write_packet(alloc, &packet)?;
-        holds(rt, written.as_slice() == bytes, what);
+/// This packet has these bytes.
+fn is_written(rt: &impl Abort, alloc: Global, packet: &Packet, bytes: &[u8], what: &str) {
+    if !is_packet(packet) {
+        return holds(rt, false, what);
     }
+    match write_packet(alloc, packet) {
+        Ok(written) => holds(rt, written.as_slice() == bytes, what),
+        Err(_) => holds(rt, false, what),
+    }
+}
+
+/// These bytes are read as a packet that has them again.
+fn is_read(rt: &impl Abort, alloc: Global, bytes: &[u8], what: &str) {
+    match read_packet(alloc, bytes) {
+        Ok(packet) => is_written(rt, alloc, &packet, bytes, what),
+        Err(_) => holds(rt, false, what),
+    }
+}
+
+/// What they are refused with where a byte more stands behind them.
+fn refusal_of_more(alloc: Global, bytes: &[u8]) -> Result<u8, AllocError> {
+    let mut longer = Vec::from_slice(alloc, bytes)?;
+    longer.push(0)?;
+    Ok(refusal(alloc, longer.as_slice()))
+}
+
+/// This packet has these bytes, and they are read as one that has them again. Each beginning of them is refused, and they are with a
+/// byte more. All is asserted, so that a test has no `?` for it.
+fn is_spelled(rt: &impl Abort, alloc: Global, packet: Packet, bytes: &[u8], what: &str) {
+    is_written(rt, alloc, &packet, bytes, what);
+    is_read(rt, alloc, bytes, what);
     for len in 0..bytes.len() {
         same(rt, refusal(alloc, &bytes[..len]), 33, what);
     }
-    let mut longer = Vec::from_slice(alloc, bytes)?;
-    longer.push(0)?;
-    same(rt, refusal(alloc, longer.as_slice()), 33, what);
-    Ok(())
-}
-
-/// This packet has these bytes, and they are a spelling as above.
-fn is_spelled(
-    rt: &impl Abort,
-    alloc: Global,
-    packet: Packet,
-    bytes: &[u8],
-    what: &str,
-) -> Result<(), Fail> {
-    if is_packet(&packet) {
-        let written = write_packet(alloc, &packet)?;
-        holds(rt, written.as_slice() == bytes, what);
-    } else {
-        holds(rt, false, what);
-    }
-    is_spelling(rt, alloc, bytes, what)
+    holds(rt, refusal_of_more(alloc, bytes) == Ok(33), what);
 }
 
 fn packet_of(from: u8, to: u8, body: Body) -> Packet {
     Packet { from, to, body }
 }
 
-fn three_needs(alloc: Global) -> Result<Needs, Fail> {
-    let mut needs = Needs::new(alloc);
-    needs.push(Need {
-        channel: 0,
-        count: 1,
-    })?;
-    needs.push(Need {
-        channel: 2,
-        count: 258,
-    })?;
-    needs.push(Need {
-        channel: 255,
-        count: 9_223_372_036_854_775_807,
-    })?;
-    Ok(needs)
+fn needs_of(alloc: Global, needs: &[(u16, u64)]) -> Result<Needs, Fail> {
+    let mut list = Needs::new(alloc);
+    for (channel, count) in needs {
+        list.push(Need {
+            channel: *channel,
+            count: *count,
+        })?;
+    }
+    Ok(list)
 }
 
 #[test]
-fn packets_of_a_small_network(rt: HostRuntime) -> Result<(), Fail> {
+fn packets_of_a_small_network(rt: HostRuntime) {
     let alloc = rt.alloc();
     is_spelled(
         &rt,
@@ -88,7 +85,7 @@ fn packets_of_a_small_network(rt: HostRuntime) -> Result<(), Fail> {
         ),
         b"\x02\x01\x00\x00\x05\x00\x00\x00\x00\x00\x00\x00\x02\x00\x00\x00\x00\x00\x00\x00\x02",
         "ack",
-    )?;
+    );
     is_spelled(
         &rt,
         alloc,
@@ -103,7 +100,7 @@ fn packets_of_a_small_network(rt: HostRuntime) -> Result<(), Fail> {
         ),
         b"\x01\x00\x01\x00\x01\x00\x00\x00\x00\x00\x00\x00\x00\x00\x00\x00\x00\x00\x00\x00\x01",
         "first data",
-    )?;
+    );
     is_spelled(
         &rt,
         alloc,
@@ -118,7 +115,7 @@ fn packets_of_a_small_network(rt: HostRuntime) -> Result<(), Fail> {
         ),
         b"\x04\x01\x00\x00\x00\x00\x00\x00\x00\x00\x01\x00\x01\x00\x00\x00\x00\x00\x00\x00\x03",
         "ask",
-    )?;
+    );
     is_spelled(
         &rt,
         alloc,
@@ -134,13 +131,13 @@ fn packets_of_a_small_network(rt: HostRuntime) -> Result<(), Fail> {
         ),
         b"\x05\x00\x01\x00\x00\x00\x00\x00\x00\x00\x01\x00\x01\x00\x00\x00\x00\x00\x00\x00\x03\x00\x00",
         "took",
-    )?;
-    Ok(())
+    );
 }
 
 #[test]
 fn the_other_kinds(rt: HostRuntime) -> Result<(), Fail> {
     let alloc = rt.alloc();
+    let needs = needs_of(alloc, &[(0, 1), (2, 258), (255, 9_223_372_036_854_775_807)])?;
     is_spelled(
         &rt,
         alloc,
@@ -155,7 +152,7 @@ fn the_other_kinds(rt: HostRuntime) -> Result<(), Fail> {
         ),
         b"\x01\x0f\x00\x00\xff\x00\x00\x00\x00\x00\x00\x01\x00\xff\xff\xff\xff\xff\xff\xff\xfe",
         "data",
-    )?;
+    );
     is_spelled(
         &rt,
         alloc,
@@ -169,7 +166,7 @@ fn the_other_kinds(rt: HostRuntime) -> Result<(), Fail> {
         ),
         b"\x03\x00\x0f\x00\x00\x7f\xff\xff\xff\xff\xff\xff\xff",
         "kept",
-    )?;
+    );
     is_spelled(
         &rt,
         alloc,
@@ -180,12 +177,12 @@ fn the_other_kinds(rt: HostRuntime) -> Result<(), Fail> {
                 number: 7,
                 channel: 9,
                 count: 1,
-                needs: three_needs(alloc)?,
+                needs,
             },
         ),
         b"\x05\x02\x03\x00\x00\x00\x00\x00\x00\x00\x07\x00\x09\x00\x00\x00\x00\x00\x00\x00\x01\x00\x03\x00\x00\x00\x00\x00\x00\x00\x00\x00\x01\x00\x02\x00\x00\x00\x00\x00\x00\x01\x02\x00\xff\x7f\xff\xff\xff\xff\xff\xff\xff",
         "needs",
-    )?;
+    );
     is_spelled(
         &rt,
         alloc,
@@ -200,7 +197,7 @@ fn the_other_kinds(rt: HostRuntime) -> Result<(), Fail> {
         ),
         b"\x06\x02\x03\x00\x00\x00\x00\x00\x00\x01\x02\x00\x04\x00\x00\x00\x00\x00\x00\x00\x05",
         "covered",
-    )?;
+    );
     is_spelled(
         &rt,
         alloc,
@@ -215,35 +212,35 @@ fn the_other_kinds(rt: HostRuntime) -> Result<(), Fail> {
         ),
         b"\x07\x03\x02\x00\x00\x00\x00\x00\x00\x00\x01\x00\x04\x04",
         "refused",
-    )?;
+    );
     is_spelled(
         &rt,
         alloc,
         packet_of(3, 2, Body::Query { number: 2 }),
         b"\x08\x03\x02\x00\x00\x00\x00\x00\x00\x00\x02",
         "query",
-    )?;
+    );
     is_spelled(
         &rt,
         alloc,
         packet_of(3, 2, Body::Commit { number: 2 }),
         b"\x09\x03\x02\x00\x00\x00\x00\x00\x00\x00\x02",
         "commit",
-    )?;
+    );
     is_spelled(
         &rt,
         alloc,
         packet_of(3, 2, Body::Ended { number: 2 }),
         b"\x0a\x03\x02\x00\x00\x00\x00\x00\x00\x00\x02",
         "ended",
-    )?;
+    );
     is_spelled(
         &rt,
         alloc,
         packet_of(3, 2, Body::Settled { number: 2 }),
         b"\x0b\x03\x02\x00\x00\x00\x00\x00\x00\x00\x02",
         "settled",
-    )?;
+    );
     is_spelled(
         &rt,
         alloc,
@@ -258,7 +255,7 @@ fn the_other_kinds(rt: HostRuntime) -> Result<(), Fail> {
         ),
         b"\x0c\x00\x01\x00\x01\x00\x00\x00\x00\x00\x00\x00\x00\x00\x00\x00\x00\x00\x00\x00\x04",
         "undone",
-    )?;
+    );
     Ok(())
 }
 

@@ -1,6 +1,6 @@
 //! Packets in flight, by what lies where.
 
-ghost use Rattle.std.specs.Prelude.{◌<◌, All, OnOk};
+ghost use Rattle.std.specs.Prelude.{◌<◌, All, IfOk, OnOk};
 ghost use Rattle.wire.specs.Traffic.{AreNodes};
 
 use crate::asserting::{holds, same};
@@ -11,9 +11,16 @@ use wire::{Bytes, Change, Rule, Sending, Wire};
 
 /// Sends a packet of one byte from node 0 to node 1.
 fn send(alloc: Global, wire: &mut Wire, byte: u8, round: u64) -> Result<(), Fail> {
-    let mut packet = Vec::new(alloc);
-    packet.push(byte)?;
+    let packet = Vec::from_slice(alloc, &[byte])?;
     wire.send(alloc, 0, 1, packet, round)?;
+    Ok(())
+}
+
+/// Sends packets of one byte each, one after the other.
+fn send_each(alloc: Global, wire: &mut Wire, packets: &[(u8, u64)]) -> Result<(), Fail> {
+    for (byte, round) in packets {
+        send(alloc, wire, *byte, *round)?;
+    }
     Ok(())
 }
 
@@ -35,13 +42,16 @@ fn first_due(rt: &impl Abort, wire: &Wire, round: u64, wanted: Option<usize>, wh
     same(rt, wire.first_due(1, round), wanted, what);
 }
 
-fn arm(wire: &mut Wire, nth: u64, change: Change) -> Result<(), Fail> {
-    wire.arm(Rule {
-        from: 0,
-        to: 1,
-        nth,
-        change,
-    })?;
+/// Makes ready what becomes of the packets with these numbers that node 0 sends to node 1.
+fn arm(wire: &mut Wire, changes: &[(u64, Change)]) -> Result<(), Fail> {
+    for (nth, change) in changes {
+        wire.arm(Rule {
+            from: 0,
+            to: 1,
+            nth: *nth,
+            change: *change,
+        })?;
+    }
     Ok(())
 }
 
@@ -78,33 +88,55 @@ fn repeat(rt: &impl Abort, alloc: Global, wire: &mut Wire, place: usize) -> Resu
     Ok(())
 }
 
+// A wire is lent to each test's own function: a test that held it would let go of it at each `?`, which is proved each time.
+
+fn acts_of_the_network_on(rt: &impl Abort, alloc: Global, wire: &mut Wire) -> Result<(), Fail> {
+    send_each(alloc, wire, &[(10, 0), (11, 0), (12, 1)])?;
+    in_flight(rt, wire, b"\x0a\x0b\x0c", "sent");
+    delay(rt, wire, 0, 2);
+    first_due(rt, wire, 0, Some(1), "the second");
+    repeat(rt, alloc, wire, 0)?;
+    in_flight(rt, wire, b"\x0a\x0b\x0c\x0a", "repeated");
+    same(rt, take(wire, 1), Some(11), "taken");
+    in_flight(rt, wire, b"\x0a\x0c\x0a", "two and a copy");
+    first_due(rt, wire, 0, None, "none");
+    first_due(rt, wire, 1, Some(1), "the third");
+    lose(rt, wire, 1);
+    in_flight(rt, wire, b"\x0a\x0a", "lost");
+    lose(rt, wire, 0);
+    first_due(rt, wire, 1, None, "the copy is delayed as its original was");
+    first_due(rt, wire, 2, Some(0), "the copy");
+    Ok(())
+}
+
 #[test]
 fn acts_of_the_network(rt: HostRuntime) -> Result<(), Fail> {
     let alloc = rt.alloc();
     let mut wire = Wire::new(alloc)?;
-    send(alloc, &mut wire, 10, 0)?;
-    send(alloc, &mut wire, 11, 0)?;
-    send(alloc, &mut wire, 12, 1)?;
-    in_flight(&rt, &wire, b"\x0a\x0b\x0c", "sent");
-    delay(&rt, &mut wire, 0, 2);
-    first_due(&rt, &wire, 0, Some(1), "the second");
-    repeat(&rt, alloc, &mut wire, 0)?;
-    in_flight(&rt, &wire, b"\x0a\x0b\x0c\x0a", "repeated");
-    same(&rt, take(&mut wire, 1), Some(11), "taken");
-    in_flight(&rt, &wire, b"\x0a\x0c\x0a", "two and a copy");
-    first_due(&rt, &wire, 0, None, "none");
-    first_due(&rt, &wire, 1, Some(1), "the third");
-    lose(&rt, &mut wire, 1);
-    in_flight(&rt, &wire, b"\x0a\x0a", "lost");
-    lose(&rt, &mut wire, 0);
-    first_due(
-        &rt,
-        &wire,
-        1,
-        None,
-        "the copy is delayed as its original was",
-    );
-    first_due(&rt, &wire, 2, Some(0), "the copy");
+    acts_of_the_network_on(&rt, alloc, &mut wire)
+}
+
+fn rules_on(rt: &impl Abort, alloc: Global, wire: &mut Wire) -> Result<(), Fail> {
+    let changes = [
+        (2, Change::Repeat),
+        (2, Change::Lose),
+        (3, Change::Lose),
+        (3, Change::Repeat),
+        (4, Change::Delay(2)),
+        (4, Change::Repeat),
+        (4, Change::Delay(3)),
+        (5, Change::Delay(9_223_372_036_854_775_807)),
+    ];
+    arm(wire, &changes)?;
+    send_each(alloc, wire, &[(1, 0), (2, 0), (3, 0), (4, 1), (5, 1)])?;
+    in_flight(rt, wire, b"\x01\x04\x04\x05", "by the rules");
+    same(rt, take(wire, 0), Some(1), "the first");
+    first_due(rt, wire, 5, None, "five rounds later at least");
+    first_due(rt, wire, 6, Some(0), "five rounds later");
+    lose(rt, wire, 0);
+    lose(rt, wire, 0);
+    first_due(rt, wire, 9_223_372_036_854_775_806, None, "at last");
+    first_due(rt, wire, 9_223_372_036_854_775_807, Some(0), "then");
     Ok(())
 }
 
@@ -112,27 +144,20 @@ fn acts_of_the_network(rt: HostRuntime) -> Result<(), Fail> {
 fn rules(rt: HostRuntime) -> Result<(), Fail> {
     let alloc = rt.alloc();
     let mut wire = Wire::new(alloc)?;
-    arm(&mut wire, 2, Change::Repeat)?;
-    arm(&mut wire, 2, Change::Lose)?;
-    arm(&mut wire, 3, Change::Lose)?;
-    arm(&mut wire, 3, Change::Repeat)?;
-    arm(&mut wire, 4, Change::Delay(2))?;
-    arm(&mut wire, 4, Change::Repeat)?;
-    arm(&mut wire, 4, Change::Delay(3))?;
-    arm(&mut wire, 5, Change::Delay(9_223_372_036_854_775_807))?;
-    send(alloc, &mut wire, 1, 0)?;
-    send(alloc, &mut wire, 2, 0)?;
-    send(alloc, &mut wire, 3, 0)?;
-    send(alloc, &mut wire, 4, 1)?;
-    send(alloc, &mut wire, 5, 1)?;
-    in_flight(&rt, &wire, b"\x01\x04\x04\x05", "by the rules");
-    same(&rt, take(&mut wire, 0), Some(1), "the first");
-    first_due(&rt, &wire, 5, None, "five rounds later at least");
-    first_due(&rt, &wire, 6, Some(0), "five rounds later");
-    lose(&rt, &mut wire, 0);
-    lose(&rt, &mut wire, 0);
-    first_due(&rt, &wire, 9_223_372_036_854_775_806, None, "at last");
-    first_due(&rt, &wire, 9_223_372_036_854_775_807, Some(0), "then");
+    rules_on(&rt, alloc, &mut wire)
+}
+
+/// Makes the second packet that node 0 sends to node 1 before it sends the first. It is repeated.
+fn send_second_first(rt: &impl Abort, alloc: Global, wire: &mut Wire) -> Result<(), Fail> {
+    arm(wire, &[(2, Change::Repeat)])?;
+    let packet = Vec::from_slice(alloc, &[21])?;
+    let second = wire.letter(alloc, 0, 1, 1, packet, 0)?;
+    same(rt, second.places(), 2, "the second is repeated");
+    wire.reserve(1, 3)?;
+    send(alloc, wire, 20, 0)?;
+    wire.reserve(1, second.places())?;
+    wire.post(second);
+    in_flight(rt, wire, b"\x14\x15\x15", "in order");
     Ok(())
 }
 
@@ -140,17 +165,7 @@ fn rules(rt: HostRuntime) -> Result<(), Fail> {
 fn made_ready_before(rt: HostRuntime) -> Result<(), Fail> {
     let alloc = rt.alloc();
     let mut wire = Wire::new(alloc)?;
-    arm(&mut wire, 2, Change::Repeat)?;
-    let mut packet = Vec::new(alloc);
-    packet.push(21)?;
-    let second = wire.letter(alloc, 0, 1, 1, packet, 0)?;
-    same(&rt, second.places(), 2, "the second is repeated");
-    wire.reserve(1, 3)?;
-    send(alloc, &mut wire, 20, 0)?;
-    wire.reserve(1, second.places())?;
-    wire.post(second);
-    in_flight(&rt, &wire, b"\x14\x15\x15", "in order");
-    Ok(())
+    send_second_first(&rt, alloc, &mut wire)
 }
 
 /// Adds a packet of one byte to those that are to be sent.
@@ -159,8 +174,7 @@ fn add(alloc: Global, packets: &mut Vec<Sending>, from: u8, to: u8, byte: u8) ->
     requires so_far { All AreNodes packets.old.items }
     ensures { OnOk result (All AreNodes packets.new.items) }
 {
-    let mut packet = Vec::new(alloc);
-    packet.push(byte)?;
+    let packet = Vec::from_slice(alloc, &[byte])?;
     packets.push(Sending {
         from,
         to,
@@ -169,24 +183,35 @@ fn add(alloc: Global, packets: &mut Vec<Sending>, from: u8, to: u8, byte: u8) ->
     Ok(())
 }
 
-#[test]
-fn sent_together(rt: HostRuntime) -> Result<(), Fail> {
-    let alloc = rt.alloc();
-    let mut wire = Wire::new(alloc)?;
-    arm(&mut wire, 3, Change::Repeat)?;
-    send(alloc, &mut wire, 20, 0)?;
+/// Four packets, two of them from node 0 to node 1.
+fn four_packets(alloc: Global) -> Result<Vec<Sending>, Fail>
+    ensures { IfOk result (λ packets. All AreNodes packets.items) }
+{
     let mut packets = Vec::new(alloc);
     add(alloc, &mut packets, 0, 1, 21)?;
     add(alloc, &mut packets, 2, 1, 30)?;
     add(alloc, &mut packets, 0, 1, 22)?;
     add(alloc, &mut packets, 1, 2, 40)?;
-    wire.send_all(alloc, packets, 0)?;
+    Ok(packets)
+}
+
+fn sent_together_on(rt: &impl Abort, alloc: Global, wire: &mut Wire) -> Result<(), Fail> {
+    arm(wire, &[(3, Change::Repeat)])?;
+    send(alloc, wire, 20, 0)?;
+    wire.send_all(alloc, four_packets(alloc)?, 0)?;
     in_flight(
-        &rt,
-        &wire,
+        rt,
+        wire,
         b"\x14\x15\x1e\x16\x16",
         "in order, the third of node 0 twice",
     );
-    same(&rt, wire.len(2), 1, "to another node");
+    same(rt, wire.len(2), 1, "to another node");
     Ok(())
+}
+
+#[test]
+fn sent_together(rt: HostRuntime) -> Result<(), Fail> {
+    let alloc = rt.alloc();
+    let mut wire = Wire::new(alloc)?;
+    sent_together_on(&rt, alloc, &mut wire)
 }
