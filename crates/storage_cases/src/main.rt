@@ -54,7 +54,7 @@ use case_table::{
     Case, Difference, Line, Table, Trial, filled, is_wanted, listed, parts_of, read, run_cases,
     run_wrong_cases, table_of,
 };
-use std::alloc::Global;
+use std::alloc::{AllocError, Global};
 
 /// Each case is of storage.
 #[derive(Clone, Copy, Debug)]
@@ -82,8 +82,39 @@ fn answered(alloc: Global, stage: &mut Stage, text: &str) -> anyhow::Result<Stri
     }
 }
 
-/// The first line whose answer isn't the one that is wanted.
+/// What a line asks and wants, and what came in its place.
 fn difference(
+    alloc: Global,
+    line: usize,
+    asked: &str,
+    wanted: &str,
+    came: String,
+) -> Result<Difference, AllocError> {
+    Ok(Difference {
+        line,
+        asked: String::from_str(alloc, asked)?,
+        wanted: String::from_str(alloc, wanted)?,
+        came,
+    })
+}
+
+/// How the answer to a line differs from the one that is wanted, if it does.
+fn difference_at(
+    alloc: Global,
+    stage: &mut Stage,
+    number: usize,
+    line: &str,
+) -> anyhow::Result<Option<Difference>> {
+    let (asked, wanted) = parts_of(line);
+    let came = answered(alloc, stage, asked).context(format_args!("line {number}"))?;
+    if is_wanted(wanted, &came) {
+        return Ok(None);
+    }
+    Ok(Some(difference(alloc, number, asked, wanted, came)?))
+}
+
+/// The first line whose answer isn't the one that is wanted.
+fn first_difference(
     alloc: Global,
     stage: &mut Stage,
     case: &Case,
@@ -91,15 +122,9 @@ fn difference(
 ) -> anyhow::Result<Option<Difference>> {
     for Line { number, text } in &case.lines {
         let line = filled(alloc, text, &case.names, choice)?;
-        let (asked, wanted) = parts_of(&line);
-        let came = answered(alloc, stage, asked).context(format_args!("line {number}"))?;
-        if !is_wanted(wanted, &came) {
-            return Ok(Some(Difference {
-                line: *number,
-                asked: String::from_str(alloc, asked)?,
-                wanted: String::from_str(alloc, wanted)?,
-                came,
-            }));
+        let found = difference_at(alloc, stage, *number, &line)?;
+        if found.is_some() {
+            return Ok(found);
         }
     }
     Ok(None)
@@ -116,7 +141,7 @@ impl Trial for Storage {
             medium: Medium::Nothing,
             streams: Streams::new(rt.alloc()),
         };
-        difference(rt.alloc(), &mut stage, case, choice)
+        first_difference(rt.alloc(), &mut stage, case, choice)
     }
 }
 
