@@ -105,60 +105,71 @@ fn is_refused(rt: &impl Abort, alloc: Global, bytes: &[u8], wanted: u8) {
     }
 }
 
+/// The number of the refusal of these bytes with a zero behind them.
+fn refusal_of_more(alloc: Global, bytes: &[u8]) -> Result<u8, AllocError> {
+    let mut longer = Vec::from_slice(alloc, bytes)?;
+    longer.push(0)?;
+    refusal(alloc, longer.as_slice())
+}
+
+/// These bytes spell a record. Each beginning of them is truncated, and with a byte more they are malformed.
+fn is_spelling(rt: &impl Abort, alloc: Global, bytes: &[u8]) {
+    is_refused(rt, alloc, bytes, 0);
+    for len in 0..bytes.len() {
+        is_refused(rt, alloc, &bytes[..len], 30);
+    }
+    holds(rt, refusal_of_more(alloc, bytes) == Ok(32), "a byte more");
+}
+
+/// These bytes are read as the record that those are.
+fn is_read_as(rt: &impl Abort, alloc: Global, before: &[u8], bytes: &[u8]) {
+    match read_record(alloc, before) {
+        Ok(kept) => match write_record(alloc, &kept) {
+            Ok(written) => holds(rt, written.as_slice() == bytes, "the version before"),
+            Err(_) => holds(rt, false, "memory"),
+        },
+        Err(_) => holds(rt, false, "the version before is read"),
+    }
+}
+
 /// With the version before they are read as well, and spelled in this one.
 fn is_read_from_before(rt: &impl Abort, alloc: Global, bytes: &[u8]) -> Result<(), Fail> {
     let mut before = Vec::from_slice(alloc, bytes)?;
     if let Some(version) = before.first_mut() {
         *version = 1;
     }
-    match read_record(alloc, before.as_slice()) {
-        Ok(kept) => {
-            let written = write_record(alloc, &kept)?;
-            holds(rt, written.as_slice() == bytes, "the version before");
-        }
-        Err(_) => holds(rt, false, "the version before is read"),
-    }
+    is_read_as(rt, alloc, before.as_slice(), bytes);
     Ok(())
 }
 
-/// These bytes spell a record. Each beginning of them is truncated, and with a byte more they are malformed.
-fn is_spelling(rt: &impl Abort, alloc: Global, bytes: &[u8]) -> Result<(), Fail> {
-    is_refused(rt, alloc, bytes, 0);
-    for len in 0..bytes.len() {
-        is_refused(rt, alloc, &bytes[..len], 30);
-    }
-    let mut longer = Vec::from_slice(alloc, bytes)?;
-    longer.push(0)?;
-    is_refused(rt, alloc, longer.as_slice(), 32);
-    Ok(())
+/// With one of the bytes this one, they are refused, or read as a record that is spelled so again.
+fn stands(rt: &impl Abort, alloc: Global, bytes: &[u8], place: usize, value: u8) {
+    let stands = match refusal_with(alloc, bytes, place, value) {
+        Ok(found) => found == 0 || (30 <= found && found <= 32),
+        Err(_) => false,
+    };
+    holds(rt, stands, "one bit turned");
 }
 
-/// With one bit of them turned, they are refused, or read as a record that is spelled so again.
-fn stands_each_change(rt: &impl Abort, alloc: Global, bytes: &[u8]) -> Result<(), Fail> {
+/// So they are with one bit of them turned.
+fn stands_each_change(rt: &impl Abort, alloc: Global, bytes: &[u8]) {
     for (place, byte) in bytes.iter().enumerate() {
         for bit in [1, 2, 4, 8, 16, 32, 64, 128] {
-            let found = refusal_with(alloc, bytes, place, *byte ^ bit)?;
-            holds(
-                rt,
-                found == 0 || (30 <= found && found <= 32),
-                "one bit turned",
-            );
+            stands(rt, alloc, bytes, place, *byte ^ bit);
         }
     }
-    Ok(())
 }
 
 #[test]
-fn seven_records(rt: HostRuntime) -> Result<(), Fail> {
+fn seven_records(rt: HostRuntime) {
     let alloc = rt.alloc();
-    is_spelling(&rt, alloc, &OPENING)?;
-    is_spelling(&rt, alloc, &LATER)?;
-    is_spelling(&rt, alloc, &DECIDED)?;
-    is_spelling(&rt, alloc, &WHOLE)?;
-    is_spelling(&rt, alloc, &TWO_DECIDED)?;
-    is_spelling(&rt, alloc, &REPEATED)?;
-    is_spelling(&rt, alloc, &NESTED)?;
-    Ok(())
+    is_spelling(&rt, alloc, &OPENING);
+    is_spelling(&rt, alloc, &LATER);
+    is_spelling(&rt, alloc, &DECIDED);
+    is_spelling(&rt, alloc, &WHOLE);
+    is_spelling(&rt, alloc, &TWO_DECIDED);
+    is_spelling(&rt, alloc, &REPEATED);
+    is_spelling(&rt, alloc, &NESTED);
 }
 
 #[test]
@@ -174,14 +185,13 @@ fn the_version_before(rt: HostRuntime) -> Result<(), Fail> {
 }
 
 #[test]
-fn one_bit_turned(rt: HostRuntime) -> Result<(), Fail> {
+fn one_bit_turned(rt: HostRuntime) {
     let alloc = rt.alloc();
-    stands_each_change(&rt, alloc, &OPENING)?;
-    stands_each_change(&rt, alloc, &LATER)?;
-    stands_each_change(&rt, alloc, &WHOLE)?;
-    stands_each_change(&rt, alloc, &TWO_DECIDED)?;
-    stands_each_change(&rt, alloc, &NESTED)?;
-    Ok(())
+    stands_each_change(&rt, alloc, &OPENING);
+    stands_each_change(&rt, alloc, &LATER);
+    stands_each_change(&rt, alloc, &WHOLE);
+    stands_each_change(&rt, alloc, &TWO_DECIDED);
+    stands_each_change(&rt, alloc, &NESTED);
 }
 
 #[test]
