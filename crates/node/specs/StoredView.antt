@@ -76,9 +76,9 @@ IsRaiseRefusal fits kept other = ⊥
 -- The store of a node that is down was reopened, and its record is in the next epoch: `result` is the permanent image,
 -- or why it isn't. After a failure of the device the record is the old one or the next one; after any other refusal the
 -- old one.
-pub record IsRaised {C : Type 0} {words : CellWords C} {slots : SlotWords C} (old new : Store C slots words)
-    (result : Result ImageView StoreFault) : Type 0 where
-  pub image : IfOk result (λ image. image ≡ (record_in old).permanent)
+pub record IsRaised {C : Type 0} {words : CellWords C} {slots : SlotWords C} (net : Network) (home : ℕ)
+    (old new : Store C slots words) (result : Result Recovery StoreFault) : Type 0 where
+  pub recovery : IfOk result (λ recovery. recovery_mode recovery ≡ restored_mode net home (with_epoch (record_in old)))
   pub raised : OnOk result
       ((record_in new ≡ with_epoch (record_in old)) × IsSome (known_in new) × ((record_in old).epoch < MAX_COUNT)
       × IsTrue (fits_in (slots.slot_capacity (cell_in old)) (with_epoch (record_in old))))

@@ -14,7 +14,6 @@ ghost use Rattle.node.specs.Then.{then_node};
 ghost use Rattle.node.specs.Said.{MayBeDecided};
 ghost use Rattle.kahn_net.specs.Syntax.{network_of};
 ghost use Rattle.kahn_net.specs.declared.limits.TheConstants.{MAX_NODES};
-ghost use Rattle.protocol.specs.Node.Recovering.{restored_from};
 ghost use Rattle.record.specs.Moves.{highest_seen};
 ghost use Rattle.record.specs.RecordView.{RecordView};
 
@@ -28,7 +27,8 @@ use gate_cell::SlotCell;
 use kahn_net::MAX_COUNT;
 use net_check::Net;
 use protocol::{Outcome, Refusal};
-use record::{Image, Record};
+use record::Record;
+use rollback_core::Restored;
 use std::alloc::{AllocError, Global};
 
 // What comes of an event whose put the store did, or refused. (A node's own events give it no cause for any refusal but those of a put.)
@@ -92,25 +92,11 @@ pub(crate) enum Then {
     Stays,
     /// It collects answers for this checkpoint, or for none.
     Collects(Option<Initiator>),
-    /// Where it was in doubt it runs, from this image.
-    Runs(Option<Image>),
+    /// Where it was in doubt it runs, with what it restored.
+    Runs(Option<Restored>),
 }
 
-// The mode of a node that was in doubt, and runs from this image.
-fn run_from(alloc: Global, image: Image) -> Mode
-    ensures { mode_view result ≡ restored_from image false }
-{
-    Mode::Running(Running {
-        current: image,
-        out: None,
-        last: None,
-        inboxes: Vec::new(alloc),
-        outboxes: Vec::new(alloc),
-        live: None,
-    })
-}
-
-fn carry_on(alloc: Global, then: Then, state: &mut NodeState)
+fn carry_on(then: Then, state: &mut NodeState)
     ensures { (kept : RecordView) → node_view kept state.new
         ≡ then_node then (node_view kept state.old) }
 {
@@ -122,9 +108,9 @@ fn carry_on(alloc: Global, then: Then, state: &mut NodeState)
             }
         }
         Then::Runs(None) => {}
-        Then::Runs(Some(image)) => {
+        Then::Runs(Some(restored)) => {
             if let Mode::InDoubt = &state.mode {
-                state.mode = run_from(alloc, image);
+                state.mode = Mode::Running(Running::from_restored(restored));
             }
         }
     }
@@ -132,7 +118,6 @@ fn carry_on(alloc: Global, then: Then, state: &mut NodeState)
 
 /// Ends an event by what came of its put; behind one that was made its memory changes so.
 pub(crate) fn end_put_then<C: SlotCell>(
-    alloc: Global,
     put: Result<(), StoreFault>,
     then: Then,
     state: &mut NodeState,
@@ -151,7 +136,7 @@ pub(crate) fn end_put_then<C: SlotCell>(
 {
     match put {
         Ok(()) => {
-            carry_on(alloc, then, state);
+            carry_on(then, state);
             Ok(Outcome::Made)
         }
         Err(fault) => end_put(Err(fault), state, store, round),
@@ -253,7 +238,7 @@ pub(crate) fn start<C: SlotCell>(
     let live = Initiator::begin(alloc, net, number, kept, &running.current)?;
     let image = running.current.copy(alloc)?;
     let put = store.take_tentative(alloc, image, number, highest + 1);
-    end_put_then(alloc, put, Then::Collects(Some(live)), state, store, round)
+    end_put_then(put, Then::Collects(Some(live)), state, store, round)
 }
 
 // Decides the checkpoint for which answers were collected: its image becomes permanent, and the decision names who took
@@ -284,5 +269,5 @@ pub(crate) fn decide<C: SlotCell>(
     }
     let participants = live.participants(alloc, count_nodes(kept))?;
     let put = store.decide(alloc, live.number(), participants);
-    end_put_then(alloc, put, Then::Collects(None), state, store, round)
+    end_put_then(put, Then::Collects(None), state, store, round)
 }

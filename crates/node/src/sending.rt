@@ -2,6 +2,7 @@
 ghost use Rattle.std.specs.Prelude.{◌≡◌, ◌+◌, ◌<◌, ◌≤◌, ◌++◌, length, IfOk, OnOk};
 ghost use Rattle.std.specs.List.{flat_map};
 ghost use Rattle.kahn_net.specs.Syntax.{network_of};
+ghost use Rattle.protocol.specs.Node.Telling.{undone_packet, undone_packets};
 ghost use Rattle.protocol.specs.Node.Sending.{data_packets, first_due, inbox_packets, items_due, outbox_packets};
 ghost use Rattle.kahn_net.specs.declared.limits.TheConstants.{MAX_COUNT};
 
@@ -44,6 +45,41 @@ fn add_answers(
             count: permanent.received(inbox.channel),
         },
     })?;
+    Ok(())
+}
+
+// How much of a channel to another node the image had put that the node restored, in this epoch.
+fn undone_packet(net: &Net, home: u8, epoch: u64, outbox: &Outbox) -> Packet
+    ensures { result ≡ undone_packet (network_of net.now.program) home epoch outbox.now }
+{
+    Packet {
+        from: home,
+        to: consumer_node(net, usize::from(outbox.channel)),
+        body: Body::Undone {
+            channel: u16::from(outbox.channel),
+            epoch,
+            sent: outbox.restored,
+        },
+    }
+}
+
+/// Adds what is said of each channel to another node by a node that restored an image, in this epoch: nothing in the first.
+pub(crate) fn add_all_undone(
+    packets: &mut Vec<Packet>,
+    net: &Net,
+    home: u8,
+    epoch: u64,
+    outboxes: &[Outbox],
+) -> Result<(), AllocError>
+    ensures { OnOk result (packets.new.items ≡ packets.old.items
+        ++ undone_packets (network_of net.now.program) home epoch outboxes.now) }
+{
+    if epoch == 0 {
+        return Ok(());
+    }
+    for outbox in outboxes {
+        packets.push(undone_packet(net, home, epoch, outbox))?;
+    }
     Ok(())
 }
 

@@ -43,7 +43,6 @@ pub record StandsIn (setting : Setting) (stations : List StationView) (k : ℕ) 
   pub node : old.node.kept.node ≡ k
   pub sound : StationInvariant setting.net setting.inputs old
   pub joined : IsJoined setting.net old
-  pub alone : setting.restarts ≡ true → node_count setting.net ≡ 1
   pub traffic : TrafficIsSound setting.net setting.inputs setting.traffic
 
 -- An opening world of outlets that have taken nothing has run, with no step.

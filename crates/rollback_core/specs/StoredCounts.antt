@@ -1,0 +1,58 @@
+-- What a stored image received of each channel is a count, since its spelling has no greater number there.
+use Rattle.std.proofs.Common.{◌≡◌, ℕ, ◌≤◌, ◌++◌, Bool, true, false, cond, eqb, List, [], ◌∷◌, Option, Some, None, arith}
+use Rattle.std.proofs.Common.{option_map, length, ◌+◌}
+use Rattle.std.specs.Prelude.{find}
+use Rattle.std.specs.List.{AllByRecursion}
+use Rattle.std.proofs.lemmas.List.Elements.{recursion_from_All}
+use Rattle.kahn_net.specs.declared.limits.TheConstants.{MAX_COUNT, MAX_CHANNELS, MAX_PROCESSES}
+use Rattle.record.specs.Ends.{received_at}
+use Rattle.record.specs.ImageView.{ImageView}
+use Rattle.record.specs.ProcessView.{SavedProcessView}
+use Rattle.record.specs.declared.image.End.{End}
+use Rattle.record.specs.declared.image.End.TheVariants.{Receives, Sends, Both}
+use Rattle.record.specs.declared.image.SavedEnd.{SavedEnd}
+use Rattle.ckpt_codec.specs.Fields.{AreAllowed, Field, IsAllowed}
+use Rattle.ckpt_codec.specs.RecordText.{at_most, end_fields, ends_fields, ends_in, first_of, image_fields, processes_fields}
+use Rattle.ckpt_codec.specs.RecordText.{processes_in, rest_of, wanted, wanted_or}
+use Rattle.protocol.specs.JoinLaws.Holding.{at_most as below}
+use Rattle.protocol.specs.Node.Recovering.{IsRestorable}
+
+-- what stands behind some fields
+behind : (xs ys : List Field) → AllByRecursion IsAllowed (xs ++ ys) → AllByRecursion IsAllowed ys
+behind [] ys all = all
+behind (x ∷ xs) ys all = behind xs ys all.1
+
+end_count : (end : End) (more : List Field) → AllByRecursion IsAllowed (end_fields end ++ more)
+    → received_at (Some end) ≤ MAX_COUNT
+end_count (Receives received) more all = below received MAX_COUNT all.0.1
+end_count (Sends log) more all = omega arith
+end_count (Both received log) more all = below received MAX_COUNT all.0.1
+
+ends_count : (like : Option (List SavedEnd)) (least : ℕ) (ends : List SavedEnd) (c : ℕ)
+    → AllByRecursion IsAllowed (ends_fields like least ends)
+    → received_at (option_map (λ (s : SavedEnd). s.end) (find (λ (s : SavedEnd). eqb s.channel c) ends)) ≤ MAX_COUNT
+ends_count like least [] c all = omega arith
+ends_count like least (e ∷ ends) c all =
+    by (eqb e.channel c)
+    (ends_count (rest_of like) (e.channel + 1) ends c
+    (behind (end_fields e.end) (ends_fields (rest_of like) (e.channel + 1) ends) all.1.1))
+  where
+    by : (b : Bool)
+        → received_at (option_map (λ (s : SavedEnd). s.end) (find (λ (s : SavedEnd). eqb s.channel c) ends)) ≤ MAX_COUNT
+        → received_at
+        (option_map (λ (s : SavedEnd). s.end) (cond b (Some e) (find (λ (s : SavedEnd). eqb s.channel c) ends)))
+        ≤ MAX_COUNT
+    by true rest = end_count e.end (ends_fields (rest_of like) (e.channel + 1) ends) all.1.1
+    by false rest = rest
+
+-- an image that may be written
+pub written_restorable : (like : Option ImageView) (image : ImageView) → AreAllowed (image_fields like image)
+    → IsRestorable image
+written_restorable like image allowed c =
+    ends_count (ends_in like) 0 image.ends c
+    (behind
+    (wanted_or (wanted (λ (i : ImageView). length i.processes) like) (at_most 1 MAX_PROCESSES (length image.processes))
+    ∷ processes_fields (processes_in like) 0 image.processes)
+    (wanted_or (wanted (λ (i : ImageView). length i.ends) like) (at_most 2 MAX_CHANNELS (length image.ends))
+    ∷ ends_fields (ends_in like) 0 image.ends)
+    (recursion_from_All IsAllowed (image_fields like image) allowed)).1
