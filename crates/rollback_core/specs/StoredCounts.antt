@@ -1,6 +1,6 @@
 -- What a stored image received of each channel is a count, since its spelling has no greater number there.
-use Rattle.std.proofs.Common.{◌≡◌, ℕ, ◌≤◌, ◌++◌, Bool, true, false, cond, eqb, List, [], ◌∷◌, Option, Some, None, arith}
-use Rattle.std.proofs.Common.{option_map, length, ◌+◌}
+use Rattle.std.proofs.Common.{◌≡◌, ℕ, suc, ◌≤◌, ◌++◌, Bool, true, false, cond, eqb, List, [], ◌∷◌, Option, Some, None, arith}
+use Rattle.std.proofs.Common.{option_map, length}
 use Rattle.std.specs.Prelude.{find}
 use Rattle.std.specs.List.{AllByRecursion}
 use Rattle.std.proofs.lemmas.List.Elements.{recursion_from_All}
@@ -34,15 +34,15 @@ ends_count : (like : Option (List SavedEnd)) (least : ℕ) (ends : List SavedEnd
 ends_count like least [] c all = omega arith
 ends_count like least (e ∷ ends) c all =
     by (eqb e.channel c)
-    (ends_count (rest_of like) (e.channel + 1) ends c
-    (behind (end_fields e.end) (ends_fields (rest_of like) (e.channel + 1) ends) all.1.1))
+    (ends_count (rest_of like) (suc e.channel) ends c
+    (behind (end_fields e.end) (ends_fields (rest_of like) (suc e.channel) ends) all.1.1))
   where
     by : (b : Bool)
         → received_at (option_map (λ (s : SavedEnd). s.end) (find (λ (s : SavedEnd). eqb s.channel c) ends)) ≤ MAX_COUNT
         → received_at
         (option_map (λ (s : SavedEnd). s.end) (cond b (Some e) (find (λ (s : SavedEnd). eqb s.channel c) ends)))
         ≤ MAX_COUNT
-    by true rest = end_count e.end (ends_fields (rest_of like) (e.channel + 1) ends) all.1.1
+    by true rest = end_count e.end (ends_fields (rest_of like) (suc e.channel) ends) all.1.1
     by false rest = rest
 
 -- an image that may be written

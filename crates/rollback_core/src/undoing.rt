@@ -33,7 +33,7 @@ fn inbox_of(inboxes: &[Inbox], channel: u16) -> Option<&Inbox>
 
 // What a node in this epoch of its own does about the end of a channel.
 fn answer_at(inbox: Option<&Inbox>, epoch: u64, sent: u64, own: u64) -> UndoneAnswer
-    ensures { answer_view result ≡ answer_at epoch sent own (option_copied inbox) }
+    ensures { answer_view result ≡ answer_at epoch sent own (option_copied inbox.entry) }
 {
     let Some(inbox) = inbox else {
         return UndoneAnswer::PassesOver;
@@ -59,7 +59,7 @@ pub fn answer_to_undone(
     sent: u64,
 ) -> UndoneAnswer
     ensures { answer_view result
-        ≡ answer_to_undone channel epoch sent kept.now (mode_with (option_copied inboxes)) }
+        ≡ answer_to_undone channel epoch sent kept.now (mode_with (option_copied inboxes.entry)) }
 {
     if kept.tentative.is_some() {
         return UndoneAnswer::PassesOver;
@@ -70,15 +70,39 @@ pub fn answer_to_undone(
     }
 }
 
+// Notes the epoch, where the inbox is of the channel.
+fn note_at(inbox: &mut Inbox, channel: u16, epoch: u64)
+    ensures { inbox.new ≡ handled channel epoch inbox.old }
+{
+    if u16::from(inbox.channel) == channel {
+        inbox.undone = epoch;
+    }
+}
+
 /// Notes that this epoch of a channel's sender was handled.
 pub fn note_epoch(inboxes: &mut Vec<Inbox>, channel: u16, epoch: u64)
     ensures { inboxes.new.items ≡ handled_at channel epoch inboxes.old.items }
 {
     for inbox in inboxes.iter_mut() {
-        if u16::from(inbox.channel) == channel {
-            inbox.undone = epoch;
-        }
+        note_at(inbox, channel, epoch);
     }
+}
+
+fn set_inbox_back(alloc: Global, inbox: &mut Inbox, image: &Image, epoch: u64)
+    requires counts { IsRestorable image.now }
+    requires epoch { epoch ≤ MAX_COUNT }
+    ensures { inbox.new ≡ inbox_set_back image.now epoch inbox.old }
+{
+    let next = image.received(inbox.channel);
+    inbox.window.set_back(next, epoch);
+    inbox.log = Log::starting_at(alloc, next);
+}
+
+fn set_outbox_back(outbox: &mut Outbox, image: &Image)
+    ensures { outbox.new ≡ outbox_set_back image.now outbox.old }
+{
+    outbox.window.reset();
+    outbox.restored = image.sent(outbox.channel);
 }
 
 fn set_back_inboxes(alloc: Global, inboxes: &mut Vec<Inbox>, image: &Image, epoch: u64)
@@ -87,9 +111,7 @@ fn set_back_inboxes(alloc: Global, inboxes: &mut Vec<Inbox>, image: &Image, epoc
     ensures { inboxes.new.items ≡ map (inbox_set_back image.now epoch) inboxes.old.items }
 {
     for inbox in inboxes.iter_mut() {
-        let next = image.received(inbox.channel);
-        inbox.window.set_back(next, epoch);
-        inbox.log = Log::starting_at(alloc, next);
+        set_inbox_back(alloc, inbox, image, epoch);
     }
 }
 
@@ -97,8 +119,7 @@ fn set_back_outboxes(outboxes: &mut Vec<Outbox>, image: &Image)
     ensures { outboxes.new.items ≡ map (outbox_set_back image.now) outboxes.old.items }
 {
     for outbox in outboxes.iter_mut() {
-        outbox.window.reset();
-        outbox.restored = image.sent(outbox.channel);
+        set_outbox_back(outbox, image);
     }
 }
 
