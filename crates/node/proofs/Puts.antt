@@ -32,7 +32,8 @@ on_ok (Err e) p f = tt
 then_kept : (then : Then) (node : NodeView) → (then_node then node).kept ≡ node.kept
 then_kept then_is.Stays node = refl
 then_kept (then_is.Collects live) node = refl
-then_kept (then_is.Runs image) node = refl
+then_kept (then_is.Runs restored) node = refl
+then_kept (then_is.GoesBack image own channel epoch) node = refl
 
 module _ {C : Type 0} (words : CellWords C) (slots : SlotWords C)
     (includes_now : (cell : C) (t : ℕ) (left : Whole) → t ≤ words.moment cell → slots.may_leave_whole cell left

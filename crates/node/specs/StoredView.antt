@@ -7,7 +7,7 @@ use Rattle.gate_cell.specs.declared.slot_cell.SlotCell.{Ghosts as SlotWords}
 use Rattle.gate_cell.specs.Setup.{LeavesSetup}
 use Rattle.gate_cell.specs.Whole.{Whole}
 use Rattle.record.specs.RecordView.{RecordView}
-use Rattle.record.specs.ImageView.{ImageView}
+use Rattle.kahn_net.specs.Syntax.{Network}
 use Rattle.record.specs.Moves.{with_epoch}
 use Rattle.kahn_net.specs.declared.limits.TheConstants.{MAX_COUNT}
 use Rattle.ckpt_store.specs.Spelling.{Spells, fits_in}
@@ -18,6 +18,9 @@ use Rattle.ckpt_store.specs.declared.fault.StoreFault.{StoreFault}
 use Rattle.ckpt_store.specs.declared.fault.StoreFault.TheVariants as fault
 use Rattle.protocol.specs.Node.NodeView.{ModeView}
 use Rattle.protocol.specs.Node.Modes.{is_down}
+use Rattle.protocol.specs.Node.Recovering.{restored_mode}
+use Rattle.rollback_core.specs.RestoredView.{recovery_mode}
+use Rattle.rollback_core.specs.declared.restoring.Recovery.{Recovery}
 use Rattle.protocol.specs.declared.outcome.Outcome.{Outcome}
 use Rattle.protocol.specs.declared.outcome.Outcome.TheVariants.{NotDue, Made, Refused, Failed}
 use Rattle.protocol.specs.declared.outcome.Refusal.TheVariants.{TooLarge, Spent}

@@ -1,7 +1,11 @@
 -- What becomes of a node's memory behind a put that was made.
-use Rattle.std.specs.Prelude.{false, Option, Some, None}
+use Rattle.std.specs.Prelude.{◌≤◌, Option, Some, None}
+use Rattle.kahn_net.specs.declared.limits.TheConstants.{MAX_COUNT}
+use Rattle.protocol.specs.Node.GoingBack.{set_back_from}
+use Rattle.protocol.specs.Node.Modes.{next_number}
+use Rattle.protocol.specs.Node.Recovering.{IsRestorable}
 use Rattle.protocol.specs.Node.Beginning.{collecting}
-use Rattle.protocol.specs.Node.NodeView.{NodeView, ModeView, Down, InDoubt, Runs, on_running, with_mode}
+use Rattle.protocol.specs.Node.NodeView.{NodeView, ModeView, Down, InDoubt, Runs, on_mode, on_running, with_mode}
 use Rattle.rollback_core.specs.RestoredView.{restored_view}
 use Rattle.rollback_core.specs.declared.restoring.Restored.{Restored}
 use Rattle.node.specs.declared.checkpoint.Then.{Then}
@@ -22,3 +26,17 @@ abbrev pub then_node : Then → NodeView → NodeView
 then_node then_is.Stays node = node
 then_node (then_is.Collects live) node = on_running (collecting live) node
 then_node (then_is.Runs restored) node = with_mode (mode_of restored node.mode) node
+then_node (then_is.GoesBack image own channel epoch) node = record {
+  kept = node.kept;
+  version = next_number node.version;
+  restart = node.restart;
+  armed = node.armed;
+  mode = on_mode (set_back_from image own channel epoch) node.mode;
+}
+
+-- it may be done
+abbrev pub MayFollow : Then → Type 0
+MayFollow then_is.Stays = Unit {0}
+MayFollow (then_is.Collects live) = Unit {0}
+MayFollow (then_is.Runs restored) = Unit {0}
+MayFollow (then_is.GoesBack image own channel epoch) = IsRestorable image × (own ≤ MAX_COUNT)

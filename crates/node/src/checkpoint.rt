@@ -10,7 +10,7 @@ ghost use Rattle.protocol.specs.Node.Verdicts.{decide_prospect};
 ghost use Rattle.node.specs.Putting.{IsPutEvent};
 ghost use Rattle.node.specs.NodeView.{mode_view, node_view};
 ghost use Rattle.node.specs.StoredView.{HasRecord, IsCrashed, IsAnswer, has_failed, put_outcome};
-ghost use Rattle.node.specs.Then.{then_node};
+ghost use Rattle.node.specs.Then.{MayFollow, then_node};
 ghost use Rattle.node.specs.Said.{MayBeDecided};
 ghost use Rattle.kahn_net.specs.Syntax.{network_of};
 ghost use Rattle.kahn_net.specs.declared.limits.TheConstants.{MAX_NODES};
@@ -27,7 +27,7 @@ use gate_cell::SlotCell;
 use kahn_net::MAX_COUNT;
 use net_check::Net;
 use protocol::{Outcome, Refusal};
-use record::Record;
+use record::{Image, Record};
 use rollback_core::Restored;
 use std::alloc::{AllocError, Global};
 
@@ -94,9 +94,17 @@ pub(crate) enum Then {
     Collects(Option<Initiator>),
     /// Where it was in doubt it runs, with what it restored.
     Runs(Option<Restored>),
+    /// It goes back to this image, in this epoch of its own, and notes that of a channel's sender.
+    GoesBack {
+        image: Image,
+        own: u64,
+        channel: u16,
+        epoch: u64,
+    },
 }
 
-fn carry_on(then: Then, state: &mut NodeState)
+fn carry_on(alloc: Global, then: Then, state: &mut NodeState)
+    requires { MayFollow then }
     ensures { (kept : RecordView) → node_view kept state.new
         ≡ then_node then (node_view kept state.old) }
 {
@@ -113,17 +121,25 @@ fn carry_on(then: Then, state: &mut NodeState)
                 state.mode = Mode::Running(Running::from_restored(restored));
             }
         }
+        Then::GoesBack {
+            image,
+            own,
+            channel,
+            epoch,
+        } => state.go_back(alloc, image, own, channel, epoch),
     }
 }
 
 /// Ends an event by what came of its put; behind one that was made its memory changes so.
 pub(crate) fn end_put_then<C: SlotCell>(
+    alloc: Global,
     put: Result<(), StoreFault>,
     then: Then,
     state: &mut NodeState,
     store: &mut Store<C>,
     round: u64,
 ) -> Result<Outcome, AllocError>
+    requires { MayFollow then }
     ensures answer { IsAnswer (put_outcome put) result }
     ensures store { has_failed put ≡ false → store.new ≡ store.old }
     ensures done { OnOk put ((kept : RecordView) → node_view kept state.new
@@ -136,7 +152,7 @@ pub(crate) fn end_put_then<C: SlotCell>(
 {
     match put {
         Ok(()) => {
-            carry_on(then, state);
+            carry_on(alloc, then, state);
             Ok(Outcome::Made)
         }
         Err(fault) => end_put(Err(fault), state, store, round),
@@ -238,7 +254,7 @@ pub(crate) fn start<C: SlotCell>(
     let live = Initiator::begin(alloc, net, number, kept, &running.current)?;
     let image = running.current.copy(alloc)?;
     let put = store.take_tentative(alloc, image, number, highest + 1);
-    end_put_then(put, Then::Collects(Some(live)), state, store, round)
+    end_put_then(alloc, put, Then::Collects(Some(live)), state, store, round)
 }
 
 // Decides the checkpoint for which answers were collected: its image becomes permanent, and the decision names who took
@@ -269,5 +285,5 @@ pub(crate) fn decide<C: SlotCell>(
     }
     let participants = live.participants(alloc, count_nodes(kept))?;
     let put = store.decide(alloc, live.number(), participants);
-    end_put_then(put, Then::Collects(None), state, store, round)
+    end_put_then(alloc, put, Then::Collects(None), state, store, round)
 }

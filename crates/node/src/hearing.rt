@@ -30,7 +30,7 @@ ghost use Rattle.record.specs.RecordView.{RecordView};
 ghost use Rattle.ckpt_core.specs.AskView.{answer_view};
 ghost use Rattle.kahn_net.specs.declared.limits.TheConstants.{MAX_CHANNELS, MAX_COUNT};
 
-use crate::checkpoint::{Then, end_put, end_put_then};
+use crate::checkpoint::{Then, end_put_then};
 use crate::mode::Mode;
 use crate::state::NodeState;
 use ckpt_core::{AskAnswer, Question, answer_to_ask, holds, refusal, say_answer, settled};
@@ -259,7 +259,7 @@ fn take_part<C: SlotCell>(
     };
     let image = current.copy(alloc)?;
     let put = store.take_tentative(alloc, image, question.initiator, question.number);
-    end_put_then(put, Then::Stays, state, store, round)
+    end_put_then(alloc, put, Then::Stays, state, store, round)
 }
 
 // Gives up the checkpoint for which answers are collected: its image is dropped.
@@ -282,7 +282,7 @@ fn give_up<C: SlotCell>(
     ensures unchanged { LeavesCell result → cell_in store.new ≡ cell_in store.old }
 {
     let put = store.drop_tentative(alloc, home, number);
-    end_put_then(put, Then::Collects(None), state, store, round)
+    end_put_then(alloc, put, Then::Collects(None), state, store, round)
 }
 
 // A node says that it takes part.
@@ -409,7 +409,7 @@ fn hear_commit<C: SlotCell>(
     };
     let restored = restore_if_doubtful(alloc, net, home, state, image, kept.epoch)?;
     let put = store.make_permanent(alloc, from, number);
-    end_put_then(put, Then::Runs(restored), state, store, round)
+    end_put_then(alloc, put, Then::Runs(restored), state, store, round)
 }
 
 // The verdict that a checkpoint is over: its image is dropped where it is held.
@@ -441,7 +441,7 @@ fn hear_ended<C: SlotCell>(
     }
     let restored = restore_if_doubtful(alloc, net, home, state, &kept.permanent, kept.epoch)?;
     let put = store.drop_tentative(alloc, from, number);
-    end_put_then(put, Then::Runs(restored), state, store, round)
+    end_put_then(alloc, put, Then::Runs(restored), state, store, round)
 }
 
 // A node has done what it was told: it leaves the decision that names it.
@@ -471,7 +471,7 @@ fn hear_settled<C: SlotCell>(
         return Ok(Outcome::Made);
     }
     let put = store.confirm(alloc, number, from);
-    end_put_then(put, Then::Stays, state, store, round)
+    end_put_then(alloc, put, Then::Stays, state, store, round)
 }
 
 // Goes back to the permanent image, in the next epoch.
@@ -500,13 +500,14 @@ fn go_back<C: SlotCell>(
     };
     let own = kept.epoch + 1;
     let image = kept.permanent.copy(alloc)?;
-    match store.raise_epoch(alloc) {
-        Ok(()) => {
-            state.go_back(alloc, image, own, channel, epoch);
-            Ok(Outcome::Made)
-        }
-        Err(fault) => end_put(Err(fault), state, store, round),
-    }
+    let put = store.raise_epoch(alloc);
+    let then = Then::GoesBack {
+        image,
+        own,
+        channel,
+        epoch,
+    };
+    end_put_then(alloc, put, then, state, store, round)
 }
 
 // The sender of a channel restored an image that had put so many items, in this epoch.

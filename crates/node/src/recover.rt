@@ -92,7 +92,7 @@ fn raise<C: SlotCell>(
     home: u8,
     store: &mut Store<C>,
 ) -> Result<Recovery, StoreFault>
-    requires settled { Only (C.whole (cell_in store.old)) (C.may_leave_whole (cell_in store.old)) }
+    requires { Only (C.whole (cell_in store.old)) (C.may_leave_whole (cell_in store.old)) }
     ensures { IsRaised (network_of net.now.program) home store.old store.new result }
 {
     match store.reopen(alloc) {
@@ -111,7 +111,7 @@ pub(crate) fn come_back<C: SlotCell>(
     store: &mut Store<C>,
     round: u64,
 ) -> Result<Outcome, AllocError>
-    requires kept { HasRecord number (mode_view state.old.mode) store.old }
+    requires { HasRecord number (mode_view state.old.mode) store.old }
     ensures kept { HasRecord number (mode_view state.new.mode) store.new }
     ensures event { IsPutEvent (recover_prospect (network_of net.now.program) number
         (node_view (record_in store.old) state.old))

@@ -1,5 +1,6 @@
 //! What a node has while it runs.
-ghost use Rattle.std.specs.Prelude.{◌≡◌, ◌↔◌, ◌<◌, if◌then◌else◌, length, IfOk, IfSome, IsErrOf, IsTrue, None, OnErr, OnOk, Some, is_some, option_copied, option_map};
+ghost use Rattle.kahn_net.specs.declared.limits.TheConstants.{MAX_COUNT};
+ghost use Rattle.std.specs.Prelude.{◌≡◌, ◌↔◌, ◌<◌, ◌≤◌, if◌then◌else◌, length, IfOk, IfSome, IsErrOf, IsTrue, None, OnErr, OnOk, Some, is_some, option_copied, option_map};
 ghost use Rattle.kahn_net.specs.Syntax.{network_of};
 ghost use Rattle.kahn_net.specs.States.{standing_of};
 ghost use Rattle.protocol.specs.Node.Choosing.{granted, may_grant, next_job, next_process};
