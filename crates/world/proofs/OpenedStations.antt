@@ -41,6 +41,7 @@ use Rattle.world.specs.WorldView.{station_view}
 use Rattle.protocol.specs.World.Steps.{WorldView}
 use Rattle.world.proofs.Openings.{fresh_views, opened_listed, opened_nothing, opened_station}
 use Rattle.protocol.specs.World.Turns.{no_turns}
+use Rattle.protocol.specs.declared.limits.TheConstants.{DEFAULT_ROOM}
 use Rattle.world.specs.declared.output.Output.{Output}
 use Rattle.world.specs.declared.station.Station.{Station}
 
@@ -305,6 +306,7 @@ module _ {D O : Type 0} {disk : DiskWords D} {cell : CellWords (SplitCell D disk
         traffic =
             traffic;
         round = 0;
+        room = DEFAULT_ROOM;
       }
       ≡ opening_world (network_of net.program) inputs (map (λ (d : D). disk.failure_count d) disks)
       (outlet_views taken failures outputs)
@@ -320,7 +322,14 @@ module _ {D O : Type 0} {disk : DiskWords D} {cell : CellWords (SplitCell D disk
     where
       world : List StationView → Traffic → WorldView
       world list traffic =
-          record { net = network_of net.program; inputs = inputs; stations = list; traffic = traffic; round = 0 }
+          record {
+            net = network_of net.program;
+            inputs = inputs;
+            stations = list;
+            traffic = traffic;
+            round = 0;
+            room = DEFAULT_ROOM;
+          }
 
   -- and so the world is sound
   pub opened_sound : (inputs : List (List ℤ)) (traffic : Traffic) → traffic ≡ opening_traffic
@@ -336,6 +345,7 @@ module _ {D O : Type 0} {disk : DiskWords D} {cell : CellWords (SplitCell D disk
             map (station_view taken failures) stations;
         traffic = traffic;
         round = 0;
+        room = DEFAULT_ROOM;
       })
   opened_sound inputs traffic none fits each listed empty =
       subst WorldInvariant (sym (opened_world inputs traffic none))

@@ -120,27 +120,36 @@ acted {S} setting view room event xs place x y flown (Ok reply) within is come =
 
 -- the setting of a world by its stations, as they are and as they are seen
 pub setting_is : {S : Type 0} (view : S → StationView) (net : Network) (inputs : List (List ℤ)) (traffic : Traffic)
-    (xs : List S) (round : ℕ)
-    → setting_in net inputs traffic (may_restart (length xs)) round
-    ≡ setting_of (record { net = net; inputs = inputs; stations = map view xs; traffic = traffic; round = round })
-setting_is view net inputs traffic xs round =
-    ap (λ (n : ℕ). setting_in net inputs traffic (may_restart n) round) (sym (length-map xs view))
+    (xs : List S) (round room : ℕ)
+    → setting_in net inputs traffic (may_restart (length xs)) round room
+    ≡ setting_of
+    (record {
+      net = net;
+      inputs = inputs;
+      stations = map view xs;
+      traffic = traffic;
+      round = round;
+      room = room;
+    })
+setting_is view net inputs traffic xs round room =
+    ap (λ (n : ℕ). setting_in net inputs traffic (may_restart n) round room) (sym (length-map xs view))
 
 -- whether nodes may restart, by the number of stations
 pub restarts_are : {S : Type 0} (net : Network) (inputs : List (List ℤ)) (traffic : Traffic) (xs : List S)
-    (restarts : Bool) (count round : ℕ) → restarts ≡ may_restart count → count ≡ length xs
-    → setting_in net inputs traffic restarts round ≡ setting_in net inputs traffic (may_restart (length xs)) round
-restarts_are net inputs traffic xs restarts count round may many =
-    ap (λ (b : Bool). setting_in net inputs traffic b round) (may ∙ ap may_restart many)
+    (restarts : Bool) (count round room : ℕ) → restarts ≡ may_restart count → count ≡ length xs
+    → setting_in net inputs traffic restarts round room
+    ≡ setting_in net inputs traffic (may_restart (length xs)) round room
+restarts_are net inputs traffic xs restarts count round room may many =
+    ap (λ (b : Bool). setting_in net inputs traffic b round room) (may ∙ ap may_restart many)
 
 -- the station of this place is a sound one
 pub sound_at : {S : Type 0} (view : S → StationView) (net : Network) (inputs : List (List ℤ)) (traffic : Traffic)
-    (xs : List S) (place : ℕ) (x : S) (restarts : Bool) (count round : ℕ) → restarts ≡ may_restart count
+    (xs : List S) (place : ℕ) (x : S) (restarts : Bool) (count round room : ℕ) → restarts ≡ may_restart count
     → count ≡ length xs
     → length (map view xs) ≡ node_count net → IsNumbered (map view xs) → AreSound net inputs (map view xs)
     → AreJoined net (map view xs) → place < length xs → x ≡ get_or xs place x
-    → IsSoundStation (setting_in net inputs traffic restarts round) (view x)
-sound_at view net inputs traffic xs place x restarts count round may many all numbered sound joined within is =
+    → IsSoundStation (setting_in net inputs traffic restarts round room) (view x)
+sound_at view net inputs traffic xs place x restarts count round room may many all numbered sound joined within is =
     let there : slice_get (map view xs) place ≡ Some (view x) =
     map_at view xs place x (slice_get_read xs (length xs) place x refl within is) in
     record {
@@ -190,7 +199,14 @@ pub world_steps : (rooms : List (RecordView → Bool)) (e : EventView) (old : Wo
     → number ≡ event_node e → HasActed setting number rooms e old.stations answer stations flown
     → round ≡ round_after answer old.round stations
     → IsStep rooms e old answer
-    (record { net = old.net; inputs = old.inputs; stations = stations; traffic = flown; round = round })
+    (record {
+      net = old.net;
+      inputs = old.inputs;
+      stations = stations;
+      traffic = flown;
+      round = round;
+      room = old.room;
+    })
 world_steps rooms e old answer setting number round stations flown same_setting same_number acted later =
     let here =
     subst (λ (n : ℕ). HasActed (setting_of old) n rooms e old.stations answer stations flown) same_number
@@ -202,6 +218,7 @@ world_steps rooms e old answer setting number round stations flown same_setting 
       act = here.act;
       traffic = here.traffic;
       round = later;
+      room = refl;
     }
 
 -- where there is no station, nothing happens

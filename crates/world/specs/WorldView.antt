@@ -35,10 +35,11 @@ station_view {C} {O} {cell} {slots} taken failures station = record {
   turns = station.turns;
 }
 
--- a world by its parts: shares of its network and of the inputs, its stations, what is in flight, and the round
+-- a world by its parts: shares of its network and of the inputs, its stations, what is in flight, the round, and the room
+-- of a channel
 abbrev pub world_view : {C O : Type 0} {cell : CellWords C} {slots : SlotWords C} → (O → List ℤ) → (O → ℕ) → Arc Net Global
-    → Arc Inputs Global → List (Station C O slots cell) → Traffic → ℕ → WorldView
-world_view taken failures net inputs stations traffic round =
+    → Arc Inputs Global → List (Station C O slots cell) → Traffic → ℕ → ℕ → WorldView
+world_view taken failures net inputs stations traffic round room =
     record {
       net = network_of net.value.program;
       inputs = inputs.value;
@@ -46,6 +47,7 @@ world_view taken failures net inputs stations traffic round =
           map (station_view taken failures) stations;
       traffic = traffic;
       round = round;
+      room = room;
     }
 
 -- what each station's cell has room for

@@ -32,7 +32,8 @@ use std::alloc::{AllocError, Global};
 use std::sync::Arc;
 use wire::Wire;
 
-/// A network that runs on its inputs: shares of both, its stations, one a node, by node number, and the round.
+/// A network that runs on its inputs: shares of both, its stations, one a node, by node number, the round, and the room of a
+/// channel.
 ///
 /// Its type keeps that the inputs fit the network, that each station is of the node of its number, that the images of each
 /// station stand where its processes have come on one approximation of the network's histories, that what its outlets took
@@ -45,8 +46,10 @@ pub struct World<C: SlotCell, O: Outlet> {
     pub stations: Vec<Station<C, O>>,
     pub wire: Wire,
     pub round: u64,
+    /// How many items a channel retains at most, where its share of a record isn't less.
+    pub room: usize,
     pub ghost sound: { WorldInvariant
-        (world_view O.taken O.failures net inputs stations.items (traffic_of wire) round) },
+        (world_view O.taken O.failures net inputs stations.items (traffic_of wire) round room) },
 }
 
 // An event at the station of this number, where there is one.
@@ -58,6 +61,7 @@ fn act_at<C: SlotCell, O: Outlet>(
     wire: &mut Wire,
     number: usize,
     round: u64,
+    room: usize,
     event: &Event,
 ) -> Result<Reply, AllocError>
     requires fits { Fits (network_of net.now.value.program) inputs.now.value }
@@ -73,7 +77,7 @@ fn act_at<C: SlotCell, O: Outlet>(
     ensures grown { AllZip (IsGrown O.taken) stations.old.items stations.new.items }
     ensures line { AllZip (StaysInLine O.taken O.failures
         (setting_in (network_of net.now.value.program) inputs.now.value (traffic_of wire.old)
-        (may_restart (length stations.old.items)) round) (event_view event.now))
+        (may_restart (length stations.old.items)) round room) (event_view event.now))
         stations.old.items stations.new.items }
     ensures refused { OnErr result
         ((map (station_view O.taken O.failures) stations.new.items
@@ -81,7 +85,7 @@ fn act_at<C: SlotCell, O: Outlet>(
         × TakesMemory (event_view event.now)) }
     ensures come { IfOk result
         (λ reply. HasActed (setting_in (network_of net.now.value.program) inputs.now.value
-        (traffic_of wire.old) (may_restart (length stations.old.items)) round) number
+        (traffic_of wire.old) (may_restart (length stations.old.items)) round room) number
         (rooms stations.old.items) (event_view event.now)
         (map (station_view O.taken O.failures) stations.old.items) (reply_view reply)
         (map (station_view O.taken O.failures) stations.new.items) (traffic_of wire.new)) }
@@ -101,7 +105,7 @@ fn act_at<C: SlotCell, O: Outlet>(
         return Ok(Reply::NotDue);
     }
     let restarts = may_restart(stations.len());
-    stations[number].act(alloc, net, inputs, wire, restarts, round, event)
+    stations[number].act(alloc, net, inputs, wire, restarts, round, room, event)
 }
 
 impl<C: SlotCell, O: Outlet> Station<C, O> {
@@ -221,6 +225,7 @@ impl<C: SlotCell, O: Outlet> World<C, O> {
             &mut self.wire,
             number,
             self.round,
+            self.room,
             &event,
         ) {
             Ok(reply) => {

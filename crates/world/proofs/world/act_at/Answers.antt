@@ -36,7 +36,7 @@ act-requires g c =
     record {
       sure = record { valid = net.valid; fits = c.requires.fits; traffic = c.requires.flying };
       sound = sound_at view (network_of net.program) c.args.inputs.now.value (traffic_of c.args.wire.now)
-          c.args.stations.now.items c.args.number x c.may_restart-restarts.result c.len-2.result c.args.round
+          c.args.stations.now.items c.args.number x c.may_restart-restarts.result c.len-2.result c.args.round c.args.room
           c.may_restart-restarts.ensures (search rules) (length-map c.args.stations.now.items view ∙ c.requires.count)
           c.requires.numbered c.requires.sound c.requires.joined within c.index_mut.ensures.value;
       node = omega (arith, few, count, at, within);
@@ -53,7 +53,7 @@ returns-then-number-len-clause-line g c =
     all_still_in_line {cell = g.C.StableCell} {slots = g.C.SlotCell} g.O.Outlet.taken g.O.Outlet.failures g.met.C.SlotCell.only_now_whole
     net c.args.inputs.now.value
     (setting_in net c.args.inputs.now.value (traffic_of c.args.wire.now)
-    (may_restart (length c.args.stations.now.items)) c.args.round) (event_view c.args.event.now)
+    (may_restart (length c.args.stations.now.items)) c.args.round c.args.room) (event_view c.args.event.now)
     c.args.stations.now.items
 
 pub returns-then-number-len-clause-come : goal.returns-then-number-len-clause-come
@@ -62,7 +62,7 @@ returns-then-number-len-clause-come g c =
     let past : length c.args.stations.now.items ≤ c.args.number = search rules in
     none_acted
     (setting_in net c.args.inputs.now.value (traffic_of c.args.wire.now)
-    (may_restart (length c.args.stations.now.items)) c.args.round)
+    (may_restart (length c.args.stations.now.items)) c.args.round c.args.room)
     (station_view {cell = g.C.StableCell} {slots = g.C.SlotCell} g.O.Outlet.taken g.O.Outlet.failures)
     (λ (station : Station g.row.C.Denot g.row.O.Denot g.C.SlotCell g.C.StableCell). fits_in
     (g.C.SlotCell.slot_capacity (cell_in station.node.store))) (event_view c.args.event.now)
@@ -78,12 +78,12 @@ returns-clause-grown g c =
     let view = station_view {cell = g.C.StableCell} {slots = g.C.SlotCell} g.O.Outlet.taken g.O.Outlet.failures in
     all_grown {cell = g.C.StableCell} {slots = g.C.SlotCell} g.O.Outlet.taken g.O.Outlet.failures g.met.C.SlotCell.only_now_whole
     (setting_in (network_of net.program) c.args.inputs.now.value (traffic_of c.args.wire.now)
-    c.may_restart-restarts.result c.args.round)
+    c.may_restart-restarts.result c.args.round c.args.room)
     (record { valid = net.valid; fits = c.requires.fits; traffic = c.requires.flying })
     (fits_in (g.C.SlotCell.slot_capacity (cell_in x.node.store))) (event_view c.args.event.now)
     c.args.stations.now.items c.args.number x _ _ c.act.result
     (sound_at view (network_of net.program) c.args.inputs.now.value (traffic_of c.args.wire.now) c.args.stations.now.items
-    c.args.number x c.may_restart-restarts.result c.len-2.result c.args.round
+    c.args.number x c.may_restart-restarts.result c.len-2.result c.args.round c.args.room
     c.may_restart-restarts.ensures (search rules) (length-map c.args.stations.now.items view ∙ c.requires.count)
     c.requires.numbered c.requires.sound c.requires.joined (search rules) c.index_mut.ensures.value)
     c.requires.sound (search rules) c.index_mut.ensures.value c.act.ensures.moved c.act.ensures.come
@@ -101,16 +101,16 @@ returns-clause-line g c =
     (event_view c.args.event.now)) c.args.stations.now.items
     (slice_set c.args.stations.now.items c.args.number c.act.new.self))
     (restarts_are (network_of net.program) c.args.inputs.now.value (traffic_of c.args.wire.now)
-    c.args.stations.now.items c.may_restart-restarts.result c.len-2.result c.args.round
+    c.args.stations.now.items c.may_restart-restarts.result c.len-2.result c.args.round c.args.room
     c.may_restart-restarts.ensures (search rules))
     (all_in_line {cell = g.C.StableCell} {slots = g.C.SlotCell} g.O.Outlet.taken g.O.Outlet.failures g.met.C.SlotCell.only_now_whole
     (setting_in (network_of net.program) c.args.inputs.now.value (traffic_of c.args.wire.now)
-    c.may_restart-restarts.result c.args.round)
+    c.may_restart-restarts.result c.args.round c.args.room)
     (record { valid = net.valid; fits = c.requires.fits; traffic = c.requires.flying })
     (fits_in (g.C.SlotCell.slot_capacity (cell_in x.node.store))) (event_view c.args.event.now)
     c.args.stations.now.items c.args.number x _ _ c.act.result
     (sound_at view (network_of net.program) c.args.inputs.now.value (traffic_of c.args.wire.now) c.args.stations.now.items
-    c.args.number x c.may_restart-restarts.result c.len-2.result c.args.round
+    c.args.number x c.may_restart-restarts.result c.len-2.result c.args.round c.args.room
     c.may_restart-restarts.ensures (search rules) (length-map c.args.stations.now.items view ∙ c.requires.count)
     c.requires.numbered c.requires.sound c.requires.joined (search rules) c.index_mut.ensures.value)
     c.requires.sound (search rules) c.index_mut.ensures.value c.act.ensures.moved c.act.ensures.come
@@ -134,8 +134,8 @@ returns-clause-come g c =
     (map view c.args.stations.now.items) (reply_view reply)
     (map view (slice_set c.args.stations.now.items c.args.number c.act.new.self)) (traffic_of c.act.new.wire)))
     (restarts_are net c.args.inputs.now.value (traffic_of c.args.wire.now) c.args.stations.now.items
-    c.may_restart-restarts.result c.len-2.result c.args.round c.may_restart-restarts.ensures (search rules))
-    (acted (setting_in net c.args.inputs.now.value (traffic_of c.args.wire.now) c.may_restart-restarts.result c.args.round)
+    c.may_restart-restarts.result c.len-2.result c.args.round c.args.room c.may_restart-restarts.ensures (search rules))
+    (acted (setting_in net c.args.inputs.now.value (traffic_of c.args.wire.now) c.may_restart-restarts.result c.args.round c.args.room)
     view room (event_view c.args.event.now) c.args.stations.now.items c.args.number c.index_mut.result.now
     _ _ c.act.result (search rules) c.index_mut.ensures.value c.act.ensures.come)
 

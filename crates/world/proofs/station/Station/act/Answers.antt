@@ -90,7 +90,7 @@ deliver-requires g c =
     let was = station_view g.O.Outlet.taken g.O.Outlet.failures c.args.self.now in
     let setting =
     setting_in (network_of net.program) c.args.inputs.now.value (traffic_of c.args.wire.now) c.args.restarts
-    c.args.round in
+    c.args.round c.args.room in
     let is = ap (λ (n : Net). network_of n.program) (sym c.deref.ensures) in
     record {
       to = subst (λ (e : Event). view.event_node (event_view e) < NODES) c.in-Deliver.is c.requires.node;
@@ -150,8 +150,8 @@ returns-in-Grant-clause-come g c =
     let fits = fits_in (g.C.SlotCell.slot_capacity (cell_in c.args.self.now.node.store)) in
     quiet_came setting fits (event_view c.args.event.now) was _ (traffic_of c.args.wire.now) c.grant.result _ view.Grant _
     (ap event_view c.in-Grant.is)
-    (ap (λ (i : List (List ℤ)). grant_plan (node_job setting.net i was.node) c.args.round was) c.deref-in-Grant.ensures)
-    refl refl (λ came. grant_sends (node_job setting.net setting.inputs was.node) was.node came) c.grant.ensures.step
+    (ap (λ (i : List (List ℤ)). grant_plan (node_job setting.net i setting.room was.node) c.args.round was) c.deref-in-Grant.ensures)
+    refl refl (λ came. grant_sends (node_job setting.net setting.inputs setting.room was.node) was.node came) c.grant.ensures.step
 
 pub returns-in-Install-clause-come : goal.returns-in-Install-clause-come
 returns-in-Install-clause-come g c =
