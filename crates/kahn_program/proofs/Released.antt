@@ -152,7 +152,8 @@ pub reported : (net : Net) (inputs : List (List ℤ)) (given : List Channel) (ro
     → complete ≡ are_quiet now
     → IsLast (network_of net.program) inputs room rounds items now
     → IsReport net room rounds items inputs text told
-reported net inputs given room rounds items cut streams now text complete told channels where_cut listed whole printed run
+reported net inputs given room rounds items cut streams now text complete told channels where_cut listed whole printed
+    run
     quiet last =
     let stations = now.stations in
     let released : List (List ℤ) = released_streams (network_of net.program) stations in
@@ -216,7 +217,8 @@ run_of_readers approx room rounds items net_bytes input_bytes net inputs (Ok r) 
     ∣ (net, inputs, of_net, of_inputs, report) ∣₁
 
 pub failed_run : {T : Type 0} (approx : Option ℕ) (room rounds : ℕ) (items : Option ℕ)
-    (net_bytes input_bytes : Option (List ℕ)) (net : Net) (inputs : List (List ℤ)) (result : Result T Failure) → IfSome net_bytes (λ bytes. IsNetOf bytes net)
+    (net_bytes input_bytes : Option (List ℕ)) (net : Net) (inputs : List (List ℤ)) (result : Result T Failure)
+        → IfSome net_bytes (λ bytes. IsNetOf bytes net)
     → IfSome input_bytes (λ bytes. AreInputsOf bytes net inputs)
     → IfErr result (IsReportFailure approx (network_of net.program) inputs room rounds items)
     → IfErr result (IsRunFailure approx net_bytes input_bytes)
@@ -241,9 +243,11 @@ pub written_report : (approx : Option ℕ) (room rounds : ℕ) (items : Option �
     → (status ≡ 1) ⊎ (status ≡ status_of_run complete) → (status ≢ 1 → Appends before after text)
     → (whole : Bool) → status ≡ status_of_run whole
     → HasWritten approx room rounds items net_bytes input_bytes before after whole
-written_report approx room rounds items net_bytes input_bytes before after text complete status of (inl failed) writes whole
+written_report approx room rounds items net_bytes input_bytes before after text complete status of (inl failed) writes
+    whole
     is = absurd (not_failed whole (sym is ∙ failed))
-written_report approx room rounds items net_bytes input_bytes before after text complete status of (inr came) writes whole
+written_report approx room rounds items net_bytes input_bytes before after text complete status of (inr came) writes
+    whole
     is =
     let same : complete ≡ whole = one_status complete whole (sym came ∙ is) in
     subst (HasWritten approx room rounds items net_bytes input_bytes before after) same

@@ -223,7 +223,8 @@ module _ {O : Type 0} (taken : O → List ℤ) (failures : O → ℕ) (none : (o
       → opened ≡ opening_world other others failed (outlet_views taken failures outputs)
       → map (λ (output : Output O). output.channel) outputs ≡ output_channels 0 net.channels
       → AllByRecursion (IsUnused taken) outputs → first ≡ first_world net inputs room
-  opens_first net other inputs others room outputs first opened same_net same_inputs failed never set opening listed unused =
+  opens_first net other inputs others room outputs first opened same_net same_inputs failed never set opening listed
+      unused =
       let views = outlet_views taken failures outputs in
       set
       ∙ ap (with_room (nearest_room room)) (opening

@@ -60,7 +60,8 @@ run_text net cut released complete =
 
 -- The world at the end of a run: turn by turn it came from the first one, until the run was over, or so many turns were
 -- taken that nobody waits for them.
-pub record IsLast (net : Network) (inputs : List (List ℤ)) (room rounds : ℕ) (items : Option ℕ) (now : WorldView) : Type 0
+pub record IsLast (net : Network) (inputs : List (List ℤ)) (room rounds : ℕ) (items : Option ℕ)
+    (now : WorldView) : Type 0
   where
     pub turns : ℕ
     pub came : CameTo (is_over (output_channels 0 net.channels) rounds items) (node_count net) turns
@@ -101,7 +102,9 @@ IsReported approx room rounds items net_bytes input_bytes text told =
     × IsReportOf approx room rounds items net inputs text told) ∥₁
 
 -- and such a text was written
-abbrev pub HasWritten : Option ℕ → ℕ → ℕ → Option ℕ → Option (List ℕ) → Option (List ℕ) → Option (List ℕ) → Option (List ℕ)
+abbrev pub HasWritten : Option ℕ → ℕ → ℕ → Option ℕ → Option (List ℕ) → Option (List ℕ) → Option (List ℕ)
+    → Option (List ℕ)
     → Bool → Type 0
 HasWritten approx room rounds items net_bytes input_bytes before after told =
-    ∥ ((text : List ℕ) × IsReported approx room rounds items net_bytes input_bytes text told × Appends before after text) ∥₁
+    ∥ ((text : List ℕ) × IsReported approx room rounds items net_bytes input_bytes text told
+        × Appends before after text) ∥₁

@@ -1,5 +1,6 @@
 -- A run of a network, turn by turn.
-use Rattle.std.specs.Prelude.{◌≡◌, ◌≢◌, ◌||◌, ℕ, zero, suc, ◌%◌, nat_le, nat_lt, if◌then◌else◌, Bool, false, ℤ, List, []}
+use Rattle.std.specs.Prelude.{◌≡◌, ◌≢◌, ◌||◌, ℕ, zero, suc, ◌%◌, nat_le, nat_lt, if◌then◌else◌, Bool, false, ℤ, List}
+use Rattle.std.specs.Prelude.{[]}
 use Rattle.std.specs.Prelude.{length, map, min, max, replicate, Option, Some, None, is_some}
 use Rattle.std.specs.List.{list_all}
 use Rattle.kahn_net.specs.Nodes.{node_count}

@@ -55,7 +55,8 @@ ready_at program inputs share image inboxes ps m number p standing saved next ac
     ∙ ap (is_ready (network_of program) inputs share image inboxes) view
 
 -- a process that the network doesn't have is not
-pub not_ready : (net : Network) (inputs : List (List ℤ)) (share : ℕ) (image : ImageView) (inboxes : List Inbox) (number : ℕ)
+pub not_ready : (net : Network) (inputs : List (List ℤ)) (share : ℕ) (image : ImageView) (inboxes : List Inbox)
+    (number : ℕ)
     (standing : Standing) (saved : SavedProcessView)
     → slice_get net.codes number ≡ None → record { number = number; standing = standing } ≡ saved
     → false ≡ is_ready net inputs share image inboxes saved
@@ -91,12 +92,14 @@ second_too : (a b : Bool) → (a && b) ≡ true → b ≡ true
 second_too true b both = both
 second_too false b both = absurd (cc)
 
-code_there : (net : Network) (inputs : List (List ℤ)) (share : ℕ) (image : ImageView) (inboxes : List Inbox) (number : ℕ)
+code_there : (net : Network) (inputs : List (List ℤ)) (share : ℕ) (image : ImageView) (inboxes : List Inbox)
+    (number : ℕ)
     (standing : Standing) (code : Option Code)
     → slice_get net.codes number ≡ code → can_go net inputs share image inboxes (next_at code standing) ≡ true
     → number < length net.codes
 code_there net inputs share image inboxes number standing None is goes = absurd (cc)
-code_there net inputs share image inboxes number standing (Some code) is goes = slice_get_within net.codes number code is
+code_there net inputs share image inboxes number standing (Some code) is goes =
+    slice_get_within net.codes number code is
 
 -- there are few of them
 pub few_processes : (program : Program) → IsValid (network_of program) → length program.processes.items ≤ MAX_PROCESSES
@@ -106,14 +109,16 @@ few_processes program valid =
 -- a process that is ready is one of the network's
 pub goes_there : (program : Program) (inputs : List (List ℤ)) (share : ℕ) (image : ImageView) (inboxes : List Inbox)
     (saved : SavedProcessView)
-    → is_ready (network_of program) inputs share image inboxes saved ≡ true → saved.number < length program.processes.items
+    → is_ready (network_of program) inputs share image inboxes saved ≡ true
+        → saved.number < length program.processes.items
 goes_there program inputs share image inboxes saved goes =
     let net = network_of program in
     subst (λ (n : ℕ). saved.number < n) (length-map program.processes.items code_of)
     (code_there net inputs share image inboxes saved.number saved.standing _ refl goes)
 
 -- and so is one that is found ready
-pub ready_there : (program : Program) (inputs : List (List ℤ)) (share : ℕ) (image : ImageView) (inboxes : List Inbox) (number : ℕ)
+pub ready_there : (program : Program) (inputs : List (List ℤ)) (share : ℕ) (image : ImageView) (inboxes : List Inbox)
+    (number : ℕ)
     (saved : SavedProcessView)
     → ready_process (network_of program) inputs share image inboxes number ≡ Some saved
     → saved.number < length program.processes.items
@@ -145,7 +150,8 @@ module _ (program : Program) (inputs : List (List ℤ)) (share : ℕ) (image : I
       let test : SavedProcessView → Bool =
       λ one. (one.number == saved.number) && is_ready (network_of program) inputs share image inboxes one in
       let whole = length-map program.processes.items code_of in
-      let there = ready_there program inputs share image inboxes saved.number saved (ap (find test) (sym are) ∙ s.chosen.1) in
+      let there =
+          ready_there program inputs share image inboxes saved.number saved (ap (find test) (sym are) ∙ s.chosen.1) in
       omega (arith, there, whole)
 
   pub least_found : (found : Option SavedProcessView)
@@ -154,7 +160,8 @@ module _ (program : Program) (inputs : List (List ℤ)) (share : ℕ) (image : I
       ≡ least_from start (ready_processes (network_of program) inputs share image inboxes)
   unfolding ready_processes
   least_found found s =
-      all_searched (is_ready (network_of program) inputs share image inboxes) items i (length (network_of program).codes)
+      all_searched (is_ready (network_of program) inputs share image inboxes) items i
+          (length (network_of program).codes)
       start found end (found_there found s) s
       ∙ ap (λ (all : List SavedProcessView). least_from start
       (ready_processes (network_of program) inputs share (record { processes = all; ends = image.ends }) inboxes)) are
@@ -163,7 +170,8 @@ module _ (program : Program) (inputs : List (List ℤ)) (share : ℕ) (image : I
       → IsSearched (is_ready (network_of program) inputs share image inboxes) items (drop i items) start found
       → found ≡ process_at (network_of program) inputs share image inboxes
       (least_from start (ready_processes (network_of program) inputs share image inboxes))
-  process_found found s = own found s ∙ ap (process_at (network_of program) inputs share image inboxes) (least_found found s)
+  process_found found s =
+      own found s ∙ ap (process_at (network_of program) inputs share image inboxes) (least_found found s)
     where
       own : (o : Option SavedProcessView)
           → IsSearched (is_ready (network_of program) inputs share image inboxes) items (drop i items) start o

@@ -22,7 +22,8 @@ use Rattle.world.specs.WorldView.{station_view}
 use Rattle.world.specs.declared.station.Station.{Station}
 use Rattle.world.proofs.Cells.{own_alone, own_spelled}
 
-module _ {C O : Type 0} {cell : CellWords C} {slots : SlotWords C} (taken : O → List ℤ) (failures : O → ℕ) (setting : Setting)
+module _ {C O : Type 0} {cell : CellWords C} {slots : SlotWords C} (taken : O → List ℤ) (failures : O → ℕ)
+    (setting : Setting)
     (event : EventView) where
   -- each choice spells a record of each node
   all_spelled : (olds news : List (Station C O slots cell)) (lefts : List Whole)

@@ -1,5 +1,6 @@
 -- Views of stations.
-use Rattle.std.proofs.Common.{◌≡◌, ℕ, zero, suc, ◌<◌, ◌≤◌, Bool, List, ℤ, [], ◌∷◌, length, get_or, Option, Some, map, refl}
+use Rattle.std.proofs.Common.{◌≡◌, ℕ, zero, suc, ◌<◌, ◌≤◌, Bool, List, ℤ, [], ◌∷◌, length, get_or, Option, Some, map}
+use Rattle.std.proofs.Common.{refl}
 use Rattle.std.proofs.Common.{sym, ap, subst, ◌∙◌, arith}
 use Rattle.std.specs.Prelude.{Result, Ok, Err, IfOk, OnErr, slice_get, slice_set}
 use Rattle.std.proofs.lemmas.List.{length-map, map-set}
@@ -168,7 +169,8 @@ pub seen_at : {S : Type 0} (view : S → StationView) (xs : List S) (place : ℕ
 seen_at view xs place x within is = map_at view xs place x (slice_get_read xs (length xs) place x refl within is)
 
 -- a cell that nobody called
-pub cell_stays : {C O : Type 0} {cell : CellWords C} {slots : SlotWords C} (station : Station C O slots cell) → IsCellUnchanged station station
+pub cell_stays : {C O : Type 0} {cell : CellWords C} {slots : SlotWords C} (station : Station C O slots cell)
+    → IsCellUnchanged station station
 cell_stays station = refl
 
 -- a refused event leaves the list of stations as it is seen

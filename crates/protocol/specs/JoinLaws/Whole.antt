@@ -164,7 +164,8 @@ module _ (setting : Setting) (stations : List StationView) (k : ℕ) (old : Stat
     deed_leads (event.Deliver place) says =
         came place (due_bytes setting.round (flight_at setting k place)) refl says
     deed_leads event.Grant says =
-        grant_leads setting.net stations k old in_world.there run.sent (node_job setting.net setting.inputs setting.room old.node)
+        grant_leads setting.net stations k old in_world.there run.sent
+        (node_job setting.net setting.inputs setting.room old.node)
     deed_leads event.Send says =
         as_numbered (λ (n : ℕ). send_prospect setting.net n old.node)
         (turn_leads setting.net in_world.valid stations k old in_world.there run.sent incoming)

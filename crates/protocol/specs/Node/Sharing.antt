@@ -1,5 +1,5 @@
--- How many items each log of an image may have: an equal share of those for which a record has room, and no more than the
--- room that the world gives a channel.
+-- How many items each log of an image may have: an equal share of those for which a record has room, and no more than
+-- the room that the world gives a channel.
 use Rattle.std.specs.Prelude.{ℕ, ◌≤◌, ◌/◌, min, Bool, true, false, length}
 use Rattle.std.specs.List.{count_by}
 use Rattle.retained.specs.LogState.{LogState, log_end}
@@ -32,8 +32,8 @@ log_share image = MAX_RETAINED_ITEMS / log_count image
 abbrev pub IsRoom : ℕ → Type 0
 IsRoom room = (MIN_ROOM ≤ room) × (room ≤ MAX_RETAINED_ITEMS)
 
--- How far a job may fill each log, where the world gives a channel so much room: the places that a log has for a job are
--- those up to this. A log may have more already, since the room may have been lowered; then it has no place.
+-- How far a job may fill each log, where the world gives a channel so much room: the places that a log has for a job
+-- are those up to this. A log may have more already, since the room may have been lowered; then it has no place.
 abbrev pub retained_share : ℕ → ImageView → ℕ
 retained_share room image = min room (log_share image)
 

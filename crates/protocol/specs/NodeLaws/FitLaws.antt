@@ -190,7 +190,8 @@ taken_is_there net home inputs n made image inboxes job code after taken sent st
 -- What a turn puts
 
 -- the room of a channel on which the process puts, and none on any other
-pub room_from-at : (share : ℕ) (image : ImageView) (process number : ℕ) (channels : List Channel) (c : ℕ) (channel : Channel)
+pub room_from-at : (share : ℕ) (image : ImageView) (process number : ℕ) (channels : List Channel) (c : ℕ)
+    (channel : Channel)
     → slice_get channels c ≡ Some channel
     → slice_index (room_from share image process number channels) c
     ≡ cond (is_process process channel.producer) (room_of share image (number + c)) 0
@@ -226,7 +227,8 @@ put_has_room net inputs n made image inboxes job code after taken sent stands ha
         sent_fits code (approximation net inputs n) (made job.process) job.items job.room after taken sent done c in
         let sum : 0 + c ≡ c = omega arith in
         let room : slice_index (room_from (log_share image) image job.process 0 net.channels) c
-        ≡ room_of (log_share image) image c = room_from-at (log_share image) image job.process 0 net.channels c channel on
+        ≡ room_of (log_share image) image c =
+        room_from-at (log_share image) image job.process 0 net.channels c channel on
         ∙ (ap (λ (b : Bool). cond b (room_of (log_share image) image (0 + c)) 0) test
         ∙ ap (λ (m : ℕ). room_of (log_share image) image m) sum) in
         let given = of.room c in

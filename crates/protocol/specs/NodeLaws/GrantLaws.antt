@@ -69,7 +69,8 @@ less_room fewer share image process number (x ∷ channels) (suc c) few =
     less_room fewer share image process (suc number) channels c few
 
 -- a job made from an entry of an image is of that image, where its logs have places up to no more than their share
-pub job_of_entry : (share : ℕ) (net : Network) (home : ℕ) (inputs : List (List ℤ)) (image : ImageView) (inboxes : List Inbox)
+pub job_of_entry : (share : ℕ) (net : Network) (home : ℕ) (inputs : List (List ℤ)) (image : ImageView)
+    (inboxes : List Inbox)
     (k : ℕ) (saved : SavedProcessView) (version : ℕ) → share ≤ log_share image → IsLaidOut net home image
     → slice_get image.processes k ≡ Some saved
     → IsJobOf net inputs image inboxes (job_for share net inputs image inboxes saved.number saved.standing version)

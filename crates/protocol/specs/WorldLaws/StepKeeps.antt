@@ -55,6 +55,7 @@ use Rattle.protocol.specs.World.ReplyView as reply
 use Rattle.protocol.specs.World.Sound.{IsSound}
 use Rattle.protocol.specs.World.StationView.{StationView}
 use Rattle.protocol.specs.World.Steps.{IsActOf, IsAct, IsRelease, IsReleaseAt, IsStationStep, IsStep, Setting}
+use Rattle.protocol.specs.World.Steps.{with_room}
 use Rattle.protocol.specs.World.Steps.{WorldView, first_waiting, may_restart, moved_to, next_release, plan_of}
 use Rattle.protocol.specs.World.Steps.{round_after, sending_of, sendings_then, setting_of, traffic_acted, traffic_after}
 use Rattle.protocol.specs.World.Steps.{traffic_left, traffic_then}

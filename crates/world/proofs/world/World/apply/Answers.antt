@@ -45,7 +45,8 @@ invariant_of-self g c =
     let view = station_view {cell = g.C.StableCell} {slots = g.C.SlotCell} g.O.Outlet.taken g.O.Outlet.failures in
     record {
       sound = step_keeps (rooms was.stations.items) (event_view c.args.event) (world_of was) (reply_view c.in-Ok.reply)
-          (world_view {cell = g.C.StableCell} {slots = g.C.SlotCell} g.O.Outlet.taken g.O.Outlet.failures was.net was.inputs
+          (world_view {cell = g.C.StableCell} {slots = g.C.SlotCell} g.O.Outlet.taken g.O.Outlet.failures was.net
+              was.inputs
           c.act_at.new.stations.items (traffic_of c.act_at.new.wire) c.round_after-self.result was.room) was.sound
           (world_steps (rooms was.stations.items) (event_view c.args.event) (world_of was) (reply_view c.in-Ok.reply)
           (setting_in (network_of was.net.value.program) was.inputs.value (traffic_of was.wire)
@@ -101,7 +102,8 @@ returns-in-Ok-clause-line g c =
     keeps_line {cell = g.C.StableCell} {slots = g.C.SlotCell} g.O.Outlet.taken g.O.Outlet.failures
     (setting_in (network_of was.net.value.program) was.inputs.value (traffic_of was.wire)
     (may_restart (length was.stations.items)) was.round was.room) (event_view c.args.event)
-    (network_of was.net.value.program) was.inputs.value was.stations.items c.act_at.new.stations.items was.round was.room
+    (network_of was.net.value.program) was.inputs.value was.stations.items c.act_at.new.stations.items was.round
+        was.room
     (traffic_of was.wire) (rooms was.stations.items) c.in-Ok.ensures.come.came (reply_view c.in-Ok.reply)
     c.from-number.result was.sound
     (setting_is view (network_of was.net.value.program) was.inputs.value (traffic_of was.wire)
@@ -115,7 +117,8 @@ returns-in-Err-clause-line g c =
     keeps_line {cell = g.C.StableCell} {slots = g.C.SlotCell} g.O.Outlet.taken g.O.Outlet.failures
     (setting_in (network_of was.net.value.program) was.inputs.value (traffic_of was.wire)
     (may_restart (length was.stations.items)) was.round was.room) (event_view c.args.event)
-    (network_of was.net.value.program) was.inputs.value was.stations.items c.act_at.new.stations.items was.round was.room
+    (network_of was.net.value.program) was.inputs.value was.stations.items c.act_at.new.stations.items was.round
+        was.room
     (traffic_of was.wire) [] outcome.NotDue NotDue c.from-number.result was.sound
     (setting_is view (network_of was.net.value.program) was.inputs.value (traffic_of was.wire)
     was.stations.items was.round was.room) (c.from-number.ensures ∙ c.node.ensures) (refl, c.in-Err.ensures.refused.0)
@@ -150,11 +153,13 @@ returns-in-Err-clause-coordinated g c =
 
 pub returns-in-Ok-clause-settled : goal.returns-in-Ok-clause-settled
 returns-in-Ok-clause-settled g c =
-    one_line {cell = g.C.StableCell} {slots = g.C.SlotCell} g.O.Outlet.taken g.O.Outlet.failures c.act_at.new.stations.items
+    one_line {cell = g.C.StableCell} {slots = g.C.SlotCell} g.O.Outlet.taken g.O.Outlet.failures
+        c.act_at.new.stations.items
 
 pub returns-in-Err-clause-settled : goal.returns-in-Err-clause-settled
 returns-in-Err-clause-settled g c =
-    one_line {cell = g.C.StableCell} {slots = g.C.SlotCell} g.O.Outlet.taken g.O.Outlet.failures c.act_at.new.stations.items
+    one_line {cell = g.C.StableCell} {slots = g.C.SlotCell} g.O.Outlet.taken g.O.Outlet.failures
+        c.act_at.new.stations.items
 
 -- the rooms are what the capacities say
 pub returns-in-Ok-clause-same_rooms : goal.returns-in-Ok-clause-same_rooms
