@@ -218,7 +218,7 @@ run_of_readers approx room rounds items net_bytes input_bytes net inputs (Ok r) 
 
 pub failed_run : {T : Type 0} (approx : Option ℕ) (room rounds : ℕ) (items : Option ℕ)
     (net_bytes input_bytes : Option (List ℕ)) (net : Net) (inputs : List (List ℤ)) (result : Result T Failure)
-        → IfSome net_bytes (λ bytes. IsNetOf bytes net)
+    → IfSome net_bytes (λ bytes. IsNetOf bytes net)
     → IfSome input_bytes (λ bytes. AreInputsOf bytes net inputs)
     → IfErr result (IsReportFailure approx (network_of net.program) inputs room rounds items)
     → IfErr result (IsRunFailure approx net_bytes input_bytes)

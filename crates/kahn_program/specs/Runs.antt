@@ -107,4 +107,4 @@ abbrev pub HasWritten : Option ℕ → ℕ → ℕ → Option ℕ → Option (Li
     → Bool → Type 0
 HasWritten approx room rounds items net_bytes input_bytes before after told =
     ∥ ((text : List ℕ) × IsReported approx room rounds items net_bytes input_bytes text told
-        × Appends before after text) ∥₁
+    × Appends before after text) ∥₁

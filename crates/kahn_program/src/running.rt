@@ -35,7 +35,14 @@ fn report_of(
 {
     match options.approx {
         Some(n) => report_of_approximation(alloc, &net, &inputs, n),
-        None => report_of_run(alloc, net, inputs, options.room, options.rounds, options.items),
+        None => report_of_run(
+            alloc,
+            net,
+            inputs,
+            options.room,
+            options.rounds,
+            options.items,
+        ),
     }
 }
 

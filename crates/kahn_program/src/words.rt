@@ -18,6 +18,7 @@ use world::MIN_ROOM;
 
 // The bounds of a channel's room, as numbers of the command line.
 const LEAST_ROOM: u64 = MIN_ROOM as u64;
+
 const MOST_ROOM: u64 = MAX_RETAINED_ITEMS as u64;
 
 /// The name of a file.

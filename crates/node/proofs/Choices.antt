@@ -110,7 +110,7 @@ few_processes program valid =
 pub goes_there : (program : Program) (inputs : List (List ℤ)) (share : ℕ) (image : ImageView) (inboxes : List Inbox)
     (saved : SavedProcessView)
     → is_ready (network_of program) inputs share image inboxes saved ≡ true
-        → saved.number < length program.processes.items
+    → saved.number < length program.processes.items
 goes_there program inputs share image inboxes saved goes =
     let net = network_of program in
     subst (λ (n : ℕ). saved.number < n) (length-map program.processes.items code_of)
@@ -151,7 +151,7 @@ module _ (program : Program) (inputs : List (List ℤ)) (share : ℕ) (image : I
       λ one. (one.number == saved.number) && is_ready (network_of program) inputs share image inboxes one in
       let whole = length-map program.processes.items code_of in
       let there =
-          ready_there program inputs share image inboxes saved.number saved (ap (find test) (sym are) ∙ s.chosen.1) in
+      ready_there program inputs share image inboxes saved.number saved (ap (find test) (sym are) ∙ s.chosen.1) in
       omega (arith, there, whole)
 
   pub least_found : (found : Option SavedProcessView)
@@ -161,7 +161,7 @@ module _ (program : Program) (inputs : List (List ℤ)) (share : ℕ) (image : I
   unfolding ready_processes
   least_found found s =
       all_searched (is_ready (network_of program) inputs share image inboxes) items i
-          (length (network_of program).codes)
+      (length (network_of program).codes)
       start found end (found_there found s) s
       ∙ ap (λ (all : List SavedProcessView). least_from start
       (ready_processes (network_of program) inputs share (record { processes = all; ends = image.ends }) inboxes)) are

@@ -94,8 +94,7 @@ impl Run {
 
     /// Grants a job. What comes of it is kept.
     fn grant(&mut self, alloc: Global) -> anyhow::Result<String> {
-        match self.node
-            .grant(alloc, &self.net, &self.inputs, self.room)? {
+        match self.node.grant(alloc, &self.net, &self.inputs, self.room)? {
             Some(job) => {
                 self.outcomes.push(done_of(alloc, job)?)?;
                 Ok(String::from_str(alloc, "job")?)

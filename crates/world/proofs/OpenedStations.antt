@@ -157,7 +157,7 @@ module _ {D O : Type 0} {disk : DiskWords D} {cell : CellWords (SplitCell D disk
   pub opened_left : (outputs : List (Output O)) (number : ℕ) (disks : List D)
       (stations : List (Station (SplitCell D disk) O slots cell))
       → AllNumbered (IsOpened taken failures net versions outputs) number disks stations
-          → LeaveOnlyRecords net number stations
+      → LeaveOnlyRecords net number stations
   opened_left outputs number [] [] all = tt
   opened_left outputs number [] (s ∷ stations) all = absurd all
   opened_left outputs number (d ∷ disks) [] all = absurd all
@@ -178,7 +178,7 @@ module _ {D O : Type 0} {disk : DiskWords D} {cell : CellWords (SplitCell D disk
       (stations : List (Station (SplitCell D disk) O slots cell))
       → AllNumbered (IsOpened taken failures net versions outputs) number disks stations
       → map (λ (station : Station (SplitCell D disk) O slots cell). slots.slot_capacity (cell_in station.node.store))
-          stations
+      stations
       ≡ map (λ (d : D). slot_room_on (disk.sector_count d)) disks
   opened_rooms outputs number [] [] all = refl
   opened_rooms outputs number [] (s ∷ stations) all = absurd all
@@ -186,7 +186,7 @@ module _ {D O : Type 0} {disk : DiskWords D} {cell : CellWords (SplitCell D disk
   opened_rooms outputs number (d ∷ disks) (s ∷ stations) all =
       ap (λ (room : ℕ). room
       ∷ map (λ (station : Station (SplitCell D disk) O slots cell). slots.slot_capacity (cell_in station.node.store))
-          stations)
+      stations)
       all.0.room
       ∙ ap (λ (rest : List ℕ). slot_room_on (disk.sector_count d) ∷ rest)
       (opened_rooms outputs (suc number) disks stations all.1)
@@ -223,7 +223,7 @@ module _ {D O : Type 0} {disk : DiskWords D} {cell : CellWords (SplitCell D disk
   pub station_opened : (nodes number version : ℕ) (given : D) (rest own : List (Output O))
       (node : Node (SplitCell D disk) slots cell)
       (station : Station (SplitCell D disk) O slots cell) → nodes ≡ node_count net
-          → version ≡ version_for versions number
+      → version ≡ version_for versions number
       → IsOpenedNode net nodes number version given node
       → own_outputs net number rest ≡ own_outputs net number outputs → own ≡ map fresh (own_outputs net number rest)
       → station.node ≡ node → station.outputs.items ≡ own → station.turns ≡ no_turns 0
@@ -239,19 +239,19 @@ module _ {D O : Type 0} {disk : DiskWords D} {cell : CellWords (SplitCell D disk
             (ap (λ (n : Node (SplitCell D disk) slots cell). n.number) same ∙ opened.number_is)
             (ap view_of same ∙ (opened.view ∙ ap (λ (n : ℕ). opening_node net n number) count)) refl
             (ap (λ (n : Node (SplitCell D disk) slots cell). cell.failure_count (cell_in n.store)) same
-                ∙ opened.failures) none
+            ∙ opened.failures) none
             ∙ ap (opening_station net (node_count net) number (disk.failure_count given))
             (ap (outlet_views taken failures) are ∙ own_views taken failures net number (map fresh outputs));
         outlets = ap (map (λ (output : Output O). output.outlet)) are;
         left = λ left might. subst (λ (n : ℕ). Spells (opening_record net n number) left) count
             (opened.left left
             (subst (λ (n : Node (SplitCell D disk) slots cell). slots.may_leave_whole (cell_in n.store) left) same
-                might));
+            might));
         formatted =
             subst (λ (n : Node (SplitCell D disk) slots cell). StandsInVersion (version_for versions number)
             (opening_record net (node_count net) number) n.store) (sym same)
             (subst (λ (n : ℕ). StandsInVersion (version_for versions number) (opening_record net n number) node.store)
-                count
+            count
             (subst (λ (v : ℕ). StandsInVersion v (opening_record net nodes number) node.store) told opened.formatted));
         room = ap (λ (n : Node (SplitCell D disk) slots cell). slots.slot_capacity (cell_in n.store)) same
             ∙ opened.room;
@@ -262,7 +262,7 @@ module _ {D O : Type 0} {disk : DiskWords D} {cell : CellWords (SplitCell D disk
 
   pub stations_more : (disks all : List D) (given : D) (before after : List (Station (SplitCell D disk) O slots cell))
       (station : Station (SplitCell D disk) O slots cell) (number : ℕ) → all ≡ disks ++ given ∷ []
-          → number ≡ length disks
+      → number ≡ length disks
       → after ≡ before ++ station ∷ []
       → AllNumbered (IsOpened taken failures net versions (map fresh outputs)) 0 disks before
       → IsOpened taken failures net versions (map fresh outputs) number given station
@@ -270,9 +270,9 @@ module _ {D O : Type 0} {disk : DiskWords D} {cell : CellWords (SplitCell D disk
   stations_more disks all given before after station number split place pushed opened one =
       let sum : number ≡ 0 + length disks = omega (arith, place) in
       subst (λ (list : List D). AllNumbered (IsOpened taken failures net versions (map fresh outputs)) 0 list after)
-          (sym split)
+      (sym split)
       (subst (AllNumbered (IsOpened taken failures net versions (map fresh outputs)) 0 (disks ++ given ∷ []))
-          (sym pushed)
+      (sym pushed)
       (numbered_more (IsOpened taken failures net versions (map fresh outputs)) 0 disks before given station opened
       (subst (λ (n : ℕ). IsOpened taken failures net versions (map fresh outputs) n given station) sum one)))
 
@@ -311,10 +311,10 @@ module _ {D O : Type 0} {disk : DiskWords D} {cell : CellWords (SplitCell D disk
       stations
   opened_all =
       subst (λ (list : List (Output O)). AllNumbered (IsOpened taken failures (network_of net.program) versions list) 0
-          disks
+      disks
       stations) renewed
       (subst (λ (n : Net). AllNumbered (IsOpened taken failures (network_of n.program) versions items) 0 disks
-          stations) same
+      stations) same
       all)
 
   pub opened_world : (inputs : List (List ℤ)) (traffic : Traffic) → traffic ≡ opening_traffic
@@ -456,7 +456,7 @@ module _ {D : Type 0} (net : Network) (count : D → ℕ) (nodes number : ℕ) (
       (disk_refused net count 0 done given fault
       (subst (λ (n : ℕ). IsOpeningRefusal (count given) (opening_length net n) fault) sum
       (subst (λ (n : ℕ). IsOpeningRefusal (count given) (image_length (opening_record net n number).permanent) fault)
-          same
+      same
       refused)))
 
 pub before_refused : {D : Type 0} (net : Network) (count : D → ℕ) (done all : List D) (given : D) (fault : StoreFault)

@@ -56,11 +56,8 @@ impl Step {
     /// Whether it answers something.
     pub fn has_answer(&self) -> bool {
         match self {
-            Step::Open
-            | Step::Event(_)
-            | Step::Install(_)
-            | Step::SetRoom(_)
-            | Step::Ask(_) => true,
+            Step::Open | Step::Event(_) | Step::Install(_) | Step::SetRoom(_) | Step::Ask(_) =>
+                true,
             Step::Run(_) | Step::Turns { .. } | Step::Jobs { .. } | Step::Chance { .. } => false,
         }
     }

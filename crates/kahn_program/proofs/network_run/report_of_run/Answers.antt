@@ -35,11 +35,11 @@ returns-in-Ok-report-clause-ok c =
     let told = c.is_whole-complete.result in
     let network : network_of now.net.value.program ≡ network_of net.program =
     ap (λ a. network_of a.value.program)
-        (c.take_turns.ensures.same.0 ∙ (c.set_room.ensures.same.0 ∙ c.in-Ok-new-3.ensures.same.0))
+    (c.take_turns.ensures.same.0 ∙ (c.set_room.ensures.same.0 ∙ c.in-Ok-new-3.ensures.same.0))
     ∙ ap (λ (n : Net). network_of n.program) shared in
     let items : now.inputs.value ≡ c.args.inputs =
     ap (λ a. a.value) (c.take_turns.ensures.same.1 ∙ (c.set_room.ensures.same.1 ∙ c.in-Ok-new-3.ensures.same.1))
-        ∙ c.in-Ok-new-2.ensures.ok in
+    ∙ c.in-Ok-new-2.ensures.ok in
     let run =
     run_of (world_of now) (network_of net.program) c.args.inputs c.complete.result network items now.sound
     c.complete.ensures.whole in
@@ -78,10 +78,10 @@ returns-in-Err-clause-err c =
     let shared = c.in-Ok-try_clone.ensures ∙ c.in-Ok-new.ensures.ok in
     let disks = c.in-Ok-empty_disks.disks.items in
     subst (IsStoreFailure
-        (HasRunFailed (network_of c.args.net.program) c.args.inputs c.args.room c.args.rounds c.args.items))
+    (HasRunFailed (network_of c.args.net.program) c.args.inputs c.args.room c.args.rounds c.args.items))
     (sym c.store_failure.ensures)
     (run_refused (HasRunFailed (network_of c.args.net.program) c.args.inputs c.args.room c.args.rounds c.args.items)
-        sectors_of
+    sectors_of
     (network_of c.in-Ok-try_clone.share.value.program) 0 disks c.in-Err.refused.fault
     c.in-Ok-try_clone.share.value.valid c.in-Ok-empty_disks.ensures.sectors c.in-Err.ensures.refused
     (λ is. ∣ inl (record {

@@ -37,7 +37,7 @@ act-requires g c =
       sure = record { valid = net.valid; fits = c.requires.fits; traffic = c.requires.flying };
       sound = sound_at view (network_of net.program) c.args.inputs.now.value (traffic_of c.args.wire.now)
           c.args.stations.now.items c.args.number x c.may_restart-restarts.result c.len-2.result c.args.round
-              c.args.room
+          c.args.room
           c.may_restart-restarts.ensures (search rules) (length-map c.args.stations.now.items view ∙ c.requires.count)
           c.requires.numbered c.requires.sound c.requires.joined within c.index_mut.ensures.value;
       node = omega (arith, few, count, at, within);
@@ -46,14 +46,14 @@ act-requires g c =
 pub returns-then-number-len-clause-grown : goal.returns-then-number-len-clause-grown
 returns-then-number-len-clause-grown g c =
     all_still {cell = g.C.StableCell} {slots = g.C.SlotCell} g.O.Outlet.taken g.O.Outlet.failures
-        g.met.C.SlotCell.only_now_whole
+    g.met.C.SlotCell.only_now_whole
     (network_of c.args.net.now.value.program) c.args.inputs.now.value c.args.stations.now.items c.requires.sound
 
 pub returns-then-number-len-clause-line : goal.returns-then-number-len-clause-line
 returns-then-number-len-clause-line g c =
     let net = network_of c.args.net.now.value.program in
     all_still_in_line {cell = g.C.StableCell} {slots = g.C.SlotCell} g.O.Outlet.taken g.O.Outlet.failures
-        g.met.C.SlotCell.only_now_whole
+    g.met.C.SlotCell.only_now_whole
     net c.args.inputs.now.value
     (setting_in net c.args.inputs.now.value (traffic_of c.args.wire.now)
     (may_restart (length c.args.stations.now.items)) c.args.round c.args.room) (event_view c.args.event.now)
@@ -80,14 +80,14 @@ returns-clause-grown g c =
     let x = c.index_mut.result.now in
     let view = station_view {cell = g.C.StableCell} {slots = g.C.SlotCell} g.O.Outlet.taken g.O.Outlet.failures in
     all_grown {cell = g.C.StableCell} {slots = g.C.SlotCell} g.O.Outlet.taken g.O.Outlet.failures
-        g.met.C.SlotCell.only_now_whole
+    g.met.C.SlotCell.only_now_whole
     (setting_in (network_of net.program) c.args.inputs.now.value (traffic_of c.args.wire.now)
     c.may_restart-restarts.result c.args.round c.args.room)
     (record { valid = net.valid; fits = c.requires.fits; traffic = c.requires.flying })
     (fits_in (g.C.SlotCell.slot_capacity (cell_in x.node.store))) (event_view c.args.event.now)
     c.args.stations.now.items c.args.number x _ _ c.act.result
     (sound_at view (network_of net.program) c.args.inputs.now.value (traffic_of c.args.wire.now)
-        c.args.stations.now.items
+    c.args.stations.now.items
     c.args.number x c.may_restart-restarts.result c.len-2.result c.args.round c.args.room
     c.may_restart-restarts.ensures (search rules) (length-map c.args.stations.now.items view ∙ c.requires.count)
     c.requires.numbered c.requires.sound c.requires.joined (search rules) c.index_mut.ensures.value)
@@ -109,14 +109,14 @@ returns-clause-line g c =
     c.args.stations.now.items c.may_restart-restarts.result c.len-2.result c.args.round c.args.room
     c.may_restart-restarts.ensures (search rules))
     (all_in_line {cell = g.C.StableCell} {slots = g.C.SlotCell} g.O.Outlet.taken g.O.Outlet.failures
-        g.met.C.SlotCell.only_now_whole
+    g.met.C.SlotCell.only_now_whole
     (setting_in (network_of net.program) c.args.inputs.now.value (traffic_of c.args.wire.now)
     c.may_restart-restarts.result c.args.round c.args.room)
     (record { valid = net.valid; fits = c.requires.fits; traffic = c.requires.flying })
     (fits_in (g.C.SlotCell.slot_capacity (cell_in x.node.store))) (event_view c.args.event.now)
     c.args.stations.now.items c.args.number x _ _ c.act.result
     (sound_at view (network_of net.program) c.args.inputs.now.value (traffic_of c.args.wire.now)
-        c.args.stations.now.items
+    c.args.stations.now.items
     c.args.number x c.may_restart-restarts.result c.len-2.result c.args.round c.args.room
     c.may_restart-restarts.ensures (search rules) (length-map c.args.stations.now.items view ∙ c.requires.count)
     c.requires.numbered c.requires.sound c.requires.joined (search rules) c.index_mut.ensures.value)
@@ -143,7 +143,7 @@ returns-clause-come g c =
     (restarts_are net c.args.inputs.now.value (traffic_of c.args.wire.now) c.args.stations.now.items
     c.may_restart-restarts.result c.len-2.result c.args.round c.args.room c.may_restart-restarts.ensures (search rules))
     (acted (setting_in net c.args.inputs.now.value (traffic_of c.args.wire.now) c.may_restart-restarts.result
-        c.args.round c.args.room)
+    c.args.round c.args.room)
     view room (event_view c.args.event.now) c.args.stations.now.items c.args.number c.index_mut.result.now
     _ _ c.act.result (search rules) c.index_mut.ensures.value c.act.ensures.come)
 

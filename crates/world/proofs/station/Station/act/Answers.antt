@@ -131,8 +131,8 @@ send-requires g c =
 pub returns-in-Deliver-clause-come : goal.returns-in-Deliver-clause-come
 returns-in-Deliver-clause-come g c =
     let was =
-        station_view {cell = g.C.StableCell} {slots = g.C.SlotCell} g.O.Outlet.taken g.O.Outlet.failures
-        c.args.self.now in
+    station_view {cell = g.C.StableCell} {slots = g.C.SlotCell} g.O.Outlet.taken g.O.Outlet.failures
+    c.args.self.now in
     let setting =
     setting_in (network_of c.args.net.now.value.program) c.args.inputs.now.value (traffic_of c.args.wire.now)
     c.args.restarts c.args.round in
@@ -148,25 +148,25 @@ returns-in-Deliver-clause-come g c =
 pub returns-in-Grant-clause-come : goal.returns-in-Grant-clause-come
 returns-in-Grant-clause-come g c =
     let was =
-        station_view {cell = g.C.StableCell} {slots = g.C.SlotCell} g.O.Outlet.taken g.O.Outlet.failures
-        c.args.self.now in
+    station_view {cell = g.C.StableCell} {slots = g.C.SlotCell} g.O.Outlet.taken g.O.Outlet.failures
+    c.args.self.now in
     let setting =
     setting_in (network_of c.args.net.now.value.program) c.args.inputs.now.value (traffic_of c.args.wire.now)
     c.args.restarts c.args.round in
     let fits = fits_in (g.C.SlotCell.slot_capacity (cell_in c.args.self.now.node.store)) in
     quiet_came setting fits (event_view c.args.event.now) was _ (traffic_of c.args.wire.now) c.grant.result
-        _ view.Grant _
+    _ view.Grant _
     (ap event_view c.in-Grant.is)
     (ap (λ (i : List (List ℤ)). grant_plan (node_job setting.net i setting.room was.node) c.args.round was)
-        c.deref-in-Grant.ensures)
+    c.deref-in-Grant.ensures)
     refl refl (λ came. grant_sends (node_job setting.net setting.inputs setting.room was.node) was.node came)
-        c.grant.ensures.step
+    c.grant.ensures.step
 
 pub returns-in-Install-clause-come : goal.returns-in-Install-clause-come
 returns-in-Install-clause-come g c =
     let was =
-        station_view {cell = g.C.StableCell} {slots = g.C.SlotCell} g.O.Outlet.taken g.O.Outlet.failures
-        c.args.self.now in
+    station_view {cell = g.C.StableCell} {slots = g.C.SlotCell} g.O.Outlet.taken g.O.Outlet.failures
+    c.args.self.now in
     let setting =
     setting_in (network_of c.args.net.now.value.program) c.args.inputs.now.value (traffic_of c.args.wire.now)
     c.args.restarts c.args.round in
@@ -174,16 +174,16 @@ returns-in-Install-clause-come g c =
     installed_came setting fits (event_view c.args.event.now) was _ (traffic_of c.args.wire.now) c.install.result
     (done_view c.in-Install.done) (ap event_view c.in-Install.is) refl
     (subst (λ (n : Net). IfOk c.install.result
-        (λ (r : Reply). IsInstalled n.program.channels.items (done_view c.in-Install.done)
+    (λ (r : Reply). IsInstalled n.program.channels.items (done_view c.in-Install.done)
     was (reply_view r) (station_view g.O.Outlet.taken g.O.Outlet.failures c.install.new.self)))
-        c.deref-in-Install.ensures
+    c.deref-in-Install.ensures
     c.install.ensures.step)
 
 pub returns-in-Send-clause-come : goal.returns-in-Send-clause-come
 returns-in-Send-clause-come g c =
     let was =
-        station_view {cell = g.C.StableCell} {slots = g.C.SlotCell} g.O.Outlet.taken g.O.Outlet.failures
-        c.args.self.now in
+    station_view {cell = g.C.StableCell} {slots = g.C.SlotCell} g.O.Outlet.taken g.O.Outlet.failures
+    c.args.self.now in
     let setting =
     setting_in (network_of c.args.net.now.value.program) c.args.inputs.now.value (traffic_of c.args.wire.now)
     c.args.restarts c.args.round in
@@ -196,8 +196,8 @@ returns-in-Send-clause-come g c =
 pub returns-in-Start-clause-come : goal.returns-in-Start-clause-come
 returns-in-Start-clause-come g c =
     let was =
-        station_view {cell = g.C.StableCell} {slots = g.C.SlotCell} g.O.Outlet.taken g.O.Outlet.failures
-        c.args.self.now in
+    station_view {cell = g.C.StableCell} {slots = g.C.SlotCell} g.O.Outlet.taken g.O.Outlet.failures
+    c.args.self.now in
     let setting =
     setting_in (network_of c.args.net.now.value.program) c.args.inputs.now.value (traffic_of c.args.wire.now)
     c.args.restarts c.args.round in
@@ -210,21 +210,21 @@ returns-in-Start-clause-come g c =
 pub returns-in-Decide-clause-come : goal.returns-in-Decide-clause-come
 returns-in-Decide-clause-come g c =
     let was =
-        station_view {cell = g.C.StableCell} {slots = g.C.SlotCell} g.O.Outlet.taken g.O.Outlet.failures
-        c.args.self.now in
+    station_view {cell = g.C.StableCell} {slots = g.C.SlotCell} g.O.Outlet.taken g.O.Outlet.failures
+    c.args.self.now in
     let setting =
     setting_in (network_of c.args.net.now.value.program) c.args.inputs.now.value (traffic_of c.args.wire.now)
     c.args.restarts c.args.round in
     let fits = fits_in (g.C.SlotCell.slot_capacity (cell_in c.args.self.now.node.store)) in
     deed_came setting fits (event_view c.args.event.now) was _ (traffic_of c.decide.new.wire) c.decide.result
-        _ view.Decide
+    _ view.Decide
     (decide_plan was) (ap event_view c.in-Decide.is) refl (c.decide.ensures.come _)
 
 pub returns-in-Release-clause-come : goal.returns-in-Release-clause-come
 returns-in-Release-clause-come g c =
     let was =
-        station_view {cell = g.C.StableCell} {slots = g.C.SlotCell} g.O.Outlet.taken g.O.Outlet.failures
-        c.args.self.now in
+    station_view {cell = g.C.StableCell} {slots = g.C.SlotCell} g.O.Outlet.taken g.O.Outlet.failures
+    c.args.self.now in
     let setting =
     setting_in (network_of c.args.net.now.value.program) c.args.inputs.now.value (traffic_of c.args.wire.now)
     c.args.restarts c.args.round in
@@ -235,8 +235,8 @@ returns-in-Release-clause-come g c =
 pub returns-then-not-restarts-clause-come : goal.returns-then-not-restarts-clause-come
 returns-then-not-restarts-clause-come g c =
     let was =
-        station_view {cell = g.C.StableCell} {slots = g.C.SlotCell} g.O.Outlet.taken g.O.Outlet.failures
-        c.args.self.now in
+    station_view {cell = g.C.StableCell} {slots = g.C.SlotCell} g.O.Outlet.taken g.O.Outlet.failures
+    c.args.self.now in
     let setting =
     setting_in (network_of c.args.net.now.value.program) c.args.inputs.now.value (traffic_of c.args.wire.now)
     c.args.restarts c.args.round in
@@ -249,8 +249,8 @@ returns-then-not-restarts-clause-come g c =
 pub returns-else-not-restarts-clause-come : goal.returns-else-not-restarts-clause-come
 returns-else-not-restarts-clause-come g c =
     let was =
-        station_view {cell = g.C.StableCell} {slots = g.C.SlotCell} g.O.Outlet.taken g.O.Outlet.failures
-        c.args.self.now in
+    station_view {cell = g.C.StableCell} {slots = g.C.SlotCell} g.O.Outlet.taken g.O.Outlet.failures
+    c.args.self.now in
     let setting =
     setting_in (network_of c.args.net.now.value.program) c.args.inputs.now.value (traffic_of c.args.wire.now)
     c.args.restarts c.args.round in
@@ -265,8 +265,8 @@ returns-else-not-restarts-clause-come g c =
 pub returns-then-not-restarts-2-clause-come : goal.returns-then-not-restarts-2-clause-come
 returns-then-not-restarts-2-clause-come g c =
     let was =
-        station_view {cell = g.C.StableCell} {slots = g.C.SlotCell} g.O.Outlet.taken g.O.Outlet.failures
-        c.args.self.now in
+    station_view {cell = g.C.StableCell} {slots = g.C.SlotCell} g.O.Outlet.taken g.O.Outlet.failures
+    c.args.self.now in
     let setting =
     setting_in (network_of c.args.net.now.value.program) c.args.inputs.now.value (traffic_of c.args.wire.now)
     c.args.restarts c.args.round in
@@ -278,8 +278,8 @@ returns-then-not-restarts-2-clause-come g c =
 pub returns-else-not-restarts-2-clause-come : goal.returns-else-not-restarts-2-clause-come
 returns-else-not-restarts-2-clause-come g c =
     let was =
-        station_view {cell = g.C.StableCell} {slots = g.C.SlotCell} g.O.Outlet.taken g.O.Outlet.failures
-        c.args.self.now in
+    station_view {cell = g.C.StableCell} {slots = g.C.SlotCell} g.O.Outlet.taken g.O.Outlet.failures
+    c.args.self.now in
     let setting =
     setting_in (network_of c.args.net.now.value.program) c.args.inputs.now.value (traffic_of c.args.wire.now)
     c.args.restarts c.args.round in
@@ -292,8 +292,8 @@ returns-else-not-restarts-2-clause-come g c =
 pub returns-in-Arm-clause-come : goal.returns-in-Arm-clause-come
 returns-in-Arm-clause-come g c =
     let was =
-        station_view {cell = g.C.StableCell} {slots = g.C.SlotCell} g.O.Outlet.taken g.O.Outlet.failures
-        c.args.self.now in
+    station_view {cell = g.C.StableCell} {slots = g.C.SlotCell} g.O.Outlet.taken g.O.Outlet.failures
+    c.args.self.now in
     let setting =
     setting_in (network_of c.args.net.now.value.program) c.args.inputs.now.value (traffic_of c.args.wire.now)
     c.args.restarts c.args.round in
@@ -306,22 +306,22 @@ returns-in-Arm-clause-come g c =
 pub returns-in-Idle-clause-come : goal.returns-in-Idle-clause-come
 returns-in-Idle-clause-come g c =
     let was =
-        station_view {cell = g.C.StableCell} {slots = g.C.SlotCell} g.O.Outlet.taken g.O.Outlet.failures
-        c.args.self.now in
+    station_view {cell = g.C.StableCell} {slots = g.C.SlotCell} g.O.Outlet.taken g.O.Outlet.failures
+    c.args.self.now in
     let setting =
     setting_in (network_of c.args.net.now.value.program) c.args.inputs.now.value (traffic_of c.args.wire.now)
     c.args.restarts c.args.round in
     let fits = fits_in (g.C.SlotCell.slot_capacity (cell_in c.args.self.now.node.store)) in
     quiet_came setting fits (event_view c.args.event.now) was _ (traffic_of c.args.wire.now) (Ok c.idle.result)
-        _ view.Idle
+    _ view.Idle
     (idle_plan c.args.round was) (ap event_view c.in-Idle.is) refl refl refl (λ came. becoming_sends was.node came)
     c.idle.ensures.step
 
 pub returns-in-Lose-clause-come : goal.returns-in-Lose-clause-come
 returns-in-Lose-clause-come g c =
     let was =
-        station_view {cell = g.C.StableCell} {slots = g.C.SlotCell} g.O.Outlet.taken g.O.Outlet.failures
-        c.args.self.now in
+    station_view {cell = g.C.StableCell} {slots = g.C.SlotCell} g.O.Outlet.taken g.O.Outlet.failures
+    c.args.self.now in
     let setting =
     setting_in (network_of c.args.net.now.value.program) c.args.inputs.now.value (traffic_of c.args.wire.now)
     c.args.restarts c.args.round in
@@ -333,8 +333,8 @@ returns-in-Lose-clause-come g c =
 pub returns-in-Repeat-clause-come : goal.returns-in-Repeat-clause-come
 returns-in-Repeat-clause-come g c =
     let was =
-        station_view {cell = g.C.StableCell} {slots = g.C.SlotCell} g.O.Outlet.taken g.O.Outlet.failures
-        c.args.self.now in
+    station_view {cell = g.C.StableCell} {slots = g.C.SlotCell} g.O.Outlet.taken g.O.Outlet.failures
+    c.args.self.now in
     let setting =
     setting_in (network_of c.args.net.now.value.program) c.args.inputs.now.value (traffic_of c.args.wire.now)
     c.args.restarts c.args.round in
@@ -346,8 +346,8 @@ returns-in-Repeat-clause-come g c =
 pub returns-in-Delay-clause-come : goal.returns-in-Delay-clause-come
 returns-in-Delay-clause-come g c =
     let was =
-        station_view {cell = g.C.StableCell} {slots = g.C.SlotCell} g.O.Outlet.taken g.O.Outlet.failures
-        c.args.self.now in
+    station_view {cell = g.C.StableCell} {slots = g.C.SlotCell} g.O.Outlet.taken g.O.Outlet.failures
+    c.args.self.now in
     let setting =
     setting_in (network_of c.args.net.now.value.program) c.args.inputs.now.value (traffic_of c.args.wire.now)
     c.args.restarts c.args.round in
@@ -361,8 +361,8 @@ returns-in-Delay-clause-come g c =
 pub returns-in-Deliver-clause-moved : goal.returns-in-Deliver-clause-moved
 returns-in-Deliver-clause-moved g c =
     let was =
-        station_view {cell = g.C.StableCell} {slots = g.C.SlotCell} g.O.Outlet.taken g.O.Outlet.failures
-        c.args.self.now in
+    station_view {cell = g.C.StableCell} {slots = g.C.SlotCell} g.O.Outlet.taken g.O.Outlet.failures
+    c.args.self.now in
     let setting =
     setting_in (network_of c.args.net.now.value.program) c.args.inputs.now.value (traffic_of c.args.wire.now)
     c.args.restarts c.args.round in
@@ -371,7 +371,7 @@ returns-in-Deliver-clause-moved g c =
     (slice_get (flights_to (traffic_of c.args.wire.now) c.in-Deliver.node) c.in-Deliver.place) in
     let seen = ap event_view c.in-Deliver.is in
     subst (λ (e : EventView). HasMoved g.C.StableCell.moment g.C.SlotCell.left_since_whole
-        (cell_in c.args.self.now.node.store)
+    (cell_in c.args.self.now.node.store)
     (cell_in c.deliver.new.self.node.store) was.node.kept (next_kept setting e was)
     (outlet_views g.O.Outlet.taken g.O.Outlet.failures c.args.self.now.outputs.items)
     (outlet_views g.O.Outlet.taken g.O.Outlet.failures c.deliver.new.self.outputs.items)) (sym seen)
@@ -387,15 +387,15 @@ returns-in-Deliver-clause-moved g c =
 pub returns-in-Start-clause-moved : goal.returns-in-Start-clause-moved
 returns-in-Start-clause-moved g c =
     let was =
-        station_view {cell = g.C.StableCell} {slots = g.C.SlotCell} g.O.Outlet.taken g.O.Outlet.failures
-        c.args.self.now in
+    station_view {cell = g.C.StableCell} {slots = g.C.SlotCell} g.O.Outlet.taken g.O.Outlet.failures
+    c.args.self.now in
     let setting =
     setting_in (network_of c.args.net.now.value.program) c.args.inputs.now.value (traffic_of c.args.wire.now)
     c.args.restarts c.args.round in
     let fits = fits_in (g.C.SlotCell.slot_capacity (cell_in c.args.self.now.node.store)) in
     let seen = ap event_view c.in-Start.is in
     subst (λ (e : EventView). HasMoved g.C.StableCell.moment g.C.SlotCell.left_since_whole
-        (cell_in c.args.self.now.node.store)
+    (cell_in c.args.self.now.node.store)
     (cell_in c.start.new.self.node.store) was.node.kept (next_kept setting e was)
     (outlet_views g.O.Outlet.taken g.O.Outlet.failures c.args.self.now.outputs.items)
     (outlet_views g.O.Outlet.taken g.O.Outlet.failures c.start.new.self.outputs.items)) (sym seen)

@@ -46,7 +46,7 @@ invariant_of-self g c =
     record {
       sound = step_keeps (rooms was.stations.items) (event_view c.args.event) (world_of was) (reply_view c.in-Ok.reply)
           (world_view {cell = g.C.StableCell} {slots = g.C.SlotCell} g.O.Outlet.taken g.O.Outlet.failures was.net
-              was.inputs
+          was.inputs
           c.act_at.new.stations.items (traffic_of c.act_at.new.wire) c.round_after-self.result was.room) was.sound
           (world_steps (rooms was.stations.items) (event_view c.args.event) (world_of was) (reply_view c.in-Ok.reply)
           (setting_in (network_of was.net.value.program) was.inputs.value (traffic_of was.wire)
@@ -103,7 +103,7 @@ returns-in-Ok-clause-line g c =
     (setting_in (network_of was.net.value.program) was.inputs.value (traffic_of was.wire)
     (may_restart (length was.stations.items)) was.round was.room) (event_view c.args.event)
     (network_of was.net.value.program) was.inputs.value was.stations.items c.act_at.new.stations.items was.round
-        was.room
+    was.room
     (traffic_of was.wire) (rooms was.stations.items) c.in-Ok.ensures.come.came (reply_view c.in-Ok.reply)
     c.from-number.result was.sound
     (setting_is view (network_of was.net.value.program) was.inputs.value (traffic_of was.wire)
@@ -118,7 +118,7 @@ returns-in-Err-clause-line g c =
     (setting_in (network_of was.net.value.program) was.inputs.value (traffic_of was.wire)
     (may_restart (length was.stations.items)) was.round was.room) (event_view c.args.event)
     (network_of was.net.value.program) was.inputs.value was.stations.items c.act_at.new.stations.items was.round
-        was.room
+    was.room
     (traffic_of was.wire) [] outcome.NotDue NotDue c.from-number.result was.sound
     (setting_is view (network_of was.net.value.program) was.inputs.value (traffic_of was.wire)
     was.stations.items was.round was.room) (c.from-number.ensures ∙ c.node.ensures) (refl, c.in-Err.ensures.refused.0)
@@ -154,12 +154,12 @@ returns-in-Err-clause-coordinated g c =
 pub returns-in-Ok-clause-settled : goal.returns-in-Ok-clause-settled
 returns-in-Ok-clause-settled g c =
     one_line {cell = g.C.StableCell} {slots = g.C.SlotCell} g.O.Outlet.taken g.O.Outlet.failures
-        c.act_at.new.stations.items
+    c.act_at.new.stations.items
 
 pub returns-in-Err-clause-settled : goal.returns-in-Err-clause-settled
 returns-in-Err-clause-settled g c =
     one_line {cell = g.C.StableCell} {slots = g.C.SlotCell} g.O.Outlet.taken g.O.Outlet.failures
-        c.act_at.new.stations.items
+    c.act_at.new.stations.items
 
 -- the rooms are what the capacities say
 pub returns-in-Ok-clause-same_rooms : goal.returns-in-Ok-clause-same_rooms

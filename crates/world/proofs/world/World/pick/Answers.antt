@@ -30,10 +30,10 @@ returns-in-Some g c =
     let many : c.len.result ≡ length was.stations.items = search rules in
     c.pick.ensures
     ∙ (ap (λ (net : Net). station_choice (network_of net.program) c.deref-in-Some-2.result.now was.room
-        (traffic_of was.wire)
+    (traffic_of was.wire)
     c.len.result was.round station) c.deref-in-Some.ensures
     ∙ (ap (λ (inputs : List (List ℤ)). station_choice world.net inputs was.room (traffic_of was.wire) c.len.result
-        was.round
+    was.round
     station) c.deref-in-Some-2.ensures
     ∙ (ap (λ (n : ℕ). station_choice world.net world.inputs was.room (traffic_of was.wire) n was.round station)
     (many ∙ sym (length-map was.stations.items view))
