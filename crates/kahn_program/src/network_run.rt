@@ -310,8 +310,9 @@ fn nearest_room(asked: u64) -> usize
     asked.max(MIN_ROOM as u64).min(MAX_RETAINED_ITEMS as u64) as usize
 }
 
-/// Runs a network on its inputs, with a room of its channels as asked for, until nothing is left to do, so many rounds are over, or each output has the items that
-/// are asked for. Gives the whole report, and whether the run is complete.
+/// Runs a network on its inputs, with the room that is asked for on its channels, until nothing is left to do, so many
+/// rounds are over, or each output has the items that are asked for. Gives the whole report, and whether the run is
+/// complete.
 pub fn report_of_run(
     alloc: Global,
     net: Net,

@@ -77,7 +77,8 @@ impl<C: SlotCell, O: Outlet> Station<C, O> {
         restarts && state.is_down() && state.restart <= round
     }
 
-    // Whether a job is next where a channel has so much room: a process is ready, and fewer were granted in this round than may be.
+    // Whether a job is next where a channel has so much room: a process is ready, and fewer were granted in this round than
+    // may be.
     fn has_grant(&self, net: &Net, inputs: &Inputs, room: usize, round: u64) -> bool
         ensures { result ≡ (nat_lt (turns_of round self.now.turns).granted MAX_GRANTS
             && is_some (node_job (network_of net.now.program) inputs.now room

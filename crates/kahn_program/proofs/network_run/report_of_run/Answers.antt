@@ -4,7 +4,9 @@ use Rattle.kahn_net.specs.Syntax.{network_of}
 use Rattle.sector_disk.specs.MemDisk.{sectors_of}
 use Rattle.net_check.specs.declared.net.Net.{Net}
 use Rattle.protocol.specs.World.Released.{released_of}
+use Rattle.protocol.specs.World.Steps.{with_room}
 use Rattle.world.specs.WholeView.{world_of}
+use Rattle.world.specs.WorldView.{capacities}
 use Rattle.kahn_program.specs.Report.{output_count, report_text}
 use Rattle.kahn_program.specs.Runnable.{HasRunFailed, IsStoreFailure}
 use Rattle.kahn_program.specs.Runs.{first_items}
@@ -50,7 +52,8 @@ returns-in-Ok-report-clause-ok c =
     opens_first _ _ (λ outlet. refl) (network_of net.program) _ c.args.inputs _ c.args.room c.in-Ok.outputs.items
     (world_of first) (world_of opened) (ap (λ (n : Net). network_of n.program) shared) c.in-Ok-new-2.ensures.ok
     _ (c.in-Ok-empty_disks.ensures.unfailed ∙ ap (λ (n : ℕ). replicate n 0) c.node_count-nodes.ensures.count)
-    set c.in-Ok-new-3.ensures.opening c.in-Ok.ensures.listed c.in-Ok.ensures.empty in
+    (c.in-Ok-set_room.ensures.set
+    ∙ ap (λ (n : ℕ). with_room n (world_of opened)) c.nearest_room.ensures) c.in-Ok-new-3.ensures.opening c.in-Ok.ensures.listed c.in-Ok.ensures.empty in
     let last =
     last_world (network_of net.program) c.args.inputs c.as_slice-channels.result.now c.args.room c.args.rounds
     c.node_count-nodes.result c.args.items (world_of first) (world_of now) given c.node_count-nodes.ensures.count
@@ -105,7 +108,8 @@ returns-in_err-take_turns-clause-err c =
     opens_first _ _ (λ outlet. refl) (network_of net.program) _ c.args.inputs _ c.args.room c.in-Ok.outputs.items
     (world_of first) (world_of opened) (ap (λ (n : Net). network_of n.program) shared) c.in-Ok-new-2.ensures.ok
     _ (c.in-Ok-empty_disks.ensures.unfailed ∙ ap (λ (n : ℕ). replicate n 0) c.node_count-nodes.ensures.count)
-    set c.in-Ok-new-3.ensures.opening c.in-Ok.ensures.listed c.in-Ok.ensures.empty in
+    (c.in-Ok-set_room.ensures.set
+    ∙ ap (λ (n : ℕ). with_room n (world_of opened)) c.nearest_room.ensures) c.in-Ok-new-3.ensures.opening c.in-Ok.ensures.listed c.in-Ok.ensures.empty in
     rw (p.1, p.2)
     (failure_by
     (run_failed (network_of net.program) c.args.inputs c.as_slice-channels.result.now c.args.room c.args.rounds
@@ -114,5 +118,6 @@ returns-in_err-take_turns-clause-err c =
 
 pub take_turns-requires-clause-room : goal.take_turns-requires-clause-room
 take_turns-requires-clause-room c =
-    rooms_given sectors_of c.in-Ok-empty_disks.disks.items _ c.in-Ok-new-3.ensures.room
+    rooms_given sectors_of c.in-Ok-empty_disks.disks.items _
+    (ap (λ stations. capacities stations.items) c.set_room.ensures.same.2 ∙ c.in-Ok-new-3.ensures.room)
     c.in-Ok-empty_disks.ensures.sectors
