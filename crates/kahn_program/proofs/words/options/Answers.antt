@@ -39,21 +39,21 @@ returns-clause-asked g c =
     let one : (id : Text) → one_text found id ≡ one_of id (matches_of kahnrun words) =
     λ id. one_text-rows found id ∙ ap (λ (r : List Row). one_of id r) rows in
     let some = c.in-Some-Some-Some-Some in
-    let rounds : IsNumber 1 MAX_ROUNDS (one_text found (codes "rounds")) c.in_ok-rounds.field-0 =
-    c.in_ok-rounds.ensures in
+    let rounds : IsNumber 1 MAX_ROUNDS (one_text found (codes "rounds")) c.in_ok-given.field-0 =
+    c.in_ok-given.ensures in
     let room : IsNumber MIN_ROOM MAX_RETAINED_ITEMS (one_text found (codes "room")) c.in_ok-room.field-0 =
     c.in_ok-room.ensures in
-    let items : IsNumber 0 MAX_ITEMS (one_text found (codes "items")) c.in_ok-given.field-0 = c.in_ok-given.ensures in
-    let approx : IsNumber 0 MAX_APPROXIMATION (one_text found (codes "approx")) c.in_ok-given-2.field-0 =
-    c.in_ok-given-2.ensures in
+    let items : IsNumber 0 MAX_ITEMS (one_text found (codes "items")) c.in_ok-given-2.field-0 = c.in_ok-given-2.ensures in
+    let approx : IsNumber 0 MAX_APPROXIMATION (one_text found (codes "approx")) c.in_ok-given-3.field-0 =
+    c.in_ok-given-3.ensures in
     record {
       net = text (codes "NET") ∙ (sym some.ensures ∙ search rules);
       inputs = text (codes "INPUTS") ∙ (sym some.ensures' ∙ search rules);
       rounds =
           subst (λ (given : Option ℕ). IsNumber 1 MAX_ROUNDS (one_of (codes "rounds") (matches_of kahnrun words))
           given) some.is-2
-          (subst (λ (t : Option Text). IsNumber 1 MAX_ROUNDS t c.in_ok-rounds.field-0) (one (codes "rounds")) rounds);
-      items = subst (λ (t : Option Text). IsNumber 0 MAX_ITEMS t c.in_ok-given.field-0) (one (codes "items")) items;
+          (subst (λ (t : Option Text). IsNumber 1 MAX_ROUNDS t c.in_ok-given.field-0) (one (codes "rounds")) rounds);
+      items = subst (λ (t : Option Text). IsNumber 0 MAX_ITEMS t c.in_ok-given-2.field-0) (one (codes "items")) items;
       room =
           subst (λ (given : Option ℕ). IsNumber MIN_ROOM MAX_RETAINED_ITEMS
           (one_of (codes "room") (matches_of kahnrun words)) given) some.is-3
@@ -65,6 +65,6 @@ returns-clause-asked g c =
         absent = λ no_text. c.get_flag.ensures.none (one (codes "plain") ∙ no_text);
       };
       approx =
-          subst (λ (t : Option Text). IsNumber 0 MAX_APPROXIMATION t c.in_ok-given-2.field-0) (one (codes "approx"))
+          subst (λ (t : Option Text). IsNumber 0 MAX_APPROXIMATION t c.in_ok-given-3.field-0) (one (codes "approx"))
           approx;
     }

@@ -135,7 +135,7 @@ returns-in-Deliver-clause-come g c =
     c.args.self.now in
     let setting =
     setting_in (network_of c.args.net.now.value.program) c.args.inputs.now.value (traffic_of c.args.wire.now)
-    c.args.restarts c.args.round in
+    c.args.restarts c.args.round c.args.room in
     let fits = fits_in (g.C.SlotCell.slot_capacity (cell_in c.args.self.now.node.store)) in
     let found = due_bytes c.args.round
     (slice_get (flights_to (traffic_of c.args.wire.now) c.in-Deliver.node) c.in-Deliver.place) in
@@ -152,7 +152,7 @@ returns-in-Grant-clause-come g c =
     c.args.self.now in
     let setting =
     setting_in (network_of c.args.net.now.value.program) c.args.inputs.now.value (traffic_of c.args.wire.now)
-    c.args.restarts c.args.round in
+    c.args.restarts c.args.round c.args.room in
     let fits = fits_in (g.C.SlotCell.slot_capacity (cell_in c.args.self.now.node.store)) in
     quiet_came setting fits (event_view c.args.event.now) was _ (traffic_of c.args.wire.now) c.grant.result
     _ view.Grant _
@@ -169,7 +169,7 @@ returns-in-Install-clause-come g c =
     c.args.self.now in
     let setting =
     setting_in (network_of c.args.net.now.value.program) c.args.inputs.now.value (traffic_of c.args.wire.now)
-    c.args.restarts c.args.round in
+    c.args.restarts c.args.round c.args.room in
     let fits = fits_in (g.C.SlotCell.slot_capacity (cell_in c.args.self.now.node.store)) in
     installed_came setting fits (event_view c.args.event.now) was _ (traffic_of c.args.wire.now) c.install.result
     (done_view c.in-Install.done) (ap event_view c.in-Install.is) refl
@@ -186,7 +186,7 @@ returns-in-Send-clause-come g c =
     c.args.self.now in
     let setting =
     setting_in (network_of c.args.net.now.value.program) c.args.inputs.now.value (traffic_of c.args.wire.now)
-    c.args.restarts c.args.round in
+    c.args.restarts c.args.round c.args.room in
     let fits = fits_in (g.C.SlotCell.slot_capacity (cell_in c.args.self.now.node.store)) in
     deed_came setting fits (event_view c.args.event.now) was _ (traffic_of c.send.new.wire) c.send.result _ view.Send
     (send_plan (network_of c.deref-in-Send.result.now.program) c.args.round was) (ap event_view c.in-Send.is)
@@ -200,7 +200,7 @@ returns-in-Start-clause-come g c =
     c.args.self.now in
     let setting =
     setting_in (network_of c.args.net.now.value.program) c.args.inputs.now.value (traffic_of c.args.wire.now)
-    c.args.restarts c.args.round in
+    c.args.restarts c.args.round c.args.room in
     let fits = fits_in (g.C.SlotCell.slot_capacity (cell_in c.args.self.now.node.store)) in
     deed_came setting fits (event_view c.args.event.now) was _ (traffic_of c.start.new.wire) c.start.result _ view.Start
     (start_plan (network_of c.deref-in-Start.result.now.program) c.args.round was) (ap event_view c.in-Start.is)
@@ -214,7 +214,7 @@ returns-in-Decide-clause-come g c =
     c.args.self.now in
     let setting =
     setting_in (network_of c.args.net.now.value.program) c.args.inputs.now.value (traffic_of c.args.wire.now)
-    c.args.restarts c.args.round in
+    c.args.restarts c.args.round c.args.room in
     let fits = fits_in (g.C.SlotCell.slot_capacity (cell_in c.args.self.now.node.store)) in
     deed_came setting fits (event_view c.args.event.now) was _ (traffic_of c.decide.new.wire) c.decide.result
     _ view.Decide
@@ -227,7 +227,7 @@ returns-in-Release-clause-come g c =
     c.args.self.now in
     let setting =
     setting_in (network_of c.args.net.now.value.program) c.args.inputs.now.value (traffic_of c.args.wire.now)
-    c.args.restarts c.args.round in
+    c.args.restarts c.args.round c.args.room in
     let fits = fits_in (g.C.SlotCell.slot_capacity (cell_in c.args.self.now.node.store)) in
     released_came setting fits (event_view c.args.event.now) was _ (traffic_of c.args.wire.now) c.release.result _
     (ap event_view c.in-Release.is) refl c.release.ensures.step
@@ -239,7 +239,7 @@ returns-then-not-restarts-clause-come g c =
     c.args.self.now in
     let setting =
     setting_in (network_of c.args.net.now.value.program) c.args.inputs.now.value (traffic_of c.args.wire.now)
-    c.args.restarts c.args.round in
+    c.args.restarts c.args.round c.args.room in
     let fits = fits_in (g.C.SlotCell.slot_capacity (cell_in c.args.self.now.node.store)) in
     let none : c.args.restarts ≡ false = search rules in
     undue_came setting fits (event_view c.args.event.now) was _ (view.Crash c.in-Crash.fill c.in-Crash.rounds)
@@ -253,7 +253,7 @@ returns-else-not-restarts-clause-come g c =
     c.args.self.now in
     let setting =
     setting_in (network_of c.args.net.now.value.program) c.args.inputs.now.value (traffic_of c.args.wire.now)
-    c.args.restarts c.args.round in
+    c.args.restarts c.args.round c.args.room in
     let fits = fits_in (g.C.SlotCell.slot_capacity (cell_in c.args.self.now.node.store)) in
     let some : true ≡ c.args.restarts = search rules in
     let restart = round_later c.args.round c.in-Crash.rounds in
@@ -269,7 +269,7 @@ returns-then-not-restarts-2-clause-come g c =
     c.args.self.now in
     let setting =
     setting_in (network_of c.args.net.now.value.program) c.args.inputs.now.value (traffic_of c.args.wire.now)
-    c.args.restarts c.args.round in
+    c.args.restarts c.args.round c.args.room in
     let fits = fits_in (g.C.SlotCell.slot_capacity (cell_in c.args.self.now.node.store)) in
     let none : c.args.restarts ≡ false = search rules in
     undue_came setting fits (event_view c.args.event.now) was _ view.Recover (ap event_view c.in-Recover.is)
@@ -282,7 +282,7 @@ returns-else-not-restarts-2-clause-come g c =
     c.args.self.now in
     let setting =
     setting_in (network_of c.args.net.now.value.program) c.args.inputs.now.value (traffic_of c.args.wire.now)
-    c.args.restarts c.args.round in
+    c.args.restarts c.args.round c.args.room in
     let fits = fits_in (g.C.SlotCell.slot_capacity (cell_in c.args.self.now.node.store)) in
     let some : true ≡ c.args.restarts = search rules in
     quiet_came setting fits (event_view c.args.event.now) was _ (traffic_of c.args.wire.now) c.recover.result _
@@ -296,7 +296,7 @@ returns-in-Arm-clause-come g c =
     c.args.self.now in
     let setting =
     setting_in (network_of c.args.net.now.value.program) c.args.inputs.now.value (traffic_of c.args.wire.now)
-    c.args.restarts c.args.round in
+    c.args.restarts c.args.round c.args.room in
     let fits = fits_in (g.C.SlotCell.slot_capacity (cell_in c.args.self.now.node.store)) in
     quiet_came setting fits (event_view c.args.event.now) was _ (traffic_of c.args.wire.now) c.arm.result _
     (view.Arm c.in-Arm.fault c.in-Arm.rounds) (arm_plan c.in-Arm.fault.call c.in-Arm.rounds was)
@@ -310,7 +310,7 @@ returns-in-Idle-clause-come g c =
     c.args.self.now in
     let setting =
     setting_in (network_of c.args.net.now.value.program) c.args.inputs.now.value (traffic_of c.args.wire.now)
-    c.args.restarts c.args.round in
+    c.args.restarts c.args.round c.args.room in
     let fits = fits_in (g.C.SlotCell.slot_capacity (cell_in c.args.self.now.node.store)) in
     quiet_came setting fits (event_view c.args.event.now) was _ (traffic_of c.args.wire.now) (Ok c.idle.result)
     _ view.Idle
@@ -324,7 +324,7 @@ returns-in-Lose-clause-come g c =
     c.args.self.now in
     let setting =
     setting_in (network_of c.args.net.now.value.program) c.args.inputs.now.value (traffic_of c.args.wire.now)
-    c.args.restarts c.args.round in
+    c.args.restarts c.args.round c.args.room in
     let fits = fits_in (g.C.SlotCell.slot_capacity (cell_in c.args.self.now.node.store)) in
     acted_came setting fits (event_view c.args.event.now) was was (traffic_of c.lose.new.wire) (Ok c.lose.result)
     c.in-Lose.node c.in-Lose.place view.Lose (ap event_view c.in-Lose.is) refl c.lose.ensures.reply
@@ -337,7 +337,7 @@ returns-in-Repeat-clause-come g c =
     c.args.self.now in
     let setting =
     setting_in (network_of c.args.net.now.value.program) c.args.inputs.now.value (traffic_of c.args.wire.now)
-    c.args.restarts c.args.round in
+    c.args.restarts c.args.round c.args.room in
     let fits = fits_in (g.C.SlotCell.slot_capacity (cell_in c.args.self.now.node.store)) in
     acted_came setting fits (event_view c.args.event.now) was was (traffic_of c.repeat.new.wire) c.repeat.result
     c.in-Repeat.node c.in-Repeat.place view.Repeat (ap event_view c.in-Repeat.is) refl c.repeat.ensures.reply
@@ -350,7 +350,7 @@ returns-in-Delay-clause-come g c =
     c.args.self.now in
     let setting =
     setting_in (network_of c.args.net.now.value.program) c.args.inputs.now.value (traffic_of c.args.wire.now)
-    c.args.restarts c.args.round in
+    c.args.restarts c.args.round c.args.room in
     let fits = fits_in (g.C.SlotCell.slot_capacity (cell_in c.args.self.now.node.store)) in
     acted_came setting fits (event_view c.args.event.now) was was (traffic_of c.delay.new.wire) (Ok c.delay.result)
     c.in-Delay.node c.in-Delay.place (view.Delay c.in-Delay.rounds) (ap event_view c.in-Delay.is) refl
@@ -365,7 +365,7 @@ returns-in-Deliver-clause-moved g c =
     c.args.self.now in
     let setting =
     setting_in (network_of c.args.net.now.value.program) c.args.inputs.now.value (traffic_of c.args.wire.now)
-    c.args.restarts c.args.round in
+    c.args.restarts c.args.round c.args.room in
     let fits = fits_in (g.C.SlotCell.slot_capacity (cell_in c.args.self.now.node.store)) in
     let found = due_bytes c.args.round
     (slice_get (flights_to (traffic_of c.args.wire.now) c.in-Deliver.node) c.in-Deliver.place) in
@@ -391,7 +391,7 @@ returns-in-Start-clause-moved g c =
     c.args.self.now in
     let setting =
     setting_in (network_of c.args.net.now.value.program) c.args.inputs.now.value (traffic_of c.args.wire.now)
-    c.args.restarts c.args.round in
+    c.args.restarts c.args.round c.args.room in
     let fits = fits_in (g.C.SlotCell.slot_capacity (cell_in c.args.self.now.node.store)) in
     let seen = ap event_view c.in-Start.is in
     subst (λ (e : EventView). HasMoved g.C.StableCell.moment g.C.SlotCell.left_since_whole
