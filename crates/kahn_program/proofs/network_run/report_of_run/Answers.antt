@@ -53,7 +53,8 @@ returns-in-Ok-report-clause-ok c =
     (world_of first) (world_of opened) (ap (λ (n : Net). network_of n.program) shared) c.in-Ok-new-2.ensures.ok
     _ (c.in-Ok-empty_disks.ensures.unfailed ∙ ap (λ (n : ℕ). replicate n 0) c.node_count-nodes.ensures.count)
     (c.in-Ok-set_room.ensures.set
-    ∙ ap (λ (n : ℕ). with_room n (world_of opened)) c.nearest_room.ensures) c.in-Ok-new-3.ensures.opening c.in-Ok.ensures.listed c.in-Ok.ensures.empty in
+    ∙ ap (λ (n : ℕ). with_room n (world_of opened)) c.nearest_room.ensures) c.in-Ok-new-3.ensures.opening
+    c.in-Ok.ensures.listed c.in-Ok.ensures.empty in
     let last =
     last_world (network_of net.program) c.args.inputs c.as_slice-channels.result.now c.args.room c.args.rounds
     c.node_count-nodes.result c.args.items (world_of first) (world_of now) given c.node_count-nodes.ensures.count
@@ -109,7 +110,8 @@ returns-in_err-take_turns-clause-err c =
     (world_of first) (world_of opened) (ap (λ (n : Net). network_of n.program) shared) c.in-Ok-new-2.ensures.ok
     _ (c.in-Ok-empty_disks.ensures.unfailed ∙ ap (λ (n : ℕ). replicate n 0) c.node_count-nodes.ensures.count)
     (c.in-Ok-set_room.ensures.set
-    ∙ ap (λ (n : ℕ). with_room n (world_of opened)) c.nearest_room.ensures) c.in-Ok-new-3.ensures.opening c.in-Ok.ensures.listed c.in-Ok.ensures.empty in
+    ∙ ap (λ (n : ℕ). with_room n (world_of opened)) c.nearest_room.ensures) c.in-Ok-new-3.ensures.opening
+    c.in-Ok.ensures.listed c.in-Ok.ensures.empty in
     rw (p.1, p.2)
     (failure_by
     (run_failed (network_of net.program) c.args.inputs c.as_slice-channels.result.now c.args.room c.args.rounds

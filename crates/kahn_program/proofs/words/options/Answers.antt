@@ -43,7 +43,8 @@ returns-clause-asked g c =
     c.in_ok-given.ensures in
     let room : IsNumber MIN_ROOM MAX_RETAINED_ITEMS (one_text found (codes "room")) c.in_ok-room.field-0 =
     c.in_ok-room.ensures in
-    let items : IsNumber 0 MAX_ITEMS (one_text found (codes "items")) c.in_ok-given-2.field-0 = c.in_ok-given-2.ensures in
+    let items : IsNumber 0 MAX_ITEMS (one_text found (codes "items")) c.in_ok-given-2.field-0 =
+    c.in_ok-given-2.ensures in
     let approx : IsNumber 0 MAX_APPROXIMATION (one_text found (codes "approx")) c.in_ok-given-3.field-0 =
     c.in_ok-given-3.ensures in
     record {
