@@ -141,7 +141,7 @@ twice : (f : ℕ → List ℤ) (g : List ℤ → List ℤ) (numbers : List ℕ)
 twice f g [] = refl
 twice f g (number ∷ numbers) = ap (λ (rest : List (List ℤ)). g (f number) ∷ rest) (twice f g numbers)
 
-pub reported : (net : Net) (inputs : List (List ℤ)) (given : List Channel) (rounds : ℕ) (items cut : Option ℕ)
+pub reported : (net : Net) (inputs : List (List ℤ)) (given : List Channel) (room rounds : ℕ) (items cut : Option ℕ)
     (streams : List (List ℤ)) (now : WorldView) (text : List ℕ) (complete told : Bool)
     → given ≡ net.program.channels.items
     → cut ≡ cut_at items (map (λ (channel : ℕ). released_of channel now.stations) (output_channels 0 given))
@@ -150,9 +150,10 @@ pub reported : (net : Net) (inputs : List (List ℤ)) (given : List Channel) (ro
     → text ≡ report_text net.program.channels.items net.channel_names.items streams told
     → IsRun (network_of net.program) inputs (released_streams (network_of net.program) now.stations) complete
     → complete ≡ are_quiet now
-    → IsLast (network_of net.program) inputs rounds items now
-    → IsReport net rounds items inputs text told
-reported net inputs given rounds items cut streams now text complete told channels where_cut listed whole printed run
+    → IsLast (network_of net.program) inputs room rounds items now
+    → IsReport net room rounds items inputs text told
+reported net inputs given room rounds items cut streams now text complete told channels where_cut listed whole printed
+    run
     quiet last =
     let stations = now.stations in
     let released : List (List ℤ) = released_streams (network_of net.program) stations in
@@ -206,23 +207,24 @@ module _ (f : ℕ → List ℤ) (test : List ℤ → Bool) where
       ∙ (sym (here channels k d within) ∙ so_far))
 
 -- The report that is asked for, of the texts of two readers
-pub run_of_readers : (approx : Option ℕ) (rounds : ℕ) (items : Option ℕ) (net_bytes input_bytes : Option (List ℕ))
+pub run_of_readers : (approx : Option ℕ) (room rounds : ℕ) (items : Option ℕ) (net_bytes input_bytes : Option (List ℕ))
     (net : Net) (inputs : List (List ℤ)) (result : Result (Vec ℕ Global × Bool) Failure)
     → IfSome net_bytes (λ bytes. IsNetOf bytes net) → IfSome input_bytes (λ bytes. AreInputsOf bytes net inputs)
-    → IfOk result (λ report. IsReportOf approx rounds items net inputs report.0.items report.1)
-    → IfOk result (λ report. IsReported approx rounds items net_bytes input_bytes report.0.items report.1)
-run_of_readers approx rounds items net_bytes input_bytes net inputs (Err e) of_net of_inputs report = tt
-run_of_readers approx rounds items net_bytes input_bytes net inputs (Ok r) of_net of_inputs report =
+    → IfOk result (λ report. IsReportOf approx room rounds items net inputs report.0.items report.1)
+    → IfOk result (λ report. IsReported approx room rounds items net_bytes input_bytes report.0.items report.1)
+run_of_readers approx room rounds items net_bytes input_bytes net inputs (Err e) of_net of_inputs report = tt
+run_of_readers approx room rounds items net_bytes input_bytes net inputs (Ok r) of_net of_inputs report =
     ∣ (net, inputs, of_net, of_inputs, report) ∣₁
 
-pub failed_run : {T : Type 0} (approx : Option ℕ) (rounds : ℕ) (items : Option ℕ)
-    (net_bytes input_bytes : Option (List ℕ)) (net : Net) (inputs : List (List ℤ)) (result : Result T Failure) → IfSome net_bytes (λ bytes. IsNetOf bytes net)
+pub failed_run : {T : Type 0} (approx : Option ℕ) (room rounds : ℕ) (items : Option ℕ)
+    (net_bytes input_bytes : Option (List ℕ)) (net : Net) (inputs : List (List ℤ)) (result : Result T Failure)
+    → IfSome net_bytes (λ bytes. IsNetOf bytes net)
     → IfSome input_bytes (λ bytes. AreInputsOf bytes net inputs)
-    → IfErr result (IsReportFailure approx (network_of net.program) inputs rounds items)
+    → IfErr result (IsReportFailure approx (network_of net.program) inputs room rounds items)
     → IfErr result (IsRunFailure approx net_bytes input_bytes)
-failed_run approx rounds items net_bytes input_bytes net inputs (Ok value) of_net of_inputs err = tt
-failed_run approx rounds items net_bytes input_bytes net inputs (Err failure) of_net of_inputs err =
-    of_report net inputs rounds items of_net of_inputs err
+failed_run approx room rounds items net_bytes input_bytes net inputs (Ok value) of_net of_inputs err = tt
+failed_run approx room rounds items net_bytes input_bytes net inputs (Err failure) of_net of_inputs err =
+    of_report net inputs room rounds items of_net of_inputs err
 
 -- what was written where the status is that of a report
 one_status : (a b : Bool) → status_of_run a ≡ status_of_run b → a ≡ b
@@ -235,16 +237,18 @@ not_failed : (a : Bool) → status_of_run a ≡ 1 → ⊥
 not_failed true e = cc
 not_failed false e = cc
 
-pub written_report : (approx : Option ℕ) (rounds : ℕ) (items : Option ℕ)
+pub written_report : (approx : Option ℕ) (room rounds : ℕ) (items : Option ℕ)
     (net_bytes input_bytes before after : Option (List ℕ)) (text : List ℕ) (complete : Bool) (status : ℕ)
-    → IsReported approx rounds items net_bytes input_bytes text complete
+    → IsReported approx room rounds items net_bytes input_bytes text complete
     → (status ≡ 1) ⊎ (status ≡ status_of_run complete) → (status ≢ 1 → Appends before after text)
     → (whole : Bool) → status ≡ status_of_run whole
-    → HasWritten approx rounds items net_bytes input_bytes before after whole
-written_report approx rounds items net_bytes input_bytes before after text complete status of (inl failed) writes whole
+    → HasWritten approx room rounds items net_bytes input_bytes before after whole
+written_report approx room rounds items net_bytes input_bytes before after text complete status of (inl failed) writes
+    whole
     is = absurd (not_failed whole (sym is ∙ failed))
-written_report approx rounds items net_bytes input_bytes before after text complete status of (inr came) writes whole
+written_report approx room rounds items net_bytes input_bytes before after text complete status of (inr came) writes
+    whole
     is =
     let same : complete ≡ whole = one_status complete whole (sym came ∙ is) in
-    subst (HasWritten approx rounds items net_bytes input_bytes before after) same
+    subst (HasWritten approx room rounds items net_bytes input_bytes before after) same
     ∣ (text, of, writes (λ failed. not_failed complete (sym came ∙ failed))) ∣₁

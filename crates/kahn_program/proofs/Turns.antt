@@ -28,7 +28,8 @@ use Rattle.world.specs.OpeningWorld.{IsUnused}
 use Rattle.protocol.specs.World.Sound.{output_channels}
 use Rattle.protocol.specs.World.StationView.{OutletView}
 use Rattle.world.specs.StationView.{outlet_view, outlet_views}
-use Rattle.protocol.specs.World.Steps.{WorldView, IsStep}
+use Rattle.protocol.specs.World.Steps.{WorldView, IsStep, with_room}
+use Rattle.protocol.specs.declared.limits.TheConstants.{DEFAULT_ROOM}
 use Rattle.protocol.specs.World.EventView.{EventView}
 use Rattle.protocol.specs.World.ReplyView.{ReplyView}
 use Rattle.protocol.specs.World.ReplyView as view
@@ -42,7 +43,7 @@ use Rattle.world.specs.declared.event.Reply.TheVariants.{Down}
 use Rattle.world.specs.declared.output.Output.{Output}
 use Rattle.world.specs.declared.station.Station.{Station}
 use Rattle.kahn_program.specs.Turning.{turn_node, CameTo, first_world, Follows, HasFailed, IsRunRoom, IsRunStep}
-use Rattle.kahn_program.specs.Turning.{IsWorldTurn, is_over, run_rooms, unused_outlet}
+use Rattle.kahn_program.specs.Turning.{IsWorldTurn, is_over, nearest_room, run_rooms, unused_outlet}
 use Rattle.kahn_program.specs.Runnable.{HasRunFailed, IsStoreFailure, store_failure}
 use Rattle.kahn_program.specs.Runs.{IsLast}
 use Rattle.kahn_program.specs.declared.failure.Failure.{Failure}
@@ -173,11 +174,12 @@ run_refused {D} Failed sectors net number (d ∷ disks) fault valid all (inl ref
     at Spent why failed = absurd why
 
 -- Why a run ends early: turns lead to one in which a device fails
-pub run_failed : (net : Network) (inputs : List (List ℤ)) (given : List Channel) (rounds nodes : ℕ) (items : Option ℕ)
-    (first : WorldView) → given ≡ net.channels → nodes ≡ node_count net → first ≡ first_world net inputs
+pub run_failed : (net : Network) (inputs : List (List ℤ)) (given : List Channel) (room rounds nodes : ℕ)
+    (items : Option ℕ) (first : WorldView) → given ≡ net.channels → nodes ≡ node_count net
+    → first ≡ first_world net inputs room
     → HasFailed (is_over (output_channels 0 given) rounds items) nodes first
-    → HasRunFailed net inputs rounds items
-run_failed net inputs given rounds nodes items first channels all opened failed =
+    → HasRunFailed net inputs room rounds items
+run_failed net inputs given room rounds nodes items first channels all opened failed =
     ∣ inr (subst (HasFailed (is_over (output_channels 0 net.channels) rounds items) (node_count net)) opened
     (subst (λ (n : ℕ). HasFailed (is_over (output_channels 0 net.channels) rounds items) n first) all
     (subst (λ (cs : List Channel). HasFailed (is_over (output_channels 0 cs) rounds items) nodes first) channels
@@ -214,15 +216,18 @@ module _ {O : Type 0} (taken : O → List ℤ) (failures : O → ℕ) (none : (o
       ∙ ap (λ (rest : List OutletView). opening_outlet (unused_outlet output.channel) ∷ rest)
       (unused_outlets outputs unused.1)
 
-  pub opens_first : (net other : Network) (inputs others : List (List ℤ)) (outputs : List (Output O))
-      (first : WorldView) → other ≡ net → others ≡ inputs
+  pub opens_first : (net other : Network) (inputs others : List (List ℤ)) (room : ℕ) (outputs : List (Output O))
+      (first opened : WorldView) → other ≡ net → others ≡ inputs
       → (failed : List ℕ) → failed ≡ replicate (node_count net) 0
-      → first ≡ opening_world other others failed (outlet_views taken failures outputs)
+      → first ≡ with_room (nearest_room room) opened
+      → opened ≡ opening_world other others failed (outlet_views taken failures outputs)
       → map (λ (output : Output O). output.channel) outputs ≡ output_channels 0 net.channels
-      → AllByRecursion (IsUnused taken) outputs → first ≡ first_world net inputs
-  opens_first net other inputs others outputs first same_net same_inputs failed never opening listed unused =
+      → AllByRecursion (IsUnused taken) outputs → first ≡ first_world net inputs room
+  opens_first net other inputs others room outputs first opened same_net same_inputs failed never set opening listed
+      unused =
       let views = outlet_views taken failures outputs in
-      opening
+      set
+      ∙ ap (with_room (nearest_room room)) (opening
       ∙ (ap (λ (list : List ℕ). opening_world other others list views) never
       ∙ (ap (λ (n : Network). opening_world n others (replicate (node_count net) 0) views) same_net
       ∙ (ap (λ (i : List (List ℤ)). opening_world net i (replicate (node_count net) 0) views) same_inputs
@@ -233,18 +238,20 @@ module _ {O : Type 0} (taken : O → List ℤ) (failures : O → ℕ) (none : (o
             opening_stations net (replicate (node_count net) 0) outlets;
         traffic = opening_traffic;
         round = 0;
+        room = DEFAULT_ROOM;
       })
       (unused_outlets outputs unused
-      ∙ ap (λ (channels : List ℕ). map opening_outlet (map unused_outlet channels)) listed))))
+      ∙ ap (λ (channels : List ℕ). map opening_outlet (map unused_outlet channels)) listed)))))
 
 -- The last one
 
-pub last_world : (net : Network) (inputs : List (List ℤ)) (given : List Channel) (rounds nodes : ℕ) (items : Option ℕ)
-    (first now : WorldView) → given ≡ net.channels → nodes ≡ node_count net → first ≡ first_world net inputs
+pub last_world : (net : Network) (inputs : List (List ℤ)) (given : List Channel) (room rounds nodes : ℕ)
+    (items : Option ℕ) (first now : WorldView) → given ≡ net.channels → nodes ≡ node_count net
+    → first ≡ first_world net inputs room
     → (turns : ℕ) × CameTo (is_over (output_channels 0 given) rounds items) nodes turns first now
     × ((is_over (output_channels 0 given) rounds items now ≡ true) ⊎ (MAX_TURNS ≤ turns))
-    → IsLast net inputs rounds items now
-last_world net inputs given rounds nodes items first now channels all opened came =
+    → IsLast net inputs room rounds items now
+last_world net inputs given room rounds nodes items first now channels all opened came =
     let counted =
     subst (λ (n : ℕ). CameTo (is_over (output_channels 0 given) rounds items) n came.0 first now) all came.1 in
     let same =

@@ -6,6 +6,8 @@ use Rattle.clap.specs.declared.builder.action.ArgAction.TheVariants.{SetTrue}
 use Rattle.clap.specs.declared.builder.value_parser.ValueParser.TheVariants.{Unsigned}
 use Rattle.kahn_program.specs.declared.asked.Options.{Options}
 use Rattle.kahn_program.specs.declared.asked.TheConstants.{MAX_ROUNDS, MAX_ITEMS, MAX_APPROXIMATION}
+use Rattle.protocol.specs.declared.limits.TheConstants.{MIN_ROOM}
+use Rattle.ckpt_codec.specs.declared.lengths.TheConstants.{MAX_RETAINED_ITEMS}
 
 -- an argument that has to be there
 abbrev pub required : Text → Rule
@@ -24,14 +26,16 @@ by_default text rule = record rule { defaults = text ∷ [] }
 abbrev pub flag : Text → Rule
 flag name = record (new_rule name) { long = Some name; action = Some SetTrue }
 
--- kahnrun [--rounds N] [--items N] [--plain] [--approx N] NET INPUTS
+-- kahnrun [--rounds N] [--items N] [--room N] [--plain] [--approx N] NET INPUTS
 unfoldable pub kahnrun : App
 kahnrun =
     let net = with_rule (new_app (codes "kahnrun")) (required (codes "NET")) in
     let inputs = with_rule net (required (codes "INPUTS")) in
     let rounds = with_rule inputs (by_default (codes "1000") (number (codes "rounds") 1 MAX_ROUNDS)) in
     let items = with_rule rounds (number (codes "items") 0 MAX_ITEMS) in
-    let plain = with_rule items (flag (codes "plain")) in
+    let room =
+    with_rule items (by_default (codes "4096") (number (codes "room") MIN_ROOM MAX_RETAINED_ITEMS)) in
+    let plain = with_rule room (flag (codes "plain")) in
     with_rule plain (number (codes "approx") 0 MAX_APPROXIMATION)
 
 -- what an option's text gives: a number within these bounds, which the text writes in decimal, or none where the option
@@ -56,5 +60,6 @@ pub record IsAsked (rows : List Row) (options : Options) : Type 0 where
   pub inputs : first_of (codes "INPUTS") rows ≡ Some (string_bytes options.inputs)
   pub rounds : IsNumber 1 MAX_ROUNDS (one_of (codes "rounds") rows) (Some options.rounds)
   pub items : IsNumber 0 MAX_ITEMS (one_of (codes "items") rows) options.items
+  pub room : IsNumber MIN_ROOM MAX_RETAINED_ITEMS (one_of (codes "room") rows) (Some options.room)
   pub plain : IsFlag (one_of (codes "plain") rows) options.plain
   pub approx : IsNumber 0 MAX_APPROXIMATION (one_of (codes "approx") rows) options.approx

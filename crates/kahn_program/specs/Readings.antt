@@ -126,9 +126,9 @@ pub data IsRunFailure : Option ℕ → Option (List ℕ) → Option (List ℕ) �
       → IfSome net_bytes (λ bytes. IsNetOf bytes net) → IsInputsFailure net input_bytes failure
       → IsRunFailure approx net_bytes input_bytes failure
   of_report : {approx : Option ℕ} {net_bytes input_bytes : Option (List ℕ)} {failure : Failure} (net : Net)
-      (inputs : List (List ℤ)) (rounds : ℕ) (items : Option ℕ) → IfSome net_bytes (λ bytes. IsNetOf bytes net)
+      (inputs : List (List ℤ)) (room rounds : ℕ) (items : Option ℕ) → IfSome net_bytes (λ bytes. IsNetOf bytes net)
       → IfSome input_bytes (λ bytes. AreInputsOf bytes net inputs)
-      → IsReportFailure approx (network_of net.program) inputs rounds items failure
+      → IsReportFailure approx (network_of net.program) inputs room rounds items failure
       → IsRunFailure approx net_bytes input_bytes failure
 
 -- the line of such a failure was written; its status is this one

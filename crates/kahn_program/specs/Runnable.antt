@@ -55,13 +55,13 @@ pub record HasFailedAtOnce : Type 0 where
   pub failed : SomeFailed failures_of disks backs
 
 -- a device of a run failed: while its world was made, or in a turn to which turns lead
-abbrev pub HasRunFailed : Network → List (List ℤ) → ℕ → Option ℕ → Type 0
-HasRunFailed net inputs rounds items =
+abbrev pub HasRunFailed : Network → List (List ℤ) → ℕ → ℕ → Option ℕ → Type 0
+HasRunFailed net inputs room rounds items =
     ∥ HasFailedAtOnce ⊎ HasFailed (is_over (output_channels 0 net.channels) rounds items) (node_count net)
-    (first_world net inputs) ∥₁
+    (first_world net inputs room) ∥₁
 
 -- why there is no report of this approximation, or of a run: by a failing device, as for want of memory
-abbrev pub IsReportFailure : Option ℕ → Network → List (List ℤ) → ℕ → Option ℕ → Failure → Type 0
-IsReportFailure (Some n) net inputs rounds items failure = IsApproximationFailure net inputs n failure
-IsReportFailure None net inputs rounds items failure =
-    IsStoreFailure (HasRunFailed net inputs rounds items) failure
+abbrev pub IsReportFailure : Option ℕ → Network → List (List ℤ) → ℕ → ℕ → Option ℕ → Failure → Type 0
+IsReportFailure (Some n) net inputs room rounds items failure = IsApproximationFailure net inputs n failure
+IsReportFailure None net inputs room rounds items failure =
+    IsStoreFailure (HasRunFailed net inputs room rounds items) failure

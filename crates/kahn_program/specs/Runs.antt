@@ -60,19 +60,20 @@ run_text net cut released complete =
 
 -- The world at the end of a run: turn by turn it came from the first one, until the run was over, or so many turns were
 -- taken that nobody waits for them.
-pub record IsLast (net : Network) (inputs : List (List ℤ)) (rounds : ℕ) (items : Option ℕ) (now : WorldView) : Type 0
+pub record IsLast (net : Network) (inputs : List (List ℤ)) (room rounds : ℕ) (items : Option ℕ)
+    (now : WorldView) : Type 0
   where
     pub turns : ℕ
     pub came : CameTo (is_over (output_channels 0 net.channels) rounds items) (node_count net) turns
-        (first_world net inputs) now
+        (first_world net inputs room) now
     pub over : (is_over (output_channels 0 net.channels) rounds items now ≡ true) ⊎ (MAX_TURNS ≤ turns)
 
 -- A text is the report of a run of this network on these inputs, and tells whether it is complete: of what has left in
 -- the world at its end. Where so many items of each output were asked for, and each has them, the first ones of each
 -- are printed, and the run is partial.
-abbrev pub IsReport : Net → ℕ → Option ℕ → List (List ℤ) → List ℕ → Bool → Type 0
-IsReport net rounds items inputs text told =
-    ∥ ((now : WorldView) × IsLast (network_of net.program) inputs rounds items now
+abbrev pub IsReport : Net → ℕ → ℕ → Option ℕ → List (List ℤ) → List ℕ → Bool → Type 0
+IsReport net room rounds items inputs text told =
+    ∥ ((now : WorldView) × IsLast (network_of net.program) inputs room rounds items now
     × IsRun (network_of net.program) inputs (released_streams (network_of net.program) now.stations) (are_quiet now)
     × (told ≡ is_whole (cut_at items (released_streams (network_of net.program) now.stations)) (are_quiet now))
     × (text ≡ run_text net (cut_at items (released_streams (network_of net.program) now.stations))
@@ -88,20 +89,22 @@ pub record IsApproximated (net : Net) (inputs : List (List ℤ)) (n : ℕ) (text
       ↔ IsSolution (network_of net.program) inputs (approximation (network_of net.program) inputs n)
 
 -- a text is the report that is asked for: of an approximation, or of a run, cut at so many items
-abbrev pub IsReportOf : Option ℕ → ℕ → Option ℕ → Net → List (List ℤ) → List ℕ → Bool → Type 0
-IsReportOf (Some n) rounds items net inputs text told = IsApproximated net inputs n text told
-IsReportOf None rounds items net inputs text told = IsReport net rounds items inputs text told
+abbrev pub IsReportOf : Option ℕ → ℕ → ℕ → Option ℕ → Net → List (List ℤ) → List ℕ → Bool → Type 0
+IsReportOf (Some n) room rounds items net inputs text told = IsApproximated net inputs n text told
+IsReportOf None room rounds items net inputs text told = IsReport net room rounds items inputs text told
 
 -- The same of the network that a reader with these bytes describes, on the inputs that another gives, where the bytes
 -- are known.
-abbrev pub IsReported : Option ℕ → ℕ → Option ℕ → Option (List ℕ) → Option (List ℕ) → List ℕ → Bool → Type 0
-IsReported approx rounds items net_bytes input_bytes text told =
+abbrev pub IsReported : Option ℕ → ℕ → ℕ → Option ℕ → Option (List ℕ) → Option (List ℕ) → List ℕ → Bool → Type 0
+IsReported approx room rounds items net_bytes input_bytes text told =
     ∥ ((net : Net) × (inputs : List (List ℤ)) × IfSome net_bytes (λ bytes. IsNetOf bytes net)
     × IfSome input_bytes (λ bytes. AreInputsOf bytes net inputs)
-    × IsReportOf approx rounds items net inputs text told) ∥₁
+    × IsReportOf approx room rounds items net inputs text told) ∥₁
 
 -- and such a text was written
-abbrev pub HasWritten : Option ℕ → ℕ → Option ℕ → Option (List ℕ) → Option (List ℕ) → Option (List ℕ) → Option (List ℕ)
+abbrev pub HasWritten : Option ℕ → ℕ → ℕ → Option ℕ → Option (List ℕ) → Option (List ℕ) → Option (List ℕ)
+    → Option (List ℕ)
     → Bool → Type 0
-HasWritten approx rounds items net_bytes input_bytes before after told =
-    ∥ ((text : List ℕ) × IsReported approx rounds items net_bytes input_bytes text told × Appends before after text) ∥₁
+HasWritten approx room rounds items net_bytes input_bytes before after told =
+    ∥ ((text : List ℕ) × IsReported approx room rounds items net_bytes input_bytes text told
+    × Appends before after text) ∥₁

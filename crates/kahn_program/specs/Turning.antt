@@ -1,6 +1,7 @@
 -- A run of a network, turn by turn.
-use Rattle.std.specs.Prelude.{◌≡◌, ◌≢◌, ◌||◌, ℕ, zero, suc, ◌%◌, nat_le, nat_lt, if◌then◌else◌, Bool, false, ℤ, List, []}
-use Rattle.std.specs.Prelude.{length, map, replicate, Option, Some, None, is_some}
+use Rattle.std.specs.Prelude.{◌≡◌, ◌≢◌, ◌||◌, ℕ, zero, suc, ◌%◌, nat_le, nat_lt, if◌then◌else◌, Bool, false, ℤ, List}
+use Rattle.std.specs.Prelude.{[]}
+use Rattle.std.specs.Prelude.{length, map, min, max, replicate, Option, Some, None, is_some}
 use Rattle.std.specs.List.{list_all}
 use Rattle.kahn_net.specs.Nodes.{node_count}
 use Rattle.kahn_net.specs.Syntax.{Network}
@@ -16,7 +17,9 @@ use Rattle.protocol.specs.World.Released.{released_of}
 use Rattle.protocol.specs.World.ReplyView.{ReplyView, Granted, Down}
 use Rattle.protocol.specs.World.Sound.{output_channels}
 use Rattle.protocol.specs.World.StationView.{OutletView, StationView}
-use Rattle.protocol.specs.World.Steps.{WorldView, IsStep}
+use Rattle.protocol.specs.World.Steps.{WorldView, IsStep, with_room}
+use Rattle.protocol.specs.declared.limits.TheConstants.{MIN_ROOM}
+use Rattle.ckpt_codec.specs.declared.lengths.TheConstants.{MAX_RETAINED_ITEMS}
 use Rattle.gate_cell.specs.declared.TheConstants.{SECTORS}
 
 -- the room of the slots of each cell of a run: that of a disk of so many sectors
@@ -85,7 +88,13 @@ is_over outputs rounds items now =
 abbrev pub unused_outlet : ℕ → OutletView
 unused_outlet channel = record { channel = channel; taken = []; failed = None; failures = 0 }
 
--- the world of a network on these inputs before its first turn; no disk has failed
-abbrev pub first_world : Network → List (List ℤ) → WorldView
-first_world net inputs =
-    opening_world net inputs (replicate (node_count net) 0) (map unused_outlet (output_channels 0 net.channels))
+-- the room of a channel that is nearest to the one asked for
+abbrev pub nearest_room : ℕ → ℕ
+nearest_room asked = min (max asked MIN_ROOM) MAX_RETAINED_ITEMS
+
+-- the world of a network on these inputs before its first turn, where this room of a channel is asked for; no disk has
+-- failed
+abbrev pub first_world : Network → List (List ℤ) → ℕ → WorldView
+first_world net inputs room =
+    with_room (nearest_room room)
+    (opening_world net inputs (replicate (node_count net) 0) (map unused_outlet (output_channels 0 net.channels)))

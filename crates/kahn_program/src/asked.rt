@@ -1,6 +1,9 @@
 //! What the command line asks for.
 
 ghost use Rattle.std.specs.Prelude.{◌≡◌, None, false};
+ghost use Rattle.protocol.specs.declared.limits.TheConstants.{DEFAULT_ROOM};
+
+use world::DEFAULT_ROOM;
 
 /// The most rounds of a run that may be asked for.
 pub const MAX_ROUNDS: u64 = 1_000_000;
@@ -25,6 +28,9 @@ pub struct Options {
     pub rounds: u64,
     /// A run ends where each output has so many items.
     pub items: Option<u64>,
+    /// How many items a channel of a run retains at most, from `MIN_ROOM` to `MAX_RETAINED_ITEMS`. Any other number is taken
+    /// for the nearest of these.
+    pub room: u64,
     /// Turns are taken plainly, by one thread. They always are so far.
     pub plain: bool,
     /// The approximation that is printed in place of a run.
@@ -36,6 +42,7 @@ impl Options {
     pub fn new(net: String, inputs: String) -> Self
         ensures names { (result.net ≡ net) × (result.inputs ≡ inputs) }
         ensures rounds { result.rounds ≡ DEFAULT_ROUNDS }
+        ensures room { result.room ≡ DEFAULT_ROOM }
         ensures others { (result.items ≡ None) × (result.plain ≡ false) × (result.approx ≡ None) }
     {
         Options {
@@ -43,6 +50,7 @@ impl Options {
             inputs,
             rounds: DEFAULT_ROUNDS,
             items: None,
+            room: DEFAULT_ROOM as u64,
             plain: false,
             approx: None,
         }

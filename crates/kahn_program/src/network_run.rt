@@ -14,13 +14,14 @@ ghost use Rattle.world.specs.ReplyView.{reply_view};
 ghost use Rattle.world.specs.WholeView.{world_of};
 ghost use Rattle.world.specs.WorldView.{capacities};
 ghost use Rattle.gate_cell.specs.declared.TheConstants.{SECTORS};
-ghost use Rattle.kahn_program.specs.Turning.{CameTo, FailsIn, Follows, HasFailed, IsRunRoom, IsWorldTurn, cut_at, is_over, turn_node};
+ghost use Rattle.kahn_program.specs.Turning.{CameTo, FailsIn, Follows, HasFailed, IsRunRoom, IsWorldTurn, cut_at, is_over, nearest_room, turn_node};
 ghost use Rattle.kahn_program.specs.Runnable.{HasRunFailed, IsStoreFailure, store_failure};
 ghost use Rattle.kahn_program.specs.Runs.{IsReport, first_items, is_whole};
 ghost use Rattle.kahn_net.specs.declared.limits.TheConstants.{MAX_CHANNELS, MAX_NODES};
 
 use crate::failure::Failure;
 use crate::reporting::{Stream, report};
+use ckpt_codec::MAX_RETAINED_ITEMS;
 use ckpt_store::StoreFault;
 use gate_cell::SplitCell;
 use kahn_net::{Channel, Port};
@@ -29,7 +30,7 @@ use outlet::ListOutlet;
 use sector_disk::MemDisk;
 use std::alloc::{AllocError, Global};
 use std::sync::Arc;
-use world::{Event, Reply, SECTORS, World, list_outputs, node_count};
+use world::{Event, MIN_ROOM, Reply, SECTORS, World, list_outputs, node_count};
 
 /// The most turns of a run, so many that nobody waits for them.
 pub(crate) const MAX_TURNS: u64 = u64::MAX;
@@ -302,20 +303,29 @@ fn streams<'a>(
     Ok(streams)
 }
 
-/// Runs a network on its inputs, until nothing is left to do, so many rounds are over, or each output has the items that
-/// are asked for. Gives the whole report, and whether the run is complete.
+/// The room of a channel that is nearest to the one asked for.
+fn nearest_room(asked: u64) -> usize
+    ensures { result ≡ nearest_room asked }
+{
+    asked.max(MIN_ROOM as u64).min(MAX_RETAINED_ITEMS as u64) as usize
+}
+
+/// Runs a network on its inputs, with the room that is asked for on its channels, until nothing is left to do, so many
+/// rounds are over, or each output has the items that are asked for. Gives the whole report, and whether the run is
+/// complete.
 pub fn report_of_run(
     alloc: Global,
     net: Net,
     inputs: Inputs,
+    room: u64,
     rounds: u64,
     items: Option<u64>,
 ) -> Result<(Vec<u8>, bool), Failure>
     requires fitting { Fits (network_of net.program) inputs }
-    ensures ok { IfOk result (λ report. IsReport net rounds items inputs report.0.items report.1) }
+    ensures ok { IfOk result (λ report. IsReport net room rounds items inputs report.0.items report.1) }
     // A device failed (20), or memory is missing (1).
     ensures err { IfErr result (IsStoreFailure
-        (HasRunFailed (network_of net.program) inputs rounds items)) }
+        (HasRunFailed (network_of net.program) inputs room rounds items)) }
 {
     let Ok(outputs) = list_outputs(alloc, &net) else {
         return Err(Failure::NoMemory);
@@ -336,6 +346,10 @@ pub fn report_of_run(
     let mut world = match World::new(alloc, share, inputs, disks, outputs) {
         Ok(world) => world,
         Err(refused) => return Err(store_failure(refused.fault)),
+    };
+    // (The room is within its bounds, so the error isn't met.)
+    let Ok(()) = world.set_room(nearest_room(room)) else {
+        return Err(Failure::NoMemory);
     };
     let channels = net.program.channels.as_slice();
     take_turns(alloc, channels, &mut world, nodes, rounds, items)?;

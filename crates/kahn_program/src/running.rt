@@ -28,14 +28,21 @@ fn report_of(
 ) -> Result<(Vec<u8>, bool), Failure>
     requires fitting { Fits (network_of net.program) inputs }
     ensures ok { IfOk result (λ report. IsReportOf
-        options.now.approx options.now.rounds options.now.items net inputs report.0.items report.1) }
+        options.now.approx options.now.room options.now.rounds options.now.items net inputs report.0.items report.1) }
     ensures err { IfErr result
         (IsReportFailure options.now.approx (network_of net.program) inputs
-        options.now.rounds options.now.items) }
+        options.now.room options.now.rounds options.now.items) }
 {
     match options.approx {
         Some(n) => report_of_approximation(alloc, &net, &inputs, n),
-        None => report_of_run(alloc, net, inputs, options.rounds, options.items),
+        None => report_of_run(
+            alloc,
+            net,
+            inputs,
+            options.room,
+            options.rounds,
+            options.items,
+        ),
     }
 }
 
@@ -46,7 +53,8 @@ fn report_of_readers<N: Read + Drop, I: Read + Drop>(
     net: Option<N>,
     inputs: Option<I>,
 ) -> Result<(Vec<u8>, bool), Failure>
-    ensures ok { IfOk result (λ report. IsReported options.now.approx options.now.rounds options.now.items
+    ensures ok { IfOk result (λ report. IsReported options.now.approx
+        options.now.room options.now.rounds options.now.items
         (option_and_then N.remaining net) (option_and_then I.remaining inputs)
         report.0.items report.1) }
     ensures err { IfErr result (IsRunFailure options.now.approx
@@ -77,7 +85,7 @@ pub fn run<N: Read + Drop, I: Read + Drop, W: Write, E: Write>(
     // status is 0 whole, in the least solution. That of an approximation: the whole histories there, and 0 exactly where it is
     // a solution.
     ensures written { (complete : Bool) → result ≡ status_of_run complete
-        → HasWritten options.now.approx options.now.rounds options.now.items
+        → HasWritten options.now.approx options.now.room options.now.rounds options.now.items
         (option_and_then N.remaining net) (option_and_then I.remaining inputs)
         (W.contents out.old) (W.contents out.new) complete }
     // Where the status is 2, a text has the fault of which the line is written to `err`, and nothing is written to `out`.

@@ -3,14 +3,23 @@
 ghost use Rattle.std.specs.Prelude.{◌≡◌, ◌∷◌, [], IfErr, IfOk, codes, false, map};
 ghost use Rattle.clap.specs.Words.{HasKind, app_of, fault_of, found_of, matches_of, one_text, rule_of};
 ghost use Rattle.clap.specs.declared.error.kind.ErrorKind.TheVariants as kind;
+ghost use Rattle.ckpt_codec.specs.declared.lengths.TheConstants.{MAX_RETAINED_ITEMS};
+ghost use Rattle.protocol.specs.declared.limits.TheConstants.{MIN_ROOM};
 ghost use Rattle.kahn_program.specs.CommandLine.{IsAsked, IsNumber, by_default, flag, kahnrun, number, required};
 
 use crate::asked::{MAX_APPROXIMATION, MAX_ITEMS, MAX_ROUNDS, Options};
+use ckpt_codec::MAX_RETAINED_ITEMS;
 use clap::builder::ValueParser;
 use clap::error::ErrorKind;
 use clap::{Arg, ArgAction, ArgMatches, Command, Error};
 use std::alloc::{AllocError, Global};
 use std::convert::AsStr;
+use world::MIN_ROOM;
+
+// The bounds of a channel's room, as numbers of the command line.
+const LEAST_ROOM: u64 = MIN_ROOM as u64;
+
+const MOST_ROOM: u64 = MAX_RETAINED_ITEMS as u64;
 
 /// The name of a file.
 fn file<'a>(alloc: Global, name: &'a str) -> Arg<'a>
@@ -40,6 +49,15 @@ fn rounds<'a>(alloc: Global) -> Arg<'a>
     number(alloc, "rounds", 1, MAX_ROUNDS).default_value("1000")
 }
 
+/// How many items a channel retains at most.
+fn room<'a>(alloc: Global) -> Arg<'a>
+    ensures rule { rule_of result
+        ≡ by_default (codes "4096") (number (codes "room") MIN_ROOM MAX_RETAINED_ITEMS) }
+    ensures here { result.global ≡ false }
+{
+    number(alloc, "room", LEAST_ROOM, MOST_ROOM).default_value("4096")
+}
+
 /// An option without a value.
 fn flag<'a>(alloc: Global, name: &'a str) -> Arg<'a>
     ensures rule { rule_of result ≡ flag name.entry.now }
@@ -48,7 +66,7 @@ fn flag<'a>(alloc: Global, name: &'a str) -> Arg<'a>
     Arg::new(alloc, name).long(name).action(ArgAction::SetTrue)
 }
 
-/// The command line: `kahnrun [--rounds N] [--items N] [--plain] [--approx N] NET INPUTS`.
+/// The command line: `kahnrun [--rounds N] [--items N] [--room N] [--plain] [--approx N] NET INPUTS`.
 fn command<'a>(alloc: Global) -> Result<Command<'a>, AllocError>
     ensures { IfOk result (λ c. app_of c ≡ kahnrun) }
 {
@@ -57,6 +75,7 @@ fn command<'a>(alloc: Global) -> Result<Command<'a>, AllocError>
         .arg(file(alloc, "INPUTS"))?
         .arg(rounds(alloc))?
         .arg(number(alloc, "items", 0, MAX_ITEMS))?
+        .arg(room(alloc))?
         .arg(flag(alloc, "plain"))?
         .arg(number(alloc, "approx", 0, MAX_APPROXIMATION))?;
     Ok(command)
@@ -93,10 +112,11 @@ pub fn options<S: AsStr>(alloc: Global, words: &[S]) -> Result<Options, Error>
     ensures refused { IfErr result (HasKind (fault_of kahnrun (map S.text words.now))) }
 {
     let matches = command(alloc)?.try_get_matches_from(words)?;
-    let (Some(net), Some(inputs), Some(rounds)) = (
+    let (Some(net), Some(inputs), Some(rounds), Some(room)) = (
         matches.get_str("NET"),
         matches.get_str("INPUTS"),
         given(&matches, "rounds", 1, MAX_ROUNDS)?,
+        given(&matches, "room", LEAST_ROOM, MOST_ROOM)?,
     ) else {
         return Err(AllocError.into());
     };
@@ -105,6 +125,7 @@ pub fn options<S: AsStr>(alloc: Global, words: &[S]) -> Result<Options, Error>
         inputs: String::from_str(alloc, inputs)?,
         rounds,
         items: given(&matches, "items", 0, MAX_ITEMS)?,
+        room,
         plain: matches.get_flag("plain"),
         approx: given(&matches, "approx", 0, MAX_APPROXIMATION)?,
     })

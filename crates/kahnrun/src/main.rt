@@ -1,4 +1,4 @@
-//! `kahnrun [--rounds N] [--items N] [--plain] [--approx N] NET INPUTS` runs the network of one file on the inputs of the
+//! `kahnrun [--rounds N] [--items N] [--room N] [--plain] [--approx N] NET INPUTS` runs the network of one file on the inputs of the
 //! other, and prints what each output released, and whether the run is complete. With `--approx` it runs nothing, and
 //! prints that approximation of each output's history, and whether it is a solution.
 //!

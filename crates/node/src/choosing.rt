@@ -3,14 +3,12 @@ ghost use Rattle.std.specs.Prelude.{◌≡◌, ◌≤◌, ◌<◌, ◌&&◌, ◌
 ghost use Rattle.kahn_net.specs.Syntax.{network_of};
 ghost use Rattle.record.specs.Ends.{log_at, received_at, sent_in};
 ghost use Rattle.protocol.specs.Node.Granting.{first_log, inbox_log};
-ghost use Rattle.protocol.specs.Node.Sharing.{log_share};
 ghost use Rattle.protocol.specs.Node.Choosing.{has_item, has_room, is_ready, ready_processes, process_at, next_process};
 ghost use Rattle.node.specs.Searching.{ComesFirst};
 ghost use Rattle.turns.specs.Turns.{least_from};
 ghost use Rattle.kahn_net.specs.declared.limits.TheConstants.{MAX_CHANNELS};
 
 use crate::granting::{inbox_log, places};
-use crate::sharing::share_of;
 use kahn_net::{Channel, History, Port};
 use net_check::Net;
 use proc_step::{NextAct, next_act};
@@ -66,11 +64,10 @@ fn has_item(
     }
 }
 
-// Whether there is room on this channel, where this is the most items of each log.
-fn has_room(channels: &[Channel], image: &Image, share: usize, channel: usize) -> bool
-    requires few { length channels.now ≤ MAX_CHANNELS }
-    requires share { share ≡ log_share image.now }
-    ensures { result ≡ has_room image.now channel (slice_get channels.now channel) }
+// Whether there is room on this channel, where each log has places up to this share.
+fn has_room(channels: &[Channel], share: usize, image: &Image, channel: usize) -> bool
+    requires { length channels.now ≤ MAX_CHANNELS }
+    ensures { result ≡ has_room share image.now channel (slice_get channels.now channel) }
 {
     channel < channels.len() && places(share, image.log(channel as u8)) > 0
 }
@@ -79,14 +76,13 @@ fn has_room(channels: &[Channel], image: &Image, share: usize, channel: usize) -
 fn is_ready(
     net: &Net,
     inputs: &[History],
+    share: usize,
     image: &Image,
     inboxes: &[Inbox],
-    share: usize,
     saved: &SavedProcess,
 ) -> bool
-    requires { share ≡ log_share image.now }
     ensures { result
-        ≡ is_ready (network_of net.now.program) inputs.now image.now inboxes.now saved.now }
+        ≡ is_ready (network_of net.now.program) inputs.now share image.now inboxes.now saved.now }
 {
     match net.program.processes.get(usize::from(saved.number)) {
         Some(_) => match next_act(net, usize::from(saved.number), &saved.state) {
@@ -94,7 +90,7 @@ fn is_ready(
             NextAct::Get { channel } => {
                 has_item(&net.program.channels, inputs, image, inboxes, channel)
             },
-            NextAct::Put { channel } => has_room(&net.program.channels, image, share, channel),
+            NextAct::Put { channel } => has_room(&net.program.channels, share, image, channel),
             NextAct::Nothing => false,
         },
         None => false,
@@ -105,16 +101,15 @@ fn is_ready(
 fn comes_first(
     net: &Net,
     inputs: &[History],
+    share: usize,
     image: &Image,
     inboxes: &[Inbox],
-    share: usize,
     start: usize,
     found: Option<&SavedProcess>,
     saved: &SavedProcess,
 ) -> bool
-    requires { share ≡ log_share image.now }
     ensures { IsTrue result ↔ ComesFirst
-        (is_ready (network_of net.now.program) inputs.now image.now inboxes.now)
+        (is_ready (network_of net.now.program) inputs.now share image.now inboxes.now)
         start (option_copied found.entry) saved.now }
 {
     if usize::from(saved.number) < start {
@@ -125,7 +120,7 @@ fn comes_first(
     {
         return false;
     }
-    is_ready(net, inputs, image, inboxes, share, saved)
+    is_ready(net, inputs, share, image, inboxes, saved)
 }
 
 // The ready process with the least number from this one on. Where they stand in order of their numbers, none is asked
@@ -133,43 +128,43 @@ fn comes_first(
 fn ready_from<'a>(
     net: &Net,
     inputs: &[History],
+    share: usize,
     image: &'a Image,
     inboxes: &[Inbox],
-    share: usize,
     start: usize,
 ) -> Option<&'a SavedProcess>
-    requires { share ≡ log_share image.now }
     ensures process { let net = network_of net.now.program in
-        option_copied result ≡ process_at net inputs.now image.now inboxes.now
-        (least_from start (ready_processes net inputs.now image.now inboxes.now)) }
+        option_copied result ≡ process_at net inputs.now share image.now inboxes.now
+        (least_from start (ready_processes net inputs.now share image.now inboxes.now)) }
     ensures number { option_map (λ saved. saved.number) (option_copied result)
-        ≡ least_from start (ready_processes (network_of net.now.program) inputs.now image.now inboxes.now) }
+        ≡ least_from start (ready_processes (network_of net.now.program) inputs.now share image.now inboxes.now) }
 {
     let mut found: Option<&SavedProcess> = None;
     for saved in &image.processes {
-        if comes_first(net, inputs, image, inboxes, share, start, found, saved) {
+        if comes_first(net, inputs, share, image, inboxes, start, found, saved) {
             found = Some(saved);
         }
     }
     found
 }
 
-// The ready process with the least number after the last one, beginning again at the least.
+// The ready process with the least number after the last one, beginning again at the least, where each log has places up
+// to this share.
 pub(crate) fn next_process<'a>(
     net: &Net,
     inputs: &[History],
+    share: usize,
     image: &'a Image,
     inboxes: &[Inbox],
     last: Option<u8>,
 ) -> Option<&'a SavedProcess>
     ensures chosen { option_copied result
-        ≡ next_process (network_of net.now.program) inputs.now image.now inboxes.now last }
+        ≡ next_process (network_of net.now.program) inputs.now share image.now inboxes.now last }
     ensures there { IfSome result
         (λ saved. saved.now.number < length net.now.program.processes.items) }
 {
-    let share = share_of(image);
-    match ready_from(net, inputs, image, inboxes, share, start_after(last)) {
+    match ready_from(net, inputs, share, image, inboxes, start_after(last)) {
         Some(saved) => Some(saved),
-        None => ready_from(net, inputs, image, inboxes, share, 0),
+        None => ready_from(net, inputs, share, image, inboxes, 0),
     }
 }

@@ -6,7 +6,6 @@ ghost use Rattle.node.specs.JobView.{job_view};
 ghost use Rattle.protocol.specs.Node.Granting.{inbox_log, is_process, next_in_log, next_items, items_from, room_in, room_from, job_for, source_of};
 ghost use Rattle.kahn_net.specs.declared.limits.TheConstants.{MAX_CHANNELS};
 
-use crate::sharing::share_of;
 use kahn_net::{Channel, History, MAX_COUNT, Port, ProcState};
 use net_check::{Inputs, Net};
 use proc_step::Job;
@@ -138,17 +137,17 @@ pub(crate) fn places(share: usize, log: Option<&Log>) -> usize
     }
 }
 
-// The room that a process has on each channel.
+// The room that a process has on each channel, where each log has places up to this share.
 fn list_room(
     alloc: Global,
+    share: usize,
     channels: &[Channel],
     image: &Image,
     process: usize,
 ) -> Result<Vec<usize>, AllocError>
     requires { length channels.now ≤ MAX_CHANNELS }
-    ensures { IfOk result (λ room. room.items ≡ room_from image.now process 0 channels.now) }
+    ensures { IfOk result (λ room. room.items ≡ room_from share image.now process 0 channels.now) }
 {
-    let share = share_of(image);
     let mut room = Vec::with_capacity(alloc, channels.len())?;
     for (number, channel) in channels.iter().enumerate() {
         if is_at(channel.producer, process) {
@@ -160,9 +159,10 @@ fn list_room(
     Ok(room)
 }
 
-/// The job of a process that stands there.
+/// The job of a process that stands there, where each log has places up to this share.
 pub(crate) fn make_job(
     alloc: Global,
+    share: usize,
     net: &Arc<Net>,
     inputs: &Inputs,
     image: &Image,
@@ -173,7 +173,7 @@ pub(crate) fn make_job(
 ) -> Result<Job, AllocError>
     requires { process < length net.now.value.program.processes.items }
     ensures job { IfOk result
-        (λ job. job_view job ≡ job_for
+        (λ job. job_view job ≡ job_for share
         (network_of net.now.value.program) inputs.now image.now inboxes.now process
         (standing_of state.now) version) }
 {
@@ -190,6 +190,6 @@ pub(crate) fn make_job(
             inboxes,
             process,
         )?,
-        room: list_room(alloc, &net.program.channels, image, process)?,
+        room: list_room(alloc, share, &net.program.channels, image, process)?,
     })
 }

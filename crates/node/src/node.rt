@@ -96,35 +96,37 @@ impl<C: SlotCell> Node<C> {
         }
     }
 
-    /// Whether a job can be granted now.
-    pub fn has_job(&self, net: &Net, inputs: &Inputs) -> bool
+    /// Whether a job can be granted now, where a channel has so much room.
+    pub fn has_job(&self, net: &Net, inputs: &Inputs, room: usize) -> bool
         ensures { result ≡ is_some
-            (node_job (network_of net.now.program) inputs.now (view_of self.now)) }
+            (node_job (network_of net.now.program) inputs.now room (view_of self.now)) }
     {
         match self.store.record() {
-            Ok(kept) => self.state.has_job(net, inputs, kept),
+            Ok(kept) => self.state.has_job(net, inputs, room, kept),
             Err(_) => false,
         }
     }
 
-    /// Grants a job to the ready process that is next: its state, the items at hand and the room. The node keeps a copy
-    /// to compare with what comes back. `None` where no job can be granted. Refuses for want of memory alone.
+    /// Grants a job to the ready process that is next: its state, the items at hand and the room, where a channel retains
+    /// at most so many items, and no more than its share of a record. The node keeps a copy to compare with what comes
+    /// back. `None` where no job can be granted. Refuses for want of memory alone.
     pub fn grant(
         &mut self,
         alloc: Global,
         net: &Arc<Net>,
         inputs: &Inputs,
+        room: usize,
     ) -> Result<Option<Job>, AllocError>
         ensures job { IfOk result (λ job. option_map job_view job
-            ≡ node_job (network_of net.now.value.program) inputs.now (view_of self.old)) }
+            ≡ node_job (network_of net.now.value.program) inputs.now room (view_of self.old)) }
         ensures state { IfOk result (λ job. view_of self.new
-            ≡ with_grant (node_job (network_of net.now.value.program) inputs.now
+            ≡ with_grant (node_job (network_of net.now.value.program) inputs.now room
             (view_of self.old)) (view_of self.old)) }
         ensures err { OnErr result (view_of self.new ≡ view_of self.old) }
         ensures same { (self.new.store ≡ self.old.store) × (self.new.number ≡ self.old.number) }
     {
         match self.store.record() {
-            Ok(kept) => self.state.grant(alloc, net, inputs, kept),
+            Ok(kept) => self.state.grant(alloc, net, inputs, room, kept),
             Err(_) => Ok(None),
         }
     }

@@ -21,6 +21,7 @@ use crate::delivering::{hear_acknowledgement, hear_item};
 use crate::granting::make_job;
 use crate::installing::install_from;
 use crate::sending::{add_all_answers, add_all_outgoing, add_all_undone};
+use crate::sharing::retained_share;
 use crate::telling::{add_live_asks, add_verdicts};
 use datagram::{Body, Need, Packet};
 use decide_core::Initiator;
@@ -76,17 +77,19 @@ impl Running {
         kept.tentative.is_none() && self.out.is_none() && version < MAX_COUNT
     }
 
-    // The process that is next, where a job may be granted at a node with this record and version.
+    // The process that is next, where a job may be granted at a node with this record and version, and each log has places
+    // up to this share.
     fn next_process(
         &self,
         net: &Net,
         inputs: &Inputs,
+        share: usize,
         kept: &Record,
         version: u64,
     ) -> Option<&SavedProcess>
         ensures chosen { option_copied result ≡ (
             let node = running_node kept.now version (running_view self.now) in
-            if may_grant node then next_process (network_of net.now.program) inputs.now
+            if may_grant node then next_process (network_of net.now.program) inputs.now share
             node.current node.inboxes node.last else None) }
         ensures there { IfSome result
             (λ saved. saved.now.number < length net.now.program.processes.items) }
@@ -97,24 +100,35 @@ impl Running {
         next_process(
             net,
             inputs.as_slice(),
+            share,
             &self.current,
             &self.inboxes,
             self.last,
         )
     }
 
-    /// Whether a job can be granted now, at a node with this record and version.
-    pub fn has_job(&self, net: &Net, inputs: &Inputs, kept: &Record, version: u64) -> bool
-        ensures { result ≡ is_some (next_job (network_of net.now.program) inputs.now
+    /// Whether a job can be granted now, at a node with this record and version, where a channel has so much room.
+    pub fn has_job(
+        &self,
+        net: &Net,
+        inputs: &Inputs,
+        room: usize,
+        kept: &Record,
+        version: u64,
+    ) -> bool
+        ensures { result ≡ is_some (next_job (network_of net.now.program) inputs.now room
             (running_node kept.now version (running_view self.now))) }
     {
-        self.next_process(net, inputs, kept, version).is_some()
+        let share = retained_share(room, &self.current);
+        self.next_process(net, inputs, share, kept, version)
+            .is_some()
     }
 
-    // The job of a process that stands there.
+    // The job of a process that stands there, where each log has places up to this share.
     fn make_job(
         &self,
         alloc: Global,
+        share: usize,
         net: &Arc<Net>,
         inputs: &Inputs,
         saved: &SavedProcess,
@@ -122,11 +136,12 @@ impl Running {
     ) -> Result<Job, AllocError>
         requires { saved.now.number < length net.now.value.program.processes.items }
         ensures { IfOk result (λ job. job_view job
-            ≡ job_for (network_of net.now.value.program) inputs.now self.now.current
+            ≡ job_for share (network_of net.now.value.program) inputs.now self.now.current
             self.now.inboxes.items saved.now.number saved.now.standing version) }
     {
         make_job(
             alloc,
+            share,
             net,
             inputs,
             &self.current,
@@ -137,29 +152,32 @@ impl Running {
         )
     }
 
-    /// Grants a job to the ready process that is next: its state, the items at hand and the room. A copy is kept to
-    /// compare with what comes back. `None` where no job can be granted. Refuses for want of memory alone.
+    /// Grants a job to the ready process that is next: its state, the items at hand and the room, where a channel has so
+    /// much. A copy is kept to compare with what comes back. `None` where no job can be granted. Refuses for want of
+    /// memory alone.
     pub fn grant(
         &mut self,
         alloc: Global,
         net: &Arc<Net>,
         inputs: &Inputs,
+        room: usize,
         kept: &Record,
         version: u64,
     ) -> Result<Option<Job>, AllocError>
         ensures job { IfOk result (λ job. option_map job_view job
-            ≡ next_job (network_of net.now.value.program) inputs.now
+            ≡ next_job (network_of net.now.value.program) inputs.now room
             (running_node kept.now version (running_view self.old))) }
         ensures state { IfOk result (λ job. running_view self.new
-            ≡ granted (next_job (network_of net.now.value.program) inputs.now
+            ≡ granted (next_job (network_of net.now.value.program) inputs.now room
             (running_node kept.now version (running_view self.old))) (running_view self.old)) }
         ensures err { OnErr result (running_view self.new ≡ running_view self.old) }
     {
-        let Some(saved) = self.next_process(net, inputs, kept, version) else {
+        let share = retained_share(room, &self.current);
+        let Some(saved) = self.next_process(net, inputs, share, kept, version) else {
             return Ok(None);
         };
-        let job = self.make_job(alloc, net, inputs, saved, version)?;
-        let out = self.make_job(alloc, net, inputs, saved, version)?;
+        let job = self.make_job(alloc, share, net, inputs, saved, version)?;
+        let out = self.make_job(alloc, share, net, inputs, saved, version)?;
         self.last = Some(out.process as u8);
         self.out = Some(out);
         Ok(Some(job))

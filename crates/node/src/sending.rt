@@ -1,5 +1,5 @@
 // What a node sends to the others.
-ghost use Rattle.std.specs.Prelude.{◌≡◌, ◌+◌, ◌<◌, ◌≤◌, ◌++◌, length, IfOk, OnOk};
+ghost use Rattle.std.specs.Prelude.{◌≡◌, ◌+◌, ◌<◌, ◌≤◌, ◌++◌, length, map, IfOk, OnOk};
 ghost use Rattle.std.specs.List.{flat_map};
 ghost use Rattle.kahn_net.specs.Syntax.{network_of};
 ghost use Rattle.protocol.specs.Node.Telling.{undone_packet, undone_packets};
@@ -63,6 +63,22 @@ fn undone_packet(net: &Net, home: u8, epoch: u64, outbox: &Outbox) -> Packet
     }
 }
 
+fn add_undone(
+    packets: &mut Vec<Packet>,
+    net: &Net,
+    home: u8,
+    epoch: u64,
+    outboxes: &[Outbox],
+) -> Result<(), AllocError>
+    ensures { OnOk result (packets.new.items ≡ packets.old.items
+        ++ map (undone_packet (network_of net.now.program) home epoch) outboxes.now) }
+{
+    for outbox in outboxes {
+        packets.push(undone_packet(net, home, epoch, outbox))?;
+    }
+    Ok(())
+}
+
 /// Adds what is said of each channel to another node by a node that restored an image, in this epoch: nothing in the first.
 pub(crate) fn add_all_undone(
     packets: &mut Vec<Packet>,
@@ -77,10 +93,7 @@ pub(crate) fn add_all_undone(
     if epoch == 0 {
         return Ok(());
     }
-    for outbox in outboxes {
-        packets.push(undone_packet(net, home, epoch, outbox))?;
-    }
-    Ok(())
+    add_undone(packets, net, home, epoch, outboxes)
 }
 
 // Adds these items of a channel, the first one of this position.

@@ -7,7 +7,7 @@ ghost use Rattle.record.specs.ImageView.{ImageView};
 ghost use Rattle.record.specs.RecordView.{RecordView};
 ghost use Rattle.ckpt_codec.specs.SizeLaws.{IsImageWithin, IsRecordWithin};
 ghost use Rattle.ckpt_codec.specs.declared.lengths.TheConstants.{MAX_RETAINED_ITEMS};
-ghost use Rattle.protocol.specs.Node.Sharing.{is_logging, log_count, log_share};
+ghost use Rattle.protocol.specs.Node.Sharing.{is_logging, log_count, log_share, retained_share};
 ghost use Rattle.protocol.specs.Node.Starting.{with_own};
 ghost use Rattle.record.specs.Moves.{with_decision};
 ghost use Rattle.record.specs.declared.record.TheConstants.{MAX_DECISIONS};
@@ -39,14 +39,21 @@ fn count_logs(image: &Image) -> usize
         .count()
 }
 
-/// The most items of each log of an image: an equal share of those for which a record has room.
-pub(crate) fn share_of(image: &Image) -> usize
+// The most items of each log of an image: an equal share of those for which a record has room.
+fn share_of(image: &Image) -> usize
     ensures { result ≡ log_share image.now }
 {
     match count_logs(image) {
         0 => 0,
         logs => MAX_RETAINED_ITEMS / logs,
     }
+}
+
+/// How far a job may fill each log of an image, where the world gives a channel so much room: no further than its share.
+pub(crate) fn retained_share(room: usize, image: &Image) -> usize
+    ensures { result ≡ retained_share room image.now }
+{
+    room.min(share_of(image))
 }
 
 /// An image of a valid network, each log of which has at most its share, is within the bounds of which a record holds two; so is a

@@ -116,37 +116,38 @@ impl NodeState {
         }
     }
 
-    /// Whether a node with this record can grant a job now.
-    pub fn has_job(&self, net: &Net, inputs: &Inputs, kept: &Record) -> bool
+    /// Whether a node with this record can grant a job now, where a channel has so much room.
+    pub fn has_job(&self, net: &Net, inputs: &Inputs, room: usize, kept: &Record) -> bool
         ensures { result ≡ is_some
-            (node_job (network_of net.now.program) inputs.now (node_view kept.now self.now)) }
+            (node_job (network_of net.now.program) inputs.now room (node_view kept.now self.now)) }
     {
         match &self.mode {
-            Mode::Running(running) => running.has_job(net, inputs, kept, self.version),
+            Mode::Running(running) => running.has_job(net, inputs, room, kept, self.version),
             Mode::Down | Mode::InDoubt => false,
         }
     }
 
-    // A node with this record grants a job to the ready process that is next.
+    // A node with this record grants a job to the ready process that is next, where a channel has so much room.
     pub(crate) fn grant(
         &mut self,
         alloc: Global,
         net: &Arc<Net>,
         inputs: &Inputs,
+        room: usize,
         kept: &Record,
     ) -> Result<Option<Job>, AllocError>
         ensures job { IfOk result (λ job. option_map job_view job
-            ≡ node_job (network_of net.now.value.program) inputs.now
+            ≡ node_job (network_of net.now.value.program) inputs.now room
             (node_view kept.now self.old)) }
         ensures state { IfOk result (λ job. node_view kept.now self.new
-            ≡ with_grant (node_job (network_of net.now.value.program) inputs.now
+            ≡ with_grant (node_job (network_of net.now.value.program) inputs.now room
             (node_view kept.now self.old)) (node_view kept.now self.old)) }
         ensures err { OnErr result (node_view kept.now self.new ≡ node_view kept.now self.old) }
         ensures same_mode { is_down (mode_view self.new.mode) ≡ is_down (mode_view self.old.mode) }
     {
         let version = self.version;
         match &mut self.mode {
-            Mode::Running(running) => running.grant(alloc, net, inputs, kept, version),
+            Mode::Running(running) => running.grant(alloc, net, inputs, room, kept, version),
             Mode::Down | Mode::InDoubt => Ok(None),
         }
     }

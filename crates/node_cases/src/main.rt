@@ -17,6 +17,7 @@
 //! | `inputs i: 1 2 3` | a line of the inputs text |
 //! | `node 1` | the node's number; 0 where it isn't said |
 //! | `sectors 9` | the sectors of its disk; 9 where it isn't said |
+//! | `room 64` | the room of a channel; 4096 where it isn't said |
 //! | `record fresh opening 00` | the bytes of the record on its disk; a further line goes on |
 //! | `fault call 7 fill 0` | a failure that is prepared on its disk, of a call that is counted from 1 |
 //! | `for CALL 1..12 FILL 0 255` | the case is run for each choice of these numbers, the ends of a range included. The names, in capital letters, stand for them in all its lines, alone or in a sum as `CALL+1`; among bytes they have no place, since their digits are decimal |

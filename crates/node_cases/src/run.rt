@@ -22,12 +22,13 @@ use std::sync::Arc;
 /// The most packets of a row.
 const MAX_ROW: u64 = 10_000;
 
-/// A node with its network and inputs, what came of the jobs that it granted, in order, and what it sent in the last event
+/// A node with its network and inputs and the room of its channels, what came of the jobs that it granted, in order, and what it sent in the last event
 /// of those that send.
 #[derive(Drop)]
 pub struct Run {
     net: Arc<Net>,
     inputs: Inputs,
+    room: usize,
     node: CaseNode,
     outcomes: Vec<Done>,
     said: Vec<Packet>,
@@ -59,8 +60,9 @@ fn first_done(
     node: &mut CaseNode,
     net: &Arc<Net>,
     inputs: &Inputs,
+    room: usize,
 ) -> anyhow::Result<Done> {
-    match node.grant(alloc, net, inputs)? {
+    match node.grant(alloc, net, inputs, room)? {
         Some(job) => done_of(alloc, job),
         None => anyhow::bail!("the other node grants no job"),
     }
@@ -83,6 +85,7 @@ impl Run {
         Ok(Run {
             net,
             inputs,
+            room: settings.room,
             node,
             outcomes: Vec::new(alloc),
             said: Vec::new(alloc),
@@ -91,7 +94,7 @@ impl Run {
 
     /// Grants a job. What comes of it is kept.
     fn grant(&mut self, alloc: Global) -> anyhow::Result<String> {
-        match self.node.grant(alloc, &self.net, &self.inputs)? {
+        match self.node.grant(alloc, &self.net, &self.inputs, self.room)? {
             Some(job) => {
                 self.outcomes.push(done_of(alloc, job)?)?;
                 Ok(String::from_str(alloc, "job")?)
@@ -156,7 +159,7 @@ impl Run {
         let mut other = node_of(alloc, &self.net, settings)?;
         let own = &self.node.state;
         raise(alloc, &mut other, own.version)?;
-        first_done(alloc, &mut other, &self.net, &inputs)
+        first_done(alloc, &mut other, &self.net, &inputs, self.room)
     }
 
     /// Takes in what came of an own job.
@@ -227,7 +230,7 @@ impl Run {
     fn shown(&self, alloc: Global, question: Question) -> anyhow::Result<String> {
         let node = &self.node;
         let text = match question {
-            Question::HasJob => has_job_text(alloc, node, &self.net, &self.inputs)?,
+            Question::HasJob => has_job_text(alloc, node, &self.net, &self.inputs, self.room)?,
             Question::Packets => packets_text(alloc, node, &self.net)?,
             Question::Said => spelled_text(alloc, &self.said)?,
             Question::Job => job_text(alloc, self.last()?)?,

@@ -1,6 +1,7 @@
 //! Of what a case's node is made.
 
 use case_table::{NamedBytes, byte, number, size, spelled};
+use protocol::DEFAULT_ROOM;
 use sector_disk::ArmedFault;
 use std::alloc::Global;
 
@@ -17,6 +18,8 @@ pub struct Settings {
     pub node: u8,
     /// How many sectors its disk has.
     pub sectors: usize,
+    /// How many items a channel retains at most, where its share isn't less.
+    pub room: usize,
     /// The bytes of the record on its disk.
     pub record: Vec<u8>,
     /// Failures that are prepared on its disk before it is made.
@@ -44,6 +47,7 @@ impl Settings {
             inputs: String::new(alloc),
             node: 0,
             sectors: SECTORS,
+            room: DEFAULT_ROOM,
             record: Vec::new(alloc),
             faults: Vec::new(alloc),
         }
@@ -66,6 +70,8 @@ impl Settings {
             self.node = byte(node)?;
         } else if let Some(sectors) = text.strip_prefix("sectors ") {
             self.sectors = size(sectors)?;
+        } else if let Some(room) = text.strip_prefix("room ") {
+            self.room = size(room)?;
         } else if let Some(spelling) = text.strip_prefix("record ") {
             let bytes = spelled(alloc, named, spelling)?;
             self.record.extend_from_slice(&bytes)?;

@@ -50,8 +50,9 @@ pub fn has_job_text(
     node: &CaseNode,
     net: &Net,
     inputs: &Inputs,
+    room: usize,
 ) -> Result<String, AllocError> {
-    String::from_str(alloc, yes_or_no(node.has_job(net, inputs)))
+    String::from_str(alloc, yes_or_no(node.has_job(net, inputs, room)))
 }
 
 /// The bytes of a store's record.

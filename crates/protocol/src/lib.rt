@@ -13,7 +13,7 @@ mod round_turns;
 
 pub use armed_restart::ArmedRestart;
 pub use delivery::Delivery;
-pub use limits::{MAX_GRANTS, MAX_INBOX_ITEMS, MAX_JOB_ITEMS, WINDOW};
+pub use limits::{DEFAULT_ROOM, MAX_GRANTS, MAX_INBOX_ITEMS, MAX_JOB_ITEMS, MIN_ROOM, WINDOW};
 pub use links::{Inbox, Outbox};
 pub use outcome::{Outcome, Refusal};
 pub use round_turns::RoundTurns;

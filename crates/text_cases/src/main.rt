@@ -15,7 +15,7 @@
 //! | `-- lines 0 255 chan c@;` | a line for each of these numbers, which stands in the place of `@` |
 //! | `-- from running_sum.net` | what stands in a file |
 //! | `-- status 3` | the exit status; 0 where it isn't said |
-//! | `-- approx 2`, `-- items 4`, `-- rounds 1` | an option of the run |
+//! | `-- approx 2`, `-- items 4`, `-- rounds 1`, `-- room 64` | an option of the run |
 //! | `-- words kahnrun --items 4 NET INPUTS` | the whole command line, whose options the run has; its files are the texts |
 //! | `-- net absent`, `-- inputs absent` | a file that can't be opened |
 //! | `-- net slow` | a reader that gives a byte at a time, and is interrupted before each |

@@ -137,6 +137,7 @@ impl Plan {
         match word {
             "approx" => options.approx = Some(value),
             "items" => options.items = Some(value),
+            "room" => options.room = value,
             "rounds" => options.rounds = value,
             _ => anyhow::bail!("{word} is no directive"),
         }

@@ -22,7 +22,8 @@ use Rattle.world.specs.WorldView.{station_view}
 use Rattle.world.specs.declared.station.Station.{Station}
 use Rattle.world.proofs.Cells.{own_alone, own_spelled}
 
-module _ {C O : Type 0} {cell : CellWords C} {slots : SlotWords C} (taken : O → List ℤ) (failures : O → ℕ) (setting : Setting)
+module _ {C O : Type 0} {cell : CellWords C} {slots : SlotWords C} (taken : O → List ℤ) (failures : O → ℕ)
+    (setting : Setting)
     (event : EventView) where
   -- each choice spells a record of each node
   all_spelled : (olds news : List (Station C O slots cell)) (lefts : List Whole)
@@ -54,7 +55,7 @@ module _ {C O : Type 0} {cell : CellWords C} {slots : SlotWords C} (taken : O �
       ((stays.0 left since.0).one_of kept spelled.0, all_either olds news lefts records stays.1 since.1 spelled.1)
 
   -- so an event keeps the line
-  pub keeps_line : (net : Network) (inputs : List (List ℤ)) (olds news : List (Station C O slots cell)) (round : ℕ)
+  pub keeps_line : (net : Network) (inputs : List (List ℤ)) (olds news : List (Station C O slots cell)) (round room : ℕ)
       (flying : Traffic) (rooms : List (RecordView → Bool)) (came : Outcome) (answer : ReplyView) (number : ℕ)
       → WorldInvariant
       (record {
@@ -64,6 +65,7 @@ module _ {C O : Type 0} {cell : CellWords C} {slots : SlotWords C} (taken : O �
         traffic =
             flying;
         round = round;
+        room = room;
       })
       → setting
       ≡ setting_of
@@ -74,12 +76,13 @@ module _ {C O : Type 0} {cell : CellWords C} {slots : SlotWords C} (taken : O �
         traffic =
             flying;
         round = round;
+        room = room;
       })
       → number ≡ event_node event
       → IsAct setting number rooms event came (map (station_view taken failures) olds) answer
       (map (station_view taken failures) news)
       → AllZip (StaysInLine taken failures setting event) olds news → KeepsLine taken failures net olds news
-  keeps_line net inputs olds news round flying rooms came answer number inv same_setting same_number act stays =
+  keeps_line net inputs olds news round room flying rooms came answer number inv same_setting same_number act stays =
       let world : WorldView =
       record {
         net = net;
@@ -88,6 +91,7 @@ module _ {C O : Type 0} {cell : CellWords C} {slots : SlotWords C} (taken : O �
         traffic =
             flying;
         round = round;
+        room = room;
       } in
       record {
         spelled = λ lefts since. all_spelled olds news lefts stays since;

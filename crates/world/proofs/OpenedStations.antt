@@ -41,6 +41,7 @@ use Rattle.world.specs.WorldView.{station_view}
 use Rattle.protocol.specs.World.Steps.{WorldView}
 use Rattle.world.proofs.Openings.{fresh_views, opened_listed, opened_nothing, opened_station}
 use Rattle.protocol.specs.World.Turns.{no_turns}
+use Rattle.protocol.specs.declared.limits.TheConstants.{DEFAULT_ROOM}
 use Rattle.world.specs.declared.output.Output.{Output}
 use Rattle.world.specs.declared.station.Station.{Station}
 
@@ -125,7 +126,8 @@ own_others {O} net home other (x ∷ outputs) apart =
 
 -- All stations
 
-module _ {D O : Type 0} {disk : DiskWords D} {cell : CellWords (SplitCell D disk)} {slots : SlotWords (SplitCell D disk)} (taken : O → List ℤ)
+module _ {D O : Type 0} {disk : DiskWords D} {cell : CellWords (SplitCell D disk)}
+    {slots : SlotWords (SplitCell D disk)} (taken : O → List ℤ)
     (failures : O → ℕ) (net : Network) (versions : List ℕ) where
   pub opened_views : (outputs : List (Output O)) (number : ℕ) (disks : List D)
       (stations : List (Station (SplitCell D disk) O slots cell))
@@ -154,7 +156,8 @@ module _ {D O : Type 0} {disk : DiskWords D} {cell : CellWords (SplitCell D disk
 
   pub opened_left : (outputs : List (Output O)) (number : ℕ) (disks : List D)
       (stations : List (Station (SplitCell D disk) O slots cell))
-      → AllNumbered (IsOpened taken failures net versions outputs) number disks stations → LeaveOnlyRecords net number stations
+      → AllNumbered (IsOpened taken failures net versions outputs) number disks stations
+      → LeaveOnlyRecords net number stations
   opened_left outputs number [] [] all = tt
   opened_left outputs number [] (s ∷ stations) all = absurd all
   opened_left outputs number (d ∷ disks) [] all = absurd all
@@ -174,14 +177,16 @@ module _ {D O : Type 0} {disk : DiskWords D} {cell : CellWords (SplitCell D disk
   pub opened_rooms : (outputs : List (Output O)) (number : ℕ) (disks : List D)
       (stations : List (Station (SplitCell D disk) O slots cell))
       → AllNumbered (IsOpened taken failures net versions outputs) number disks stations
-      → map (λ (station : Station (SplitCell D disk) O slots cell). slots.slot_capacity (cell_in station.node.store)) stations
+      → map (λ (station : Station (SplitCell D disk) O slots cell). slots.slot_capacity (cell_in station.node.store))
+      stations
       ≡ map (λ (d : D). slot_room_on (disk.sector_count d)) disks
   opened_rooms outputs number [] [] all = refl
   opened_rooms outputs number [] (s ∷ stations) all = absurd all
   opened_rooms outputs number (d ∷ disks) [] all = absurd all
   opened_rooms outputs number (d ∷ disks) (s ∷ stations) all =
       ap (λ (room : ℕ). room
-      ∷ map (λ (station : Station (SplitCell D disk) O slots cell). slots.slot_capacity (cell_in station.node.store)) stations)
+      ∷ map (λ (station : Station (SplitCell D disk) O slots cell). slots.slot_capacity (cell_in station.node.store))
+      stations)
       all.0.room
       ∙ ap (λ (rest : List ℕ). slot_room_on (disk.sector_count d) ∷ rest)
       (opened_rooms outputs (suc number) disks stations all.1)
@@ -210,12 +215,15 @@ fresh_own {O} net home (x ∷ outputs) = at (is_output net home x.channel) (fres
     at true rest = ap (λ (list : List (Output O)). fresh x ∷ list) rest
     at false rest = rest
 
-module _ {D O : Type 0} {disk : DiskWords D} {cell : CellWords (SplitCell D disk)} {slots : SlotWords (SplitCell D disk)} (taken : O → List ℤ)
+module _ {D O : Type 0} {disk : DiskWords D} {cell : CellWords (SplitCell D disk)}
+    {slots : SlotWords (SplitCell D disk)} (taken : O → List ℤ)
     (failures : O → ℕ)
     (net : Network) (versions : List ℕ) (outputs : List (Output O)) where
   -- the station of a node that was opened, with the outputs that are its node's, of those that are left
-  pub station_opened : (nodes number version : ℕ) (given : D) (rest own : List (Output O)) (node : Node (SplitCell D disk) slots cell)
-      (station : Station (SplitCell D disk) O slots cell) → nodes ≡ node_count net → version ≡ version_for versions number
+  pub station_opened : (nodes number version : ℕ) (given : D) (rest own : List (Output O))
+      (node : Node (SplitCell D disk) slots cell)
+      (station : Station (SplitCell D disk) O slots cell) → nodes ≡ node_count net
+      → version ≡ version_for versions number
       → IsOpenedNode net nodes number version given node
       → own_outputs net number rest ≡ own_outputs net number outputs → own ≡ map fresh (own_outputs net number rest)
       → station.node ≡ node → station.outputs.items ≡ own → station.turns ≡ no_turns 0
@@ -230,33 +238,41 @@ module _ {D O : Type 0} {disk : DiskWords D} {cell : CellWords (SplitCell D disk
             (outlet_views taken failures station.outputs.items) station.turns
             (ap (λ (n : Node (SplitCell D disk) slots cell). n.number) same ∙ opened.number_is)
             (ap view_of same ∙ (opened.view ∙ ap (λ (n : ℕ). opening_node net n number) count)) refl
-            (ap (λ (n : Node (SplitCell D disk) slots cell). cell.failure_count (cell_in n.store)) same ∙ opened.failures) none
+            (ap (λ (n : Node (SplitCell D disk) slots cell). cell.failure_count (cell_in n.store)) same
+            ∙ opened.failures) none
             ∙ ap (opening_station net (node_count net) number (disk.failure_count given))
             (ap (outlet_views taken failures) are ∙ own_views taken failures net number (map fresh outputs));
         outlets = ap (map (λ (output : Output O). output.outlet)) are;
         left = λ left might. subst (λ (n : ℕ). Spells (opening_record net n number) left) count
             (opened.left left
-            (subst (λ (n : Node (SplitCell D disk) slots cell). slots.may_leave_whole (cell_in n.store) left) same might));
+            (subst (λ (n : Node (SplitCell D disk) slots cell). slots.may_leave_whole (cell_in n.store) left) same
+            might));
         formatted =
             subst (λ (n : Node (SplitCell D disk) slots cell). StandsInVersion (version_for versions number)
             (opening_record net (node_count net) number) n.store) (sym same)
-            (subst (λ (n : ℕ). StandsInVersion (version_for versions number) (opening_record net n number) node.store) count
+            (subst (λ (n : ℕ). StandsInVersion (version_for versions number) (opening_record net n number) node.store)
+            count
             (subst (λ (v : ℕ). StandsInVersion v (opening_record net nodes number) node.store) told opened.formatted));
-        room = ap (λ (n : Node (SplitCell D disk) slots cell). slots.slot_capacity (cell_in n.store)) same ∙ opened.room;
-        fits = subst (λ (n : ℕ). HasRoom (disk.sector_count given) (image_length (opening_record net n number).permanent)) count
+        room = ap (λ (n : Node (SplitCell D disk) slots cell). slots.slot_capacity (cell_in n.store)) same
+            ∙ opened.room;
+        fits = subst
+            (λ (n : ℕ). HasRoom (disk.sector_count given) (image_length (opening_record net n number).permanent)) count
             opened.fits;
       }
 
   pub stations_more : (disks all : List D) (given : D) (before after : List (Station (SplitCell D disk) O slots cell))
-      (station : Station (SplitCell D disk) O slots cell) (number : ℕ) → all ≡ disks ++ given ∷ [] → number ≡ length disks
+      (station : Station (SplitCell D disk) O slots cell) (number : ℕ) → all ≡ disks ++ given ∷ []
+      → number ≡ length disks
       → after ≡ before ++ station ∷ []
       → AllNumbered (IsOpened taken failures net versions (map fresh outputs)) 0 disks before
       → IsOpened taken failures net versions (map fresh outputs) number given station
       → AllNumbered (IsOpened taken failures net versions (map fresh outputs)) 0 all after
   stations_more disks all given before after station number split place pushed opened one =
       let sum : number ≡ 0 + length disks = omega (arith, place) in
-      subst (λ (list : List D). AllNumbered (IsOpened taken failures net versions (map fresh outputs)) 0 list after) (sym split)
-      (subst (AllNumbered (IsOpened taken failures net versions (map fresh outputs)) 0 (disks ++ given ∷ [])) (sym pushed)
+      subst (λ (list : List D). AllNumbered (IsOpened taken failures net versions (map fresh outputs)) 0 list after)
+      (sym split)
+      (subst (AllNumbered (IsOpened taken failures net versions (map fresh outputs)) 0 (disks ++ given ∷ []))
+      (sym pushed)
       (numbered_more (IsOpened taken failures net versions (map fresh outputs)) 0 disks before given station opened
       (subst (λ (n : ℕ). IsOpened taken failures net versions (map fresh outputs) n given station) sum one)))
 
@@ -284,17 +300,21 @@ fewer_left {O} own rest others are =
 
 -- The world of these stations
 
-module _ {D O : Type 0} {disk : DiskWords D} {cell : CellWords (SplitCell D disk)} {slots : SlotWords (SplitCell D disk)} (taken : O → List ℤ)
+module _ {D O : Type 0} {disk : DiskWords D} {cell : CellWords (SplitCell D disk)}
+    {slots : SlotWords (SplitCell D disk)} (taken : O → List ℤ)
     (failures : O → ℕ) (given net : Net) (versions : List ℕ) (disks : List D) (outputs items : List (Output O))
     (stations : List (Station (SplitCell D disk) O slots cell))
     (same : given ≡ net) (renewed : items ≡ map fresh outputs)
     (all : AllNumbered (IsOpened taken failures (network_of given.program) versions items) 0 disks stations) where
   -- as they are of the network and the outputs that were given
-  pub opened_all : AllNumbered (IsOpened taken failures (network_of net.program) versions (map fresh outputs)) 0 disks stations
+  pub opened_all : AllNumbered (IsOpened taken failures (network_of net.program) versions (map fresh outputs)) 0 disks
+      stations
   opened_all =
-      subst (λ (list : List (Output O)). AllNumbered (IsOpened taken failures (network_of net.program) versions list) 0 disks
+      subst (λ (list : List (Output O)). AllNumbered (IsOpened taken failures (network_of net.program) versions list) 0
+      disks
       stations) renewed
-      (subst (λ (n : Net). AllNumbered (IsOpened taken failures (network_of n.program) versions items) 0 disks stations) same
+      (subst (λ (n : Net). AllNumbered (IsOpened taken failures (network_of n.program) versions items) 0 disks
+      stations) same
       all)
 
   pub opened_world : (inputs : List (List ℤ)) (traffic : Traffic) → traffic ≡ opening_traffic
@@ -305,6 +325,7 @@ module _ {D O : Type 0} {disk : DiskWords D} {cell : CellWords (SplitCell D disk
         traffic =
             traffic;
         round = 0;
+        room = DEFAULT_ROOM;
       }
       ≡ opening_world (network_of net.program) inputs (map (λ (d : D). disk.failure_count d) disks)
       (outlet_views taken failures outputs)
@@ -320,7 +341,14 @@ module _ {D O : Type 0} {disk : DiskWords D} {cell : CellWords (SplitCell D disk
     where
       world : List StationView → Traffic → WorldView
       world list traffic =
-          record { net = network_of net.program; inputs = inputs; stations = list; traffic = traffic; round = 0 }
+          record {
+            net = network_of net.program;
+            inputs = inputs;
+            stations = list;
+            traffic = traffic;
+            round = 0;
+            room = DEFAULT_ROOM;
+          }
 
   -- and so the world is sound
   pub opened_sound : (inputs : List (List ℤ)) (traffic : Traffic) → traffic ≡ opening_traffic
@@ -336,6 +364,7 @@ module _ {D O : Type 0} {disk : DiskWords D} {cell : CellWords (SplitCell D disk
             map (station_view taken failures) stations;
         traffic = traffic;
         round = 0;
+        room = DEFAULT_ROOM;
       })
   opened_sound inputs traffic none fits each listed empty =
       subst WorldInvariant (sym (opened_world inputs traffic none))
@@ -426,7 +455,8 @@ module _ {D : Type 0} (net : Network) (count : D → ℕ) (nodes number : ℕ) (
       subst (λ (list : List D). IsWorldRefusal net 0 (map count list) fault) (sym split)
       (disk_refused net count 0 done given fault
       (subst (λ (n : ℕ). IsOpeningRefusal (count given) (opening_length net n) fault) sum
-      (subst (λ (n : ℕ). IsOpeningRefusal (count given) (image_length (opening_record net n number).permanent) fault) same
+      (subst (λ (n : ℕ). IsOpeningRefusal (count given) (image_length (opening_record net n number).permanent) fault)
+      same
       refused)))
 
 pub before_refused : {D : Type 0} (net : Network) (count : D → ℕ) (done all : List D) (given : D) (fault : StoreFault)

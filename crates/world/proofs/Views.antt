@@ -1,5 +1,6 @@
 -- Views of stations.
-use Rattle.std.proofs.Common.{◌≡◌, ℕ, zero, suc, ◌<◌, ◌≤◌, Bool, List, ℤ, [], ◌∷◌, length, get_or, Option, Some, map, refl}
+use Rattle.std.proofs.Common.{◌≡◌, ℕ, zero, suc, ◌<◌, ◌≤◌, Bool, List, ℤ, [], ◌∷◌, length, get_or, Option, Some, map}
+use Rattle.std.proofs.Common.{refl}
 use Rattle.std.proofs.Common.{sym, ap, subst, ◌∙◌, arith}
 use Rattle.std.specs.Prelude.{Result, Ok, Err, IfOk, OnErr, slice_get, slice_set}
 use Rattle.std.proofs.lemmas.List.{length-map, map-set}
@@ -18,7 +19,7 @@ use Rattle.protocol.specs.World.OutputView.{OutputView}
 use Rattle.world.specs.OutputView.{output_view, outputs_view}
 use Rattle.protocol.specs.World.StationView.{OutletView, StationView}
 use Rattle.world.specs.StationView.{outlet_view, outlet_views}
-use Rattle.protocol.specs.World.Steps.{may_restart, next_release, setting_in, setting_of, IsHanded, IsRelease}
+use Rattle.protocol.specs.World.Steps.{next_release, setting_in, setting_of, IsHanded, IsRelease}
 use Rattle.protocol.specs.World.Steps.{IsActOf, IsStep, Setting, WorldView, round_after, traffic_after}
 use Rattle.protocol.specs.World.ReplyView.{NotDue, ReplyView}
 use Rattle.protocol.specs.declared.outcome.Outcome.TheVariants as outcome
@@ -120,34 +121,31 @@ acted {S} setting view room event xs place x y flown (Ok reply) within is come =
 
 -- the setting of a world by its stations, as they are and as they are seen
 pub setting_is : {S : Type 0} (view : S → StationView) (net : Network) (inputs : List (List ℤ)) (traffic : Traffic)
-    (xs : List S) (round : ℕ)
-    → setting_in net inputs traffic (may_restart (length xs)) round
-    ≡ setting_of (record { net = net; inputs = inputs; stations = map view xs; traffic = traffic; round = round })
-setting_is view net inputs traffic xs round =
-    ap (λ (n : ℕ). setting_in net inputs traffic (may_restart n) round) (sym (length-map xs view))
-
--- whether nodes may restart, by the number of stations
-pub restarts_are : {S : Type 0} (net : Network) (inputs : List (List ℤ)) (traffic : Traffic) (xs : List S)
-    (restarts : Bool) (count round : ℕ) → restarts ≡ may_restart count → count ≡ length xs
-    → setting_in net inputs traffic restarts round ≡ setting_in net inputs traffic (may_restart (length xs)) round
-restarts_are net inputs traffic xs restarts count round may many =
-    ap (λ (b : Bool). setting_in net inputs traffic b round) (may ∙ ap may_restart many)
+    (xs : List S) (round room : ℕ)
+    → setting_in net inputs traffic round room
+    ≡ setting_of
+    (record {
+      net = net;
+      inputs = inputs;
+      stations = map view xs;
+      traffic = traffic;
+      round = round;
+      room = room;
+    })
+setting_is view net inputs traffic xs round room = refl
 
 -- the station of this place is a sound one
 pub sound_at : {S : Type 0} (view : S → StationView) (net : Network) (inputs : List (List ℤ)) (traffic : Traffic)
-    (xs : List S) (place : ℕ) (x : S) (restarts : Bool) (count round : ℕ) → restarts ≡ may_restart count
-    → count ≡ length xs
+    (xs : List S) (place : ℕ) (x : S) (round room : ℕ)
     → length (map view xs) ≡ node_count net → IsNumbered (map view xs) → AreSound net inputs (map view xs)
     → AreJoined net (map view xs) → place < length xs → x ≡ get_or xs place x
-    → IsSoundStation (setting_in net inputs traffic restarts round) (view x)
-sound_at view net inputs traffic xs place x restarts count round may many all numbered sound joined within is =
+    → IsSoundStation (setting_in net inputs traffic round room) (view x)
+sound_at view net inputs traffic xs place x round room all numbered sound joined within is =
     let there : slice_get (map view xs) place ≡ Some (view x) =
     map_at view xs place x (slice_get_read xs (length xs) place x refl within is) in
     record {
       inv = sound place (view x) there;
       named = (let named = numbered place (view x) there in named.1 ∙ sym named.0);
-      here = λ alone. all_here net (map view xs) all numbered place (view x) there
-          (ap may_restart (length-map xs view ∙ sym many) ∙ (sym may ∙ alone));
       below = (let few = length-map xs view in let number = (numbered place (view x) there).0 in
           omega (arith, within, few, all, number));
       joined = joined place (view x) there;
@@ -159,7 +157,8 @@ pub seen_at : {S : Type 0} (view : S → StationView) (xs : List S) (place : ℕ
 seen_at view xs place x within is = map_at view xs place x (slice_get_read xs (length xs) place x refl within is)
 
 -- a cell that nobody called
-pub cell_stays : {C O : Type 0} {cell : CellWords C} {slots : SlotWords C} (station : Station C O slots cell) → IsCellUnchanged station station
+pub cell_stays : {C O : Type 0} {cell : CellWords C} {slots : SlotWords C} (station : Station C O slots cell)
+    → IsCellUnchanged station station
 cell_stays station = refl
 
 -- a refused event leaves the list of stations as it is seen
@@ -190,7 +189,14 @@ pub world_steps : (rooms : List (RecordView → Bool)) (e : EventView) (old : Wo
     → number ≡ event_node e → HasActed setting number rooms e old.stations answer stations flown
     → round ≡ round_after answer old.round stations
     → IsStep rooms e old answer
-    (record { net = old.net; inputs = old.inputs; stations = stations; traffic = flown; round = round })
+    (record {
+      net = old.net;
+      inputs = old.inputs;
+      stations = stations;
+      traffic = flown;
+      round = round;
+      room = old.room;
+    })
 world_steps rooms e old answer setting number round stations flown same_setting same_number acted later =
     let here =
     subst (λ (n : ℕ). HasActed (setting_of old) n rooms e old.stations answer stations flown) same_number
@@ -202,6 +208,7 @@ world_steps rooms e old answer setting number round stations flown same_setting 
       act = here.act;
       traffic = here.traffic;
       round = later;
+      room = refl;
     }
 
 -- where there is no station, nothing happens

@@ -26,7 +26,8 @@ use Rattle.world.specs.declared.output.Output.{Output}
 use Rattle.world.specs.declared.station.Station.{Station}
 
 -- `taken` and `failures` are the outlets' words
-abbrev pub station_view : {C O : Type 0} {cell : CellWords C} {slots : SlotWords C} → (O → List ℤ) → (O → ℕ) → Station C O slots cell → StationView
+abbrev pub station_view : {C O : Type 0} {cell : CellWords C} {slots : SlotWords C} → (O → List ℤ) → (O → ℕ)
+    → Station C O slots cell → StationView
 station_view {C} {O} {cell} {slots} taken failures station = record {
   number = station.node.number;
   node = view_of station.node;
@@ -35,10 +36,12 @@ station_view {C} {O} {cell} {slots} taken failures station = record {
   turns = station.turns;
 }
 
--- a world by its parts: shares of its network and of the inputs, its stations, what is in flight, and the round
-abbrev pub world_view : {C O : Type 0} {cell : CellWords C} {slots : SlotWords C} → (O → List ℤ) → (O → ℕ) → Arc Net Global
-    → Arc Inputs Global → List (Station C O slots cell) → Traffic → ℕ → WorldView
-world_view taken failures net inputs stations traffic round =
+-- a world by its parts: shares of its network and of the inputs, its stations, what is in flight, the round, and the
+-- room of a channel
+abbrev pub world_view : {C O : Type 0} {cell : CellWords C} {slots : SlotWords C} → (O → List ℤ) → (O → ℕ)
+    → Arc Net Global
+    → Arc Inputs Global → List (Station C O slots cell) → Traffic → ℕ → ℕ → WorldView
+world_view taken failures net inputs stations traffic round room =
     record {
       net = network_of net.value.program;
       inputs = inputs.value;
@@ -46,43 +49,51 @@ world_view taken failures net inputs stations traffic round =
           map (station_view taken failures) stations;
       traffic = traffic;
       round = round;
+      room = room;
     }
 
 -- what each station's cell has room for
-abbrev pub rooms : {C O : Type 0} {cell : CellWords C} {slots : SlotWords C} → List (Station C O slots cell) → List (RecordView → Bool)
+abbrev pub rooms : {C O : Type 0} {cell : CellWords C} {slots : SlotWords C} → List (Station C O slots cell)
+    → List (RecordView → Bool)
 rooms {C} {O} {cell} {slots} stations =
     map (λ (station : Station C O slots cell). fits_in (slots.slot_capacity (cell_in station.node.store))) stations
 
 -- the most bytes that each station's cell has room for
-abbrev pub capacities : {C O : Type 0} {cell : CellWords C} {slots : SlotWords C} → List (Station C O slots cell) → List ℕ
+abbrev pub capacities : {C O : Type 0} {cell : CellWords C} {slots : SlotWords C} → List (Station C O slots cell)
+    → List ℕ
 capacities {C} {O} {cell} {slots} stations =
     map (λ (station : Station C O slots cell). slots.slot_capacity (cell_in station.node.store)) stations
 
 -- a station's cell wasn't touched
-abbrev pub IsCellUnchanged : {C O : Type 0} {cell : CellWords C} {slots : SlotWords C} → Station C O slots cell → Station C O slots cell → Type 0
+abbrev pub IsCellUnchanged : {C O : Type 0} {cell : CellWords C} {slots : SlotWords C} → Station C O slots cell
+    → Station C O slots cell → Type 0
 IsCellUnchanged old new = cell_in new.node.store ≡ cell_in old.node.store
 
 -- what has left a station only grew, and is covered at each moment between
-abbrev pub IsGrown : {C O : Type 0} {cell : CellWords C} {slots : SlotWords C} → (O → List ℤ) → Station C O slots cell → Station C O slots cell → Type 0
+abbrev pub IsGrown : {C O : Type 0} {cell : CellWords C} {slots : SlotWords C} → (O → List ℤ) → Station C O slots cell
+    → Station C O slots cell → Type 0
 IsGrown {C} {O} {cell} {slots} taken old new =
     HasGrown cell.moment slots.left_since_whole (cell_in old.node.store) (cell_in new.node.store)
     (outputs_view taken old.outputs.items) (outputs_view taken new.outputs.items)
 
 -- a station has the outlets of these outputs
-abbrev pub HasOutlets : {C O : Type 0} {cell : CellWords C} {slots : SlotWords C} → List (Output O) → Station C O slots cell → Type 0
+abbrev pub HasOutlets : {C O : Type 0} {cell : CellWords C} {slots : SlotWords C} → List (Output O)
+    → Station C O slots cell → Type 0
 HasOutlets {C} {O} outputs station =
     map (λ (output : Output O). output.outlet) station.outputs.items
     ≡ map (λ (output : Output O). output.outlet) outputs
 
 -- The node of a station whose device failed in an event of this round may be recovered after as many rounds as were
 -- armed with the call that failed, by the first fault armed for it, and one round later where there was none.
-abbrev pub RestartsAsArmed : {C O : Type 0} {cell : CellWords C} {slots : SlotWords C} → ℕ → Station C O slots cell → Station C O slots cell → Type 0
+abbrev pub RestartsAsArmed : {C O : Type 0} {cell : CellWords C} {slots : SlotWords C} → ℕ → Station C O slots cell
+    → Station C O slots cell → Type 0
 RestartsAsArmed {cell = cell} {slots = slots} round old new =
     (view_of new.node).restart
     ≡ restart_after (view_of old.node).armed (cell.failed_call (cell_in new.node.store)) round
 
 -- the same of the station of this place
-abbrev pub RestartsAsArmedAt : {C O : Type 0} {cell : CellWords C} {slots : SlotWords C} → ℕ → ℕ → List (Station C O slots cell)
+abbrev pub RestartsAsArmedAt : {C O : Type 0} {cell : CellWords C} {slots : SlotWords C} → ℕ → ℕ
+    → List (Station C O slots cell)
     → List (Station C O slots cell) → Type 0
 RestartsAsArmedAt {C} {O} {cell} {slots} round place olds news =
     (old new : Station C O slots cell) → slice_get olds place ≡ Some old → slice_get news place ≡ Some new
@@ -95,7 +106,8 @@ armed_then event answer faults = faults
 
 -- What an event leaves of a station's device besides what it holds: no other fault is armed, nor one disarmed, and no
 -- device call that was counted is forgotten.
-abbrev pub LeavesDeviceBy : {C O : Type 0} {cell : CellWords C} {slots : SlotWords C} → EventView → Option ReplyView → Station C O slots cell
+abbrev pub LeavesDeviceBy : {C O : Type 0} {cell : CellWords C} {slots : SlotWords C} → EventView → Option ReplyView
+    → Station C O slots cell
     → Station C O slots cell → Type 0
 LeavesDeviceBy {cell = cell} {slots = slots} event answer old new =
     (cell.armed (cell_in new.node.store) ≡ armed_then event answer (cell.armed (cell_in old.node.store)))

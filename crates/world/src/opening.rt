@@ -37,7 +37,7 @@ use kahn_net::Port;
 use net_check::{Inputs, Net};
 use node::{Node, is_here, opening_record};
 use outlet::Outlet;
-use protocol::RoundTurns;
+use protocol::{DEFAULT_ROOM, RoundTurns};
 use record::{Image, Record};
 use sector_disk::Disk;
 use std::alloc::Global;
@@ -409,6 +409,7 @@ fn open_world<D: Disk, O: Outlet>(
             stations,
             wire,
             round: 0,
+            room: DEFAULT_ROOM,
         }),
         Err(fault) => Err(OpeningRefused {
             disks,

@@ -19,7 +19,6 @@ ghost use Rattle.world.specs.WorldView.{station_view};
 
 use crate::event::Event;
 use crate::network::{first_due, packet_at};
-use crate::nodes::may_restart;
 use crate::station::Station;
 use crate::world::World;
 use decide_core::may_decide;
@@ -69,21 +68,22 @@ fn has_new(state: &NodeState, kept: &Record) -> bool
 }
 
 impl<C: SlotCell, O: Outlet> Station<C, O> {
-    // Whether its node is down and may be recovered by now, where nodes may restart.
-    fn may_recover(&self, restarts: bool, round: u64) -> bool
-        ensures { result ≡ may_recover restarts round (station_view O.taken O.failures self.now) }
+    // Whether its node is down and may be recovered by now.
+    fn may_recover(&self, round: u64) -> bool
+        ensures { result ≡ may_recover round (station_view O.taken O.failures self.now) }
     {
         let state = &self.node.state;
-        restarts && state.is_down() && state.restart <= round
+        state.is_down() && state.restart <= round
     }
 
-    // Whether a job is next: a process is ready, and fewer were granted in this round than may be.
-    fn has_grant(&self, net: &Net, inputs: &Inputs, round: u64) -> bool
+    // Whether a job is next where a channel has so much room: a process is ready, and fewer were granted in this round than
+    // may be.
+    fn has_grant(&self, net: &Net, inputs: &Inputs, room: usize, round: u64) -> bool
         ensures { result ≡ (nat_lt (turns_of round self.now.turns).granted MAX_GRANTS
-            && is_some (node_job (network_of net.now.program) inputs.now
+            && is_some (node_job (network_of net.now.program) inputs.now room
             (view_of self.now.node))) }
     {
-        self.turns.of(round).granted < MAX_GRANTS && self.node.has_job(net, inputs)
+        self.turns.of(round).granted < MAX_GRANTS && self.node.has_job(net, inputs, room)
     }
 
     // Whether its node may decide the checkpoint for which it collects answers.
@@ -145,14 +145,14 @@ impl<C: SlotCell, O: Outlet> Station<C, O> {
     }
 
     // The event that is next for its node, where no packet is due to it.
-    fn pick_own(&self, net: &Net, inputs: &Inputs, nodes: usize, round: u64) -> Event
-        ensures { event_view result ≡ own_choice (network_of net.now.program) inputs.now
+    fn pick_own(&self, net: &Net, inputs: &Inputs, room: usize, nodes: usize, round: u64) -> Event
+        ensures { event_view result ≡ own_choice (network_of net.now.program) inputs.now room
             nodes round (station_view O.taken O.failures self.now) }
     {
         let number = self.node.number;
         if self.next_release(round).is_some() {
             Event::Release(number)
-        } else if self.has_grant(net, inputs, round) {
+        } else if self.has_grant(net, inputs, room, round) {
             Event::Grant(number)
         } else if self.may_decide() {
             Event::Decide(number)
@@ -166,18 +166,26 @@ impl<C: SlotCell, O: Outlet> Station<C, O> {
     }
 
     // The event that is next for its node.
-    fn pick(&self, net: &Net, inputs: &Inputs, wire: &Wire, nodes: usize, round: u64) -> Event
+    fn pick(
+        &self,
+        net: &Net,
+        inputs: &Inputs,
+        room: usize,
+        wire: &Wire,
+        nodes: usize,
+        round: u64,
+    ) -> Event
         requires { self.now.node.number < NODES }
-        ensures { event_view result ≡ station_choice (network_of net.now.program) inputs.now
+        ensures { event_view result ≡ station_choice (network_of net.now.program) inputs.now room
             (traffic_of wire.now) nodes round (station_view O.taken O.failures self.now) }
     {
         let node = self.node.number;
-        if self.may_recover(may_restart(nodes), round) {
+        if self.may_recover(round) {
             return Event::Recover(node);
         }
         match self.due_place(wire, round) {
             Some(place) => Event::Deliver { node, place },
-            None => self.pick_own(net, inputs, nodes, round),
+            None => self.pick_own(net, inputs, room, nodes, round),
         }
     }
 }
@@ -192,6 +200,7 @@ impl<C: SlotCell, O: Outlet> World<C, O> {
             Some(station) => station.pick(
                 &self.net,
                 &self.inputs,
+                self.room,
                 &self.wire,
                 self.stations.len(),
                 self.round,

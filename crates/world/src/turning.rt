@@ -41,12 +41,13 @@ fn note_grant(turns: &mut RoundTurns, granted: Option<Job>, round: u64) -> Reply
 }
 
 impl<C: SlotCell, O: Outlet> Station<C, O> {
-    /// Grants a job.
+    /// Grants a job, where a channel has so much room.
     pub(crate) fn grant(
         &mut self,
         alloc: Global,
         net: &Arc<Net>,
         inputs: &Inputs,
+        room: usize,
         round: u64,
     ) -> Result<Reply, AllocError>
         ensures outputs { outlet_views O.taken O.failures self.new.outputs.items
@@ -56,12 +57,12 @@ impl<C: SlotCell, O: Outlet> Station<C, O> {
             (station_view O.taken O.failures self.new ≡ station_view O.taken O.failures self.old) }
         ensures step { IfOk result
             (λ reply. ComesBy (fits_in (C.slot_capacity (cell_in self.old.node.store))) round
-            (grant_plan (node_job (network_of net.now.value.program) inputs.now
+            (grant_plan (node_job (network_of net.now.value.program) inputs.now room
             (view_of self.old.node)) round (station_view O.taken O.failures self.old))
             (station_view O.taken O.failures self.old) (reply_view reply)
             (station_view O.taken O.failures self.new)) }
     {
-        let granted = self.node.grant(alloc, net, inputs)?;
+        let granted = self.node.grant(alloc, net, inputs, room)?;
         Ok(note_grant(&mut self.turns, granted, round))
     }
 

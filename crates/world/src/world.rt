@@ -18,11 +18,10 @@ ghost use Rattle.protocol.specs.World.Replies.{IsDropped, IsTooLarge, LeavesCell
 ghost use Rattle.world.specs.ReplyView.{answer_view, reply_view};
 ghost use Rattle.protocol.specs.World.ReplyView.{Down};
 ghost use Rattle.protocol.specs.World.Roomy.{HasFullRoom};
-ghost use Rattle.protocol.specs.World.Steps.{are_done_with, is_done_with, may_restart, round_after, setting_in, IsStep};
+ghost use Rattle.protocol.specs.World.Steps.{are_done_with, is_done_with, round_after, setting_in, IsStep};
 ghost use Rattle.world.specs.WorldView.{capacities, rooms, station_view, world_view, IsCellUnchanged, IsGrown, LeavesDeviceAt, RestartsAsArmedAt};
 
 use crate::event::{Event, Refused, Reply};
-use crate::nodes::may_restart;
 use crate::station::Station;
 use gate_cell::SlotCell;
 use net_check::{Inputs, Net};
@@ -32,7 +31,8 @@ use std::alloc::{AllocError, Global};
 use std::sync::Arc;
 use wire::Wire;
 
-/// A network that runs on its inputs: shares of both, its stations, one a node, by node number, and the round.
+/// A network that runs on its inputs: shares of both, its stations, one a node, by node number, the round, and the room of a
+/// channel.
 ///
 /// Its type keeps that the inputs fit the network, that each station is of the node of its number, that the images of each
 /// station stand where its processes have come on one approximation of the network's histories, that what its outlets took
@@ -45,8 +45,10 @@ pub struct World<C: SlotCell, O: Outlet> {
     pub stations: Vec<Station<C, O>>,
     pub wire: Wire,
     pub round: u64,
+    /// How many items a channel retains at most, where its share of a record isn't less.
+    pub room: usize,
     pub ghost sound: { WorldInvariant
-        (world_view O.taken O.failures net inputs stations.items (traffic_of wire) round) },
+        (world_view O.taken O.failures net inputs stations.items (traffic_of wire) round room) },
 }
 
 // An event at the station of this number, where there is one.
@@ -58,6 +60,7 @@ fn act_at<C: SlotCell, O: Outlet>(
     wire: &mut Wire,
     number: usize,
     round: u64,
+    room: usize,
     event: &Event,
 ) -> Result<Reply, AllocError>
     requires fits { Fits (network_of net.now.value.program) inputs.now.value }
@@ -73,7 +76,7 @@ fn act_at<C: SlotCell, O: Outlet>(
     ensures grown { AllZip (IsGrown O.taken) stations.old.items stations.new.items }
     ensures line { AllZip (StaysInLine O.taken O.failures
         (setting_in (network_of net.now.value.program) inputs.now.value (traffic_of wire.old)
-        (may_restart (length stations.old.items)) round) (event_view event.now))
+        round room) (event_view event.now))
         stations.old.items stations.new.items }
     ensures refused { OnErr result
         ((map (station_view O.taken O.failures) stations.new.items
@@ -81,7 +84,7 @@ fn act_at<C: SlotCell, O: Outlet>(
         × TakesMemory (event_view event.now)) }
     ensures come { IfOk result
         (λ reply. HasActed (setting_in (network_of net.now.value.program) inputs.now.value
-        (traffic_of wire.old) (may_restart (length stations.old.items)) round) number
+        (traffic_of wire.old) round room) number
         (rooms stations.old.items) (event_view event.now)
         (map (station_view O.taken O.failures) stations.old.items) (reply_view reply)
         (map (station_view O.taken O.failures) stations.new.items) (traffic_of wire.new)) }
@@ -100,32 +103,29 @@ fn act_at<C: SlotCell, O: Outlet>(
     if number >= stations.len() {
         return Ok(Reply::NotDue);
     }
-    let restarts = may_restart(stations.len());
-    stations[number].act(alloc, net, inputs, wire, restarts, round, event)
+    stations[number].act(alloc, net, inputs, wire, round, room, event)
 }
 
 impl<C: SlotCell, O: Outlet> Station<C, O> {
-    // Whether the round need not wait for this node: it has idled, or it is down and not to be recovered yet, or not at
-    // all.
-    fn is_done_with(&self, restarts: bool, round: u64) -> bool
-        ensures { result ≡ is_done_with restarts round (station_view O.taken O.failures self.now) }
+    // Whether the round need not wait for this node: it has idled, or it is down and not to be recovered yet.
+    fn is_done_with(&self, round: u64) -> bool
+        ensures { result ≡ is_done_with round (station_view O.taken O.failures self.now) }
     {
         let node = &self.node;
         self.turns.of(round).idled
-            || (node.state.is_down() && (!restarts || node.state.restart > round))
+            || (node.state.is_down() && node.state.restart > round)
     }
 }
 
 fn are_done_with<C: SlotCell, O: Outlet>(
     stations: &[Station<C, O>],
-    restarts: bool,
     round: u64,
 ) -> bool
-    ensures { result ≡ are_done_with restarts round
+    ensures { result ≡ are_done_with round
         (map (station_view O.taken O.failures) stations.now) }
 {
     for station in stations {
-        if !station.is_done_with(restarts, round) {
+        if !station.is_done_with(round) {
             return false;
         }
     }
@@ -138,9 +138,7 @@ fn round_after<C: SlotCell, O: Outlet>(reply: &Reply, round: u64, stations: &[St
         (map (station_view O.taken O.failures) stations.now) }
 {
     match reply {
-        Reply::Idled if are_done_with(stations, may_restart(stations.len()), round) => {
-            next_after(round)
-        }
+        Reply::Idled if are_done_with(stations, round) => next_after(round),
         _ => round,
     }
 }
@@ -221,6 +219,7 @@ impl<C: SlotCell, O: Outlet> World<C, O> {
             &mut self.wire,
             number,
             self.round,
+            self.room,
             &event,
         ) {
             Ok(reply) => {

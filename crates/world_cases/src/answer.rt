@@ -1,7 +1,7 @@
 //! Replies, events, items and bytes, in words.
 
 use std::alloc::{AllocError, Global};
-use world::{Event, Reply};
+use world::{Event, Reply, RoomOutOfRange};
 
 /// The word of a reply without a number.
 fn reply_word(reply: &Reply) -> &'static str {
@@ -34,6 +34,14 @@ pub fn reply_text(alloc: Global, reply: &Reply) -> Result<String, AllocError> {
         Reply::Refused(refusal) => format!(in alloc; "{word} {}", refusal.number()),
         Reply::Released(freed) => format!(in alloc; "{word} {} {}", freed.output, freed.number),
         _ => String::from_str(alloc, word),
+    }
+}
+
+/// What setting the room of a channel answered.
+pub fn set_word(set: Result<(), RoomOutOfRange>) -> &'static str {
+    match set {
+        Ok(()) => "set",
+        Err(RoomOutOfRange) => "refused",
     }
 }
 

@@ -1,6 +1,6 @@
 //! A case's world, step by step.
 
-use crate::answer::reply_text;
+use crate::answer::{reply_text, set_word};
 use crate::closing::Closed;
 use crate::opening::{CaseWorld, open_world};
 use crate::plan::Settings;
@@ -320,6 +320,10 @@ impl Run {
                 let done = self.brought(alloc, net, settings, &brought)?;
                 let answer = self.answer(alloc, Event::Install(done))?;
                 self.came(alloc, answer, streams, line)
+            }
+            Step::SetRoom(items) => {
+                let word = set_word(self.world.set_room(items));
+                Ok(Came::Answer(String::from_str(alloc, word)?))
             }
             Step::Ask(question) => Ok(Came::Answer(shown(alloc, &self.world, question)?)),
             Step::Run(rounds) => self.run(alloc, rounds, streams, line),

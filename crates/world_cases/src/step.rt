@@ -24,6 +24,7 @@ pub enum Question {
     Complete,
     Round,
     Nodes,
+    Room,
     Packet { node: u8, place: usize },
     Node(u8),
     Record(u8),
@@ -38,6 +39,8 @@ pub enum Step {
     Open,
     Event(Event),
     Install(Brought),
+    /// The room of a channel is set.
+    SetRoom(usize),
     Ask(Question),
     /// Each node in turn goes on through `pick`, until the world is complete, at most for so many rounds.
     Run(u64),
@@ -53,7 +56,8 @@ impl Step {
     /// Whether it answers something.
     pub fn has_answer(&self) -> bool {
         match self {
-            Step::Open | Step::Event(_) | Step::Install(_) | Step::Ask(_) => true,
+            Step::Open | Step::Event(_) | Step::Install(_) | Step::SetRoom(_) | Step::Ask(_) =>
+                true,
             Step::Run(_) | Step::Turns { .. } | Step::Jobs { .. } | Step::Chance { .. } => false,
         }
     }
@@ -120,6 +124,7 @@ fn question_of(words: &[&str]) -> anyhow::Result<Option<Question>> {
         ["complete"] => Question::Complete,
         ["round"] => Question::Round,
         ["nodes"] => Question::Nodes,
+        ["room"] => Question::Room,
         ["packet", node, place] => Question::Packet {
             node: byte(node)?,
             place: size(place)?,
@@ -145,6 +150,7 @@ fn other_step(words: &[&str]) -> anyhow::Result<Option<Step>> {
         ["open"] => Step::Open,
         ["install"] => Step::Install(Brought::Last),
         ["install", job] => Step::Install(Brought::Earlier(size(job)?)),
+        ["room", items] => Step::SetRoom(size(items)?),
         ["run", rounds] => Step::Run(number(rounds)?),
         ["turns", node, count] => Step::Turns {
             node: byte(node)?,

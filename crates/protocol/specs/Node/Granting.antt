@@ -11,7 +11,6 @@ use Rattle.retained.specs.LogState.{LogState, log_end, items_since}
 use Rattle.record.specs.ImageView.{ImageView}
 use Rattle.record.specs.Ends.{received_of, log_of}
 use Rattle.protocol.specs.Node.JobView.{JobView}
-use Rattle.protocol.specs.Node.Sharing.{log_share}
 use Rattle.kahn_net.specs.declared.limits.TheConstants.{MAX_COUNT}
 use Rattle.protocol.specs.declared.limits.TheConstants.{MAX_JOB_ITEMS}
 use Rattle.protocol.specs.declared.links.Inbox.{Inbox}
@@ -61,24 +60,24 @@ abbrev pub room_in : ℕ → Option LogState → ℕ
 room_in share None = 0
 room_in share (Some log) = min MAX_JOB_ITEMS (min (share - length log.items) (MAX_COUNT - log_end log))
 
--- the places that the log of a channel has, up to its share
-abbrev pub room_of : ImageView → ℕ → ℕ
-room_of image channel = room_in (log_share image) (log_of image channel)
+-- the places that the log of a channel has, up to this share
+abbrev pub room_of : ℕ → ImageView → ℕ → ℕ
+room_of share image channel = room_in share (log_of image channel)
 
 -- the room that a process has on each channel, the first one of this number: on those on which it puts
-abbrev pub room_from : ImageView → ℕ → ℕ → List Channel → List ℕ
-room_from image process number [] = []
-room_from image process number (channel ∷ channels) =
-    (if is_process process channel.producer then room_of image number else 0)
-    ∷ room_from image process (suc number) channels
+abbrev pub room_from : ℕ → ImageView → ℕ → ℕ → List Channel → List ℕ
+room_from share image process number [] = []
+room_from share image process number (channel ∷ channels) =
+    (if is_process process channel.producer then room_of share image number else 0)
+    ∷ room_from share image process (suc number) channels
 
--- the job of a process that stands there
-abbrev pub job_for : Network → List (List ℤ) → ImageView → List Inbox → ℕ → Standing → ℕ → JobView
-job_for net inputs image inboxes process standing version = record {
+-- the job of a process that stands there, where each log has places up to this share
+abbrev pub job_for : ℕ → Network → List (List ℤ) → ImageView → List Inbox → ℕ → Standing → ℕ → JobView
+job_for share net inputs image inboxes process standing version = record {
   process = process;
   code = slice_get net.codes process;
   version = version;
   standing = standing;
   items = items_from inputs image inboxes process 0 net.channels;
-  room = room_from image process 0 net.channels;
+  room = room_from share image process 0 net.channels;
 }

@@ -145,7 +145,8 @@ pub record IsJobOf (net : Network) (inputs : List (List ℤ)) (image : ImageView
   pub code : job.code ≡ slice_get net.codes job.process
   pub items : (c : ℕ)
       → IsPrefix (history_of job.items c) (history_of (items_from inputs image inboxes job.process 0 net.channels) c)
-  pub room : (c : ℕ) → slice_index job.room c ≤ slice_index (room_from image job.process 0 net.channels) c
+  pub room : (c : ℕ)
+      → slice_index job.room c ≤ slice_index (room_from (log_share image) image job.process 0 net.channels) c
 
 -- what came back is a turn of the job's process, from where the job says that it stands
 abbrev pub IsTurnOf : Network → JobView → Standing → List ℕ → List (List ℤ) → Type 0

@@ -1,5 +1,6 @@
--- How many items each log of an image may have: an equal share of those for which a record has room.
-use Rattle.std.specs.Prelude.{ℕ, ◌≤◌, ◌/◌, Bool, true, false, length}
+-- How many items each log of an image may have: an equal share of those for which a record has room, and no more than
+-- the room that the world gives a channel.
+use Rattle.std.specs.Prelude.{ℕ, ◌≤◌, ◌/◌, min, Bool, true, false, length}
 use Rattle.std.specs.List.{count_by}
 use Rattle.retained.specs.LogState.{LogState, log_end}
 use Rattle.record.specs.ImageView.{ImageView}
@@ -8,6 +9,7 @@ use Rattle.record.specs.declared.image.End.{End}
 use Rattle.record.specs.declared.image.End.TheVariants.{Receives, Sends, Both}
 use Rattle.kahn_net.specs.declared.limits.TheConstants.{MAX_COUNT}
 use Rattle.ckpt_codec.specs.declared.lengths.TheConstants.{MAX_RETAINED_ITEMS}
+use Rattle.protocol.specs.declared.limits.TheConstants.{MIN_ROOM}
 
 -- an end has a log of what is put there
 abbrev pub is_logging : End → Bool
@@ -25,6 +27,15 @@ log_count image = count_by has_log image.ends
 -- the most items of each of its logs
 abbrev pub log_share : ImageView → ℕ
 log_share image = MAX_RETAINED_ITEMS / log_count image
+
+-- the room that a channel may be given
+abbrev pub IsRoom : ℕ → Type 0
+IsRoom room = (MIN_ROOM ≤ room) × (room ≤ MAX_RETAINED_ITEMS)
+
+-- How far a job may fill each log, where the world gives a channel so much room: the places that a log has for a job
+-- are those up to this. A log may have more already, since the room may have been lowered; then it has no place.
+abbrev pub retained_share : ℕ → ImageView → ℕ
+retained_share room image = min room (log_share image)
 
 -- a log has at most so many items, and its end is a count
 pub record IsWithinShare (share : ℕ) (log : LogState) : Type 0 where

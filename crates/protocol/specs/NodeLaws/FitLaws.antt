@@ -190,20 +190,21 @@ taken_is_there net home inputs n made image inboxes job code after taken sent st
 -- What a turn puts
 
 -- the room of a channel on which the process puts, and none on any other
-pub room_from-at : (image : ImageView) (process number : ℕ) (channels : List Channel) (c : ℕ) (channel : Channel)
+pub room_from-at : (share : ℕ) (image : ImageView) (process number : ℕ) (channels : List Channel) (c : ℕ)
+    (channel : Channel)
     → slice_get channels c ≡ Some channel
-    → slice_index (room_from image process number channels) c
-    ≡ cond (is_process process channel.producer) (room_of image (number + c)) 0
-room_from-at image process number [] c channel is = absurd (cc)
-room_from-at image process number (x ∷ channels) zero channel is =
+    → slice_index (room_from share image process number channels) c
+    ≡ cond (is_process process channel.producer) (room_of share image (number + c)) 0
+room_from-at share image process number [] c channel is = absurd (cc)
+room_from-at share image process number (x ∷ channels) zero channel is =
     let same : x ≡ channel = cc in
     let here : number ≡ number + 0 = omega arith in
-    ap (λ (y : Channel). cond (is_process process y.producer) (room_of image number) 0) same
-    ∙ ap (λ (n : ℕ). cond (is_process process channel.producer) (room_of image n) 0) here
-room_from-at image process number (x ∷ channels) (suc c) channel is =
+    ap (λ (y : Channel). cond (is_process process y.producer) (room_of share image number) 0) same
+    ∙ ap (λ (n : ℕ). cond (is_process process channel.producer) (room_of share image n) 0) here
+room_from-at share image process number (x ∷ channels) (suc c) channel is =
     let there : suc number + c ≡ number + suc c = omega arith in
-    room_from-at image process (suc number) channels c channel is
-    ∙ ap (λ (n : ℕ). cond (is_process process channel.producer) (room_of image n) 0) there
+    room_from-at share image process (suc number) channels c channel is
+    ∙ ap (λ (n : ℕ). cond (is_process process channel.producer) (room_of share image n) 0) there
 
 -- what a turn puts on a channel has room in its log
 pub put_has_room : (net : Network) (inputs : List (List ℤ)) (n : ℕ) (made : ℕ → ℕ) (image : ImageView)
@@ -212,27 +213,30 @@ pub put_has_room : (net : Network) (inputs : List (List ℤ)) (n : ℕ) (made : 
     → IsAtHand net inputs (approximation net inputs n) made image inboxes job.process
     → IsJobOf net inputs image inboxes job → slice_get net.codes job.process ≡ Some code
     → IsTurn code job.standing job.items job.room after taken sent → (c : ℕ)
-    → length (put_on net.channels job.process sent c) ≤ room_of image c
+    → length (put_on net.channels job.process sent c) ≤ room_of (log_share image) image c
 put_has_room net inputs n made image inboxes job code after taken sent stands hand of there turn c =
     at (slice_get_cases net.channels c).1
   where
     by_test : (channel : Channel) → slice_get net.channels c ≡ Some channel → (puts : Bool)
-        → is_process job.process channel.producer ≡ puts → length (cond puts (history_of sent c) []) ≤ room_of image c
+        → is_process job.process channel.producer ≡ puts
+        → length (cond puts (history_of sent c) []) ≤ room_of (log_share image) image c
     by_test channel on false test = omega arith
     by_test channel on true test =
         let done = turn_of_job net inputs n made image inboxes job code after taken sent stands hand of there turn in
         let few =
         sent_fits code (approximation net inputs n) (made job.process) job.items job.room after taken sent done c in
         let sum : 0 + c ≡ c = omega arith in
-        let room : slice_index (room_from image job.process 0 net.channels) c ≡ room_of image c =
-        room_from-at image job.process 0 net.channels c channel on
-        ∙ (ap (λ (b : Bool). cond b (room_of image (0 + c)) 0) test ∙ ap (λ (m : ℕ). room_of image m) sum) in
+        let room : slice_index (room_from (log_share image) image job.process 0 net.channels) c
+        ≡ room_of (log_share image) image c =
+        room_from-at (log_share image) image job.process 0 net.channels c channel on
+        ∙ (ap (λ (b : Bool). cond b (room_of (log_share image) image (0 + c)) 0) test
+        ∙ ap (λ (m : ℕ). room_of (log_share image) image m) sum) in
         let given = of.room c in
         omega (arith, few, given, room)
 
     at : ((x : Channel) × (c < length net.channels) × (slice_get net.channels c ≡ Some x)
         × (get_or net.channels c x ≡ x)) ⊎ ((length net.channels ≤ c) × (slice_get net.channels c ≡ None))
-        → length (put_on net.channels job.process sent c) ≤ room_of image c
+        → length (put_on net.channels job.process sent c) ≤ room_of (log_share image) image c
     at (inl here) =
         let all = by_test here.0 here.2 (is_process job.process here.0.producer) refl in
         let tested : put_on net.channels job.process sent c

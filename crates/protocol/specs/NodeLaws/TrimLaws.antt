@@ -193,11 +193,12 @@ share_trimmed c position image =
     (λ s. still_logging position (eqb s.channel c) s.end) refl
 
 pub room_trimmed : (c position : ℕ) (image : ImageView) (d : ℕ)
-    → room_of image d ≤ room_of (trimmed_image c position image) d
+    → room_of (log_share image) image d
+    ≤ room_of (log_share (trimmed_image c position image)) (trimmed_image c position image) d
 room_trimmed c position image d =
-    subst (λ (share : ℕ). room_of image d ≤ room_in share (log_of (trimmed_image c position image) d))
+    subst (λ (share : ℕ). room_of (log_share image) image d ≤ room_in share (log_of (trimmed_image c position image) d))
     (sym (share_trimmed c position image))
-    (subst (λ (o : Option End). room_of image d ≤ room_in (log_share image) (log_at o))
+    (subst (λ (o : Option End). room_of (log_share image) image d ≤ room_in (log_share image) (log_at o))
     (sym (end_of_trimmed c position image d)) (at (find (λ (s : SavedEnd). eqb s.channel d) image.ends)))
   where
     at : (o : Option SavedEnd)
@@ -347,17 +348,18 @@ items_same inputs image later inboxes process number (x ∷ channels) same =
     by_consumer Outside to = refl
     by_consumer (Process q) to = by_number q to (eqb_tells q process)
 
-room_grows : (image later : ImageView) (process number : ℕ) (channels : List Channel) (d : ℕ)
-    → ((d : ℕ) → room_of image d ≤ room_of later d)
-    → slice_index (room_from image process number channels) d ≤ slice_index (room_from later process number channels) d
-room_grows image later process number [] d more = omega arith
-room_grows image later process number (x ∷ channels) zero more = at (is_process process x.producer)
+room_grows : (share later_share : ℕ) (image later : ImageView) (process number : ℕ) (channels : List Channel) (d : ℕ)
+    → ((d : ℕ) → room_of share image d ≤ room_of later_share later d)
+    → slice_index (room_from share image process number channels) d
+    ≤ slice_index (room_from later_share later process number channels) d
+room_grows share later_share image later process number [] d more = omega arith
+room_grows share later_share image later process number (x ∷ channels) zero more = at (is_process process x.producer)
   where
-    at : (b : Bool) → cond b (room_of image number) 0 ≤ cond b (room_of later number) 0
+    at : (b : Bool) → cond b (room_of share image number) 0 ≤ cond b (room_of later_share later number) 0
     at true = more number
     at false = omega arith
-room_grows image later process number (x ∷ channels) (suc d) more =
-    room_grows image later process (suc number) channels d more
+room_grows share later_share image later process number (x ∷ channels) (suc d) more =
+    room_grows share later_share image later process (suc number) channels d more
 
 -- no end but that of the channel is trimmed
 pub end_elsewhere : (c position : ℕ) (image : ImageView) (d : ℕ) → d ≢ c
@@ -389,8 +391,8 @@ job_trimmed net home inputs c position channel image inboxes job laid on away of
   room = λ d. (
       let given = of.room d in
       let more =
-      room_grows image (trimmed_image c position image) job.process 0 net.channels d
-      (room_trimmed c position image) in
+      room_grows (log_share image) (log_share (trimmed_image c position image)) image (trimmed_image c position image)
+      job.process 0 net.channels d (room_trimmed c position image) in
       omega (arith, given, more));
 }
   where

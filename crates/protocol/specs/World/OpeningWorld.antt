@@ -8,6 +8,7 @@ use Rattle.protocol.specs.World.StationView.{OutletView, StationView}
 use Rattle.protocol.specs.World.Steps.{WorldView}
 use Rattle.protocol.specs.World.Turns.{no_turns}
 use Rattle.wire.specs.Traffic.{opening_traffic}
+use Rattle.protocol.specs.declared.limits.TheConstants.{DEFAULT_ROOM}
 
 -- the outlet is as it was given, and has failed in no round
 abbrev pub opening_outlet : OutletView → OutletView
@@ -42,7 +43,8 @@ stations_from net nodes number (failures ∷ rest) outlets =
 abbrev pub opening_stations : Network → List ℕ → List OutletView → List StationView
 opening_stations net failures outlets = stations_from net (node_count net) 0 failures outlets
 
--- the world of those stations, with the outlets of the network's outputs as they were given, and nothing in flight
+-- the world of those stations, with the outlets of the network's outputs as they were given, nothing in flight, and the
+-- room of a channel that holds unless it is set
 abbrev pub opening_world : Network → List (List ℤ) → List ℕ → List OutletView → WorldView
 opening_world net inputs failures outlets =
     record {
@@ -52,4 +54,5 @@ opening_world net inputs failures outlets =
           opening_stations net failures (map opening_outlet outlets);
       traffic = opening_traffic;
       round = 0;
+      room = DEFAULT_ROOM;
     }

@@ -49,26 +49,35 @@ use Rattle.protocol.specs.World.Turns.{turns_of, count_grant, count_start, count
 
 -- ---- what an event finds
 
--- a network that runs on these inputs: its stations by node number, what is in flight between them, and the round
+-- a network that runs on these inputs: its stations by node number, what is in flight between them, the round, and the
+-- room of a channel, which is how many items a job may leave its log with
 pub record WorldView : Type 0 where
   pub net : Network
   pub inputs : List (List ℤ)
   pub stations : List StationView
   pub traffic : Traffic
   pub round : ℕ
+  pub room : ℕ
 
--- what a station's event finds around it: the network and its inputs, what is in flight, and the round
+-- the same world, where a channel has so much room
+abbrev pub with_room : ℕ → WorldView → WorldView
+with_room room world = record world { room = room }
+
+-- what a station's event finds around it: the network and its inputs, what is in flight, the round, and the room of a
+-- channel
 pub record Setting : Type 0 where
   pub net : Network
   pub inputs : List (List ℤ)
   pub traffic : Traffic
   pub round : ℕ
+  pub room : ℕ
 
-abbrev pub setting_in : Network → List (List ℤ) → Traffic → ℕ → Setting
-setting_in net inputs traffic round = record { net = net; inputs = inputs; traffic = traffic; round = round }
+abbrev pub setting_in : Network → List (List ℤ) → Traffic → ℕ → ℕ → Setting
+setting_in net inputs traffic round room =
+    record { net = net; inputs = inputs; traffic = traffic; round = round; room = room }
 
 abbrev pub setting_of : WorldView → Setting
-setting_of world = setting_in world.net world.inputs world.traffic world.round
+setting_of world = setting_in world.net world.inputs world.traffic world.round world.room
 
 -- the packet at a place of those in flight to a node
 abbrev pub flight_at : Setting → ℕ → ℕ → Option Flight
@@ -161,7 +170,7 @@ abbrev pub plan_of : Setting → ℕ → Deed → StationView → StationPlan
 plan_of setting k (event.Deliver place) station =
     deliver_plan setting.net place (due_bytes setting.round (flight_at setting k place)) station
 plan_of setting k event.Grant station =
-    grant_plan (node_job setting.net setting.inputs station.node) setting.round station
+    grant_plan (node_job setting.net setting.inputs setting.room station.node) setting.round station
 plan_of setting k event.Send station = send_plan setting.net setting.round station
 plan_of setting k event.Start station = start_plan setting.net setting.round station
 plan_of setting k event.Decide station = decide_plan station
@@ -364,3 +373,4 @@ pub record IsStep (fits : List (RecordView → Bool)) (event : EventView) (old :
   pub traffic : new.traffic
       ≡ traffic_after (setting_of old) event came answer (slice_get old.stations (event_node event))
   pub round : new.round ≡ round_after answer old.round new.stations
+  pub room : new.room ≡ old.room

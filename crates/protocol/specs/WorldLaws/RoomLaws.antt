@@ -132,7 +132,7 @@ made_fits : (setting : Setting) (k : ℕ) (deed : Deed) (station : StationView)
     → ¬ (IsTooLarge (plan_of setting k deed station).answer)
 made_fits setting k (event.Deliver place) station =
     bytes_fit setting.net place (due_bytes setting.round (flight_at setting k place)) station
-made_fits setting k event.Grant station = job_fits (node_job setting.net setting.inputs station.node)
+made_fits setting k event.Grant station = job_fits (node_job setting.net setting.inputs setting.room station.node)
 made_fits setting k event.Send station = λ large. cc
 made_fits setting k event.Start station = λ large. cc
 made_fits setting k event.Decide station = λ large. cc

@@ -55,6 +55,7 @@ use Rattle.protocol.specs.World.ReplyView as reply
 use Rattle.protocol.specs.World.Sound.{IsSound}
 use Rattle.protocol.specs.World.StationView.{StationView}
 use Rattle.protocol.specs.World.Steps.{IsActOf, IsAct, IsRelease, IsReleaseAt, IsStationStep, IsStep, Setting}
+use Rattle.protocol.specs.World.Steps.{with_room}
 use Rattle.protocol.specs.World.Steps.{WorldView, first_waiting, moved_to, next_release, plan_of}
 use Rattle.protocol.specs.World.Steps.{round_after, sending_of, sendings_then, setting_of, traffic_acted, traffic_after}
 use Rattle.protocol.specs.World.Steps.{traffic_left, traffic_then}
@@ -647,11 +648,25 @@ pub act_keeps_world : (rooms : List (RecordView → Bool)) (e : EventView) (came
     → traffic ≡ traffic_after setting e came answer (slice_get old.stations number)
     → round ≡ round_after answer old.round stations
     → WorldInvariant
-    (record { net = old.net; inputs = old.inputs; stations = stations; traffic = traffic; round = round })
+    (record {
+      net = old.net;
+      inputs = old.inputs;
+      stations = stations;
+      traffic = traffic;
+      round = round;
+      room = old.room;
+    })
 act_keeps_world rooms e came old answer setting number round stations traffic inv same_setting same_number act flown
     later =
     step_keeps rooms e old answer
-    (record { net = old.net; inputs = old.inputs; stations = stations; traffic = traffic; round = round }) inv
+    (record {
+      net = old.net;
+      inputs = old.inputs;
+      stations = stations;
+      traffic = traffic;
+      round = round;
+      room = old.room;
+    }) inv
     (record {
       net = refl;
       inputs = refl;
@@ -662,4 +677,19 @@ act_keeps_world rooms e came old answer setting number round stations traffic in
           flown ∙ (ap (λ (s : Setting). traffic_after s e came answer (slice_get old.stations number)) same_setting
           ∙ ap (λ (n : ℕ). traffic_after (setting_of old) e came answer (slice_get old.stations n)) same_number);
       round = later;
+      room = refl;
     })
+
+-- A world is sound whatever room its channels are given, since the room bounds what a job is granted alone.
+pub room_keeps_world : (world : WorldView) (room : ℕ) → WorldInvariant world
+    → WorldInvariant (with_room room world)
+room_keeps_world world room inv = record {
+  valid = inv.valid;
+  fits = inv.fits;
+  count = inv.count;
+  numbered = inv.numbered;
+  stations = inv.stations;
+  joined = inv.joined;
+  traffic = inv.traffic;
+  run = inv.run;
+}

@@ -5,6 +5,8 @@ use Rattle.clap.specs.Words.{is_simple_and_free, matches_of, one_of, one_text, r
 use Rattle.clap.proofs.WalkLemmas.{first_value-rows, one_text-rows}
 use Rattle.kahn_program.specs.CommandLine.{kahnrun, IsNumber}
 use Rattle.kahn_program.specs.declared.asked.TheConstants.{MAX_ROUNDS, MAX_ITEMS, MAX_APPROXIMATION}
+use Rattle.protocol.specs.declared.limits.TheConstants.{MIN_ROOM}
+use Rattle.ckpt_codec.specs.declared.lengths.TheConstants.{MAX_RETAINED_ITEMS}
 use Rattle.kahn_program.proofs.words.options.Goals as goal
 
 simple : is_simple kahnrun ≡ true
@@ -36,26 +38,34 @@ returns-clause-asked g c =
     λ id. ap (λ (r : List Row). first_of id r) (sym rows) ∙ sym (first_value-rows found id) in
     let one : (id : Text) → one_text found id ≡ one_of id (matches_of kahnrun words) =
     λ id. one_text-rows found id ∙ ap (λ (r : List Row). one_of id r) rows in
-    let some = c.in-Some-Some-Some in
-    let rounds : IsNumber 1 MAX_ROUNDS (one_text found (codes "rounds")) c.in_ok-rounds.field-0 =
-    c.in_ok-rounds.ensures in
-    let items : IsNumber 0 MAX_ITEMS (one_text found (codes "items")) c.in_ok-given.field-0 = c.in_ok-given.ensures in
-    let approx : IsNumber 0 MAX_APPROXIMATION (one_text found (codes "approx")) c.in_ok-given-2.field-0 =
+    let some = c.in-Some-Some-Some-Some in
+    let rounds : IsNumber 1 MAX_ROUNDS (one_text found (codes "rounds")) c.in_ok-given.field-0 =
+    c.in_ok-given.ensures in
+    let room : IsNumber MIN_ROOM MAX_RETAINED_ITEMS (one_text found (codes "room")) c.in_ok-room.field-0 =
+    c.in_ok-room.ensures in
+    let items : IsNumber 0 MAX_ITEMS (one_text found (codes "items")) c.in_ok-given-2.field-0 =
     c.in_ok-given-2.ensures in
+    let approx : IsNumber 0 MAX_APPROXIMATION (one_text found (codes "approx")) c.in_ok-given-3.field-0 =
+    c.in_ok-given-3.ensures in
     record {
       net = text (codes "NET") ∙ (sym some.ensures ∙ search rules);
       inputs = text (codes "INPUTS") ∙ (sym some.ensures' ∙ search rules);
       rounds =
           subst (λ (given : Option ℕ). IsNumber 1 MAX_ROUNDS (one_of (codes "rounds") (matches_of kahnrun words))
           given) some.is-2
-          (subst (λ (t : Option Text). IsNumber 1 MAX_ROUNDS t c.in_ok-rounds.field-0) (one (codes "rounds")) rounds);
-      items = subst (λ (t : Option Text). IsNumber 0 MAX_ITEMS t c.in_ok-given.field-0) (one (codes "items")) items;
+          (subst (λ (t : Option Text). IsNumber 1 MAX_ROUNDS t c.in_ok-given.field-0) (one (codes "rounds")) rounds);
+      items = subst (λ (t : Option Text). IsNumber 0 MAX_ITEMS t c.in_ok-given-2.field-0) (one (codes "items")) items;
+      room =
+          subst (λ (given : Option ℕ). IsNumber MIN_ROOM MAX_RETAINED_ITEMS
+          (one_of (codes "room") (matches_of kahnrun words)) given) some.is-3
+          (subst (λ (t : Option Text). IsNumber MIN_ROOM MAX_RETAINED_ITEMS t c.in_ok-room.field-0)
+          (one (codes "room")) room);
       plain = record {
         set = λ is_set. c.get_flag.ensures.value (one (codes "plain") ∙ is_set);
         not_set = λ is_not. c.get_flag.ensures.other (one (codes "plain") ∙ is_not);
         absent = λ no_text. c.get_flag.ensures.none (one (codes "plain") ∙ no_text);
       };
       approx =
-          subst (λ (t : Option Text). IsNumber 0 MAX_APPROXIMATION t c.in_ok-given-2.field-0) (one (codes "approx"))
+          subst (λ (t : Option Text). IsNumber 0 MAX_APPROXIMATION t c.in_ok-given-3.field-0) (one (codes "approx"))
           approx;
     }

@@ -6,5 +6,5 @@ use Rattle.node.proofs.choosing.ready_from.Given as goal
 
 abbrev pub invariant-loop-saved : goal.invariant-loop-saved
 invariant-loop-saved l =
-    IsSearched (is_ready (network_of l.net.program) l.inputs l.image l.inboxes) l.saved-items
+    IsSearched (is_ready (network_of l.net.program) l.inputs l.share l.image l.inboxes) l.saved-items
     (drop l.saved-index l.saved-items) l.start (option_copied l.found)

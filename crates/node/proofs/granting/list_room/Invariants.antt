@@ -4,5 +4,5 @@ use Rattle.node.proofs.granting.list_room.Given as goal
 
 abbrev pub invariant-loop-number : goal.invariant-loop-number
 invariant-loop-number l =
-    l.room.items ++ room_from l.image l.process l.number (drop l.number l.channels)
-    ≡ room_from l.image l.process 0 l.channels
+    l.room.items ++ room_from l.share l.image l.process l.number (drop l.number l.channels)
+    ≡ room_from l.share l.image l.process 0 l.channels

@@ -1,4 +1,5 @@
-use Rattle.std.proofs.Common.{rules, ◌≡◌, ◌<◌, Err, Result, ℤ, Bool, List, Ok, true, false, refl, sym, subst, ap, ◌∙◌, arith}
+use Rattle.std.proofs.Common.{rules, ◌≡◌, ◌<◌, Err, Result, ℤ, Bool, List, Ok, true, false, refl, sym, subst, ap, ◌∙◌}
+use Rattle.std.proofs.Common.{arith}
 use Rattle.std.specs.Prelude.{All, IfOk, slice_get}
 use Rattle.std.specs.declared.alloc.AllocError.{AllocError}
 use Rattle.wire.specs.declared.queue.TheConstants.{NODES}
@@ -25,7 +26,8 @@ use Rattle.protocol.specs.World.EventView.{EventView}
 use Rattle.protocol.specs.World.EventView as view
 use Rattle.protocol.specs.World.Pairs.{HasMoved}
 use Rattle.protocol.specs.World.RecoveryLine.{next_kept}
-use Rattle.protocol.specs.World.Steps.{crash_plan, decide_plan, deliver_plan, due_bytes, grant_plan, idle_plan, recover_plan}
+use Rattle.protocol.specs.World.Steps.{crash_plan, decide_plan, deliver_plan, due_bytes, grant_plan, idle_plan}
+use Rattle.protocol.specs.World.Steps.{recover_plan}
 use Rattle.protocol.specs.World.Steps.{IsInstalled, arm_plan, send_plan, setting_in, start_plan}
 use Rattle.protocol.specs.WorldLaws.ActLaws.{takes_turn, like_now}
 use Rattle.protocol.specs.WorldLaws.DeedLaws.{becoming_sends, crash_sends, grant_sends, recover_sends}
@@ -89,8 +91,7 @@ deliver-requires g c =
     let net = c.args.net.now.value in
     let was = station_view g.O.Outlet.taken g.O.Outlet.failures c.args.self.now in
     let setting =
-    setting_in (network_of net.program) c.args.inputs.now.value (traffic_of c.args.wire.now) c.args.restarts
-    c.args.round in
+    setting_in (network_of net.program) c.args.inputs.now.value (traffic_of c.args.wire.now) c.args.round c.args.room in
     let is = ap (λ (n : Net). network_of n.program) (sym c.deref.ensures) in
     record {
       to = subst (λ (e : Event). view.event_node (event_view e) < NODES) c.in-Deliver.is c.requires.node;
@@ -128,10 +129,12 @@ send-requires g c =
 
 pub returns-in-Deliver-clause-come : goal.returns-in-Deliver-clause-come
 returns-in-Deliver-clause-come g c =
-    let was = station_view {cell = g.C.StableCell} {slots = g.C.SlotCell} g.O.Outlet.taken g.O.Outlet.failures c.args.self.now in
+    let was =
+    station_view {cell = g.C.StableCell} {slots = g.C.SlotCell} g.O.Outlet.taken g.O.Outlet.failures
+    c.args.self.now in
     let setting =
     setting_in (network_of c.args.net.now.value.program) c.args.inputs.now.value (traffic_of c.args.wire.now)
-    c.args.restarts c.args.round in
+    c.args.round c.args.room in
     let fits = fits_in (g.C.SlotCell.slot_capacity (cell_in c.args.self.now.node.store)) in
     let found = due_bytes c.args.round
     (slice_get (flights_to (traffic_of c.args.wire.now) c.in-Deliver.node) c.in-Deliver.place) in
@@ -143,35 +146,46 @@ returns-in-Deliver-clause-come g c =
 
 pub returns-in-Grant-clause-come : goal.returns-in-Grant-clause-come
 returns-in-Grant-clause-come g c =
-    let was = station_view {cell = g.C.StableCell} {slots = g.C.SlotCell} g.O.Outlet.taken g.O.Outlet.failures c.args.self.now in
+    let was =
+    station_view {cell = g.C.StableCell} {slots = g.C.SlotCell} g.O.Outlet.taken g.O.Outlet.failures
+    c.args.self.now in
     let setting =
     setting_in (network_of c.args.net.now.value.program) c.args.inputs.now.value (traffic_of c.args.wire.now)
-    c.args.restarts c.args.round in
+    c.args.round c.args.room in
     let fits = fits_in (g.C.SlotCell.slot_capacity (cell_in c.args.self.now.node.store)) in
-    quiet_came setting fits (event_view c.args.event.now) was _ (traffic_of c.args.wire.now) c.grant.result _ view.Grant _
+    quiet_came setting fits (event_view c.args.event.now) was _ (traffic_of c.args.wire.now) c.grant.result
+    _ view.Grant _
     (ap event_view c.in-Grant.is)
-    (ap (λ (i : List (List ℤ)). grant_plan (node_job setting.net i was.node) c.args.round was) c.deref-in-Grant.ensures)
-    refl refl (λ came. grant_sends (node_job setting.net setting.inputs was.node) was.node came) c.grant.ensures.step
+    (ap (λ (i : List (List ℤ)). grant_plan (node_job setting.net i setting.room was.node) c.args.round was)
+    c.deref-in-Grant.ensures)
+    refl refl (λ came. grant_sends (node_job setting.net setting.inputs setting.room was.node) was.node came)
+    c.grant.ensures.step
 
 pub returns-in-Install-clause-come : goal.returns-in-Install-clause-come
 returns-in-Install-clause-come g c =
-    let was = station_view {cell = g.C.StableCell} {slots = g.C.SlotCell} g.O.Outlet.taken g.O.Outlet.failures c.args.self.now in
+    let was =
+    station_view {cell = g.C.StableCell} {slots = g.C.SlotCell} g.O.Outlet.taken g.O.Outlet.failures
+    c.args.self.now in
     let setting =
     setting_in (network_of c.args.net.now.value.program) c.args.inputs.now.value (traffic_of c.args.wire.now)
-    c.args.restarts c.args.round in
+    c.args.round c.args.room in
     let fits = fits_in (g.C.SlotCell.slot_capacity (cell_in c.args.self.now.node.store)) in
     installed_came setting fits (event_view c.args.event.now) was _ (traffic_of c.args.wire.now) c.install.result
     (done_view c.in-Install.done) (ap event_view c.in-Install.is) refl
-    (subst (λ (n : Net). IfOk c.install.result (λ (r : Reply). IsInstalled n.program.channels.items (done_view c.in-Install.done)
-    was (reply_view r) (station_view g.O.Outlet.taken g.O.Outlet.failures c.install.new.self))) c.deref-in-Install.ensures
+    (subst (λ (n : Net). IfOk c.install.result
+    (λ (r : Reply). IsInstalled n.program.channels.items (done_view c.in-Install.done)
+    was (reply_view r) (station_view g.O.Outlet.taken g.O.Outlet.failures c.install.new.self)))
+    c.deref-in-Install.ensures
     c.install.ensures.step)
 
 pub returns-in-Send-clause-come : goal.returns-in-Send-clause-come
 returns-in-Send-clause-come g c =
-    let was = station_view {cell = g.C.StableCell} {slots = g.C.SlotCell} g.O.Outlet.taken g.O.Outlet.failures c.args.self.now in
+    let was =
+    station_view {cell = g.C.StableCell} {slots = g.C.SlotCell} g.O.Outlet.taken g.O.Outlet.failures
+    c.args.self.now in
     let setting =
     setting_in (network_of c.args.net.now.value.program) c.args.inputs.now.value (traffic_of c.args.wire.now)
-    c.args.restarts c.args.round in
+    c.args.round c.args.room in
     let fits = fits_in (g.C.SlotCell.slot_capacity (cell_in c.args.self.now.node.store)) in
     deed_came setting fits (event_view c.args.event.now) was _ (traffic_of c.send.new.wire) c.send.result _ view.Send
     (send_plan (network_of c.deref-in-Send.result.now.program) c.args.round was) (ap event_view c.in-Send.is)
@@ -180,10 +194,12 @@ returns-in-Send-clause-come g c =
 
 pub returns-in-Start-clause-come : goal.returns-in-Start-clause-come
 returns-in-Start-clause-come g c =
-    let was = station_view {cell = g.C.StableCell} {slots = g.C.SlotCell} g.O.Outlet.taken g.O.Outlet.failures c.args.self.now in
+    let was =
+    station_view {cell = g.C.StableCell} {slots = g.C.SlotCell} g.O.Outlet.taken g.O.Outlet.failures
+    c.args.self.now in
     let setting =
     setting_in (network_of c.args.net.now.value.program) c.args.inputs.now.value (traffic_of c.args.wire.now)
-    c.args.restarts c.args.round in
+    c.args.round c.args.room in
     let fits = fits_in (g.C.SlotCell.slot_capacity (cell_in c.args.self.now.node.store)) in
     deed_came setting fits (event_view c.args.event.now) was _ (traffic_of c.start.new.wire) c.start.result _ view.Start
     (start_plan (network_of c.deref-in-Start.result.now.program) c.args.round was) (ap event_view c.in-Start.is)
@@ -192,79 +208,66 @@ returns-in-Start-clause-come g c =
 
 pub returns-in-Decide-clause-come : goal.returns-in-Decide-clause-come
 returns-in-Decide-clause-come g c =
-    let was = station_view {cell = g.C.StableCell} {slots = g.C.SlotCell} g.O.Outlet.taken g.O.Outlet.failures c.args.self.now in
+    let was =
+    station_view {cell = g.C.StableCell} {slots = g.C.SlotCell} g.O.Outlet.taken g.O.Outlet.failures
+    c.args.self.now in
     let setting =
     setting_in (network_of c.args.net.now.value.program) c.args.inputs.now.value (traffic_of c.args.wire.now)
-    c.args.restarts c.args.round in
+    c.args.round c.args.room in
     let fits = fits_in (g.C.SlotCell.slot_capacity (cell_in c.args.self.now.node.store)) in
-    deed_came setting fits (event_view c.args.event.now) was _ (traffic_of c.decide.new.wire) c.decide.result _ view.Decide
+    deed_came setting fits (event_view c.args.event.now) was _ (traffic_of c.decide.new.wire) c.decide.result
+    _ view.Decide
     (decide_plan was) (ap event_view c.in-Decide.is) refl (c.decide.ensures.come _)
 
 pub returns-in-Release-clause-come : goal.returns-in-Release-clause-come
 returns-in-Release-clause-come g c =
-    let was = station_view {cell = g.C.StableCell} {slots = g.C.SlotCell} g.O.Outlet.taken g.O.Outlet.failures c.args.self.now in
+    let was =
+    station_view {cell = g.C.StableCell} {slots = g.C.SlotCell} g.O.Outlet.taken g.O.Outlet.failures
+    c.args.self.now in
     let setting =
     setting_in (network_of c.args.net.now.value.program) c.args.inputs.now.value (traffic_of c.args.wire.now)
-    c.args.restarts c.args.round in
+    c.args.round c.args.room in
     let fits = fits_in (g.C.SlotCell.slot_capacity (cell_in c.args.self.now.node.store)) in
     released_came setting fits (event_view c.args.event.now) was _ (traffic_of c.args.wire.now) c.release.result _
     (ap event_view c.in-Release.is) refl c.release.ensures.step
 
-pub returns-then-not-restarts-clause-come : goal.returns-then-not-restarts-clause-come
-returns-then-not-restarts-clause-come g c =
-    let was = station_view {cell = g.C.StableCell} {slots = g.C.SlotCell} g.O.Outlet.taken g.O.Outlet.failures c.args.self.now in
+pub returns-in-Crash-clause-come : goal.returns-in-Crash-clause-come
+returns-in-Crash-clause-come g c =
+    let was =
+    station_view {cell = g.C.StableCell} {slots = g.C.SlotCell} g.O.Outlet.taken g.O.Outlet.failures
+    c.args.self.now in
     let setting =
     setting_in (network_of c.args.net.now.value.program) c.args.inputs.now.value (traffic_of c.args.wire.now)
-    c.args.restarts c.args.round in
+    c.args.round c.args.room in
     let fits = fits_in (g.C.SlotCell.slot_capacity (cell_in c.args.self.now.node.store)) in
-    let none : c.args.restarts ≡ false = search rules in
-    undue_came setting fits (event_view c.args.event.now) was _ (view.Crash c.in-Crash.fill c.in-Crash.rounds)
-    (ap event_view c.in-Crash.is)
-    (ap (λ (b : Bool). (crash_plan b (round_later c.args.round c.in-Crash.rounds) was).prospect) none)
-
-pub returns-else-not-restarts-clause-come : goal.returns-else-not-restarts-clause-come
-returns-else-not-restarts-clause-come g c =
-    let was = station_view {cell = g.C.StableCell} {slots = g.C.SlotCell} g.O.Outlet.taken g.O.Outlet.failures c.args.self.now in
-    let setting =
-    setting_in (network_of c.args.net.now.value.program) c.args.inputs.now.value (traffic_of c.args.wire.now)
-    c.args.restarts c.args.round in
-    let fits = fits_in (g.C.SlotCell.slot_capacity (cell_in c.args.self.now.node.store)) in
-    let some : true ≡ c.args.restarts = search rules in
     let restart = round_later c.args.round c.in-Crash.rounds in
     quiet_came setting fits (event_view c.args.event.now) was _ (traffic_of c.args.wire.now) (Ok c.crash.result) _
-    (view.Crash c.in-Crash.fill c.in-Crash.rounds) (crash_plan true restart was) (ap event_view c.in-Crash.is)
-    (ap (λ (b : Bool). crash_plan b restart was) some) refl refl
-    (λ came. crash_sends c.args.restarts restart was.node came) c.crash.ensures.step
+    (view.Crash c.in-Crash.fill c.in-Crash.rounds) (crash_plan restart was) (ap event_view c.in-Crash.is) refl refl refl
+    (λ came. crash_sends restart was.node came) c.crash.ensures.step
 
-pub returns-then-not-restarts-2-clause-come : goal.returns-then-not-restarts-2-clause-come
-returns-then-not-restarts-2-clause-come g c =
-    let was = station_view {cell = g.C.StableCell} {slots = g.C.SlotCell} g.O.Outlet.taken g.O.Outlet.failures c.args.self.now in
+pub returns-in-Recover-clause-come : goal.returns-in-Recover-clause-come
+returns-in-Recover-clause-come g c =
+    let was =
+    station_view {cell = g.C.StableCell} {slots = g.C.SlotCell} g.O.Outlet.taken g.O.Outlet.failures
+    c.args.self.now in
     let setting =
     setting_in (network_of c.args.net.now.value.program) c.args.inputs.now.value (traffic_of c.args.wire.now)
-    c.args.restarts c.args.round in
+    c.args.round c.args.room in
     let fits = fits_in (g.C.SlotCell.slot_capacity (cell_in c.args.self.now.node.store)) in
-    let none : c.args.restarts ≡ false = search rules in
-    undue_came setting fits (event_view c.args.event.now) was _ view.Recover (ap event_view c.in-Recover.is)
-    (ap (λ (b : Bool). (recover_plan b was).prospect) none)
-
-pub returns-else-not-restarts-2-clause-come : goal.returns-else-not-restarts-2-clause-come
-returns-else-not-restarts-2-clause-come g c =
-    let was = station_view {cell = g.C.StableCell} {slots = g.C.SlotCell} g.O.Outlet.taken g.O.Outlet.failures c.args.self.now in
-    let setting =
-    setting_in (network_of c.args.net.now.value.program) c.args.inputs.now.value (traffic_of c.args.wire.now)
-    c.args.restarts c.args.round in
-    let fits = fits_in (g.C.SlotCell.slot_capacity (cell_in c.args.self.now.node.store)) in
-    let some : true ≡ c.args.restarts = search rules in
     quiet_came setting fits (event_view c.args.event.now) was _ (traffic_of c.args.wire.now) c.recover.result _
-    view.Recover (recover_plan true was) (ap event_view c.in-Recover.is) (ap (λ (b : Bool). recover_plan b was) some)
-    refl refl (λ came. recover_sends c.args.restarts was.node came) c.recover.ensures.step
+    view.Recover (recover_plan (network_of c.deref-in-Recover.result.now.program) was) (ap event_view c.in-Recover.is)
+    (ap (λ (n : Net). recover_plan (network_of n.program) was) c.deref-in-Recover.ensures)
+    refl refl
+    (λ came. recover_sends (network_of c.args.net.now.value.program) was.number was.node came) c.recover.ensures.step
 
 pub returns-in-Arm-clause-come : goal.returns-in-Arm-clause-come
 returns-in-Arm-clause-come g c =
-    let was = station_view {cell = g.C.StableCell} {slots = g.C.SlotCell} g.O.Outlet.taken g.O.Outlet.failures c.args.self.now in
+    let was =
+    station_view {cell = g.C.StableCell} {slots = g.C.SlotCell} g.O.Outlet.taken g.O.Outlet.failures
+    c.args.self.now in
     let setting =
     setting_in (network_of c.args.net.now.value.program) c.args.inputs.now.value (traffic_of c.args.wire.now)
-    c.args.restarts c.args.round in
+    c.args.round c.args.room in
     let fits = fits_in (g.C.SlotCell.slot_capacity (cell_in c.args.self.now.node.store)) in
     quiet_came setting fits (event_view c.args.event.now) was _ (traffic_of c.args.wire.now) c.arm.result _
     (view.Arm c.in-Arm.fault c.in-Arm.rounds) (arm_plan c.in-Arm.fault.call c.in-Arm.rounds was)
@@ -273,21 +276,26 @@ returns-in-Arm-clause-come g c =
 
 pub returns-in-Idle-clause-come : goal.returns-in-Idle-clause-come
 returns-in-Idle-clause-come g c =
-    let was = station_view {cell = g.C.StableCell} {slots = g.C.SlotCell} g.O.Outlet.taken g.O.Outlet.failures c.args.self.now in
+    let was =
+    station_view {cell = g.C.StableCell} {slots = g.C.SlotCell} g.O.Outlet.taken g.O.Outlet.failures
+    c.args.self.now in
     let setting =
     setting_in (network_of c.args.net.now.value.program) c.args.inputs.now.value (traffic_of c.args.wire.now)
-    c.args.restarts c.args.round in
+    c.args.round c.args.room in
     let fits = fits_in (g.C.SlotCell.slot_capacity (cell_in c.args.self.now.node.store)) in
-    quiet_came setting fits (event_view c.args.event.now) was _ (traffic_of c.args.wire.now) (Ok c.idle.result) _ view.Idle
+    quiet_came setting fits (event_view c.args.event.now) was _ (traffic_of c.args.wire.now) (Ok c.idle.result)
+    _ view.Idle
     (idle_plan c.args.round was) (ap event_view c.in-Idle.is) refl refl refl (λ came. becoming_sends was.node came)
     c.idle.ensures.step
 
 pub returns-in-Lose-clause-come : goal.returns-in-Lose-clause-come
 returns-in-Lose-clause-come g c =
-    let was = station_view {cell = g.C.StableCell} {slots = g.C.SlotCell} g.O.Outlet.taken g.O.Outlet.failures c.args.self.now in
+    let was =
+    station_view {cell = g.C.StableCell} {slots = g.C.SlotCell} g.O.Outlet.taken g.O.Outlet.failures
+    c.args.self.now in
     let setting =
     setting_in (network_of c.args.net.now.value.program) c.args.inputs.now.value (traffic_of c.args.wire.now)
-    c.args.restarts c.args.round in
+    c.args.round c.args.room in
     let fits = fits_in (g.C.SlotCell.slot_capacity (cell_in c.args.self.now.node.store)) in
     acted_came setting fits (event_view c.args.event.now) was was (traffic_of c.lose.new.wire) (Ok c.lose.result)
     c.in-Lose.node c.in-Lose.place view.Lose (ap event_view c.in-Lose.is) refl c.lose.ensures.reply
@@ -295,10 +303,12 @@ returns-in-Lose-clause-come g c =
 
 pub returns-in-Repeat-clause-come : goal.returns-in-Repeat-clause-come
 returns-in-Repeat-clause-come g c =
-    let was = station_view {cell = g.C.StableCell} {slots = g.C.SlotCell} g.O.Outlet.taken g.O.Outlet.failures c.args.self.now in
+    let was =
+    station_view {cell = g.C.StableCell} {slots = g.C.SlotCell} g.O.Outlet.taken g.O.Outlet.failures
+    c.args.self.now in
     let setting =
     setting_in (network_of c.args.net.now.value.program) c.args.inputs.now.value (traffic_of c.args.wire.now)
-    c.args.restarts c.args.round in
+    c.args.round c.args.room in
     let fits = fits_in (g.C.SlotCell.slot_capacity (cell_in c.args.self.now.node.store)) in
     acted_came setting fits (event_view c.args.event.now) was was (traffic_of c.repeat.new.wire) c.repeat.result
     c.in-Repeat.node c.in-Repeat.place view.Repeat (ap event_view c.in-Repeat.is) refl c.repeat.ensures.reply
@@ -306,10 +316,12 @@ returns-in-Repeat-clause-come g c =
 
 pub returns-in-Delay-clause-come : goal.returns-in-Delay-clause-come
 returns-in-Delay-clause-come g c =
-    let was = station_view {cell = g.C.StableCell} {slots = g.C.SlotCell} g.O.Outlet.taken g.O.Outlet.failures c.args.self.now in
+    let was =
+    station_view {cell = g.C.StableCell} {slots = g.C.SlotCell} g.O.Outlet.taken g.O.Outlet.failures
+    c.args.self.now in
     let setting =
     setting_in (network_of c.args.net.now.value.program) c.args.inputs.now.value (traffic_of c.args.wire.now)
-    c.args.restarts c.args.round in
+    c.args.round c.args.room in
     let fits = fits_in (g.C.SlotCell.slot_capacity (cell_in c.args.self.now.node.store)) in
     acted_came setting fits (event_view c.args.event.now) was was (traffic_of c.delay.new.wire) (Ok c.delay.result)
     c.in-Delay.node c.in-Delay.place (view.Delay c.in-Delay.rounds) (ap event_view c.in-Delay.is) refl
@@ -319,15 +331,18 @@ returns-in-Delay-clause-come g c =
 
 pub returns-in-Deliver-clause-moved : goal.returns-in-Deliver-clause-moved
 returns-in-Deliver-clause-moved g c =
-    let was = station_view {cell = g.C.StableCell} {slots = g.C.SlotCell} g.O.Outlet.taken g.O.Outlet.failures c.args.self.now in
+    let was =
+    station_view {cell = g.C.StableCell} {slots = g.C.SlotCell} g.O.Outlet.taken g.O.Outlet.failures
+    c.args.self.now in
     let setting =
     setting_in (network_of c.args.net.now.value.program) c.args.inputs.now.value (traffic_of c.args.wire.now)
-    c.args.restarts c.args.round in
+    c.args.round c.args.room in
     let fits = fits_in (g.C.SlotCell.slot_capacity (cell_in c.args.self.now.node.store)) in
     let found = due_bytes c.args.round
     (slice_get (flights_to (traffic_of c.args.wire.now) c.in-Deliver.node) c.in-Deliver.place) in
     let seen = ap event_view c.in-Deliver.is in
-    subst (λ (e : EventView). HasMoved g.C.StableCell.moment g.C.SlotCell.left_since_whole (cell_in c.args.self.now.node.store)
+    subst (λ (e : EventView). HasMoved g.C.StableCell.moment g.C.SlotCell.left_since_whole
+    (cell_in c.args.self.now.node.store)
     (cell_in c.deliver.new.self.node.store) was.node.kept (next_kept setting e was)
     (outlet_views g.O.Outlet.taken g.O.Outlet.failures c.args.self.now.outputs.items)
     (outlet_views g.O.Outlet.taken g.O.Outlet.failures c.deliver.new.self.outputs.items)) (sym seen)
@@ -342,13 +357,16 @@ returns-in-Deliver-clause-moved g c =
 
 pub returns-in-Start-clause-moved : goal.returns-in-Start-clause-moved
 returns-in-Start-clause-moved g c =
-    let was = station_view {cell = g.C.StableCell} {slots = g.C.SlotCell} g.O.Outlet.taken g.O.Outlet.failures c.args.self.now in
+    let was =
+    station_view {cell = g.C.StableCell} {slots = g.C.SlotCell} g.O.Outlet.taken g.O.Outlet.failures
+    c.args.self.now in
     let setting =
     setting_in (network_of c.args.net.now.value.program) c.args.inputs.now.value (traffic_of c.args.wire.now)
-    c.args.restarts c.args.round in
+    c.args.round c.args.room in
     let fits = fits_in (g.C.SlotCell.slot_capacity (cell_in c.args.self.now.node.store)) in
     let seen = ap event_view c.in-Start.is in
-    subst (λ (e : EventView). HasMoved g.C.StableCell.moment g.C.SlotCell.left_since_whole (cell_in c.args.self.now.node.store)
+    subst (λ (e : EventView). HasMoved g.C.StableCell.moment g.C.SlotCell.left_since_whole
+    (cell_in c.args.self.now.node.store)
     (cell_in c.start.new.self.node.store) was.node.kept (next_kept setting e was)
     (outlet_views g.O.Outlet.taken g.O.Outlet.failures c.args.self.now.outputs.items)
     (outlet_views g.O.Outlet.taken g.O.Outlet.failures c.start.new.self.outputs.items)) (sym seen)
@@ -361,7 +379,8 @@ returns-in-Start-clause-moved g c =
     c.deref-in-Start.ensures) c.start.ensures.leaves)
 
 -- what nobody answers needs no reason
-never_down : (P : Reply → Type 0) (result : Result Reply AllocError) → IfOk result (λ (r : Reply). reply_view r ≡ Down → ⊥)
+never_down : (P : Reply → Type 0) (result : Result Reply AllocError)
+    → IfOk result (λ (r : Reply). reply_view r ≡ Down → ⊥)
     → IfOk result (λ (r : Reply). reply_view r ≡ Down → P r)
 never_down P (Ok r) none = λ down. absurd (none down)
 never_down P (Err e) none = none

@@ -16,7 +16,8 @@ returns-clause-step g c =
     let slots = g.C.SlotCell in
     let granted = c.in_ok-granted in
     grants (fits_in (slots.slot_capacity (cell_in was.node.store))) c.args.round
-    (node_job (network_of c.args.net.now.value.program) c.args.inputs.now (view_of was.node)) granted.granted
+    (node_job (network_of c.args.net.now.value.program) c.args.inputs.now c.args.room (view_of was.node))
+    granted.granted
     (station_view g.O.Outlet.taken g.O.Outlet.failures was) _ _ _ _ _ granted.ensures.job c.note_grant.ensures.reply
     granted.ensures.state c.grant.ensures.same.1
     (ap (λ (store : Store _ slots cell). cell.failure_count (cell_in store)) c.grant.ensures.same.0)

@@ -13,7 +13,7 @@ use Rattle.protocol.specs.WorldLaws.RoomLaws.{never_too_large, rooms_of}
 use Rattle.protocol.specs.World.ReplyView.{NotDue}
 use Rattle.protocol.specs.World.StationView.{StationView}
 use Rattle.protocol.specs.declared.outcome.Outcome.TheVariants as outcome
-use Rattle.protocol.specs.World.Steps.{may_restart, round_after, setting_in}
+use Rattle.protocol.specs.World.Steps.{round_after, setting_in}
 use Rattle.protocol.specs.WorldLaws.StepKeeps.{step_keeps}
 use Rattle.wire.specs.Traffic.{Traffic, traffic_of}
 use Rattle.world.specs.WholeView.{world_of}
@@ -30,10 +30,10 @@ returns-in-Ok-clause-step g c =
     let view = station_view {cell = g.C.StableCell} {slots = g.C.SlotCell} g.O.Outlet.taken g.O.Outlet.failures in
     world_steps (rooms was.stations.items) (event_view c.args.event) (world_of was) (reply_view c.in-Ok.reply)
     (setting_in (network_of was.net.value.program) was.inputs.value (traffic_of was.wire)
-    (may_restart (length was.stations.items)) was.round) c.from-number.result c.round_after-self.result
+    was.round was.room) c.from-number.result c.round_after-self.result
     (map view c.act_at.new.stations.items) (traffic_of c.act_at.new.wire)
     (setting_is view (network_of was.net.value.program) was.inputs.value (traffic_of was.wire)
-    was.stations.items was.round) (c.from-number.ensures ∙ c.node.ensures) c.in-Ok.ensures.come
+    was.stations.items was.round was.room) (c.from-number.ensures ∙ c.node.ensures) c.in-Ok.ensures.come
     (c.round_after-self.ensures
     ∙ ap (λ (l : List (Station g.row.C.Denot g.row.O.Denot g.C.SlotCell g.C.StableCell)). round_after
     (reply_view c.in-Ok.reply) was.round (map view l)) c.deref.ensures.value)
@@ -45,14 +45,15 @@ invariant_of-self g c =
     let view = station_view {cell = g.C.StableCell} {slots = g.C.SlotCell} g.O.Outlet.taken g.O.Outlet.failures in
     record {
       sound = step_keeps (rooms was.stations.items) (event_view c.args.event) (world_of was) (reply_view c.in-Ok.reply)
-          (world_view {cell = g.C.StableCell} {slots = g.C.SlotCell} g.O.Outlet.taken g.O.Outlet.failures was.net was.inputs
-          c.act_at.new.stations.items (traffic_of c.act_at.new.wire) c.round_after-self.result) was.sound
+          (world_view {cell = g.C.StableCell} {slots = g.C.SlotCell} g.O.Outlet.taken g.O.Outlet.failures was.net
+          was.inputs
+          c.act_at.new.stations.items (traffic_of c.act_at.new.wire) c.round_after-self.result was.room) was.sound
           (world_steps (rooms was.stations.items) (event_view c.args.event) (world_of was) (reply_view c.in-Ok.reply)
           (setting_in (network_of was.net.value.program) was.inputs.value (traffic_of was.wire)
-          (may_restart (length was.stations.items)) was.round) c.from-number.result c.round_after-self.result
+          was.round was.room) c.from-number.result c.round_after-self.result
           (map view c.act_at.new.stations.items) (traffic_of c.act_at.new.wire)
           (setting_is view (network_of was.net.value.program) was.inputs.value (traffic_of was.wire)
-          was.stations.items was.round) (c.from-number.ensures ∙ c.node.ensures) c.in-Ok.ensures.come
+          was.stations.items was.round was.room) (c.from-number.ensures ∙ c.node.ensures) c.in-Ok.ensures.come
           (c.round_after-self.ensures
           ∙ ap (λ (l : List (Station g.row.C.Denot g.row.O.Denot g.C.SlotCell g.C.StableCell)). round_after
           (reply_view c.in-Ok.reply) was.round (map view l)) c.deref.ensures.value));
@@ -64,16 +65,16 @@ returns-in-Ok-clause-prefix g c =
     let view = station_view {cell = g.C.StableCell} {slots = g.C.SlotCell} g.O.Outlet.taken g.O.Outlet.failures in
     released_prefix
     (world_view {cell = g.C.StableCell} {slots = g.C.SlotCell} g.O.Outlet.taken g.O.Outlet.failures was.net was.inputs
-    c.act_at.new.stations.items (traffic_of c.act_at.new.wire) c.round_after-self.result)
+    c.act_at.new.stations.items (traffic_of c.act_at.new.wire) c.round_after-self.result was.room)
     (step_keeps (rooms was.stations.items) (event_view c.args.event) (world_of was) (reply_view c.in-Ok.reply)
     (world_view {cell = g.C.StableCell} {slots = g.C.SlotCell} g.O.Outlet.taken g.O.Outlet.failures was.net was.inputs
-    c.act_at.new.stations.items (traffic_of c.act_at.new.wire) c.round_after-self.result) was.sound
+    c.act_at.new.stations.items (traffic_of c.act_at.new.wire) c.round_after-self.result was.room) was.sound
     (world_steps (rooms was.stations.items) (event_view c.args.event) (world_of was) (reply_view c.in-Ok.reply)
     (setting_in (network_of was.net.value.program) was.inputs.value (traffic_of was.wire)
-    (may_restart (length was.stations.items)) was.round) c.from-number.result c.round_after-self.result
+    was.round was.room) c.from-number.result c.round_after-self.result
     (map view c.act_at.new.stations.items) (traffic_of c.act_at.new.wire)
     (setting_is view (network_of was.net.value.program) was.inputs.value (traffic_of was.wire)
-    was.stations.items was.round) (c.from-number.ensures ∙ c.node.ensures) c.in-Ok.ensures.come
+    was.stations.items was.round was.room) (c.from-number.ensures ∙ c.node.ensures) c.in-Ok.ensures.come
     (c.round_after-self.ensures
     ∙ ap (λ (l : List (Station g.row.C.Denot g.row.O.Denot g.C.SlotCell g.C.StableCell)). round_after
     (reply_view c.in-Ok.reply) was.round (map view l)) c.deref.ensures.value)))
@@ -89,6 +90,7 @@ returns-in-Err-clause-prefix g c =
       traffic =
           traffic_of c.act_at.new.wire;
       round = was.round;
+      room = was.room;
     })) (sym c.in-Err.ensures.refused.0)
     (released_prefix (world_of was) was.sound)
 
@@ -99,12 +101,13 @@ returns-in-Ok-clause-line g c =
     let view = station_view {cell = g.C.StableCell} {slots = g.C.SlotCell} g.O.Outlet.taken g.O.Outlet.failures in
     keeps_line {cell = g.C.StableCell} {slots = g.C.SlotCell} g.O.Outlet.taken g.O.Outlet.failures
     (setting_in (network_of was.net.value.program) was.inputs.value (traffic_of was.wire)
-    (may_restart (length was.stations.items)) was.round) (event_view c.args.event)
+    was.round was.room) (event_view c.args.event)
     (network_of was.net.value.program) was.inputs.value was.stations.items c.act_at.new.stations.items was.round
+    was.room
     (traffic_of was.wire) (rooms was.stations.items) c.in-Ok.ensures.come.came (reply_view c.in-Ok.reply)
     c.from-number.result was.sound
     (setting_is view (network_of was.net.value.program) was.inputs.value (traffic_of was.wire)
-    was.stations.items was.round) (c.from-number.ensures ∙ c.node.ensures) c.in-Ok.ensures.come.act
+    was.stations.items was.round was.room) (c.from-number.ensures ∙ c.node.ensures) c.in-Ok.ensures.come.act
     c.act_at.ensures.line
 
 pub returns-in-Err-clause-line : goal.returns-in-Err-clause-line
@@ -113,11 +116,12 @@ returns-in-Err-clause-line g c =
     let view = station_view {cell = g.C.StableCell} {slots = g.C.SlotCell} g.O.Outlet.taken g.O.Outlet.failures in
     keeps_line {cell = g.C.StableCell} {slots = g.C.SlotCell} g.O.Outlet.taken g.O.Outlet.failures
     (setting_in (network_of was.net.value.program) was.inputs.value (traffic_of was.wire)
-    (may_restart (length was.stations.items)) was.round) (event_view c.args.event)
+    was.round was.room) (event_view c.args.event)
     (network_of was.net.value.program) was.inputs.value was.stations.items c.act_at.new.stations.items was.round
+    was.room
     (traffic_of was.wire) [] outcome.NotDue NotDue c.from-number.result was.sound
     (setting_is view (network_of was.net.value.program) was.inputs.value (traffic_of was.wire)
-    was.stations.items was.round) (c.from-number.ensures ∙ c.node.ensures) (refl, c.in-Err.ensures.refused.0)
+    was.stations.items was.round was.room) (c.from-number.ensures ∙ c.node.ensures) (refl, c.in-Err.ensures.refused.0)
     c.act_at.ensures.line
 
 -- checkpoints are coordinated
@@ -128,13 +132,13 @@ returns-in-Ok-clause-coordinated g c =
     events_are_coordinated (rooms was.stations.items) (event_view c.args.event) (world_of was)
     (reply_view c.in-Ok.reply)
     (world_view {cell = g.C.StableCell} {slots = g.C.SlotCell} g.O.Outlet.taken g.O.Outlet.failures was.net was.inputs
-    c.act_at.new.stations.items (traffic_of c.act_at.new.wire) c.round_after-self.result) was.sound
+    c.act_at.new.stations.items (traffic_of c.act_at.new.wire) c.round_after-self.result was.room) was.sound
     (world_steps (rooms was.stations.items) (event_view c.args.event) (world_of was) (reply_view c.in-Ok.reply)
     (setting_in (network_of was.net.value.program) was.inputs.value (traffic_of was.wire)
-    (may_restart (length was.stations.items)) was.round) c.from-number.result c.round_after-self.result
+    was.round was.room) c.from-number.result c.round_after-self.result
     (map view c.act_at.new.stations.items) (traffic_of c.act_at.new.wire)
     (setting_is view (network_of was.net.value.program) was.inputs.value (traffic_of was.wire)
-    was.stations.items was.round) (c.from-number.ensures ∙ c.node.ensures) c.in-Ok.ensures.come
+    was.stations.items was.round was.room) (c.from-number.ensures ∙ c.node.ensures) c.in-Ok.ensures.come
     (c.round_after-self.ensures
     ∙ ap (λ (l : List (Station g.row.C.Denot g.row.O.Denot g.C.SlotCell g.C.StableCell)). round_after
     (reply_view c.in-Ok.reply) was.round (map view l)) c.deref.ensures.value))
@@ -149,11 +153,13 @@ returns-in-Err-clause-coordinated g c =
 
 pub returns-in-Ok-clause-settled : goal.returns-in-Ok-clause-settled
 returns-in-Ok-clause-settled g c =
-    one_line {cell = g.C.StableCell} {slots = g.C.SlotCell} g.O.Outlet.taken g.O.Outlet.failures c.act_at.new.stations.items
+    one_line {cell = g.C.StableCell} {slots = g.C.SlotCell} g.O.Outlet.taken g.O.Outlet.failures
+    c.act_at.new.stations.items
 
 pub returns-in-Err-clause-settled : goal.returns-in-Err-clause-settled
 returns-in-Err-clause-settled g c =
-    one_line {cell = g.C.StableCell} {slots = g.C.SlotCell} g.O.Outlet.taken g.O.Outlet.failures c.act_at.new.stations.items
+    one_line {cell = g.C.StableCell} {slots = g.C.SlotCell} g.O.Outlet.taken g.O.Outlet.failures
+    c.act_at.new.stations.items
 
 -- the rooms are what the capacities say
 pub returns-in-Ok-clause-same_rooms : goal.returns-in-Ok-clause-same_rooms
@@ -178,13 +184,13 @@ returns-in-Ok-clause-roomy g c = λ room.
     let view = station_view {cell = g.C.StableCell} {slots = g.C.SlotCell} g.O.Outlet.taken g.O.Outlet.failures in
     never_too_large (world_of was)
     (setting_in (network_of was.net.value.program) was.inputs.value (traffic_of was.wire)
-    (may_restart (length was.stations.items)) was.round)
+    was.round was.room)
     (λ (station : Station g.row.C.Denot g.row.O.Denot g.C.SlotCell g.C.StableCell). g.C.SlotCell.slot_capacity
     (cell_in station.node.store)) was.stations.items c.from-number.result _ (event_view c.args.event)
     c.in-Ok.ensures.come.came (reply_view c.in-Ok.reply) (map view c.act_at.new.stations.items)
     was.sound
     (setting_is view (network_of was.net.value.program) was.inputs.value (traffic_of was.wire)
-    was.stations.items was.round) (c.from-number.ensures ∙ c.node.ensures) room c.in-Ok.ensures.come.act
+    was.stations.items was.round was.room) (c.from-number.ensures ∙ c.node.ensures) room c.in-Ok.ensures.come.act
 
 pub returns-in-Ok-clause-heard : goal.returns-in-Ok-clause-heard
 returns-in-Ok-clause-heard g c =
@@ -192,8 +198,8 @@ returns-in-Ok-clause-heard g c =
     let view = station_view {cell = g.C.StableCell} {slots = g.C.SlotCell} g.O.Outlet.taken g.O.Outlet.failures in
     never_dropped (world_of was)
     (setting_in (network_of was.net.value.program) was.inputs.value (traffic_of was.wire)
-    (may_restart (length was.stations.items)) was.round) (rooms was.stations.items) c.from-number.result
+    was.round was.room) (rooms was.stations.items) c.from-number.result
     (event_view c.args.event) c.in-Ok.ensures.come.came
     (reply_view c.in-Ok.reply) (map view c.act_at.new.stations.items) was.sound
     (setting_is view (network_of was.net.value.program) was.inputs.value (traffic_of was.wire)
-    was.stations.items was.round) (c.from-number.ensures ∙ c.node.ensures) c.in-Ok.ensures.come.act
+    was.stations.items was.round was.room) (c.from-number.ensures ∙ c.node.ensures) c.in-Ok.ensures.come.act

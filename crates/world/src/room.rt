@@ -1,0 +1,46 @@
+// The room of a channel, which is set.
+ghost use Rattle.std.specs.Prelude.{◌≡◌, OnErr, OnOk};
+ghost use Rattle.protocol.specs.Node.Sharing.{IsRoom};
+ghost use Rattle.protocol.specs.World.Steps.{with_room};
+ghost use Rattle.world.specs.WholeView.{world_of};
+
+use crate::world::World;
+use ckpt_codec::MAX_RETAINED_ITEMS;
+use gate_cell::SlotCell;
+use outlet::Outlet;
+use protocol::MIN_ROOM;
+use thiserror::Error;
+
+/// No room that a channel may have. It is from `MIN_ROOM` to `MAX_RETAINED_ITEMS` items.
+#[derive(Clone, Copy, Debug, PartialEq, Eq, Error)]
+#[error("the room of a channel isn't from 64 to 57344 items")]
+pub struct RoomOutOfRange;
+
+impl<C: SlotCell, O: Outlet> World<C, O> {
+    /// How many items a channel retains at most, where its share of a record isn't less.
+    pub fn room(&self) -> usize
+        ensures { result ≡ self.now.room }
+    {
+        self.room
+    }
+
+    /// Sets how many items a channel retains at most: from `MIN_ROOM` to `MAX_RETAINED_ITEMS`. It bounds what jobs that are
+    /// granted from now on may put. A job that is out keeps the room that it was given, and a log that holds more takes
+    /// nothing until it has shrunk. A number out of range is refused, and nothing is changed. Takes no memory.
+    pub fn set_room(&mut self, items: usize) -> Result<(), RoomOutOfRange>
+        // The room is what differs, and nothing else.
+        ensures set { OnOk result (world_of self.new ≡ with_room items (world_of self.old)) }
+        ensures unchanged { OnErr result (world_of self.new ≡ world_of self.old) }
+        ensures same { (self.new.net ≡ self.old.net) × (self.new.inputs ≡ self.old.inputs)
+            × (self.new.stations ≡ self.old.stations) × (self.new.wire ≡ self.old.wire) }
+        // Refused are exactly the numbers out of range.
+        ensures within { OnOk result (IsRoom items) }
+        ensures refused { OnErr result (¬ (IsRoom items)) }
+    {
+        if items < MIN_ROOM || items > MAX_RETAINED_ITEMS {
+            return Err(RoomOutOfRange);
+        }
+        self.room = items;
+        Ok(())
+    }
+}
