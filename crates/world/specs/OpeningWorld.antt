@@ -39,6 +39,10 @@ fresh output = record { channel = output.channel; outlet = output.outlet; failed
 abbrev pub IsUnused : {O : Type 0} → (O → List ℤ) → Output O → Type 0
 IsUnused taken output = taken output.outlet ≡ []
 
+-- nothing is noted of a failure of its outlet
+abbrev pub HasNotFailed : {O : Type 0} → Output O → Type 0
+HasNotFailed output = output.failed ≡ None
+
 -- its outlet is one that is made for its channel
 abbrev pub IsMade : {O : Type 0} → (ℕ → O → Type 0) → Output O → Type 0
 IsMade makes output = makes output.channel output.outlet

@@ -3,7 +3,7 @@ ghost use Rattle.std.specs.Prelude.{◌≡◌, ◌++◌, ◌≤◌, [], ◌∷�
 ghost use Rattle.std.specs.List.{AllByRecursion};
 ghost use Rattle.kahn_net.specs.Syntax.{network_of};
 ghost use Rattle.protocol.specs.World.Sound.{goes_outside, output_channels};
-ghost use Rattle.world.specs.OpeningWorld.{IsMade, IsUnused};
+ghost use Rattle.world.specs.OpeningWorld.{HasNotFailed, IsMade, IsUnused};
 ghost use Rattle.kahn_net.specs.declared.limits.TheConstants.{MAX_CHANNELS};
 
 use crate::output::Output;
@@ -38,6 +38,8 @@ fn add_output<O: Outlet, M: OutletMaker<O>>(
         ++ (if goes_outside channel.now.consumer then number ∷ [] else [])) }
     ensures empty { OnOk result (AllByRecursion (IsUnused O.taken) outputs.new.items) }
     ensures made { OnOk result (AllByRecursion (IsMade M.makes) outputs.new.items) }
+    ensures none_failed { OnOk result (AllByRecursion HasNotFailed outputs.old.items
+        → AllByRecursion HasNotFailed outputs.new.items) }
 {
     if let Port::Outside = channel.consumer {
         outputs.push(Output {
@@ -60,6 +62,7 @@ fn open_outputs<O: Outlet, M: OutletMaker<O>>(
         (λ outputs. map (λ output. output.channel) outputs.items ≡ output_channels 0 channels.now) }
     ensures empty { IfOk result (λ outputs. AllByRecursion (IsUnused O.taken) outputs.items) }
     ensures made { IfOk result (λ outputs. AllByRecursion (IsMade M.makes) outputs.items) }
+    ensures none_failed { IfOk result (λ outputs. AllByRecursion HasNotFailed outputs.items) }
 {
     let mut outputs = Vec::new(alloc);
     for (number, channel) in channels.iter().enumerate() {
@@ -79,6 +82,7 @@ pub fn outputs_of<O: Outlet, M: OutletMaker<O>>(
         ≡ output_channels 0 (network_of net.now.program).channels) }
     ensures empty { IfOk result (λ outputs. AllByRecursion (IsUnused O.taken) outputs.items) }
     ensures made { IfOk result (λ outputs. AllByRecursion (IsMade M.makes) outputs.items) }
+    ensures none_failed { IfOk result (λ outputs. AllByRecursion HasNotFailed outputs.items) }
 {
     open_outputs(alloc, &net.program.channels, maker)
 }
@@ -104,6 +108,7 @@ pub fn list_outputs(alloc: Global, net: &Net) -> Result<Vec<Output<ListOutlet>>,
         ≡ output_channels 0 (network_of net.now.program).channels) }
     ensures empty { IfOk result
         (λ outputs. AllByRecursion (IsUnused (λ taken. taken)) outputs.items) }
+    ensures none_failed { IfOk result (λ outputs. AllByRecursion HasNotFailed outputs.items) }
 {
     outputs_of(alloc, net, &mut ListOutlets { alloc })
 }

@@ -1,6 +1,6 @@
-use Rattle.std.proofs.Common.{List, sym, subst}
+use Rattle.std.proofs.Common.{List, refl, sym, subst}
 use Rattle.std.specs.List.{AllByRecursion}
-use Rattle.world.specs.OpeningWorld.{IsMade, IsUnused}
+use Rattle.world.specs.OpeningWorld.{HasNotFailed, IsMade, IsUnused}
 use Rattle.protocol.specs.WorldLaws.PairLaws.{every_more}
 use Rattle.world.specs.declared.output.Output.{Output}
 use Rattle.world.proofs.outputs.add_output.Goals as goal
@@ -16,3 +16,8 @@ returns-in_ok-push-clause-made g c =
     subst (λ (outputs : List (Output _)). AllByRecursion (IsMade g.M.OutletMaker.makes) outputs)
     (sym c.in_ok-push.ensures.items)
     (every_more (IsMade g.M.OutletMaker.makes) _ _ c.requires.made c.in_ok-make.ensures.made)
+
+pub returns-in_ok-push-clause-none_failed : goal.returns-in_ok-push-clause-none_failed
+returns-in_ok-push-clause-none_failed g c =
+    λ before. subst (λ (outputs : List (Output _)). AllByRecursion HasNotFailed outputs) (sym c.in_ok-push.ensures.items)
+    (every_more HasNotFailed _ _ before refl)

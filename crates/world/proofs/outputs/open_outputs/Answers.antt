@@ -8,4 +8,5 @@ loop-number-preserved g c = (
       c.in_ok-add_output.ensures.listed,
   c.in_ok-add_output.ensures.empty,
   c.in_ok-add_output.ensures.made,
+  c.in_ok-add_output.ensures.none_failed c.loop-number.invariant.3,
 )

@@ -1,7 +1,7 @@
 use Rattle.std.proofs.Common.{◌≡◌, ◌++◌, map, drop}
 use Rattle.protocol.specs.World.Sound.{output_channels}
 use Rattle.std.specs.List.{AllByRecursion}
-use Rattle.world.specs.OpeningWorld.{IsMade, IsUnused}
+use Rattle.world.specs.OpeningWorld.{HasNotFailed, IsMade, IsUnused}
 use Rattle.world.proofs.outputs.open_outputs.Given as goal
 
 -- what is listed, and then what is to come
@@ -11,3 +11,4 @@ invariant-loop-number g l =
     ≡ output_channels 0 l.channels)
     × AllByRecursion (IsUnused g.O.Outlet.taken) l.outputs.items
     × AllByRecursion (IsMade g.M.OutletMaker.makes) l.outputs.items
+    × AllByRecursion HasNotFailed l.outputs.items
