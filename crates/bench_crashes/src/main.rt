@@ -2,8 +2,7 @@
 //! bench/crashes calls it. Without a word it does nothing, so that the gate, which runs it, takes no time.
 #![tactic(auto)]
 
-ghost use Rattle.std.specs.Prelude.{◌*◌, ◌^◌, ◌<◌};
-ghost use Rattle.sector_disk.specs.declared.TheConstants.{SECTOR_BYTES};
+ghost use Rattle.std.specs.Prelude.{◌<◌};
 
 mod chain;
 

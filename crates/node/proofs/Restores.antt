@@ -1,12 +1,11 @@
 -- What a store holds may be restored: its counts are counts.
-use Rattle.std.proofs.Common.{◌≡◌, ℕ, ◌≤◌, Some, sym, subst}
+use Rattle.std.proofs.Common.{◌≡◌, ◌≤◌, Some, sym, subst}
 use Rattle.std.proofs.Math.Bridge.{le_prop}
 use Rattle.std.proofs.Math.Logic.{∥∥₁_elim}
 use Rattle.ckpt_store.proofs.Seen.{spelled_is}
 use Rattle.ckpt_store.proofs.Spelled.{spelled_is_record}
 use Rattle.ckpt_store.specs.StoreView.{record_in}
 use Rattle.ckpt_store.specs.declared.store.Store.{Store}
-use Rattle.gate_cell.specs.Whole.{Whole}
 use Rattle.gate_cell.specs.declared.cell.StableCell.{Ghosts as CellWords}
 use Rattle.gate_cell.specs.declared.slot_cell.SlotCell.{Ghosts as SlotWords}
 use Rattle.kahn_net.specs.declared.limits.TheConstants.{MAX_COUNT}

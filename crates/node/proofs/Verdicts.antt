@@ -1,5 +1,5 @@
 -- That a store has no cause to refuse a decision, a verdict or a confirmation, and what becomes of the node by one.
-use Rattle.std.proofs.Common.{◌≡◌, ◌≢◌, ℕ, zero, suc, ◌+◌, ◌<◌, ◌≤◌, Bool, true, false, ◌&&◌, ◌||◌, not, List, [], ◌∷◌, ◌++◌, length}
+use Rattle.std.proofs.Common.{◌≡◌, ℕ, zero, suc, ◌+◌, ◌<◌, ◌≤◌, Bool, true, false, ◌&&◌, ◌||◌, not, List, [], ◌∷◌, length}
 use Rattle.std.proofs.Common.{Option, Some, None, option_map, refl, sym, ◌∙◌, ap, subst, arith, eqb, All}
 use Rattle.std.specs.Prelude.{◌==◌, cond, nat_le, nat_lt}
 use Rattle.std.specs.List.{list_any}

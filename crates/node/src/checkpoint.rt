@@ -4,7 +4,7 @@ ghost use Rattle.ckpt_store.specs.StoreView.{cell_in, record_in};
 ghost use Rattle.protocol.specs.Node.ArmedRestarts.{restart_after};
 ghost use Rattle.protocol.specs.Node.Modes.{crashed};
 ghost use Rattle.protocol.specs.Node.Plans.{LeavesCell, packets_by};
-ghost use Rattle.protocol.specs.Node.Beginning.{live_in, start_prospect};
+ghost use Rattle.protocol.specs.Node.Beginning.{start_prospect};
 ghost use Rattle.protocol.specs.Node.Starting.{IsLikeNow};
 ghost use Rattle.protocol.specs.Node.Verdicts.{decide_prospect};
 ghost use Rattle.node.specs.Putting.{IsPutEvent};

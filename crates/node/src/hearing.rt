@@ -7,15 +7,14 @@ ghost use Rattle.kahn_net.specs.Syntax.{network_of};
 ghost use Rattle.ckpt_codec.specs.SizeLaws.{IsRecordWithin};
 ghost use Rattle.ckpt_codec.specs.declared.lengths.TheConstants.{MAX_RETAINED_ITEMS};
 ghost use Rattle.ckpt_store.specs.StoreView.{cell_in, record_in};
-ghost use Rattle.ckpt_store.specs.Spelling.{IsLike};
 ghost use Rattle.protocol.specs.Node.Addresses.{names_right};
-ghost use Rattle.protocol.specs.Node.Answering.{answer_packets, answer_to_ask, ask_prospect, holds, kept_then};
-ghost use Rattle.protocol.specs.Node.Beginning.{in_front, live_in};
+ghost use Rattle.protocol.specs.Node.Answering.{answer_to_ask, ask_prospect, holds};
+ghost use Rattle.protocol.specs.Node.Beginning.{in_front};
 ghost use Rattle.protocol.specs.Node.Collecting.{answer_to_took, give_up_prospect, joined_asks, refused_prospect, took_prospect};
 ghost use Rattle.protocol.specs.Node.Delivering.{packet_for};
 ghost use Rattle.protocol.specs.Node.Hearing.{hear_prospect};
 ghost use Rattle.protocol.specs.Node.Modes.{is_down};
-ghost use Rattle.protocol.specs.Node.Plans.{LeavesCell, packets_by, putting};
+ghost use Rattle.protocol.specs.Node.Plans.{LeavesCell, putting};
 ghost use Rattle.protocol.specs.Node.Starting.{IsLikeNow};
 ghost use Rattle.protocol.specs.Node.Verdicts.{commit_prospect, ended_prospect, settled_prospect};
 ghost use Rattle.node.specs.NodeView.{mode_view, node_view};
@@ -26,8 +25,6 @@ ghost use Rattle.rollback_core.specs.RestoredView.{restored_view};
 ghost use Rattle.protocol.specs.Node.GoingBack.{gone_back, undone_prospect};
 ghost use Rattle.protocol.specs.Node.Recovering.{IsRestorable};
 ghost use Rattle.datagram.specs.PacketText.{IsPacket};
-ghost use Rattle.record.specs.RecordView.{RecordView};
-ghost use Rattle.ckpt_core.specs.AskView.{answer_view};
 ghost use Rattle.kahn_net.specs.declared.limits.TheConstants.{MAX_CHANNELS, MAX_COUNT};
 
 use crate::checkpoint::{Then, end_put_then};
@@ -610,7 +607,9 @@ pub(crate) fn hear<C: SlotCell>(
         }
         Body::Refused { number, .. } => { hear_refused(alloc, home, state, store, *number, round) }
         Body::Query { .. } => Ok(Outcome::Made),
-        Body::Commit { number } => hear_commit(alloc, net, home, state, store, from, *number, round),
+        Body::Commit { number } => hear_commit(
+            alloc, net, home, state, store, from, *number, round,
+        ),
         Body::Ended { number } => hear_ended(alloc, net, home, state, store, from, *number, round),
         Body::Settled { number } => hear_settled(alloc, home, state, store, from, *number, round),
         Body::Undone {

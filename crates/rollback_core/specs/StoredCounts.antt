@@ -13,7 +13,7 @@ use Rattle.record.specs.declared.image.End.{End}
 use Rattle.record.specs.declared.image.End.TheVariants.{Receives, Sends, Both}
 use Rattle.record.specs.declared.image.SavedEnd.{SavedEnd}
 use Rattle.ckpt_codec.specs.Fields.{AreAllowed, Field, IsAllowed}
-use Rattle.ckpt_codec.specs.RecordText.{at_most, end_fields, ends_fields, ends_in, first_of, image_fields, processes_fields}
+use Rattle.ckpt_codec.specs.RecordText.{at_most, end_fields, ends_fields, ends_in, image_fields, processes_fields}
 use Rattle.ckpt_codec.specs.RecordText.{IsRecord, count, decisions_fields, head_fields, most_decisions, processes_in}
 use Rattle.ckpt_codec.specs.RecordText.{record_fields, rest_of, tentative_fields, wanted, wanted_or}
 use Rattle.protocol.specs.JoinLaws.Holding.{at_most as below}

@@ -6,7 +6,7 @@ ghost use Rattle.record.specs.Moves.{with_epoch};
 ghost use Rattle.protocol.specs.Node.Layout.{incoming_on, outgoing_on};
 ghost use Rattle.protocol.specs.Node.Recovering.{restored_from, restored_inbox, restored_mode, restored_outbox, IsRestorable};
 ghost use Rattle.rollback_core.specs.RestoredView.{recovery_mode, restored_view};
-ghost use Rattle.kahn_net.specs.declared.limits.TheConstants.{MAX_CHANNELS, MAX_COUNT};
+ghost use Rattle.kahn_net.specs.declared.limits.TheConstants.{MAX_COUNT};
 
 use layout::{is_incoming, is_outgoing};
 use net_check::Net;
@@ -128,12 +128,7 @@ pub fn restore(
 /// How a node with this record comes back in its next epoch. It waits for the verdict exactly where it holds another's
 /// tentative image, and else runs from its permanent one; an image of its own, of which nothing was decided, it has no
 /// more. Refuses for want of memory alone.
-pub fn recover(
-    alloc: Global,
-    net: &Net,
-    home: u8,
-    kept: &Record,
-) -> Result<Recovery, AllocError>
+pub fn recover(alloc: Global, net: &Net, home: u8, kept: &Record) -> Result<Recovery, AllocError>
     requires counts { IsRestorable kept.now.permanent }
     requires epoch { kept.now.epoch < MAX_COUNT }
     ensures { IfOk result (λ recovery. recovery_mode recovery
@@ -141,12 +136,6 @@ pub fn recover(
 {
     match &kept.tentative {
         Some(held) if held.initiator != kept.node => Ok(Recovery::InDoubt),
-        _ => Ok(Recovery::Running(restore(
-            alloc,
-            net,
-            home,
-            &kept.permanent,
-            kept.epoch + 1,
-        )?)),
+        _ => Ok(Recovery::Running(restore(alloc, net, home, &kept.permanent, kept.epoch + 1)?)),
     }
 }

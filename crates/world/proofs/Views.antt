@@ -13,7 +13,6 @@ use Rattle.protocol.specs.Node.Trimming.{current_log, trimmed_node}
 use Rattle.kahn_net.specs.Nodes.{node_count}
 use Rattle.protocol.specs.World.Invariant.{outputs_of, AreJoined, AreSound, IsNumbered}
 use Rattle.protocol.specs.WorldLaws.PlanLaws.{IsSoundStation}
-use Rattle.protocol.specs.WorldLaws.StepKeeps.{all_here}
 use Rattle.protocol.specs.WorldLaws.OutputLaws.{map_at, set_same}
 use Rattle.protocol.specs.World.OutputView.{OutputView}
 use Rattle.world.specs.OutputView.{output_view, outputs_view}

@@ -1,5 +1,5 @@
 // A station's node crashes, and comes back.
-ghost use Rattle.std.specs.Prelude.{◌≡◌, ◌≤◌, if◌then◌else◌, true, IfOk, OnErr};
+ghost use Rattle.std.specs.Prelude.{◌≡◌, ◌≤◌, if◌then◌else◌, IfOk, OnErr};
 ghost use Rattle.kahn_net.specs.Syntax.{network_of};
 ghost use Rattle.ckpt_store.specs.Spelling.{fits_in};
 ghost use Rattle.ckpt_store.specs.StoreView.{cell_in};

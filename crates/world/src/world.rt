@@ -112,15 +112,11 @@ impl<C: SlotCell, O: Outlet> Station<C, O> {
         ensures { result ≡ is_done_with round (station_view O.taken O.failures self.now) }
     {
         let node = &self.node;
-        self.turns.of(round).idled
-            || (node.state.is_down() && node.state.restart > round)
+        self.turns.of(round).idled || (node.state.is_down() && node.state.restart > round)
     }
 }
 
-fn are_done_with<C: SlotCell, O: Outlet>(
-    stations: &[Station<C, O>],
-    round: u64,
-) -> bool
+fn are_done_with<C: SlotCell, O: Outlet>(stations: &[Station<C, O>], round: u64) -> bool
     ensures { result ≡ are_done_with round
         (map (station_view O.taken O.failures) stations.now) }
 {

@@ -32,7 +32,7 @@ use Rattle.protocol.specs.Node.GoingBack.{PassesOver, Notes, GoesBack, answer_at
 use Rattle.protocol.specs.Node.GoingBack.{noting_undone, set_back_to, undone_by, undone_prospect}
 use Rattle.protocol.specs.Node.Hearing.{remembering, hear_prospect}
 use Rattle.protocol.specs.Join.Runs.{Leads, WasSent}
-use Rattle.protocol.specs.Join.Seen.{need_of, body_seen, live_seen, mode_seen, node_seen, all_seen, world_seen}
+use Rattle.protocol.specs.Join.Seen.{need_of, body_seen, live_seen, mode_seen, all_seen, world_seen}
 use Rattle.protocol.specs.Node.Verdicts.{after_verdict, settled_packets, verdict_packets, commit_prospect}
 use Rattle.protocol.specs.Node.Verdicts.{ended_prospect}
 use Rattle.protocol.specs.Node.Verdicts.{settled_prospect}

@@ -41,8 +41,8 @@ use Rattle.protocol.specs.Node.Delivering.{delivery_of, packet_for}
 use Rattle.protocol.specs.Node.JobView.{JobView}
 use Rattle.protocol.specs.Node.Layout.{is_incoming}
 use Rattle.protocol.specs.Node.NodeView.{Down, InDoubt, ModeView, NodeView, Runs, RunningView, running_node, running_in}
-use Rattle.protocol.specs.Node.Plans.{Prospect, if_due}
-use Rattle.protocol.specs.Node.Recovering.{crash_prospect, recover_prospect, restored_mode}
+use Rattle.protocol.specs.Node.Plans.{Prospect}
+use Rattle.protocol.specs.Node.Recovering.{recover_prospect, restored_mode}
 use Rattle.protocol.specs.NodeLaws.NumberedLaws.{where_mark}
 use Rattle.protocol.specs.World.EventView.{Deed}
 use Rattle.protocol.specs.World.EventView as event

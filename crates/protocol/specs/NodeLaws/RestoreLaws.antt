@@ -27,9 +27,9 @@ use Rattle.window_link.specs.Windows.{Receiver}
 use Rattle.protocol.specs.Node.GoingBack.{handled, handled_at, inbox_set_back, outbox_set_back, set_back_to}
 use Rattle.protocol.specs.Node.Layout.{has_process, port_on, port_away, comes_in, is_incoming, incoming_on, outgoing_on}
 use Rattle.protocol.specs.Node.Layout.{role_by}
-use Rattle.protocol.specs.Node.NodeView.{RunningView, RunningNode, running_node}
+use Rattle.protocol.specs.Node.NodeView.{RunningView, RunningNode}
 use Rattle.protocol.specs.Node.Reached.{ImageStands, IsLaidOut, CountIsWithin, CountsAreWithin, LogsAreWithin}
-use Rattle.protocol.specs.Node.Reached.{InboxIsSound, InboxStands, InboxesStand, LinksAreLaidOut, acts_of, first_acts}
+use Rattle.protocol.specs.Node.Reached.{InboxIsSound, InboxStands, InboxesStand, LinksAreLaidOut, first_acts}
 use Rattle.protocol.specs.Node.Recovering.{restored_inbox, restored_outbox, restored_running}
 use Rattle.protocol.specs.NodeLaws.ImageLaws.{entry_of, map_got, map_keeps}
 use Rattle.protocol.specs.NodeLaws.InnerLaws.{end_there, consumer_on, count_there}

@@ -28,7 +28,7 @@ use Rattle.protocol.specs.Node.Installing.{IsInstall}
 use Rattle.protocol.specs.Node.JobView.{JobView}
 use Rattle.protocol.specs.Node.Modes.{is_none, is_running, is_down, next_number}
 use Rattle.protocol.specs.Node.NodeView.{NodeView}
-use Rattle.protocol.specs.Node.Plans.{Prospect, Undue, becoming, if_due, IsMade, IsPut, room_for, packets_by}
+use Rattle.protocol.specs.Node.Plans.{Prospect, Undue, becoming, IsMade, IsPut, room_for, packets_by}
 use Rattle.protocol.specs.Node.Recovering.{crash_prospect, recover_prospect, restored_mode}
 use Rattle.protocol.specs.Node.Telling.{send_prospect}
 use Rattle.protocol.specs.Node.Trimming.{current_log, trimmed_node, TookNext}

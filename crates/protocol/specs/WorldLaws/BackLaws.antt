@@ -1,10 +1,9 @@
 -- What a node makes of it that the sender of a channel restored an image is sound: it notes the epoch, or goes back to
 -- its permanent image.
-use Rattle.std.proofs.Common.{◌≡◌, ℕ, suc, ◌<◌, Bool, true, false, cond, eqb, List, ℤ, [], ◌∷◌, map, length, Option}
+use Rattle.std.proofs.Common.{◌≡◌, ℕ, suc, ◌<◌, Bool, true, false, cond, eqb, List, ℤ, [], ◌∷◌, Option}
 use Rattle.std.proofs.Common.{Some, None, option_map, refl, sym, ap, subst, ◌∙◌}
-use Rattle.std.specs.Prelude.{find, nat_lt, slice_get}
+use Rattle.std.specs.Prelude.{find}
 use Rattle.std.proofs.Math.Logic.{∥∥₁_map}
-use Rattle.std.proofs.lemmas.Bool.{ltb-true}
 use Rattle.kahn_net.specs.Approximations.{approximation}
 use Rattle.kahn_net.specs.Streams.{history_of, IsPrefix}
 use Rattle.kahn_net.specs.Syntax.{Network}
@@ -15,14 +14,13 @@ use Rattle.record.specs.Ends.{log_of, received_of}
 use Rattle.record.specs.ImageView.{ImageView}
 use Rattle.record.specs.Moves.{with_epoch, without_own}
 use Rattle.record.specs.RecordView.{RecordView}
-use Rattle.record.specs.declared.record.Tentative.{Tentative}
 use Rattle.protocol.specs.Node.GoingBack.{handled, handled_at, gone_back, noting_undone, set_back_to}
 use Rattle.protocol.specs.Node.Granting.{first_log, inbox_log, is_process, items_by, items_from, next_items}
 use Rattle.protocol.specs.Node.JobView.{JobView}
 use Rattle.protocol.specs.Node.Modes.{next_number}
-use Rattle.protocol.specs.Node.NodeView.{NodeView, ModeView, Down, InDoubt, Runs, RunningView, RunningNode, running_node}
-use Rattle.protocol.specs.Node.Plans.{becoming, putting}
-use Rattle.protocol.specs.Node.Reached.{HasReached, IsJobOf, LinksAreLaidOut, InboxIsSound, InboxesStand, InboxStands}
+use Rattle.protocol.specs.Node.NodeView.{Runs, RunningView, RunningNode, running_node}
+use Rattle.protocol.specs.Node.Plans.{putting}
+use Rattle.protocol.specs.Node.Reached.{IsJobOf, LinksAreLaidOut, InboxIsSound, InboxesStand, InboxStands}
 use Rattle.protocol.specs.NodeLaws.ImageLaws.{map_got, map_keeps}
 use Rattle.protocol.specs.NodeLaws.RestoreLaws.{set_back_begin}
 use Rattle.protocol.specs.World.Invariant.{outputs_of, RunsSoundly, StationInvariant}
@@ -32,7 +30,7 @@ use Rattle.protocol.specs.World.Sound.{HasCome}
 use Rattle.protocol.specs.World.StationView.{StationView}
 use Rattle.protocol.specs.WorldLaws.MoveLaws.{changed_from, node_keeps}
 use Rattle.protocol.specs.WorldLaws.OrderLaws.{behind_itself}
-use Rattle.protocol.specs.WorldLaws.PlanLaws.{KeepsStation, ProspectKeeps, keeps_still, moved_keeps, runs_at}
+use Rattle.protocol.specs.WorldLaws.PlanLaws.{ProspectKeeps, runs_at}
 use Rattle.protocol.specs.WorldLaws.RecordLaws.{record_epoch, restarts_soundly}
 use Rattle.protocol.specs.declared.links.Inbox.{Inbox}
 

@@ -23,7 +23,7 @@ use Rattle.retained.specs.LogState.{LogState, IsLogOf, log_end, items_since}
 use Rattle.record.specs.Ends.{received_of, log_of, log_at}
 use Rattle.record.specs.ImageView.{ImageView}
 use Rattle.record.specs.declared.image.End.{End}
-use Rattle.datagram.specs.declared.packet.Body.TheVariants.{Data, Ack, Kept, Undone}
+use Rattle.datagram.specs.declared.packet.Body.TheVariants.{Data, Ack, Kept}
 use Rattle.datagram.specs.declared.packet.Packet.{Packet}
 use Rattle.protocol.specs.Node.Addresses.{address, port_node, producer_node, consumer_node, ends_run, runs_between}
 use Rattle.protocol.specs.Node.Addresses.{names_right}

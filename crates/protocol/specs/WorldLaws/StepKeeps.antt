@@ -5,7 +5,6 @@ use Rattle.std.specs.Prelude.{All, slice_get, slice_set}
 use Rattle.std.proofs.Math.Logic.{∥∥₁_map}
 use Rattle.std.proofs.lemmas.List.{map-set}
 use Rattle.std.proofs.lemmas.List.Elements.{All-map, All-nil}
-use Rattle.std.proofs.lemmas.Bool.{eqb-true, eq-eqb}
 use Rattle.std.proofs.lemmas.Option.{slice_get_within}
 use Rattle.kahn_net.specs.Streams.{IsPrefix}
 use Rattle.kahn_net.specs.Laws.Prefixes.{prefix_length}
@@ -23,7 +22,6 @@ use Rattle.record.specs.RecordView.{RecordView}
 use Rattle.wire.specs.Traffic.{Traffic, all_sent}
 use Rattle.protocol.specs.Node.ArmedRestarts.{restart_after}
 use Rattle.protocol.specs.Node.Installing.{turned, IsOut, IsInstall}
-use Rattle.protocol.specs.Node.Layout.{is_on}
 use Rattle.protocol.specs.Node.Modes.{is_running}
 use Rattle.protocol.specs.Node.NodeView.{NodeView, ModeView, Runs, RunningView, RunningNode, running_node, running_in}
 use Rattle.protocol.specs.Node.NodeView.{running_of, on_mode, on_running}
@@ -31,7 +29,6 @@ use Rattle.protocol.specs.Node.Plans.{Plan, Prospect, Undue, Exhausted, Planned,
 use Rattle.protocol.specs.Node.Starting.{AreInOrder}
 use Rattle.protocol.specs.Node.Trimming.{with_current, current_log, cut_at, trimmed_node, HasNext, TookNext}
 use Rattle.protocol.specs.NodeLaws.FitLaws.{behind_installed}
-use Rattle.protocol.specs.NodeLaws.PlaceLaws.{node_below}
 use Rattle.protocol.specs.NodeLaws.TrimLaws.{behind_trimmed}
 use Rattle.protocol.specs.declared.outcome.Outcome.{Outcome}
 use Rattle.protocol.specs.declared.outcome.Outcome.TheVariants as outcome

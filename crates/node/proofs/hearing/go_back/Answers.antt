@@ -23,8 +23,7 @@ pub end_put_then-requires : goal.end_put_then-requires
 end_put_then-requires g c =
     let same : record_in c.args.store.now ≡ _ = c.in-Ok.ensures.1 ∙ sym c.kept.view_is in
     let epoch : (record_in c.args.store.now).epoch ≡ c.kept.inside.epoch = ap (λ (r : RecordView). r.epoch) same in
-    let below = c.requires.below in
-    (
+    let below = c.requires.below in (
       λ channel. subst (λ (i : ImageView). received_of i channel ≤ MAX_COUNT)
           (ap (λ (r : RecordView). r.permanent) same ∙ sym c.in_ok-image.ensures)
           (permanent_counts g.C.StableCell g.C.SlotCell g.met.C.SlotCell.whole_may_stay c.args.store.now channel),

@@ -2,7 +2,7 @@ use Rattle.kahn_net.specs.declared.limits.TheConstants.{MAX_COUNT}
 use Rattle.record.specs.Ends.{received_of}
 use Rattle.record.specs.ImageView.{ImageView}
 use Rattle.node.proofs.Restores.{epoch_count, held_counts}
-use Rattle.std.proofs.Common.{◌≡◌, ◌≤◌, subst, Bool, false, true, cond, [], refl, ap, sym, ◌∙◌}
+use Rattle.std.proofs.Common.{◌≤◌, subst, Bool, false, true, cond, [], refl, ap, sym, ◌∙◌}
 use Rattle.kahn_net.specs.Syntax.{network_of}
 use Rattle.ckpt_store.proofs.Room.{permanent_fits, record_fits}
 use Rattle.ckpt_store.specs.Refusals.{refusal_unless_held}
@@ -12,7 +12,7 @@ use Rattle.record.specs.RecordView.{RecordView}
 use Rattle.protocol.specs.Node.NodeView.{ModeView, NodeView}
 use Rattle.protocol.specs.Node.Plans.{Plan, Planned, telling}
 use Rattle.protocol.specs.Node.Verdicts.{after_verdict, commit_prospect, settled_packets}
-use Rattle.node.specs.NodeView.{mode_view, node_view}
+use Rattle.node.specs.NodeView.{node_view}
 use Rattle.node.specs.Said.{held_image}
 use Rattle.node.proofs.Verdicts.{fine_unless_held, held_image_is, held_there, then_runs}
 use Rattle.node.specs.declared.checkpoint.Then.TheVariants as then_is

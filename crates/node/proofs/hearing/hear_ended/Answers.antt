@@ -12,7 +12,7 @@ use Rattle.protocol.specs.Node.Answering.{holds}
 use Rattle.protocol.specs.Node.NodeView.{ModeView, NodeView}
 use Rattle.protocol.specs.Node.Plans.{becoming, putting}
 use Rattle.protocol.specs.Node.Verdicts.{after_verdict, ended_prospect}
-use Rattle.node.specs.NodeView.{mode_view, node_view}
+use Rattle.node.specs.NodeView.{node_view}
 use Rattle.node.proofs.Verdicts.{dropped_fits, fine_unless_held, then_runs}
 use Rattle.node.specs.declared.checkpoint.Then.TheVariants as then_is
 use Rattle.node.proofs.Puts.{put_event, put_kept}

@@ -1,4 +1,4 @@
-use Rattle.std.proofs.Common.{◌≡◌, false, [], List, Option, Result, refl, sym, ap, subst, ◌∙◌}
+use Rattle.std.proofs.Common.{◌≡◌, false, [], List, Option, refl, sym, ap, subst, ◌∙◌}
 use Rattle.ckpt_store.specs.StoreView.{record_in}
 use Rattle.record.specs.RecordView.{RecordView}
 use Rattle.protocol.specs.Node.GoingBack.{UndoneAnswer, Notes, GoesBack, answer_to_undone, noting_undone, undone_by}

@@ -1,4 +1,4 @@
-use Rattle.std.proofs.Common.{rules, ◌≡◌, ◌<◌, Err, Result, ℤ, Bool, List, Ok, true, false, refl, sym, subst, ap, ◌∙◌}
+use Rattle.std.proofs.Common.{rules, ◌≡◌, ◌<◌, Err, Result, ℤ, List, Ok, refl, sym, subst, ap, ◌∙◌}
 use Rattle.std.proofs.Common.{arith}
 use Rattle.std.specs.Prelude.{All, IfOk, slice_get}
 use Rattle.std.specs.declared.alloc.AllocError.{AllocError}
@@ -39,7 +39,7 @@ use Rattle.world.specs.EventView.{event_view}
 use Rattle.world.specs.StationView.{outlet_views}
 use Rattle.world.specs.WorldView.{station_view}
 use Rattle.world.proofs.Arriving.{arrives_allowed, arrives_heard}
-use Rattle.world.proofs.Events.{acted_came, installed_came, moved_put, released_came, undue_came}
+use Rattle.world.proofs.Events.{acted_came, installed_came, moved_put, released_came}
 use Rattle.world.proofs.Planned.{deed_came, quiet_came}
 use Rattle.world.proofs.station.Station.act.Goals as goal
 

@@ -1,4 +1,4 @@
-use Rattle.std.proofs.Common.{List, [], length, map, refl, ap, sym, subst, ◌∙◌}
+use Rattle.std.proofs.Common.{List, [], map, refl, ap, sym, subst, ◌∙◌}
 use Rattle.kahn_net.specs.Syntax.{network_of}
 use Rattle.ckpt_store.specs.Spelling.{fits_in}
 use Rattle.ckpt_store.specs.StoreView.{cell_in}
