@@ -50,9 +50,10 @@
 //! | `closed disk 0 gate -> 0`, `closed disk 0 header -> 02 00 ..`, `closed disk 0 slot 1 -> 01 ..` | the first byte of its gate; the header in the area that it names, and the bytes in a slot (of one sector), in hexadecimal |
 //! | `closed outputs -> 2 3`, `closed output 2 -> 4 9` | the channels of the outputs, as they come; what has left by one |
 //!
-//! `run`, `in turn`, `turns`, `jobs` and `chance` answer nothing. An event answers `delivered`, `dropped 33`, `job`, `done` (of an install),
-//! `discarded`, `sent`, `started`, `decided`, `refused 22`, `released 1 3` (so many items have left by the output), `outlet failed`,
-//! `crashed`, `recovered`, `in doubt`, `down`, `acted`, `idled` or `not due`. Behind items that end in `..` more may have left.
+//! `run`, `in turn`, `turns`, `jobs` and `chance` answer nothing. An event answers `delivered`, `dropped 33`, `job`, `done` (of an
+//! install), `discarded`, `sent`, `started`, `decided`, `refused 22`, `released 1 3` (so many items have left by the output),
+//! `outlet failed`, `crashed`, `recovered`, `in doubt`, `down`, `acted`, `idled` or `not due`. Behind items that end in `..` more may
+//! have left.
 //!
 //! After each event, also of those that `pick` and chance choose, what has left has to be a beginning of what each `released` line
 //! below it says.
