@@ -60,17 +60,31 @@ fn put_group(
         return put_bytes(out, bytes);
     }
     match group.split_once("*") {
-        Some((repeated, times)) => put_repeated(out, &digits(alloc, repeated)?, size(times)?),
+        Some((repeated, times)) => {
+            let times = size(times)?;
+            put_repeated(out, &digits(alloc, repeated)?, times)
+        }
         None => put_bytes(out, &digits(alloc, group)?),
     }
+}
+
+/// Puts the bytes that these groups spell.
+fn put_groups(
+    alloc: Global,
+    named: &[NamedBytes],
+    out: &mut Vec<u8>,
+    text: &str,
+) -> anyhow::Result<()> {
+    for group in text.split_whitespace() {
+        put_group(alloc, named, out, group)?;
+    }
+    Ok(())
 }
 
 /// The bytes that these groups spell.
 pub fn spelled(alloc: Global, named: &[NamedBytes], text: &str) -> anyhow::Result<Vec<u8>> {
     let mut bytes = Vec::new(alloc);
-    for group in text.split_whitespace() {
-        put_group(alloc, named, &mut bytes, group)?;
-    }
+    put_groups(alloc, named, &mut bytes, text)?;
     Ok(bytes)
 }
 

@@ -1,5 +1,6 @@
 //! Names that stand for several numbers, so that a case is run for each choice of them.
 
+use crate::numbers::number;
 use std::alloc::{AllocError, Global};
 
 /// A name of a `for` line, and the numbers for which it stands.
@@ -19,10 +20,9 @@ fn is_name(word: &str) -> bool {
 
 /// Adds a number, or those from `FIRST..LAST`, both included.
 fn add_values(values: &mut Vec<u64>, word: &str) -> anyhow::Result<()> {
-    let (first, last) = match word.split_once("..") {
-        Some((first, last)) => (first.parse::<u64>()?, last.parse::<u64>()?),
-        None => (word.parse::<u64>()?, word.parse::<u64>()?),
-    };
+    let (first, last) = word.split_once("..").unwrap_or((word, word));
+    let first = number(first)?;
+    let last = number(last)?;
     anyhow::ensure!(first <= last, "{word} is no range");
     anyhow::ensure!(last - first < MAX_RANGE, "{word} is too long");
     for value in first..=last {
@@ -31,40 +31,38 @@ fn add_values(values: &mut Vec<u64>, word: &str) -> anyhow::Result<()> {
     Ok(())
 }
 
+/// Adds a name, or numbers to the name before them.
+fn add_word<'a>(alloc: Global, names: &mut Vec<Name<'a>>, word: &'a str) -> anyhow::Result<()> {
+    if is_name(word) {
+        names.push(Name {
+            name: word,
+            values: Vec::new(alloc),
+        })?;
+        return Ok(());
+    }
+    match names.last_mut() {
+        Some(name) => add_values(&mut name.values, word),
+        None => anyhow::bail!("{word} stands before a name"),
+    }
+}
+
 /// Adds the names and numbers that stand behind a `for`.
 pub fn add_names<'a>(
     alloc: Global,
     names: &mut Vec<Name<'a>>,
-    words: &[&'a str],
+    text: &'a str,
 ) -> anyhow::Result<()> {
-    for word in words {
-        if is_name(word) {
-            names.push(Name {
-                name: *word,
-                values: Vec::new(alloc),
-            })?;
-        } else {
-            match names.last_mut() {
-                Some(name) => add_values(&mut name.values, word)?,
-                None => anyhow::bail!("{word} stands before a name"),
-            }
-        }
+    for word in text.split_whitespace() {
+        add_word(alloc, names, word)?;
     }
     Ok(())
 }
 
-/// Each choice of one number for each name.
-pub fn choices(alloc: Global, names: &[Name]) -> Result<Vec<Vec<u64>>, AllocError> {
-    let mut choices = Vec::new(alloc);
-    choices.push(Vec::new(alloc))?;
-    for name in names {
-        let mut longer = Vec::new(alloc);
-        for choice in &choices {
-            add_choices(alloc, &mut longer, choice, &name.values)?;
-        }
-        choices = longer;
-    }
-    Ok(choices)
+/// A choice with a number behind it.
+fn with_value(alloc: Global, choice: &[u64], value: u64) -> Result<Vec<u64>, AllocError> {
+    let mut longer = Vec::from_slice(alloc, choice)?;
+    longer.push(value)?;
+    Ok(longer)
 }
 
 /// Adds a choice with each of these numbers behind it.
@@ -75,11 +73,32 @@ fn add_choices(
     values: &[u64],
 ) -> Result<(), AllocError> {
     for value in values {
-        let mut next = Vec::from_slice(alloc, choice)?;
-        next.push(*value)?;
-        longer.push(next)?;
+        longer.push(with_value(alloc, choice, *value)?)?;
     }
     Ok(())
+}
+
+/// Each of these choices with each of these numbers behind it.
+fn with_values(
+    alloc: Global,
+    choices: &[Vec<u64>],
+    values: &[u64],
+) -> Result<Vec<Vec<u64>>, AllocError> {
+    let mut longer = Vec::new(alloc);
+    for choice in choices {
+        add_choices(alloc, &mut longer, choice, values)?;
+    }
+    Ok(longer)
+}
+
+/// Each choice of one number for each name.
+pub fn choices(alloc: Global, names: &[Name]) -> Result<Vec<Vec<u64>>, AllocError> {
+    let mut choices = Vec::new(alloc);
+    choices.push(Vec::new(alloc))?;
+    for name in names {
+        choices = with_values(alloc, &choices, &name.values)?;
+    }
+    Ok(choices)
 }
 
 /// The number that a name stands for.
@@ -109,6 +128,22 @@ fn sum_of(word: &str, names: &[Name], choice: &[u64]) -> Option<u64> {
     if has_name { Some(sum) } else { None }
 }
 
+/// Puts a word behind others, or the number in its place.
+fn push_word(
+    alloc: Global,
+    line: &mut String,
+    word: &str,
+    number: Option<u64>,
+) -> Result<(), AllocError> {
+    if !line.is_empty() {
+        line.push_str(" ")?;
+    }
+    match number {
+        Some(number) => line.push_str(format!(in alloc; "{number}")?.as_str()),
+        None => line.push_str(word),
+    }
+}
+
 /// A line's words with one space between them, and with numbers in the place of names.
 pub fn filled(
     alloc: Global,
@@ -118,13 +153,7 @@ pub fn filled(
 ) -> Result<String, AllocError> {
     let mut line = String::new(alloc);
     for word in text.split_whitespace() {
-        if !line.is_empty() {
-            line.push_str(" ")?;
-        }
-        match sum_of(word, names, choice) {
-            Some(sum) => line.push_str(format!(in alloc; "{sum}")?.as_str())?,
-            None => line.push_str(word)?,
-        }
+        push_word(alloc, &mut line, word, sum_of(word, names, choice))?;
     }
     Ok(line)
 }

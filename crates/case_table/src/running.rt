@@ -27,7 +27,19 @@ pub fn read(rt: &HostRuntime, name: &str) -> io::Result<String> {
     Ok(text)
 }
 
-/// Prints a case that came out otherwise.
+/// Prints a case that came out otherwise, with the numbers that were chosen.
+fn print_difference(
+    rt: &HostRuntime,
+    title: &str,
+    chosen: &str,
+    difference: &Difference,
+) -> io::Result<()> {
+    println!(rt; "otherwise: {title}{chosen}")?;
+    println!(rt; "  line {}: {}", difference.line, difference.asked)?;
+    println!(rt; "  expected: {}", difference.wanted)?;
+    println!(rt; "  came: {}", difference.came)
+}
+
 fn report(
     rt: &HostRuntime,
     case: &Case,
@@ -35,10 +47,7 @@ fn report(
     difference: &Difference,
 ) -> io::Result<()> {
     let chosen = chosen(rt.alloc(), &case.names, choice)?;
-    println!(rt; "otherwise: {}{chosen}", case.title)?;
-    println!(rt; "  line {}: {}", difference.line, difference.asked)?;
-    println!(rt; "  expected: {}", difference.wanted)?;
-    println!(rt; "  came: {}", difference.came)
+    print_difference(rt, case.title, &chosen, difference)
 }
 
 /// What comes out otherwise than a case says, for one choice.
@@ -53,22 +62,45 @@ fn found_in(
         .context(format_args!("the case of line {}", case.line))
 }
 
-/// Whether a case comes out as written, for each choice of its numbers. Prints the first that doesn't.
-fn holds(rt: &HostRuntime, case: &Case, trial: &impl Trial) -> anyhow::Result<bool> {
-    let all = choices(rt.alloc(), &case.names)?;
-    for choice in &all {
-        if let Some(difference) = found_in(rt, case, choice, trial)? {
+/// Whether a case comes out as written for one choice. Prints it where it doesn't.
+fn holds_for(
+    rt: &HostRuntime,
+    case: &Case,
+    choice: &[u64],
+    trial: &impl Trial,
+) -> anyhow::Result<bool> {
+    match found_in(rt, case, choice, trial)? {
+        Some(difference) => {
             report(rt, case, choice, &difference)?;
+            Ok(false)
+        }
+        None => Ok(true),
+    }
+}
+
+/// Whether a case comes out as written, for each of these choices. Prints the first that doesn't.
+fn holds(
+    rt: &HostRuntime,
+    case: &Case,
+    choices: &[Vec<u64>],
+    trial: &impl Trial,
+) -> anyhow::Result<bool> {
+    for choice in choices {
+        if !holds_for(rt, case, choice, trial)? {
             return Ok(false);
         }
     }
     Ok(true)
 }
 
-/// Whether a case comes out otherwise, for each choice of its numbers.
-fn fails(rt: &HostRuntime, case: &Case, trial: &impl Trial) -> anyhow::Result<bool> {
-    let all = choices(rt.alloc(), &case.names)?;
-    for choice in &all {
+/// Whether a case comes out otherwise, for each of these choices.
+fn fails(
+    rt: &HostRuntime,
+    case: &Case,
+    choices: &[Vec<u64>],
+    trial: &impl Trial,
+) -> anyhow::Result<bool> {
+    for choice in choices {
         if found_in(rt, case, choice, trial)?.is_none() {
             return Ok(false);
         }
@@ -81,7 +113,8 @@ fn fails(rt: &HostRuntime, case: &Case, trial: &impl Trial) -> anyhow::Result<bo
 pub fn run_cases(rt: &HostRuntime, cases: &[Case], trial: &impl Trial) -> anyhow::Result<()> {
     let mut as_written: usize = 0;
     for case in cases {
-        if holds(rt, case, trial)? {
+        let all = choices(rt.alloc(), &case.names)?;
+        if holds(rt, case, &all, trial)? {
             as_written = as_written.saturating_add(1);
         }
     }
@@ -98,8 +131,9 @@ pub fn run_cases(rt: &HostRuntime, cases: &[Case], trial: &impl Trial) -> anyhow
 /// program that lets it pass would let every case pass.
 pub fn run_wrong_cases(rt: &HostRuntime, cases: &[Case], trial: &impl Trial) -> anyhow::Result<()> {
     for case in cases {
+        let all = choices(rt.alloc(), &case.names)?;
         anyhow::ensure!(
-            fails(rt, case, trial)?,
+            fails(rt, case, &all, trial)?,
             "the wrong case of line {} came out as written",
             case.line
         );

@@ -12,7 +12,7 @@ pub struct Line<'a> {
 }
 
 /// What the lines of a table are.
-#[derive(Clone, Copy, Debug, PartialEq, Eq)]
+#[derive(Clone, Copy)]
 enum Kind {
     /// Words. Empty lines, and those that begin with `#`, say nothing, and a line `for ..` gives names their numbers.
     Words,
@@ -42,14 +42,10 @@ impl<'a> Case<'a> {
 
     /// A further line of the case.
     fn add(&mut self, alloc: Global, kind: Kind, line: Line<'a>) -> anyhow::Result<()> {
-        if let Kind::Words = kind {
-            if let Some(rest) = line.text.strip_prefix("for ") {
-                let words: Vec<&'a str> = rest.split_whitespace().collect(alloc)?;
-                return add_names(alloc, &mut self.names, words.as_slice());
-            }
+        match (kind, line.text.strip_prefix("for ")) {
+            (Kind::Words, Some(names)) => add_names(alloc, &mut self.names, names),
+            _ => Ok(self.lines.push(line)?),
         }
-        self.lines.push(line)?;
-        Ok(())
     }
 
     /// Whether each of its names stands for a number, and is used.
@@ -58,20 +54,6 @@ impl<'a> Case<'a> {
             !name.values.is_empty() && self.lines.iter().any(|line| is_used(name.name, line.text))
         })
     }
-}
-
-/// Adds a case that was read to its end.
-fn add_case<'a>(cases: &mut Vec<Case<'a>>, case: Option<Case<'a>>) -> anyhow::Result<()> {
-    let Some(case) = case else {
-        return Ok(());
-    };
-    anyhow::ensure!(
-        case.is_whole(),
-        "line {}: a name without a number, or that isn't used",
-        case.line
-    );
-    cases.push(case)?;
-    Ok(())
 }
 
 /// A table: what stands before its first case, and its cases.
@@ -86,37 +68,65 @@ fn is_remark(text: &str) -> bool {
     text.is_empty() || text.starts_with("#")
 }
 
-/// The table of a text.
-fn read_table<'a>(alloc: Global, kind: Kind, text: &'a str) -> anyhow::Result<Table<'a>> {
-    let mut head = Vec::new(alloc);
-    let mut cases = Vec::new(alloc);
-    let mut case: Option<Case<'a>> = None;
-    for (place, whole) in text.lines().enumerate() {
-        let number = place.saturating_add(1);
-        let text = if kind == Kind::Words {
-            whole.trim()
-        } else {
-            whole
-        };
-        if let Some(title) = text.strip_prefix("== ") {
-            add_case(&mut cases, case)?;
-            case = Some(Case::new(alloc, title, number));
-            continue;
-        }
-        if is_remark(text) && (kind == Kind::Words || case.is_none()) {
-            continue;
-        }
-        let line = Line { number, text };
-        match &mut case {
-            Some(open) => open
-                .add(alloc, kind, line)
-                .context(format_args!("line {number}"))?,
-            None => head.push(line)?,
+impl<'a> Table<'a> {
+    /// A line of the case that was begun last, or of what stands before the first.
+    fn add(&mut self, alloc: Global, kind: Kind, line: Line<'a>) -> anyhow::Result<()> {
+        match self.cases.last_mut() {
+            Some(case) => case.add(alloc, kind, line),
+            None => Ok(self.head.push(line)?),
         }
     }
-    add_case(&mut cases, case)?;
-    anyhow::ensure!(!cases.is_empty(), "no case stands in the table");
-    Ok(Table { head, cases })
+
+    /// A line of the text, which may begin a case, or say nothing.
+    fn read_line(&mut self, alloc: Global, kind: Kind, line: Line<'a>) -> anyhow::Result<()> {
+        if let Some(title) = line.text.strip_prefix("== ") {
+            return Ok(self.cases.push(Case::new(alloc, title, line.number))?);
+        }
+        // An empty line of a text stands, as each line of it does.
+        let may_stand = matches!(kind, Kind::Texts) && !self.cases.is_empty();
+        if is_remark(line.text) && !may_stand {
+            return Ok(());
+        }
+        self.add(alloc, kind, line)
+    }
+
+    /// All lines of a text.
+    fn read(&mut self, alloc: Global, kind: Kind, text: &'a str) -> anyhow::Result<()> {
+        for (place, whole) in text.lines().enumerate() {
+            let number = place.saturating_add(1);
+            let text = match kind {
+                Kind::Words => whole.trim(),
+                Kind::Texts => whole,
+            };
+            self.read_line(alloc, kind, Line { number, text })
+                .context(format_args!("line {number}"))?;
+        }
+        Ok(())
+    }
+
+    /// Refuses a table without cases, and one with a case that isn't whole.
+    fn check(&self) -> anyhow::Result<()> {
+        anyhow::ensure!(!self.cases.is_empty(), "no case stands in the table");
+        for case in &self.cases {
+            anyhow::ensure!(
+                case.is_whole(),
+                "line {}: a name without a number, or that isn't used",
+                case.line
+            );
+        }
+        Ok(())
+    }
+}
+
+/// The table of a text.
+fn read_table<'a>(alloc: Global, kind: Kind, text: &'a str) -> anyhow::Result<Table<'a>> {
+    let mut table = Table {
+        head: Vec::new(alloc),
+        cases: Vec::new(alloc),
+    };
+    table.read(alloc, kind, text)?;
+    table.check()?;
+    Ok(table)
 }
 
 /// The table of a text, with a line for each thing that a case says.
