@@ -1,1 +1,1 @@
-pub mod Wanted
+pub use Rattle.wanted.specs.Wanted

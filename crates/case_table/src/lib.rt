@@ -11,9 +11,10 @@ mod table;
 mod words;
 
 pub use bytes::{NamedBytes, named_in, spelled};
-pub use comparing::{Difference, is_wanted, parts_of};
+pub use comparing::{Difference, parts_of};
 pub use names::{Name, filled};
 pub use numbers::{byte, item, number, size};
 pub use running::{Trial, read, run_cases, run_wrong_cases};
 pub use table::{Case, Line, Table, table_of, table_of_texts};
+pub use wanted::is_wanted;
 pub use words::{listed, yes_or_no};

@@ -4,7 +4,7 @@ use Rattle.std.proofs.Common.{true≢false, sym, ◌∙◌, ap, inl, inr, arith}
 use Rattle.std.specs.Prelude.{IsTrue}
 use Rattle.std.proofs.lemmas.List.{append_cancel_left, append-nil}
 use Rattle.std.proofs.lemmas.Bool.Decides.{Decides-eqb}
-use Rattle.case_table.specs.Wanted.{Begins}
+use Rattle.wanted.specs.Wanted.{Begins}
 
 pub nothing_follows : (first came rest : List ℕ) → came ≡ first ++ rest → length rest < 1 → Begins first came
 nothing_follows first came [] e below = inl (e ∙ append-nil first)

@@ -1,8 +1,8 @@
 use Rattle.std.proofs.Common.{Some, None, refl}
 use Rattle.std.proofs.lemmas.Bool.Decides.{Decides-eqb}
 use Rattle.std.proofs.lemmas.Slice.Eq.{strip_prefix_is}
-use Rattle.case_table.proofs.Beginning.{nothing_follows, something_follows, nothing_begins}
-use Rattle.case_table.proofs.comparing.begins.Goals as goal
+use Rattle.wanted.proofs.Beginning.{nothing_follows, something_follows, nothing_begins}
+use Rattle.wanted.proofs.begins.Goals as goal
 
 pub returns-in-Some-empty : goal.returns-in-Some-empty
 returns-in-Some-empty c =
