@@ -105,7 +105,7 @@ fn add_named<'a>(
 
 /// Whether a word may be a name: it could be read as nothing else.
 fn is_name(alloc: Global, word: &str) -> bool {
-    !word.contains("*") && hex::decode(alloc, word).is_err()
+    word.split_once("*").is_none() && hex::decode(alloc, word).is_err()
 }
 
 fn add_line<'a>(

@@ -65,7 +65,7 @@ pub struct Table<'a> {
 
 /// Whether a line says nothing.
 fn is_remark(text: &str) -> bool {
-    text.is_empty() || text.starts_with("#")
+    matches!(text.as_bytes(), [] | [b'#', ..])
 }
 
 impl<'a> Table<'a> {
