@@ -19,6 +19,8 @@ process sum on 0 { var a; var v; loop { v = get i; a = a + v; put a to o; } }";
 /// The turn before which the node crashes: it has taken a tentative image then, and not made it permanent.
 const CRASHES_AT: u32 = 2;
 
+type MemWorld = World<SplitCell<MemDisk>, ListOutlet>;
+
 /// A disk in memory of so many sectors.
 fn empty_disk(alloc: Global, sectors: usize) -> Result<MemDisk, AllocError>
     requires { SECTOR_BYTES * sectors < 2 ^ 64 }
@@ -36,11 +38,7 @@ fn crash() -> Event {
 }
 
 /// One event. `World::apply` refuses for want of memory alone.
-fn apply(
-    alloc: Global,
-    world: &mut World<SplitCell<MemDisk>, ListOutlet>,
-    event: Event,
-) -> anyhow::Result<Reply> {
+fn apply(alloc: Global, world: &mut MemWorld, event: Event) -> anyhow::Result<Reply> {
     match world.apply(alloc, event) {
         Ok(reply) => Ok(reply),
         Err(_) => Err(anyhow::anyhow!("no memory")),
@@ -48,7 +46,7 @@ fn apply(
 }
 
 /// The event that is next for node 0. A job that it grants is run, and what came of it is brought back.
-fn step(alloc: Global, world: &mut World<SplitCell<MemDisk>, ListOutlet>) -> anyhow::Result<()> {
+fn step(alloc: Global, world: &mut MemWorld) -> anyhow::Result<()> {
     let event = world.pick(0);
     if let Reply::Granted(job) = apply(alloc, world, event)? {
         let Ok(done) = job.run(alloc) else {
@@ -59,8 +57,8 @@ fn step(alloc: Global, world: &mut World<SplitCell<MemDisk>, ListOutlet>) -> any
     Ok(())
 }
 
-fn main(rt: HostRuntime) -> anyhow::Result<()> {
-    let alloc = rt.alloc();
+/// The world before its first event.
+fn open(alloc: Global) -> anyhow::Result<MemWorld> {
     let net = check(alloc, parse(alloc, NET)?)?;
     anyhow::ensure!(node_count(&net) == 1, "several nodes");
     let inputs = bind(alloc, &net, parse_inputs(alloc, "i: 1 2 3")?)?;
@@ -69,22 +67,38 @@ fn main(rt: HostRuntime) -> anyhow::Result<()> {
     let inputs = Arc::new(alloc, inputs)?;
     let mut disks = Vec::with_capacity(alloc, 1)?;
     disks.push(empty_disk(alloc, SECTORS)?)?;
-    let mut world = match World::new(alloc, net, inputs, disks, outputs) {
-        Ok(world) => world,
-        Err(refused) => return Err(refused.fault.into()),
-    };
+    match World::new(alloc, net, inputs, disks, outputs) {
+        Ok(world) => Ok(world),
+        Err(refused) => Err(refused.fault.into()),
+    }
+}
+
+/// Goes on until the world is complete, with a crash in the middle.
+fn run(alloc: Global, world: &mut MemWorld) -> anyhow::Result<()> {
     for turn in 0..100 {
         if world.complete() {
             break;
         }
         if turn == CRASHES_AT {
-            apply(alloc, &mut world, crash())?;
+            apply(alloc, world, crash())?;
         }
-        step(alloc, &mut world)?;
+        step(alloc, world)?;
     }
+    Ok(())
+}
+
+/// Prints what has left, and whether the world is complete.
+fn report(rt: &HostRuntime, world: &MemWorld) -> anyhow::Result<()> {
     for item in world.released(1) {
         println!(rt; "{item}")?;
     }
     println!(rt; "complete: {}", world.complete())?;
     Ok(())
+}
+
+fn main(rt: HostRuntime) -> anyhow::Result<()> {
+    let alloc = rt.alloc();
+    let mut world = open(alloc)?;
+    run(alloc, &mut world)?;
+    report(&rt, &world)
 }

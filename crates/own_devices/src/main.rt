@@ -150,11 +150,13 @@ fn run(rt: &HostRuntime, world: &mut OwnWorld, crashes: bool) -> anyhow::Result<
     Ok(())
 }
 
-/// Prints what has left, and what the devices say of it.
-fn report(rt: &HostRuntime, world: OwnWorld) -> anyhow::Result<()> {
-    println!(rt; "complete: {}", world.complete())?;
-    let (disks, outputs) = world.close(rt.alloc())?;
-    for output in &outputs {
+/// Prints what the devices say of it.
+fn report_devices(
+    rt: &HostRuntime,
+    disks: &[OwnDisk],
+    outputs: &[Output<Ledger>],
+) -> anyhow::Result<()> {
+    for output in outputs {
         let ledger = &output.outlet;
         println!(rt;
             "channel {}: {} items, sum {}",
@@ -163,13 +165,20 @@ fn report(rt: &HostRuntime, world: OwnWorld) -> anyhow::Result<()> {
             ledger.sum()
         )?;
     }
-    for disk in &disks {
+    for disk in disks {
         println!(rt;
             "disk: {} reads, {} writes, {} syncs",
             disk.reads, disk.writes, disk.syncs
         )?;
     }
     Ok(())
+}
+
+/// Prints whether the world is complete, and what the devices say of it.
+fn report(rt: &HostRuntime, world: OwnWorld) -> anyhow::Result<()> {
+    println!(rt; "complete: {}", world.complete())?;
+    let (disks, outputs) = world.close(rt.alloc())?;
+    report_devices(rt, &disks, &outputs)
 }
 
 /// Prints items on a line of their own.
@@ -182,6 +191,13 @@ fn print_items(rt: &HostRuntime, name: &str, items: &[i64]) -> anyhow::Result<()
     Ok(())
 }
 
+/// Runs a world to its end, and prints what has left.
+fn run_and_print(rt: &HostRuntime, world: &mut OwnWorld, crashes: bool) -> anyhow::Result<()> {
+    run(rt, world, crashes)?;
+    print_items(rt, "same", world.released(1))?;
+    print_items(rt, "total", world.released(2))
+}
+
 /// One run, and what it led to.
 fn run_whole(
     rt: &HostRuntime,
@@ -191,9 +207,7 @@ fn run_whole(
 ) -> anyhow::Result<()> {
     println!(rt; "{name}")?;
     let mut world = open(rt.alloc(), weakness)?;
-    run(rt, &mut world, crashes)?;
-    print_items(rt, "same", world.released(1))?;
-    print_items(rt, "total", world.released(2))?;
+    run_and_print(rt, &mut world, crashes)?;
     report(rt, world)
 }
 

@@ -27,3 +27,8 @@ pub(crate) fn same_at<T: PartialEq + Debug>(
 ) {
     assert_eq!(rt; *found, *wanted, "at {row:?}");
 }
+
+/// Asserts that something holds. A failure names it.
+pub(crate) fn holds(rt: &impl Abort, found: bool, what: &str) {
+    assert!(rt; found, "{what}");
+}

@@ -1,11 +1,14 @@
 //! What a table of texts can't say: whether two processes are the same, and whether inputs are those of a network.
 
-use crate::asserting::{same, same_at};
+use crate::asserting::{holds, same_at};
 use kahn_net::is_same_process;
 use net_check::{Net, bind, check, fits};
 use net_text::{parse, parse_inputs};
 use std::alloc::Global;
+use std::process::Abort;
 use std::test::Fail;
+
+const PROCESS: &str = "var a; var v; a = 1; loop { v = get i; put v + a + 1 to o; }";
 
 fn net_of(alloc: Global, process: &str) -> Result<Net, Fail> {
     let mut text = String::from_str(alloc, "kahn 1; input i; output o; process p on 0 { ")?;
@@ -24,43 +27,40 @@ fn has_same_process(left: &Net, right: &Net) -> bool {
     }
 }
 
+// Asserts whether this process is the same as the network's.
+fn is_compared(rt: &impl Abort, alloc: Global, net: &Net, process: &str, wanted: bool) {
+    match net_of(alloc, process) {
+        Ok(other) => same_at(rt, &has_same_process(net, &other), &wanted, &process),
+        Err(_) => holds(rt, false, "another network"),
+    }
+}
+
+fn compares_processes_with(rt: &impl Abort, alloc: Global, net: &Net) {
+    is_compared(rt, alloc, net, PROCESS, true);
+    // Other names, the same numbers.
+    is_compared(
+        rt,
+        alloc,
+        net,
+        "var x; var y; x = 1; loop { y = get i; put y + x + 1 to o; }",
+        true,
+    );
+    for other in [
+        "var a; var v = 1; a = 1; loop { v = get i; put v + a + 1 to o; }",
+        "var a; var v; a = 1; loop { v = get i; put v + a + 2 to o; }",
+        "var a; var v; a = 1; loop { v = get i; put v + a to o; }",
+        "var a; var v; a = 1; loop { v = get i; put v + a + 1 to o; a = 1; }",
+        "var a; var v; a = 1; v = get i; put v + a + 1 to o;",
+        "var a; var v; loop { v = get i; put v + a + 1 to o; }",
+    ] {
+        is_compared(rt, alloc, net, other, false);
+    }
+}
+
 #[test]
 fn compares_processes(rt: HostRuntime) -> Result<(), Fail> {
     let alloc = rt.alloc();
-    let process = "var a; var v; a = 1; loop { v = get i; put v + a + 1 to o; }";
-    let net = net_of(alloc, process)?;
-    for (other, wanted) in [
-        (process, true),
-        // Other names, the same numbers.
-        (
-            "var x; var y; x = 1; loop { y = get i; put y + x + 1 to o; }",
-            true,
-        ),
-        (
-            "var a; var v = 1; a = 1; loop { v = get i; put v + a + 1 to o; }",
-            false,
-        ),
-        (
-            "var a; var v; a = 1; loop { v = get i; put v + a + 2 to o; }",
-            false,
-        ),
-        (
-            "var a; var v; a = 1; loop { v = get i; put v + a to o; }",
-            false,
-        ),
-        (
-            "var a; var v; a = 1; loop { v = get i; put v + a + 1 to o; a = 1; }",
-            false,
-        ),
-        ("var a; var v; a = 1; v = get i; put v + a + 1 to o;", false),
-        (
-            "var a; var v; loop { v = get i; put v + a + 1 to o; }",
-            false,
-        ),
-    ] {
-        let found = has_same_process(&net, &net_of(alloc, other)?);
-        same_at(&rt, &found, &wanted, &other);
-    }
+    compares_processes_with(&rt, alloc, &net_of(alloc, PROCESS)?);
     Ok(())
 }
 
@@ -71,24 +71,22 @@ fn fits_another(alloc: Global, net: &Net, other: &str) -> Result<bool, Fail> {
     Ok(fits(&other, &inputs))
 }
 
+// Asserts whether the inputs of a network are those of another.
+fn is_fit(rt: &impl Abort, alloc: Global, net: &Net, other: &str, wanted: bool) {
+    match fits_another(alloc, net, other) {
+        Ok(found) => same_at(rt, &found, &wanted, &other),
+        Err(_) => holds(rt, false, "another network"),
+    }
+}
+
 #[test]
 fn inputs_of_another_network(rt: HostRuntime) -> Result<(), Fail> {
     let alloc = rt.alloc();
-    let process = "process p on 0 { var v; v = get i; put v to o; }";
     let net = net_of(alloc, "var v; v = get i; put v to o;")?;
-    let same_order = format!(in alloc; "kahn 1; input i; output o; {process}")?;
-    let other_order = format!(in alloc; "kahn 1; output o; input i; {process}")?;
-    same(
-        &rt,
-        &fits_another(alloc, &net, &same_order)?,
-        &true,
-        "the network's own",
-    );
-    same(
-        &rt,
-        &fits_another(alloc, &net, &other_order)?,
-        &false,
-        "with the output first",
-    );
+    let same_order = "kahn 1; input i; output o; process p on 0 { var v; v = get i; put v to o; }";
+    is_fit(&rt, alloc, &net, same_order, true);
+    let output_first =
+        "kahn 1; output o; input i; process p on 0 { var v; v = get i; put v to o; }";
+    is_fit(&rt, alloc, &net, output_first, false);
     Ok(())
 }

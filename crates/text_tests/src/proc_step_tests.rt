@@ -1,6 +1,6 @@
 //! Turns of small processes, with states and items worked out by hand.
 
-use crate::asserting::{same, same_at, same_items, same_items_at};
+use crate::asserting::{holds, same, same_at, same_items, same_items_at};
 use kahn_net::History;
 use net_check::{Net, check};
 use net_text::parse;
@@ -137,29 +137,51 @@ fn turn(
     Ok(job(alloc, net, before, items, room)?.run(alloc)?)
 }
 
-/// What a network's first process puts on channel 1 in all, where each turn has at most so many
-/// items and so much room.
+/// What a turn with these items at hand and so much room is added to. Gives how many items it took, and where it ended.
+fn go_on(
+    alloc: Global,
+    net: &Arc<Net>,
+    before: ProcState,
+    hand: &[i64],
+    room: usize,
+    out: &mut Vec<i64>,
+) -> Result<(usize, ProcState), Fail> {
+    let done = job(alloc, net, before, hand, room)?.run(alloc)?;
+    out.extend_from_slice(sent(&done))?;
+    Ok((taken(&done), done.state))
+}
+
+/// Adds what a network's first process puts on channel 1 in all, where each turn has at most so many items and so much room.
+fn cut_into(
+    alloc: Global,
+    net: &Arc<Net>,
+    whole: Whole<'_>,
+    at_once: usize,
+    room: usize,
+    out: &mut Vec<i64>,
+) -> Result<(), Fail> {
+    let mut before = state(alloc, Where::NotBegun, whole.variables)?;
+    let mut next: usize = 0;
+    for _ in 0..100 {
+        let rest = whole.items.get(next..).unwrap_or(&[]);
+        let hand = rest.get(..at_once).unwrap_or(rest);
+        let (taken, after) = go_on(alloc, net, before, hand, room, out)?;
+        next = next.saturating_add(taken);
+        before = after;
+    }
+    Ok(())
+}
+
+/// The same alone.
 fn cut(
     alloc: Global,
     net: &Arc<Net>,
-    variables: &[i64],
-    items: &[i64],
+    whole: Whole<'_>,
     at_once: usize,
     room: usize,
 ) -> Result<Vec<i64>, Fail> {
     let mut out = Vec::new(alloc);
-    let mut before = state(alloc, Where::NotBegun, variables)?;
-    let mut next = 0;
-    for _ in 0..100 {
-        let rest = items.get(next..).unwrap_or(&[]);
-        let hand = rest.get(..at_once).unwrap_or(rest);
-        let done = job(alloc, net, before, hand, room)?.run(alloc)?;
-        next = next.saturating_add(taken(&done));
-        for item in sent(&done) {
-            out.push(*item)?;
-        }
-        before = done.state;
-    }
+    cut_into(alloc, net, whole, at_once, room, &mut out)?;
     Ok(out)
 }
 
@@ -195,33 +217,30 @@ struct End<'a> {
     sent: &'a [i64],
 }
 
-/// Asserts what a turn of a network's first process comes to.
-fn goes(
-    rt: &impl Abort,
-    alloc: Global,
-    net: &Arc<Net>,
-    start: Start<'_>,
-    end: End<'_>,
-) -> Result<(), Fail> {
-    let done = turn(
+/// Asserts what a turn came to.
+fn has_come_to(rt: &impl Abort, done: &Done, end: End<'_>) {
+    same(rt, &where_is(&done.state.mode), &end.place, "place");
+    same_items(rt, &done.state.variables, end.variables, "variables");
+    same(rt, &taken(done), &end.taken, "taken");
+    same_items(rt, sent(done), end.sent, "sent");
+}
+
+/// Asserts what a turn of a network's first process comes to. All is asserted, so that a test has no `?` for it.
+fn goes(rt: &impl Abort, alloc: Global, net: &Arc<Net>, start: Start<'_>, end: End<'_>) {
+    match turn(
         alloc,
         net,
         start.place,
         start.variables,
         start.items,
         start.room,
-    )?;
-    same(rt, &where_is(&done.state.mode), &end.place, "place");
-    same_items(rt, &done.state.variables, end.variables, "variables");
-    same(rt, &taken(&done), &end.taken, "taken");
-    same_items(rt, sent(&done), end.sent, "sent");
-    Ok(())
+    ) {
+        Ok(done) => has_come_to(rt, &done, end),
+        Err(_) => holds(rt, false, "a turn"),
+    }
 }
 
-#[test]
-fn turns_of_the_running_sum(rt: HostRuntime) -> Result<(), Fail> {
-    let alloc = rt.alloc();
-    let net = net_of(alloc, SUM)?;
+fn turns_of_the_running_sum_on(rt: &impl Abort, alloc: Global, net: &Arc<Net>) {
     let start = Start {
         place: Where::NotBegun,
         variables: &[0, 0],
@@ -234,7 +253,7 @@ fn turns_of_the_running_sum(rt: HostRuntime) -> Result<(), Fail> {
         taken: 0,
         sent: &[],
     };
-    goes(&rt, alloc, &net, start, end)?;
+    goes(rt, alloc, net, start, end);
     let start = Start {
         place: Where::NotBegun,
         variables: &[0, 0],
@@ -247,7 +266,7 @@ fn turns_of_the_running_sum(rt: HostRuntime) -> Result<(), Fail> {
         taken: 1,
         sent: &[],
     };
-    goes(&rt, alloc, &net, start, end)?;
+    goes(rt, alloc, net, start, end);
     let start = Start {
         place: Where::At(1),
         variables: &[5, 5],
@@ -260,7 +279,7 @@ fn turns_of_the_running_sum(rt: HostRuntime) -> Result<(), Fail> {
         taken: 0,
         sent: &[5],
     };
-    goes(&rt, alloc, &net, start, end)?;
+    goes(rt, alloc, net, start, end);
     let start = Start {
         place: Where::NotBegun,
         variables: &[0, 0],
@@ -273,7 +292,7 @@ fn turns_of_the_running_sum(rt: HostRuntime) -> Result<(), Fail> {
         taken: 3,
         sent: &[1, 3, 6],
     };
-    goes(&rt, alloc, &net, start, end)?;
+    goes(rt, alloc, net, start, end);
     let start = Start {
         place: Where::NotBegun,
         variables: &[0, 0],
@@ -286,13 +305,17 @@ fn turns_of_the_running_sum(rt: HostRuntime) -> Result<(), Fail> {
         taken: 3,
         sent: &[1, 3],
     };
-    goes(&rt, alloc, &net, start, end)
+    goes(rt, alloc, net, start, end);
 }
 
 #[test]
-fn turns_within_a_repetition(rt: HostRuntime) -> Result<(), Fail> {
+fn turns_of_the_running_sum(rt: HostRuntime) -> Result<(), Fail> {
     let alloc = rt.alloc();
-    let net = net_of(alloc, THRICE)?;
+    turns_of_the_running_sum_on(&rt, alloc, &net_of(alloc, SUM)?);
+    Ok(())
+}
+
+fn puts_in_a_repetition(rt: &impl Abort, alloc: Global, net: &Arc<Net>) {
     let start = Start {
         place: Where::NotBegun,
         variables: &[0],
@@ -305,7 +328,7 @@ fn turns_within_a_repetition(rt: HostRuntime) -> Result<(), Fail> {
         taken: 1,
         sent: &[5, 5],
     };
-    goes(&rt, alloc, &net, start, end)?;
+    goes(rt, alloc, net, start, end);
     let start = Start {
         place: Where::NotBegun,
         variables: &[0],
@@ -318,7 +341,7 @@ fn turns_within_a_repetition(rt: HostRuntime) -> Result<(), Fail> {
         taken: 1,
         sent: &[],
     };
-    goes(&rt, alloc, &net, start, end)?;
+    goes(rt, alloc, net, start, end);
     let start = Start {
         place: Where::Within(1, 1),
         variables: &[5],
@@ -331,7 +354,7 @@ fn turns_within_a_repetition(rt: HostRuntime) -> Result<(), Fail> {
         taken: 0,
         sent: &[],
     };
-    goes(&rt, alloc, &net, start, end)?;
+    goes(rt, alloc, net, start, end);
     let start = Start {
         place: Where::Within(1, 1),
         variables: &[5],
@@ -344,7 +367,7 @@ fn turns_within_a_repetition(rt: HostRuntime) -> Result<(), Fail> {
         taken: 1,
         sent: &[5, 6, 6],
     };
-    goes(&rt, alloc, &net, start, end)?;
+    goes(rt, alloc, net, start, end);
     let start = Start {
         place: Where::Within(1, 2),
         variables: &[5],
@@ -357,8 +380,10 @@ fn turns_within_a_repetition(rt: HostRuntime) -> Result<(), Fail> {
         taken: 1,
         sent: &[5, 5, 6, 6, 6],
     };
-    goes(&rt, alloc, &net, start, end)?;
-    let net = net_of(alloc, BY_TWO)?;
+    goes(rt, alloc, net, start, end);
+}
+
+fn gets_in_a_repetition(rt: &impl Abort, alloc: Global, net: &Arc<Net>) {
     let start = Start {
         place: Where::NotBegun,
         variables: &[0],
@@ -371,7 +396,7 @@ fn turns_within_a_repetition(rt: HostRuntime) -> Result<(), Fail> {
         taken: 1,
         sent: &[1],
     };
-    goes(&rt, alloc, &net, start, end)?;
+    goes(rt, alloc, net, start, end);
     let start = Start {
         place: Where::Within(0, 1),
         variables: &[1],
@@ -384,7 +409,7 @@ fn turns_within_a_repetition(rt: HostRuntime) -> Result<(), Fail> {
         taken: 2,
         sent: &[2, 0, 3],
     };
-    goes(&rt, alloc, &net, start, end)?;
+    goes(rt, alloc, net, start, end);
     let start = Start {
         place: Where::Within(0, 1),
         variables: &[1],
@@ -397,7 +422,7 @@ fn turns_within_a_repetition(rt: HostRuntime) -> Result<(), Fail> {
         taken: 1,
         sent: &[2],
     };
-    goes(&rt, alloc, &net, start, end)?;
+    goes(rt, alloc, net, start, end);
     let start = Start {
         place: Where::Within(1, 2),
         variables: &[1],
@@ -410,13 +435,18 @@ fn turns_within_a_repetition(rt: HostRuntime) -> Result<(), Fail> {
         taken: 0,
         sent: &[1],
     };
-    goes(&rt, alloc, &net, start, end)
+    goes(rt, alloc, net, start, end);
 }
 
 #[test]
-fn turns_that_finish(rt: HostRuntime) -> Result<(), Fail> {
+fn turns_within_a_repetition(rt: HostRuntime) -> Result<(), Fail> {
     let alloc = rt.alloc();
-    let net = net_of(alloc, ONCE)?;
+    puts_in_a_repetition(&rt, alloc, &net_of(alloc, THRICE)?);
+    gets_in_a_repetition(&rt, alloc, &net_of(alloc, BY_TWO)?);
+    Ok(())
+}
+
+fn turns_that_finish_on(rt: &impl Abort, alloc: Global, net: &Arc<Net>) {
     let start = Start {
         place: Where::NotBegun,
         variables: &[5],
@@ -429,7 +459,7 @@ fn turns_that_finish(rt: HostRuntime) -> Result<(), Fail> {
         taken: 0,
         sent: &[],
     };
-    goes(&rt, alloc, &net, start, end)?;
+    goes(rt, alloc, net, start, end);
     let start = Start {
         place: Where::At(1),
         variables: &[6],
@@ -442,7 +472,7 @@ fn turns_that_finish(rt: HostRuntime) -> Result<(), Fail> {
         taken: 0,
         sent: &[],
     };
-    goes(&rt, alloc, &net, start, end)?;
+    goes(rt, alloc, net, start, end);
     let start = Start {
         place: Where::NotBegun,
         variables: &[5],
@@ -455,7 +485,7 @@ fn turns_that_finish(rt: HostRuntime) -> Result<(), Fail> {
         taken: 1,
         sent: &[6, 8],
     };
-    goes(&rt, alloc, &net, start, end)?;
+    goes(rt, alloc, net, start, end);
     let start = Start {
         place: Where::Finished,
         variables: &[4],
@@ -468,13 +498,17 @@ fn turns_that_finish(rt: HostRuntime) -> Result<(), Fail> {
         taken: 0,
         sent: &[],
     };
-    goes(&rt, alloc, &net, start, end)
+    goes(rt, alloc, net, start, end);
 }
 
 #[test]
-fn turns_from_prelude_to_loop(rt: HostRuntime) -> Result<(), Fail> {
+fn turns_that_finish(rt: HostRuntime) -> Result<(), Fail> {
     let alloc = rt.alloc();
-    let net = net_of(alloc, LED)?;
+    turns_that_finish_on(&rt, alloc, &net_of(alloc, ONCE)?);
+    Ok(())
+}
+
+fn turns_from_prelude_to_loop_on(rt: &impl Abort, alloc: Global, net: &Arc<Net>) {
     let start = Start {
         place: Where::NotBegun,
         variables: &[7],
@@ -487,7 +521,7 @@ fn turns_from_prelude_to_loop(rt: HostRuntime) -> Result<(), Fail> {
         taken: 2,
         sent: &[7, 1, 1, 2],
     };
-    goes(&rt, alloc, &net, start, end)?;
+    goes(rt, alloc, net, start, end);
     let start = Start {
         place: Where::At(3),
         variables: &[2],
@@ -500,32 +534,82 @@ fn turns_from_prelude_to_loop(rt: HostRuntime) -> Result<(), Fail> {
         taken: 0,
         sent: &[2],
     };
-    goes(&rt, alloc, &net, start, end)
+    goes(rt, alloc, net, start, end);
 }
 
-/// Wherever a run is cut into turns, the whole is the same.
 #[test]
-fn cut_at_every_length(rt: HostRuntime) -> Result<(), Fail> {
+fn turns_from_prelude_to_loop(rt: HostRuntime) -> Result<(), Fail> {
     let alloc = rt.alloc();
-    let sum = net_of(alloc, SUM)?;
-    let once = net_of(alloc, ONCE)?;
-    let led = net_of(alloc, LED)?;
-    let branches = net_of(alloc, BRANCHES)?;
+    turns_from_prelude_to_loop_on(&rt, alloc, &net_of(alloc, LED)?);
+    Ok(())
+}
+
+/// What a network's first process begins with, and what it puts on channel 1 in all.
+#[derive(Clone, Copy)]
+struct Whole<'a> {
+    variables: &'a [i64],
+    items: &'a [i64],
+    sent: &'a [i64],
+}
+
+/// Asserts what it puts where each turn has at most so many items and so much room.
+fn is_cut(
+    rt: &impl Abort,
+    alloc: Global,
+    net: &Arc<Net>,
+    whole: Whole<'_>,
+    at_once: usize,
+    room: usize,
+) {
+    match cut(alloc, net, whole, at_once, room) {
+        Ok(found) => same_items_at(rt, &found, whole.sent, &(at_once, room)),
+        Err(_) => holds(rt, false, "turns"),
+    }
+}
+
+/// Wherever the run of a network's first process is cut into turns, the whole is the same.
+fn is_cut_at_every_length(
+    rt: &impl Abort,
+    alloc: Global,
+    text: &str,
+    whole: Whole<'_>,
+) -> Result<(), Fail> {
+    let net = net_of(alloc, text)?;
     for at_once in 1..5 {
         for room in 1..5 {
-            let row = (at_once, room);
-            let sums = cut(alloc, &sum, &[0, 0], &[1, 2, 3], at_once, room)?;
-            same_items_at(&rt, &sums, &[1, 3, 6], &row);
-            let two = cut(alloc, &once, &[5], &[4], at_once, room)?;
-            same_items_at(&rt, &two, &[6, 8], &row);
-            let five = cut(alloc, &led, &[7], &[1, 2], at_once, room)?;
-            same_items_at(&rt, &five, &[7, 1, 1, 2, 2], &row);
-            let items = [7, 5, 8, 0, 9];
-            let six = cut(alloc, &branches, &[0, 0], &items, at_once, room)?;
-            same_items_at(&rt, &six, &[1, 5, 3, 2, 3, 2], &row);
+            is_cut(rt, alloc, &net, whole, at_once, room);
         }
     }
     Ok(())
+}
+
+#[test]
+fn cut_at_every_length(rt: HostRuntime) -> Result<(), Fail> {
+    let alloc = rt.alloc();
+    let sum = Whole {
+        variables: &[0, 0],
+        items: &[1, 2, 3],
+        sent: &[1, 3, 6],
+    };
+    is_cut_at_every_length(&rt, alloc, SUM, sum)?;
+    let once = Whole {
+        variables: &[5],
+        items: &[4],
+        sent: &[6, 8],
+    };
+    is_cut_at_every_length(&rt, alloc, ONCE, once)?;
+    let led = Whole {
+        variables: &[7],
+        items: &[1, 2],
+        sent: &[7, 1, 1, 2, 2],
+    };
+    is_cut_at_every_length(&rt, alloc, LED, led)?;
+    let branches = Whole {
+        variables: &[0, 0],
+        items: &[7, 5, 8, 0, 9],
+        sent: &[1, 5, 3, 2, 3, 2],
+    };
+    is_cut_at_every_length(&rt, alloc, BRANCHES, branches)
 }
 
 /// The running sum with its variables the other way round.
@@ -547,31 +631,42 @@ fn job_at(
     Ok(job)
 }
 
-/// Whether a job is the same as the one with this version, these variables, items and room.
-fn is_same_as(
-    alloc: Global,
-    one: &Job,
-    net: &Arc<Net>,
-    version: u64,
-    variables: &[i64],
-    items: &[i64],
-    room: usize,
-) -> Result<bool, Fail> {
-    let other = job_at(alloc, net, version, variables, items, room)?;
-    Ok(one.is_same(&other))
+/// Asserts whether two jobs are the same.
+fn is_compared(rt: &impl Abort, one: &Job, other: Result<Job, Fail>, wanted: bool, what: &str) {
+    match other {
+        Ok(other) => same(rt, &one.is_same(&other), &wanted, what),
+        Err(_) => holds(rt, false, what),
+    }
 }
 
-/// Whether a job is the same as the one at the sum's put.
-fn is_same_at_put(alloc: Global, one: &Job, net: &Arc<Net>) -> Result<bool, Fail> {
+/// The job at the sum's put.
+fn job_at_put(alloc: Global, net: &Arc<Net>) -> Result<Job, Fail> {
     let elsewhere = state(alloc, Where::At(1), &[1, 2])?;
-    let other = job(alloc, net, elsewhere, &[7, 8], 5)?;
-    Ok(one.is_same(&other))
+    job(alloc, net, elsewhere, &[7, 8], 5)
 }
 
-/// Whether a job is the same as the one of this network.
-fn is_same_in(alloc: Global, one: &Job, text: &str) -> Result<bool, Fail> {
+/// The job at the get of this network.
+fn job_in(alloc: Global, text: &str) -> Result<Job, Fail> {
     let net = net_of(alloc, text)?;
-    is_same_as(alloc, one, &net, 3, &[1, 2], &[7, 8], 5)
+    job_at(alloc, &net, 3, &[1, 2], &[7, 8], 5)
+}
+
+fn is_compared_whole(rt: &impl Abort, alloc: Global, net: &Arc<Net>, one: &Job) {
+    let other = job_at(alloc, net, 3, &[1, 2], &[7, 8], 5);
+    is_compared(rt, one, other, true, "the same once more");
+    let other = job_at(alloc, net, 4, &[1, 2], &[7, 8], 5);
+    is_compared(rt, one, other, false, "another version");
+    let other = job_at(alloc, net, 3, &[2, 1], &[7, 8], 5);
+    is_compared(rt, one, other, false, "other variables");
+    let other = job_at(alloc, net, 3, &[1, 2], &[7], 5);
+    is_compared(rt, one, other, false, "an item less");
+    let other = job_at(alloc, net, 3, &[1, 2], &[7, 9], 5);
+    is_compared(rt, one, other, false, "another item");
+    let other = job_at(alloc, net, 3, &[1, 2], &[7, 8], 4);
+    is_compared(rt, one, other, false, "less room");
+    is_compared(rt, one, job_in(alloc, SUM), true, "the net once more");
+    is_compared(rt, one, job_in(alloc, OTHER), false, "another net");
+    is_compared(rt, one, job_at_put(alloc, net), false, "another place");
 }
 
 #[test]
@@ -579,39 +674,21 @@ fn jobs_are_compared_whole(rt: HostRuntime) -> Result<(), Fail> {
     let alloc = rt.alloc();
     let net = net_of(alloc, SUM)?;
     let one = job_at(alloc, &net, 3, &[1, 2], &[7, 8], 5)?;
-    for (version, variables, items, room, wanted) in [
-        (3, [1, 2], [7, 8].as_slice(), 5, true),
-        (4, [1, 2], [7, 8].as_slice(), 5, false),
-        (3, [2, 1], [7, 8].as_slice(), 5, false),
-        (3, [1, 2], [7].as_slice(), 5, false),
-        (3, [1, 2], [7, 9].as_slice(), 5, false),
-        (3, [1, 2], [7, 8].as_slice(), 4, false),
-    ] {
-        let found = is_same_as(alloc, &one, &net, version, &variables, items, room)?;
-        same_at(&rt, &found, &wanted, &(version, room, items));
-    }
-    same(
-        &rt,
-        &is_same_in(alloc, &one, SUM)?,
-        &true,
-        "the net once more",
-    );
-    same(&rt, &is_same_in(alloc, &one, OTHER)?, &false, "another net");
-    same(
-        &rt,
-        &is_same_at_put(alloc, &one, &net)?,
-        &false,
-        "another place",
-    );
+    is_compared_whole(&rt, alloc, &net, &one);
     Ok(())
+}
+
+/// The running sum's first job, with an item.
+fn first_job(alloc: Global) -> Result<Job, Fail> {
+    let net = net_of(alloc, SUM)?;
+    let before = state(alloc, Where::NotBegun, &[0, 0])?;
+    job(alloc, &net, before, &[2], 1)
 }
 
 #[test]
 fn jobs_and_what_they_come_to_go_to_other_threads(rt: HostRuntime) -> Result<(), Fail> {
     let alloc = rt.alloc();
-    let net = net_of(alloc, SUM)?;
-    let before = state(alloc, Where::NotBegun, &[0, 0])?;
-    let job = sendable(job(alloc, &net, before, &[2], 1)?);
+    let job = sendable(first_job(alloc)?);
     same(&rt, &job.node(), &0, "node");
     let done = sendable(job.run(alloc)?);
     same(&rt, &done.job.process, &0, "process");
@@ -620,21 +697,25 @@ fn jobs_and_what_they_come_to_go_to_other_threads(rt: HostRuntime) -> Result<(),
     Ok(())
 }
 
+/// Asserts what a network's first process does next from a place.
+fn comes_next(rt: &impl Abort, alloc: Global, net: &Net, place: Where, wanted: NextAct) {
+    match next(alloc, net, place) {
+        Ok(found) => same_at(rt, &found, &wanted, &place),
+        Err(_) => holds(rt, false, "what comes next"),
+    }
+}
+
 #[test]
 fn what_comes_next(rt: HostRuntime) -> Result<(), Fail> {
     let alloc = rt.alloc();
     let led = net_of(alloc, LED)?;
     let put = NextAct::Put { channel: 1 };
     let get = NextAct::Get { channel: 0 };
-    for (place, wanted) in [
-        (Where::NotBegun, NextAct::Begin),
-        (Where::At(0), put),
-        (Where::At(1), get),
-        (Where::At(3), put),
-        (Where::At(4), NextAct::Nothing),
-        (Where::Finished, NextAct::Nothing),
-    ] {
-        same_at(&rt, &next(alloc, &led, place)?, &wanted, &place);
-    }
+    comes_next(&rt, alloc, &led, Where::NotBegun, NextAct::Begin);
+    comes_next(&rt, alloc, &led, Where::At(0), put);
+    comes_next(&rt, alloc, &led, Where::At(1), get);
+    comes_next(&rt, alloc, &led, Where::At(3), put);
+    comes_next(&rt, alloc, &led, Where::At(4), NextAct::Nothing);
+    comes_next(&rt, alloc, &led, Where::Finished, NextAct::Nothing);
     Ok(())
 }
