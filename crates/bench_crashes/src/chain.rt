@@ -1,6 +1,6 @@
 //! Running sums in a row, each on a node of its own.
 
-ghost use Rattle.std.specs.Prelude.{◌≡◌, ◌<◌, length};
+ghost use Rattle.std.specs.Prelude.{◌≡◌, ◌<◌, length, IfOk};
 
 use gate_cell::SplitCell;
 use net_check::{bind, check};
