@@ -26,8 +26,8 @@ use Rattle.protocol.specs.Node.NodeView.{NodeView, ModeView, InDoubt, Runs}
 abbrev code_on : ℕ → Code
 code_on node = record { node = node; vars = []; prelude = Nothing; body = None }
 
-abbrev row : Network
-row = record {
+abbrev trio : Network
+trio = record {
   channels = record { producer = Outside; consumer = Process 0 } ∷ record { producer = Process 0; consumer = Process 1 }
       ∷ record { producer = Process 1; consumer = Process 2 } ∷ record { producer = Process 2; consumer = Outside }
       ∷ [];
@@ -64,7 +64,7 @@ holding x n image = Some (record { initiator = x; number = n; image = image })
 -- ---- node 1 begins: it has got three items, and asks node 0 for them
 
 abbrev begins : LiveView
-begins = live_begun row 1 (kept_by 1 (0 ∷ 0 ∷ 0 ∷ []) [] (gets_and_puts 1 0 2 0) None) (gets_and_puts 1 3 2 3)
+begins = live_begun trio 1 (kept_by 1 (0 ∷ 0 ∷ 0 ∷ []) [] (gets_and_puts 1 0 2 0) None) (gets_and_puts 1 3 2 3)
 
 asks_one : begins ≡ record {
   number = 1;
@@ -73,11 +73,11 @@ asks_one : begins ≡ record {
 }
 asks_one = refl
 
-ask_goes : live_asks row 1 (Some begins) ≡ record { from = 1; to = 0; body = says.Ask 1 1 3 } ∷ []
+ask_goes : live_asks trio 1 (Some begins) ≡ record { from = 1; to = 0; body = says.Ask 1 1 3 } ∷ []
 ask_goes = refl
 
 -- where nothing was got, nobody is asked
-asks_nobody : needs_of row 1 (gets_and_puts 1 3 2 0) (gets_and_puts 1 3 2 3) ≡ []
+asks_nobody : needs_of trio 1 (gets_and_puts 1 3 2 0) (gets_and_puts 1 3 2 3) ≡ []
 asks_nobody = refl
 
 -- ---- node 0 is asked
@@ -90,7 +90,7 @@ took_record : kept_then 1 1 TakesNow (running (puts 1 3)) (kept_by 0 (0 ∷ 0 �
     ≡ kept_by 0 (0 ∷ 1 ∷ 0 ∷ []) [] (puts 1 0) (holding 1 1 (puts 1 3))
 took_record = refl
 
-took_goes : answer_packets row 0 1 1 1 3 (kept_by 0 (0 ∷ 1 ∷ 0 ∷ []) [] (puts 1 0) (holding 1 1 (puts 1 3))) TakesNow
+took_goes : answer_packets trio 0 1 1 1 3 (kept_by 0 (0 ∷ 1 ∷ 0 ∷ []) [] (puts 1 0) (holding 1 1 (puts 1 3))) TakesNow
     ≡ record { from = 0; to = 1; body = says.Took 1 1 3 [] } ∷ []
 took_goes = refl
 
@@ -146,10 +146,10 @@ two_begins = record {
 abbrev two_keeps : RecordView
 two_keeps = kept_by 2 (0 ∷ 0 ∷ 1 ∷ []) [] (gets_and_puts 2 0 3 0) (holding 2 1 (gets_and_puts 2 2 3 2))
 
-joins : answer_to_took row 2 1 2 (record { channel = 1; count = 2 } ∷ []) two_keeps (Some two_begins) ≡ Joins
+joins : answer_to_took trio 2 1 2 (record { channel = 1; count = 2 } ∷ []) two_keeps (Some two_begins) ≡ Joins
 joins = refl
 
-third_asked : joined_live row 2 1 2 (record { channel = 1; count = 2 } ∷ []) two_begins ≡ record {
+third_asked : joined_live trio 2 1 2 (record { channel = 1; count = 2 } ∷ []) two_begins ≡ record {
   number = 1;
   questions =
       None ∷ Some (record { count = 2; answer = Awaited }) ∷ Some (record { count = 2; answer = By_took }) ∷ None
@@ -158,12 +158,12 @@ third_asked : joined_live row 2 1 2 (record { channel = 1; count = 2 } ∷ []) t
 }
 third_asked = refl
 
-third_ask_goes : new_asks row 2 1 (record { channel = 1; count = 2 } ∷ []) (with_answer By_took 2 two_begins.questions)
+third_ask_goes : new_asks trio 2 1 (record { channel = 1; count = 2 } ∷ []) (with_answer By_took 2 two_begins.questions)
     ≡ record { from = 2; to = 0; body = says.Ask 1 1 2 } ∷ []
 third_ask_goes = refl
 
 -- the same again changes nothing, and asks nobody
-no_more_asks : new_asks row 2 1 (record { channel = 1; count = 2 } ∷ [])
+no_more_asks : new_asks trio 2 1 (record { channel = 1; count = 2 } ∷ [])
     (None ∷ Some (record { count = 2; answer = Awaited }) ∷ Some (record { count = 2; answer = By_took }) ∷ None ∷ [])
     ≡ []
 no_more_asks = refl
