@@ -1,13 +1,12 @@
 //! Events, and what comes of them.
 ghost use Rattle.std.specs.Prelude.{◌≡◌};
-ghost use Rattle.kahn_net.specs.Syntax.{network_of};
-ghost use Rattle.protocol.specs.World.Released.{HistoryReaches};
 
-use net_check::{Inputs, Net};
 use proc_step::{Done, Job};
 use protocol::Refusal;
 use sector_disk::ArmedFault;
 use std::sync::Arc;
+use stream_eq::Freed;
+use wire::Rule;
 
 /// What can happen. Each names its node, and `Install` that of its job's process.
 #[derive(Drop)]
@@ -63,6 +62,10 @@ pub enum Event {
         place: usize,
         rounds: u64,
     },
+    /// What is to become of the nth packet from one node to another: it is to be lost, put in flight twice, or due so many rounds
+    /// later. Packets are counted from the world's beginning on; of one that was sent already the rule says nothing. Of
+    /// several rules for one packet each applies, in the order of arming.
+    ArmPacket(Rule),
 }
 
 impl Event {
@@ -88,19 +91,9 @@ impl Event {
             Event::Lose { node, .. } => *node,
             Event::Repeat { node, .. } => *node,
             Event::Delay { node, .. } => *node,
+            Event::ArmPacket(rule) => rule.to,
         }
     }
-}
-
-/// How far an output's items have left the system: so many of this channel, in a run of this network on these inputs, of
-/// which it has shares. Its type keeps that the channel's history has so many items in some approximation.
-#[derive(Drop)]
-pub struct Freed {
-    pub net: Arc<Net>,
-    pub inputs: Arc<Inputs>,
-    pub output: u8,
-    pub number: u64,
-    pub ghost reached: { HistoryReaches (network_of net.value.program) inputs.value output number },
 }
 
 /// What came of an event.
@@ -111,8 +104,8 @@ pub enum Reply {
     /// It spells no packet, or one that isn't for this node or names what isn't there: it is gone (33). In a world this can't
     /// happen, since all that is in flight was sent by its nodes.
     Dropped,
-    /// The job that was granted.
-    Granted(Job),
+    /// A share of the job that was granted.
+    Granted(Arc<Job>),
     /// The turn was taken in.
     Installed,
     /// What came back isn't of the job that is out. It is gone.

@@ -1,0 +1,8 @@
+-- The table of marks, by which they are named.
+use Rattle.std.specs.Prelude.{[]}
+use Rattle.atomic_table.specs.Seated.{TableId}
+
+-- no table: a name that no marks have
+abbrev pub no_table : TableId
+no_table =
+    record { words = 0; slots = 0; views_name = 0; atom = 0; block = 0; offset = 0; slot_names = [] }

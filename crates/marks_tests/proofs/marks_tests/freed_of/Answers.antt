@@ -1,0 +1,18 @@
+use Rattle.std.proofs.Common.{◌≡◌, ℤ, List, rules, subst}
+use Rattle.kahn_net.specs.Syntax.{network_of}
+use Rattle.net_check.specs.declared.net.Net.{Net}
+use Rattle.stream_eq.specs.Reached.{HistoryReaches}
+use Rattle.marks_tests.proofs.marks_tests.freed_of.Goals as goal
+
+-- what the approximation was asked of is what is handed on
+pub invariant_of-result : goal.invariant_of-result
+invariant_of-result c =
+    let net : c.deref-5.result.now ≡ c.args.net.value = search rules in
+    let inputs : c.deref-6.result.now ≡ c.args.inputs.value = search rules in
+    record {
+      reached =
+          subst (λ (lists : List (List ℤ)). HistoryReaches (network_of c.args.net.value.program) lists c.args.output
+          c.args.number) inputs
+          (subst (λ (one : Net). HistoryReaches (network_of one.program) c.deref-6.result.now c.args.output
+          c.args.number) net (c.reaches.ensures (search rules)));
+    }

@@ -1,0 +1,202 @@
+//! Marks of a small network, raised and read from two threads.
+
+ghost use Rattle.std.specs.Prelude.{◌≡◌, length, IsTrue};
+ghost use Rattle.kahn_net.specs.Approximations.{approximation};
+ghost use Rattle.kahn_net.specs.Streams.{history_of};
+ghost use Rattle.kahn_net.specs.Syntax.{network_of};
+ghost use Rattle.marks.specs.Seats.{table_of};
+ghost use Rattle.stream_eq.specs.Reached.{HistoryReaches};
+
+use marks::{Marks, MarksName, Opened, Seat};
+use net_check::{Inputs, Net, bind, check, fits};
+use net_text::{parse, parse_inputs};
+use std::alloc::{AllocError, Global};
+use std::marker::Brand;
+use std::process::Abort;
+use std::sync::Arc;
+use std::test::Fail;
+use std::thread;
+use std::thread::Threads;
+use stream_eq::{Freed, Histories, approx};
+
+/// Input 0, channel 1 from node 0 to node 2, output 2 of node 0 and output 3 of node 2. Node 1 has no process.
+const TWO_OUTPUTS: &str =
+    "kahn 1; input i; chan c; output a; output b; process first on 0 { var v; loop { v = get i; put v to c; put v to a; } } process second on 2 { var v; loop { v = get c; put v to b; } }";
+
+const OUTPUT_OF_0: u8 = 2;
+
+const OUTPUT_OF_2: u8 = 3;
+
+fn net_of(alloc: Global) -> Result<Arc<Net>, Fail> {
+    let net = check(alloc, parse(alloc, TWO_OUTPUTS)?)?;
+    Ok(Arc::new(alloc, net)?)
+}
+
+fn inputs_of(alloc: Global, net: &Net) -> Result<Arc<Inputs>, Fail> {
+    let inputs = bind(alloc, net, parse_inputs(alloc, "i: 1 2 3 4 5")?)?;
+    Ok(Arc::new(alloc, inputs)?)
+}
+
+fn length_at(histories: &Histories, channel: u8) -> u64
+    ensures { result ≡ length (history_of histories.now channel) }
+{
+    match histories.as_slice().get(usize::from(channel)) {
+        Some(history) => history.len() as u64,
+        None => 0,
+    }
+}
+
+// Whether a channel has so many items in these histories, the n-th approximation.
+fn reaches(
+    net: &Net,
+    inputs: &Inputs,
+    n: u64,
+    histories: &Histories,
+    channel: u8,
+    number: u64,
+) -> bool
+    requires { histories.now ≡ approximation (network_of net.now.program) inputs.now n }
+    ensures { IsTrue result
+        → HistoryReaches (network_of net.now.program) inputs.now channel number }
+{
+    number <= length_at(histories, channel)
+}
+
+// So many items of a channel that left, where it has so many in the n-th approximation.
+fn freed_of(
+    alloc: Global,
+    net: Arc<Net>,
+    inputs: Arc<Inputs>,
+    n: u64,
+    output: u8,
+    number: u64,
+) -> Result<Freed, Fail> {
+    if !fits(&net, &inputs) {
+        return Err(Fail::new("inputs of another network"));
+    }
+    let histories = approx(alloc, &net, &inputs, n)?;
+    if !reaches(&net, &inputs, n, &histories, output, number) {
+        return Err(Fail::new("the channel never has so many items"));
+    }
+    Ok(Freed {
+        net,
+        inputs,
+        output,
+        number,
+    })
+}
+
+fn freed(alloc: Global, output: u8, number: u64) -> Result<Freed, Fail> {
+    let net = net_of(alloc)?;
+    let inputs = inputs_of(alloc, &net)?;
+    freed_of(alloc, net, inputs, 3, output, number)
+}
+
+fn opened(alloc: Global) -> Result<Opened, Fail> {
+    let net = net_of(alloc)?;
+    Ok(Opened::new(alloc, &net)?)
+}
+
+/// The seats of three nodes and the driver's.
+#[derive(Drop)]
+struct Four<N: MarksName> {
+    zero: Seat<N>,
+    one: Seat<N>,
+    two: Seat<N>,
+    driver: Seat<N>,
+}
+
+fn four_of<N: MarksName>(mut seats: Vec<Seat<N>>) -> Option<Four<N>> {
+    let driver = seats.pop()?;
+    let two = seats.pop()?;
+    let one = seats.pop()?;
+    let zero = seats.pop()?;
+    if !seats.is_empty() {
+        return None;
+    }
+    Some(Four {
+        zero,
+        one,
+        two,
+        driver,
+    })
+}
+
+fn nodes<N: MarksName>(rt: &impl Abort, seats: &Four<N>) {
+    assert_eq!(rt; seats.zero.node(), Some(0));
+    assert_eq!(rt; seats.one.node(), Some(1));
+    assert_eq!(rt; seats.two.node(), Some(2));
+    assert_eq!(rt; seats.driver.node(), None);
+}
+
+// Asserts which of the outputs 0 to 5 and 255 fit a seat: the one that is given alone.
+fn fits_alone<N: MarksName>(
+    rt: &impl Abort,
+    alloc: Global,
+    marks: &Marks<N>,
+    seat: &Seat<N>,
+    own: Option<u8>,
+) -> Result<(), Fail> {
+    for output in [0, 1, 2, 3, 4, 5, 255] {
+        let found = marks.fits(seat, &freed(alloc, output, 0)?);
+        assert_eq!(rt; found, own == Some(output), "output {output}");
+    }
+    Ok(())
+}
+
+// Raises where the seat may, and tells whether it may.
+fn raise<N: MarksName>(marks: &Marks<N>, seat: &mut Seat<N>, freed: Freed) -> bool {
+    if !marks.fits(seat, &freed) {
+        return false;
+    }
+    marks.raise(seat, freed);
+    true
+}
+
+// What a seat reads of each channel, and beyond them.
+fn reads<N: MarksName>(rt: &impl Abort, marks: &Marks<N>, seat: &mut Seat<N>, a: u64, b: u64) {
+    for (channel, wanted) in [(0, 0), (1, 0), (2, a), (3, b), (4, 0), (255, 0)] {
+        assert_eq!(rt; marks.read(seat, channel), wanted, "channel {channel}");
+    }
+}
+
+// One thread raises both outputs, and then each seat reads the same. A lower number leaves a mark as it is.
+fn raised_from_another_thread<N: MarksName + Send + Sync, R: Threads + Sync + Abort>(
+    rt: &R,
+    alloc: Global,
+    opened: Opened,
+) -> Result<(), Fail>
+    requires { table_of opened ≡ N.table }
+{
+    let (marks, seats) = opened.named::<N>(alloc)?;
+    let Some(mut seats) = four_of(seats) else {
+        return Err(Fail::new("not four seats"));
+    };
+    nodes(rt, &seats);
+    fits_alone(rt, alloc, &marks, &seats.zero, Some(OUTPUT_OF_0))?;
+    fits_alone(rt, alloc, &marks, &seats.one, None)?;
+    fits_alone(rt, alloc, &marks, &seats.two, Some(OUTPUT_OF_2))?;
+    fits_alone(rt, alloc, &marks, &seats.driver, None)?;
+    reads(rt, &marks, &mut seats.driver, 0, 0);
+    let four_items = freed(alloc, OUTPUT_OF_2, 4)?;
+    let two_items = freed(alloc, OUTPUT_OF_2, 2)?;
+    let two = &mut seats.two;
+    let (raised, ()) = thread::join(
+        rt,
+        || raise(&marks, two, four_items) && raise(&marks, two, two_items),
+        || (),
+    );
+    assert!(rt; raised);
+    reads(rt, &marks, &mut seats.driver, 0, 4);
+    reads(rt, &marks, &mut seats.two, 0, 4);
+    assert!(rt; raise(&marks, &mut seats.zero, freed(alloc, OUTPUT_OF_0, 5)?));
+    reads(rt, &marks, &mut seats.driver, 5, 4);
+    reads(rt, &marks, &mut seats.one, 5, 4);
+    Ok(())
+}
+
+#[test]
+fn marks_are_raised_and_read(rt: HostRuntime) -> Result<(), Fail> {
+    let alloc = rt.alloc();
+    raised_from_another_thread::<Brand, _>(&rt, alloc, opened(alloc)?)
+}
