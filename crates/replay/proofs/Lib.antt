@@ -1,0 +1,4 @@
+mod Replays
+mod Turns
+pub mod Silences
+pub mod Choices

@@ -1,0 +1,2 @@
+mod Raising
+mod Adding
