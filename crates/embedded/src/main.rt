@@ -1,4 +1,5 @@
-//! A world in a program of one's own: the running sum of 1 2 3, event by event, with a crash in the middle.
+//! A world in a program of one's own: two running sums in a row, each on a node of its own, event by event. It runs once undisturbed,
+//! and then again and again with a crash, of either node before each of those events: what leaves is the same each time.
 #![tactic(auto)]
 
 ghost use Rattle.std.specs.Prelude.{◌*◌, ◌^◌, ◌<◌};
@@ -13,11 +14,24 @@ use std::alloc::{AllocError, Global};
 use std::sync::Arc;
 use world::{Event, Reply, SECTORS, World, list_outputs, node_count};
 
-const NET: &str = "kahn 1; input i; output o;
-process sum on 0 { var a; var v; loop { v = get i; a = a + v; put a to o; } }";
+const NET: &str = "kahn 1; input i; chan c; output o;
+process first on 0 { var a; var v; loop { v = get i; a = a + v; put a to c; } }
+process second on 1 { var a; var v; loop { v = get c; a = a + v; put a to o; } }";
 
-/// The turn before which the node crashes: it has taken a tentative image then, and not made it permanent.
-const CRASHES_AT: u32 = 2;
+/// The output's channel, by the order in which the network's text names its channels.
+const OUTPUT: u8 = 2;
+
+/// A run has at most so many events.
+const EVENTS: u32 = 2000;
+
+type Sums = World<SplitCell<MemDisk>, ListOutlet>;
+
+/// A crash of a node before the run's event of this number.
+#[derive(Drop)]
+struct Crash {
+    node: u8,
+    event: u32,
+}
 
 /// A disk in memory of so many sectors.
 fn empty_disk(alloc: Global, sectors: usize) -> Result<MemDisk, AllocError>
@@ -26,30 +40,34 @@ fn empty_disk(alloc: Global, sectors: usize) -> Result<MemDisk, AllocError>
     MemDisk::new(alloc, sectors)
 }
 
-/// The node crashes: what it had in memory is gone. It may be recovered a round later.
-fn crash() -> Event {
-    Event::Crash {
-        node: 0,
-        fill: 0,
-        rounds: 1,
+/// The two sums on `1 2 3`, with nothing done yet.
+fn open(alloc: Global) -> anyhow::Result<Sums> {
+    let net = check(alloc, parse(alloc, NET)?)?;
+    anyhow::ensure!(node_count(&net) == 2, "not two nodes");
+    let inputs = bind(alloc, &net, parse_inputs(alloc, "i: 1 2 3")?)?;
+    let outputs = list_outputs(alloc, &net)?;
+    let net = Arc::new(alloc, net)?;
+    let inputs = Arc::new(alloc, inputs)?;
+    let mut disks = Vec::with_capacity(alloc, 2)?;
+    disks.push(empty_disk(alloc, SECTORS)?)?;
+    disks.push(empty_disk(alloc, SECTORS)?)?;
+    match World::new(alloc, net, inputs, disks, outputs) {
+        Ok(world) => Ok(world),
+        Err(refused) => Err(refused.fault.into()),
     }
 }
 
 /// One event. `World::apply` refuses for want of memory alone.
-fn apply(
-    alloc: Global,
-    world: &mut World<SplitCell<MemDisk>, ListOutlet>,
-    event: Event,
-) -> anyhow::Result<Reply> {
+fn apply(alloc: Global, world: &mut Sums, event: Event) -> anyhow::Result<Reply> {
     match world.apply(alloc, event) {
         Ok(reply) => Ok(reply),
         Err(_) => Err(anyhow::anyhow!("no memory")),
     }
 }
 
-/// The event that is next for node 0. A job that it grants is run, and what came of it is brought back.
-fn step(alloc: Global, world: &mut World<SplitCell<MemDisk>, ListOutlet>) -> anyhow::Result<()> {
-    let event = world.pick(0);
+/// The event that is next for the node. A job that it grants is run, and what came of it is brought back.
+fn step(alloc: Global, world: &mut Sums, node: u8) -> anyhow::Result<()> {
+    let event = world.pick(node);
     if let Reply::Granted(job) = apply(alloc, world, event)? {
         let Ok(done) = job.run(alloc) else {
             return Err(anyhow::anyhow!("no memory"));
@@ -59,32 +77,51 @@ fn step(alloc: Global, world: &mut World<SplitCell<MemDisk>, ListOutlet>) -> any
     Ok(())
 }
 
+/// A run, each node in turn, until the world is complete: the world then, and the number of its events. Where there is a crash, the
+/// node may be recovered two rounds later.
+fn run(alloc: Global, crash: Option<Crash>) -> anyhow::Result<(Sums, u32)> {
+    let mut world = open(alloc)?;
+    for event in 0..EVENTS {
+        if world.complete() {
+            return Ok((world, event));
+        }
+        if let Some(
+            Crash {
+                node,
+                event: before,
+            },
+        ) = &crash
+        {
+            if *before == event {
+                let crash = Event::Crash {
+                    node: *node,
+                    fill: 0,
+                    rounds: 2,
+                };
+                apply(alloc, &mut world, crash)?;
+            }
+        }
+        let node = if event % 2 == 0 { 0 } else { 1 };
+        step(alloc, &mut world, node)?;
+    }
+    Err(anyhow::anyhow!("not complete after {EVENTS} events"))
+}
+
 fn main(rt: HostRuntime) -> anyhow::Result<()> {
     let alloc = rt.alloc();
-    let net = check(alloc, parse(alloc, NET)?)?;
-    anyhow::ensure!(node_count(&net) == 1, "several nodes");
-    let inputs = bind(alloc, &net, parse_inputs(alloc, "i: 1 2 3")?)?;
-    let outputs = list_outputs(alloc, &net)?;
-    let net = Arc::new(alloc, net)?;
-    let inputs = Arc::new(alloc, inputs)?;
-    let mut disks = Vec::with_capacity(alloc, 1)?;
-    disks.push(empty_disk(alloc, SECTORS)?)?;
-    let mut world = match World::new(alloc, net, inputs, disks, outputs) {
-        Ok(world) => world,
-        Err(refused) => return Err(refused.fault.into()),
-    };
-    for turn in 0..100 {
-        if world.complete() {
-            break;
-        }
-        if turn == CRASHES_AT {
-            apply(alloc, &mut world, crash())?;
-        }
-        step(alloc, &mut world)?;
-    }
-    for item in world.released(1) {
+    let (calm, events) = run(alloc, None)?;
+    for item in calm.released(OUTPUT) {
         println!(rt; "{item}")?;
     }
-    println!(rt; "complete: {}", world.complete())?;
+    for event in 0..events {
+        for node in 0..2 {
+            let (world, _) = run(alloc, Some(Crash { node, event }))?;
+            anyhow::ensure!(
+                world.released(OUTPUT) == calm.released(OUTPUT),
+                "a crash of node {node} before event {event} lets something else leave"
+            );
+        }
+    }
+    println!(rt; "with a crash of either node before each event: the same")?;
     Ok(())
 }

@@ -1,5 +1,5 @@
 -- That a store has no cause to refuse what a node takes that is asked, and what is known of an answer.
-use Rattle.std.proofs.Common.{◌≡◌, ℕ, zero, suc, ◌<◌, ◌≤◌, Bool, true, false, ◌&&◌, not, List, [], ◌∷◌, length, Option, Some, None}
+use Rattle.std.proofs.Common.{◌≡◌, ℕ, ◌<◌, ◌≤◌, Bool, true, false, ◌&&◌, not, List, [], ◌∷◌, Option, Some, None}
 use Rattle.std.proofs.Common.{refl, sym, ◌∙◌, ap, arith, eqb, All}
 use Rattle.std.specs.Prelude.{cond, nat_le, nat_lt, slice_get}
 use Rattle.std.specs.List.{list_all}
@@ -21,10 +21,9 @@ use Rattle.record.specs.RecordView.{RecordView}
 use Rattle.record.specs.declared.record.Tentative.{Tentative}
 use Rattle.ckpt_core.specs.AskView.{mode_with}
 use Rattle.ckpt_store.specs.Refusals.{is_full, is_other_held, refusal_to_take}
-use Rattle.ckpt_store.specs.declared.fault.StoreFault.{StoreFault}
 use Rattle.protocol.specs.Node.Addresses.{are_nodes, names_run}
 use Rattle.protocol.specs.Node.Answering.{AskAnswer, Silent, CoveredBefore, TookBefore, TakesNow, Declines, answer_above}
-use Rattle.protocol.specs.Node.Answering.{answer_of_free, answer_of_holder, answer_to_ask, holds, is_past, with_current_as}
+use Rattle.protocol.specs.Node.Answering.{answer_of_holder, answer_to_ask, holds, is_past, with_current_as}
 use Rattle.protocol.specs.Node.Layout.{comes_in, is_incoming, is_outgoing}
 use Rattle.protocol.specs.Node.Modes.{is_down}
 use Rattle.protocol.specs.Node.NodeView.{ModeView, Down, InDoubt, Runs}

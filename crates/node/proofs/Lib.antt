@@ -3,6 +3,8 @@ mod Opened
 mod Raising
 mod Checkpoints
 mod Recoveries
+mod Restores
+mod Backs
 mod Puts
 mod Memory
 mod Starts

@@ -86,6 +86,7 @@ pub taken_with : (position : ℕ) (item : ℤ) (inbox : Inbox) → has_place inb
       channel = inbox.channel;
       window = popped_times (length behind) ((received inbox.window position item).window);
       log = log_with (item ∷ behind) inbox.log;
+      undone = inbox.undone;
     } in
     one ≡ taking position item inbox)
 taken_with position item inbox has next =
@@ -105,6 +106,7 @@ taken_with position item inbox has next =
           window = popped_times
               (length (take (places_left inbox.log - 1) (ready_items (drop 1 inbox.window.held)))) window;
           log = log_with (item ∷ take (places_left inbox.log - 1) (ready_items (drop 1 inbox.window.held))) inbox.log;
+          undone = inbox.undone;
         }
 
     is_advanced : (received inbox.window position item).window ≡ advanced inbox.window
@@ -127,6 +129,7 @@ taken_with position item inbox has next =
           channel = inbox.channel;
           window = popped_times (length out) (advanced inbox.window);
           log = log_with (item ∷ out) inbox.log;
+          undone = inbox.undone;
         }
 
     both_logs : (out : List ℤ)
@@ -134,11 +137,13 @@ taken_with position item inbox has next =
           channel = inbox.channel;
           window = popped_times (length out) (advanced inbox.window);
           log = log_with (item ∷ out) inbox.log;
+          undone = inbox.undone;
         } in
         let other : Inbox = record {
           channel = inbox.channel;
           window = popped_times (length out) (advanced inbox.window);
           log = log_with out (log_with (item ∷ []) inbox.log);
+          undone = inbox.undone;
         } in
         one ≡ other)
     both_logs out =
@@ -150,10 +155,11 @@ taken_with position item inbox has next =
               channel = inbox.channel;
               window = popped_times (length out) (advanced inbox.window);
               log = record { base = inbox.log.base; items = xs };
+              undone = inbox.undone;
             }
 
     pops : made (advanced inbox.window)
-        ≡ popping (record { channel = inbox.channel; window = advanced inbox.window; log = log_with (item ∷ []) inbox.log })
+        ≡ popping (record { channel = inbox.channel; window = advanced inbox.window; log = log_with (item ∷ []) inbox.log; undone = inbox.undone })
     pops =
         ap with_out same_out
         ∙ both_logs (items_out (log_with (item ∷ []) inbox.log) (advanced inbox.window).held)
@@ -164,7 +170,7 @@ pub taken_is : (position : ℕ) (item : ℤ) (inbox : Inbox) (items : List ℤ) 
     → has_place inbox.log ≡ true → arrival_at inbox.window position ≡ Taken → places ≡ places_left inbox.log - 1
     → items ≡ item ∷ take places (ready_items (drop 1 inbox.window.held)) → times ≡ length items - 1
     → log ≡ log_with items inbox.log → window ≡ popped_times times ((received inbox.window position item).window)
-    → (let one : Inbox = record { channel = inbox.channel; window = window; log = log } in
+    → (let one : Inbox = record { channel = inbox.channel; window = window; log = log; undone = inbox.undone } in
     one ≡ taking position item inbox)
 taken_is position item inbox items places times log window has next few is count logged popped =
     let behind : List ℤ = take (places_left inbox.log - 1) (ready_items (drop 1 inbox.window.held)) in
@@ -181,7 +187,7 @@ taken_is position item inbox items places times log window has next few is count
     ∙ taken_with position item inbox has next)
   where
     with_both : Receiver → LogState → Inbox
-    with_both window log = record { channel = inbox.channel; window = window; log = log }
+    with_both window log = record { channel = inbox.channel; window = window; log = log; undone = inbox.undone }
 
 -- nothing comes out where the next item isn't held
 pub popping_none : (inbox : Inbox) → held_at inbox.window 0 ≡ None → popping inbox ≡ inbox
@@ -193,11 +199,11 @@ popping_none inbox none =
   where
     with_out : List ℤ → Inbox
     with_out xs =
-        record { channel = inbox.channel; window = popped_times (length xs) inbox.window; log = log_with xs inbox.log }
+        record { channel = inbox.channel; window = popped_times (length xs) inbox.window; log = log_with xs inbox.log; undone = inbox.undone }
 
     with_items : List ℤ → Inbox
     with_items xs =
-        record { channel = inbox.channel; window = inbox.window; log = record { base = inbox.log.base; items = xs } }
+        record { channel = inbox.channel; window = inbox.window; log = record { base = inbox.log.base; items = xs }; undone = inbox.undone }
 
 -- an element of the rest is changed once those behind it are
 pub turned_here : {A : Type 0} (f : A → A) (items xs : List A) (k : ℕ) (x y : A)
@@ -220,14 +226,14 @@ pub trimmed_is : (channels : List Channel) (process : ℕ) (taken : List ℕ) (i
     → (prepared : Option LogState) → prepared ≡ None
     → MatchOption prepared (held_at inbox.window 0 ≡ None)
     (λ l. l ≡ (inbox_turned channels process taken inbox).log)
-    → (let one : Inbox = record { channel = inbox.channel; window = inbox.window; log = log } in
+    → (let one : Inbox = record { channel = inbox.channel; window = inbox.window; log = log; undone = inbox.undone } in
     one ≡ inbox_turned channels process taken inbox)
 trimmed_is channels process taken inbox log count counted is None none free =
     ap with_log (is ∙ ap (λ (n : ℕ). trimmed_log (inbox.log.base + n) inbox.log) counted)
     ∙ sym (popping_none (inbox_taken channels process taken inbox) free)
   where
     with_log : LogState → Inbox
-    with_log log = record { channel = inbox.channel; window = inbox.window; log = log }
+    with_log log = record { channel = inbox.channel; window = inbox.window; log = log; undone = inbox.undone }
 trimmed_is channels process taken inbox log count counted is (Some other) none free = absurd (cc)
 
 -- an element that is read from a list whose front stands as it was

@@ -1,5 +1,5 @@
 -- From a put that a store did, or refused, to the event that it ends, and to what the node's type keeps.
-use Rattle.std.proofs.Common.{◌≡◌, ℕ, ◌≤◌, Bool, true, false, length, Option, Some, None, Result, Ok, Err, refl, sym, ap, ◌∙◌}
+use Rattle.std.proofs.Common.{◌≡◌, ℕ, ◌≤◌, true, false, length, Option, None, Result, Ok, Err, refl, ap, ◌∙◌}
 use Rattle.std.specs.Prelude.{IsTrue, OnOk, OnErr}
 use Rattle.sector_disk.specs.Clock.{Only}
 use Rattle.gate_cell.specs.declared.cell.StableCell.{Ghosts as CellWords}
@@ -32,7 +32,8 @@ on_ok (Err e) p f = tt
 then_kept : (then : Then) (node : NodeView) → (then_node then node).kept ≡ node.kept
 then_kept then_is.Stays node = refl
 then_kept (then_is.Collects live) node = refl
-then_kept (then_is.Runs image) node = refl
+then_kept (then_is.Runs restored) node = refl
+then_kept (then_is.GoesBack image own channel epoch) node = refl
 
 module _ {C : Type 0} (words : CellWords C) (slots : SlotWords C)
     (includes_now : (cell : C) (t : ℕ) (left : Whole) → t ≤ words.moment cell → slots.may_leave_whole cell left

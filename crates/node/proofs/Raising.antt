@@ -7,7 +7,10 @@ use Rattle.sector_disk.specs.Clock.{LeavesOnly, Only}
 use Rattle.gate_cell.specs.declared.cell.StableCell.{Ghosts as CellWords}
 use Rattle.gate_cell.specs.declared.slot_cell.SlotCell.{Ghosts as SlotWords}
 use Rattle.gate_cell.specs.Whole.{Whole}
-use Rattle.record.specs.ImageView.{ImageView}
+use Rattle.kahn_net.specs.Syntax.{Network}
+use Rattle.protocol.specs.Node.Recovering.{restored_mode}
+use Rattle.rollback_core.specs.RestoredView.{recovery_mode}
+use Rattle.rollback_core.specs.declared.restoring.Recovery.{Recovery}
 use Rattle.record.specs.RecordView.{RecordView}
 use Rattle.record.specs.Moves.{with_epoch}
 use Rattle.kahn_net.specs.declared.limits.TheConstants.{MAX_COUNT}
@@ -37,21 +40,21 @@ of_reopening fits kept fault.NotHeld is = absurd is
 of_reopening fits kept fault.Unsettled is = absurd is
 of_reopening fits kept fault.Spent is = absurd is
 
-module _ {C : Type 0} (words : CellWords C) (slots : SlotWords C)
+module _ {C : Type 0} (words : CellWords C) (slots : SlotWords C) (net : Network) (home : ℕ)
     (includes_now : (cell : C) (t : ℕ) (left : Whole) → t ≤ words.moment cell → slots.may_leave_whole cell left
     → slots.left_since_whole cell t left)
     (may_stay : (cell : C) → slots.may_leave_whole cell (slots.whole cell))
     (ready_settled : (cell : C) → IsTrue (words.is_ready cell) → Only (slots.whole cell) (slots.may_leave_whole cell))
     (old : Store C slots words) (settled : Only (slots.whole (cell_in old)) (slots.may_leave_whole (cell_in old))) where
-  on_err : {P Q : Type 0} (result : Result ImageView StoreFault) → OnErr result P → (P → Q) → OnErr result Q
+  on_err : {P Q : Type 0} (result : Result Recovery StoreFault) → OnErr result P → (P → Q) → OnErr result Q
   on_err (Ok x) is so = tt
   on_err (Err e) is so = so is
 
   -- it couldn't be reopened
   pub not_reopened : (mid : Store C slots words) (e : StoreFault) → Reopens old mid {T = Unit {0}} (Err e)
-      → IsRaised old mid (Err e)
+      → IsRaised net home old mid (Err e)
   not_reopened mid e load = record {
-    image = tt;
+    recovery = tt;
     raised = tt;
     refused =
         of_reopening (fits_in (slots.slot_capacity (cell_in old)) (with_epoch (record_in old))) (record_in old) e
@@ -72,23 +75,24 @@ module _ {C : Type 0} (words : CellWords C) (slots : SlotWords C)
     same_setup = record { setup = load.same_setup; same_slot_room = load.same_slot_room };
   }
     where
-      device_too : (e : StoreFault) → IsErrOf {T = ImageView} (Err e) fault.Device
+      device_too : (e : StoreFault) → IsErrOf {T = Recovery} (Err e) fault.Device
           → IsErrOf {T = Unit {0}} (Err e) fault.Device
       device_too e is = let same : e ≡ fault.Device = cc in ap Err same
 
       device_so : (e : StoreFault) → IsErrOf {T = Unit {0}} (Err e) fault.Device
-          → IsErrOf {T = ImageView} (Err e) fault.Device
+          → IsErrOf {T = Recovery} (Err e) fault.Device
       device_so e is = let same : e ≡ fault.Device = cc in ap Err same
 
   -- or was, and is the same as before
-  pub reopened_then : (mid new : Store C slots words) (result : Result ImageView StoreFault)
-      → Reopens old mid {T = Unit {0}} (Ok tt) → IsRaised mid new result → IsRaised old new result
+  pub reopened_then : (mid new : Store C slots words) (result : Result Recovery StoreFault)
+      → Reopens old mid {T = Unit {0}} (Ok tt) → IsRaised net home mid new result → IsRaised net home old new result
   reopened_then mid new result load raised =
       let same : record_in mid ≡ record_in old = ap record_spelled load.same_whole in
       let before : words.failure_count (cell_in mid) ≡ words.failure_count (cell_in old) =
       load.failures.otherwise (λ is. cc) in
       record {
-        image = subst (λ (r : RecordView). IfOk result (λ image. image ≡ r.permanent)) same raised.image;
+        recovery = subst (λ (r : RecordView). IfOk result
+            (λ recovery. recovery_mode recovery ≡ restored_mode net home (with_epoch r))) same raised.recovery;
         raised =
             subst (λ (r : RecordView). OnOk result
             ((record_in new ≡ with_epoch r) × IsSome (known_in new) × (r.epoch < MAX_COUNT)
@@ -124,23 +128,24 @@ module _ {C : Type 0} (words : CellWords C) (slots : SlotWords C)
             (record { setup = load.same_setup; same_slot_room = load.same_slot_room }) raised.same_setup;
       }
 
-module _ {C : Type 0} (words : CellWords C) (slots : SlotWords C)
+module _ {C : Type 0} (words : CellWords C) (slots : SlotWords C) (net : Network) (home : ℕ)
     (includes_now : (cell : C) (t : ℕ) (left : Whole) → t ≤ words.moment cell → slots.may_leave_whole cell left
     → slots.left_since_whole cell t left)
     (may_stay : (cell : C) → slots.may_leave_whole cell (slots.whole cell))
     (ready_settled : (cell : C) → IsTrue (words.is_ready cell) → Only (slots.whole cell) (slots.may_leave_whole cell))
     (old : Store C slots words) (settled : Only (slots.whole (cell_in old)) (slots.may_leave_whole (cell_in old)))
     (some : IsSome (known_in old)) where
-  raised_so : (new : Store C slots words) (image : ImageView) → image ≡ (record_in old).permanent
+  raised_so : (new : Store C slots words) (recovery : Recovery)
+      → recovery_mode recovery ≡ restored_mode net home (with_epoch (record_in old))
       → (changes : Changes refusal_to_raise with_epoch old new {T = Unit {0}} (Ok tt))
       → (record_in old).epoch < MAX_COUNT → refusal_to_raise (record_in old) ≡ None
-      → IsRaised old new (Ok image)
-  raised_so new image is changes less fine =
+      → IsRaised net home old new (Ok recovery)
+  raised_so new recovery is changes less fine =
       let done =
       change_done words slots includes_now may_stay ready_settled refusal_to_raise with_epoch old new (Ok tt) some fine
       changes in
       record {
-        image = is;
+        recovery = is;
         raised = (
           done.0,
           done.1,
@@ -161,9 +166,10 @@ module _ {C : Type 0} (words : CellWords C) (slots : SlotWords C)
       }
 
   -- the epoch was raised
-  pub raised : (new : Store C slots words) (image : ImageView) → image ≡ (record_in old).permanent
-      → Changes refusal_to_raise with_epoch old new {T = Unit {0}} (Ok tt) → IsRaised old new (Ok image)
-  raised new image is changes = at (nat_lt (record_in old).epoch MAX_COUNT) refl
+  pub raised : (new : Store C slots words) (recovery : Recovery)
+      → recovery_mode recovery ≡ restored_mode net home (with_epoch (record_in old))
+      → Changes refusal_to_raise with_epoch old new {T = Unit {0}} (Ok tt) → IsRaised net home old new (Ok recovery)
+  raised new recovery is changes = at (nat_lt (record_in old).epoch MAX_COUNT) refl
     where
       spent : nat_lt (record_in old).epoch MAX_COUNT ≡ false → ComesFirst {T = Unit {0}} (Some fault.Spent) (Ok tt)
       spent test =
@@ -171,9 +177,9 @@ module _ {C : Type 0} (words : CellWords C) (slots : SlotWords C)
           (ap (first_refusal refusal_to_raise) (some_known words slots old some)
           ∙ ap (λ (b : Bool). cond b None (Some fault.Spent)) test) changes.refusals
 
-      at : (b : Bool) → nat_lt (record_in old).epoch MAX_COUNT ≡ b → IsRaised old new (Ok image)
+      at : (b : Bool) → nat_lt (record_in old).epoch MAX_COUNT ≡ b → IsRaised net home old new (Ok recovery)
       at true test =
-          raised_so new image is changes (ltb-true (record_in old).epoch MAX_COUNT test)
+          raised_so new recovery is changes (ltb-true (record_in old).epoch MAX_COUNT test)
           (ap (λ (b : Bool). cond b None (Some fault.Spent)) test)
       at false test = let no : ComesFirst {T = Unit {0}} (Some fault.Spent) (Ok tt) = spent test in absurd (cc)
 
@@ -193,10 +199,10 @@ module _ {C : Type 0} (words : CellWords C) (slots : SlotWords C)
           keeps = λ t left le had. had;
         })
 
-    device_so : IsErrOf {T = Unit {0}} (Err e) fault.Device → IsErrOf {T = ImageView} (Err e) fault.Device
+    device_so : IsErrOf {T = Unit {0}} (Err e) fault.Device → IsErrOf {T = Recovery} (Err e) fault.Device
     device_so is = let same : e ≡ fault.Device = cc in ap Err same
 
-    device_too : IsErrOf {T = ImageView} (Err e) fault.Device → IsErrOf {T = Unit {0}} (Err e) fault.Device
+    device_too : IsErrOf {T = Recovery} (Err e) fault.Device → IsErrOf {T = Unit {0}} (Err e) fault.Device
     device_too is = let same : e ≡ fault.Device = cc in ap Err same
 
     of_put : (fits : Bool) (f : StoreFault) → (record_in old).epoch < MAX_COUNT → IsOfPut f
@@ -242,9 +248,9 @@ module _ {C : Type 0} (words : CellWords C) (slots : SlotWords C)
     held : nat_lt (record_in old).epoch MAX_COUNT ≡ false → LeavesAsBefore old new
     held test = still (changes.same_cell (λ is. (let same = spent_is test in cc)))
 
-    pub refused_so : IsRaised old new (Err e)
+    pub refused_so : IsRaised net home old new (Err e)
     refused_so = record {
-      image = tt;
+      recovery = tt;
       raised = tt;
       refused =
           by_test (λ test. of_put (fits_in (slots.slot_capacity (cell_in old)) (with_epoch (record_in old))) e

@@ -29,7 +29,8 @@ use Rattle.node.specs.StoredView.{LeavesDevice, LeavesNext, has_failed, put_outc
 use Rattle.node.specs.declared.state.NodeState.{NodeState}
 use Rattle.ckpt_store.specs.declared.fault.StoreFault.{StoreFault}
 use Rattle.ckpt_store.specs.declared.fault.StoreFault.TheVariants as fault
-use Rattle.record.specs.ImageView.{ImageView}
+use Rattle.kahn_net.specs.Syntax.{Network}
+use Rattle.rollback_core.specs.declared.restoring.Recovery.{Recovery}
 use Rattle.std.specs.declared.alloc.AllocError.{AllocError}
 use Rattle.node.proofs.Records.{crash_keeps, device_then, looked, looked_on, one_of_both, then_crashed}
 
@@ -54,18 +55,18 @@ module _ {C : Type 0} (words : CellWords C) (slots : SlotWords C) (number restar
   crash_step = stop (record_in new) ∙ ap (λ (r : RecordView). crashed restart (node_view r before)) kept
 
 -- what a node that is down comes to, with a next epoch and without
-pub back_planned : (node : NodeView) → is_down node.mode ≡ true → node.kept.epoch < MAX_COUNT
-    → recover_prospect node ≡ putting false (restored node)
-back_planned node down less =
-    ap (λ (b : Bool). if_due b (unless_spent true (nat_lt node.kept.epoch MAX_COUNT) (putting false (restored node))))
-    down ∙ ap (λ (b : Bool). unless_spent true b (putting false (restored node)))
+pub back_planned : (net : Network) (home : ℕ) (node : NodeView) → is_down node.mode ≡ true → node.kept.epoch < MAX_COUNT
+    → recover_prospect net home node ≡ putting false (restored net home node)
+back_planned net home node down less =
+    ap (λ (b : Bool). if_due b (unless_spent true (nat_lt node.kept.epoch MAX_COUNT) (putting false (restored net home node))))
+    down ∙ ap (λ (b : Bool). unless_spent true b (putting false (restored net home node)))
     (lt-ltb node.kept.epoch MAX_COUNT less)
 
-pub back_spent : (node : NodeView) → is_down node.mode ≡ true → MAX_COUNT ≤ node.kept.epoch
-    → recover_prospect node ≡ Exhausted true
-back_spent node down more =
-    ap (λ (b : Bool). if_due b (unless_spent true (nat_lt node.kept.epoch MAX_COUNT) (putting false (restored node))))
-    down ∙ ap (λ (b : Bool). unless_spent true b (putting false (restored node)))
+pub back_spent : (net : Network) (home : ℕ) (node : NodeView) → is_down node.mode ≡ true → MAX_COUNT ≤ node.kept.epoch
+    → recover_prospect net home node ≡ Exhausted true
+back_spent net home node down more =
+    ap (λ (b : Bool). if_due b (unless_spent true (nat_lt node.kept.epoch MAX_COUNT) (putting false (restored net home node))))
+    down ∙ ap (λ (b : Bool). unless_spent true b (putting false (restored net home node)))
     (not_less node.kept.epoch MAX_COUNT more)
   where
     not_less : (n m : ℕ) → m ≤ n → nat_lt n m ≡ false
@@ -111,15 +112,15 @@ module _ {C : Type 0} (words : CellWords C) (slots : SlotWords C)
 
 -- ---- what came of a recovery, with its store
 
-module _ {C : Type 0} {words : CellWords C} {slots : SlotWords C} (round : ℕ) (was now : NodeView) (old new : Store C slots words)
+module _ {C : Type 0} {words : CellWords C} {slots : SlotWords C} (net : Network) (home round : ℕ) (was now : NodeView) (old new : Store C slots words)
     (same : was.kept ≡ record_in old) {E : Type 0} where
   -- its device failed
-  pub lost_event : recover_prospect was ≡ putting false (restored was)
+  pub lost_event : recover_prospect net home was ≡ putting false (restored net home was)
       → HasFailedAt (restart_after was.armed (words.failed_call (cell_in new)) round) (with_epoch was.kept) was now
       → IsTrue (fits_in (slots.slot_capacity (cell_in old)) (with_epoch (record_in old)))
       → words.failure_count (cell_in old) < words.failure_count (cell_in new)
       → LeavesNext (with_epoch (record_in old)) old new → LeavesDevice old new
-      → IsPutEvent (recover_prospect was) round was now old new {E = E} (Ok outcome.Failed)
+      → IsPutEvent (recover_prospect net home was) round was now old new {E = E} (Ok outcome.Failed)
   lost_event planned lost fits failures moments setup =
       subst (λ (p : Prospect). IsPutEvent p round was now old new {E = E} (Ok outcome.Failed)) (sym planned) (record {
         step = (refl, lost);
@@ -134,11 +135,11 @@ module _ {C : Type 0} {words : CellWords C} {slots : SlotWords C} (round : ℕ) 
       })
 
   -- or did so before it was seen that there is no next epoch
-  pub looked_event : recover_prospect was ≡ Exhausted true
+  pub looked_event : recover_prospect net home was ≡ Exhausted true
       → now ≡ crashed (restart_after was.armed (words.failed_call (cell_in new)) round) was
       → words.failure_count (cell_in old) < words.failure_count (cell_in new)
       → LeavesNext was.kept old new → LeavesDevice old new
-      → IsPutEvent (recover_prospect was) round was now old new {E = E} (Ok outcome.Failed)
+      → IsPutEvent (recover_prospect net home was) round was now old new {E = E} (Ok outcome.Failed)
   looked_event spent lost failures moments setup =
       subst (λ (p : Prospect). IsPutEvent p round was now old new {E = E} (Ok outcome.Failed)) (sym spent) (record {
         step = (refl, lost);
@@ -150,10 +151,10 @@ module _ {C : Type 0} {words : CellWords C} {slots : SlotWords C} (round : ℕ) 
       })
 
   -- there is no next epoch
-  pub last_event : recover_prospect was ≡ Exhausted true → now ≡ was
+  pub last_event : recover_prospect net home was ≡ Exhausted true → now ≡ was
       → words.failure_count (cell_in new) ≡ words.failure_count (cell_in old) → LeavesNext was.kept old new
       → LeavesDevice old new
-      → IsPutEvent (recover_prospect was) round was now old new {E = E} (Ok (outcome.Refused Spent))
+      → IsPutEvent (recover_prospect net home was) round was now old new {E = E} (Ok (outcome.Refused Spent))
   last_event spent stays failures moments setup =
       subst (λ (p : Prospect). IsPutEvent p round was now old new {E = E} (Ok (outcome.Refused Spent))) (sym spent)
       (record {
@@ -167,8 +168,8 @@ module _ {C : Type 0} {words : CellWords C} {slots : SlotWords C} (round : ℕ) 
 
   -- or memory is missing
   pub short_event : (e : E) → now ≡ was → words.failure_count (cell_in new) ≡ words.failure_count (cell_in old)
-      → LeavesNext (next_record (recover_prospect was) was.kept) old new → LeavesDevice old new
-      → IsPutEvent (recover_prospect was) round was now old new {E = E} (Err e)
+      → LeavesNext (next_record (recover_prospect net home was) was.kept) old new → LeavesDevice old new
+      → IsPutEvent (recover_prospect net home was) round was now old new {E = E} (Err e)
   short_event e stays failures moments setup =
       record {
         step = tt;
@@ -202,7 +203,7 @@ module _ {C : Type 0} (words : CellWords C) (slots : SlotWords C)
     → slots.left_since_whole cell t left)
     (may_stay : (cell : C) → slots.may_leave_whole cell (slots.whole cell))
     (ready_settled : (cell : C) → IsTrue (words.is_ready cell) → Only (slots.whole cell) (slots.may_leave_whole cell))
-    (number round : ℕ) (old mid new : Store C slots words) (before after : NodeState)
+    (net : Network) (number round : ℕ) (old mid new : Store C slots words) (before after : NodeState)
     (has : HasRecord number (mode_view before.mode) old) (down : is_down (mode_view before.mode) ≡ true)
     (fits : fits_in (slots.slot_capacity (cell_in old)) (with_epoch (record_in old)) ≡ true) where
   abbrev was : NodeView
@@ -214,29 +215,29 @@ module _ {C : Type 0} (words : CellWords C) (slots : SlotWords C)
   -- what is known where this was the fault
   abbrev Known : StoreFault → Result Outcome AllocError → Type 0
   Known e answer =
-      IsRaised old mid (Err e) → IsAnswer (put_outcome (Err e)) answer
+      IsRaised net number old mid (Err e) → IsAnswer (put_outcome (Err e)) answer
       → (has_failed (Err e) ≡ false → (new ≡ mid) × (after ≡ before))
       → (IsTrue (has_failed (Err e))
       → IsCrashed mid new
       × ((kept : RecordView)
       → node_view kept after
       ≡ crashed (restart_after before.armed.items (words.failed_call (cell_in new)) round) (node_view kept before)))
-      → HasRecord number (mode_view after.mode) new × IsPutEvent (recover_prospect was) round was now old new answer
+      → HasRecord number (mode_view after.mode) new × IsPutEvent (recover_prospect net number was) round was now old new answer
 
-  not_device : (e : StoreFault) → has_failed (Err e) ≡ false → ¬ (IsErrOf {T = ImageView} (Err e) fault.Device)
+  not_device : (e : StoreFault) → has_failed (Err e) ≡ false → ¬ (IsErrOf {T = Recovery} (Err e) fault.Device)
   not_device e other is =
       (let same : e ≡ fault.Device = cc in let both : has_failed (Err fault.Device) ≡ false =
       ap (λ (f : StoreFault). has_failed (Err f)) (sym same) ∙ other in cc)
 
   -- the node is as it was
-  same_now : (e : StoreFault) → has_failed (Err e) ≡ false → IsRaised old mid (Err e) → (new ≡ mid) × (after ≡ before)
+  same_now : (e : StoreFault) → has_failed (Err e) ≡ false → IsRaised net number old mid (Err e) → (new ≡ mid) × (after ≡ before)
       → now ≡ was
   same_now e other raised stays =
       ap (λ (s : Store C slots words). node_view (record_in s) after) stays.0
       ∙ (ap (λ (r : RecordView). node_view r after) (raised.same_record (not_device e other))
       ∙ ap (node_view (record_in old)) stays.1)
 
-  same_has : (e : StoreFault) → has_failed (Err e) ≡ false → IsRaised old mid (Err e) → (new ≡ mid) × (after ≡ before)
+  same_has : (e : StoreFault) → has_failed (Err e) ≡ false → IsRaised net number old mid (Err e) → (new ≡ mid) × (after ≡ before)
       → HasRecord number (mode_view after.mode) new
   same_has e other raised stays =
       let kept = raised.same_record (not_device e other) in
@@ -248,16 +249,16 @@ module _ {C : Type 0} (words : CellWords C) (slots : SlotWords C)
         settled = raised.settled (not_device e other);
       }))
 
-  same_count : (e : StoreFault) → has_failed (Err e) ≡ false → IsRaised old mid (Err e)
+  same_count : (e : StoreFault) → has_failed (Err e) ≡ false → IsRaised net number old mid (Err e)
       → (new ≡ mid) × (after ≡ before) → words.failure_count (cell_in new) ≡ words.failure_count (cell_in old)
   same_count e other raised stays =
       ap (λ (s : Store C slots words). words.failure_count (cell_in s)) stays.0
       ∙ raised.failures.otherwise (not_device e other)
 
-  same_device : (e : StoreFault) → IsRaised old mid (Err e) → new ≡ mid → LeavesDevice old new
+  same_device : (e : StoreFault) → IsRaised net number old mid (Err e) → new ≡ mid → LeavesDevice old new
   same_device e raised same = subst (λ (s : Store C slots words). LeavesDevice old s) (sym same) raised.same_setup
 
-  nothing_then : (e : StoreFault) → has_failed (Err e) ≡ false → IsRaised old mid (Err e) → new ≡ mid
+  nothing_then : (e : StoreFault) → has_failed (Err e) ≡ false → IsRaised net number old mid (Err e) → new ≡ mid
       → (next : RecordView) → LeavesNext next old new
   nothing_then e other raised same next =
       looked words slots includes_now may_stay ready_settled next old new
@@ -268,9 +269,9 @@ module _ {C : Type 0} (words : CellWords C) (slots : SlotWords C)
   no_memory (Err e) raised is stays failed =
       let same = stays refl in (
         same_has fault.NoMemory refl raised same,
-        short_event round was now old new refl e (same_now fault.NoMemory refl raised same)
+        short_event net number round was now old new refl e (same_now fault.NoMemory refl raised same)
             (same_count fault.NoMemory refl raised same)
-            (nothing_then fault.NoMemory refl raised same.0 (next_record (recover_prospect was) was.kept))
+            (nothing_then fault.NoMemory refl raised same.0 (next_record (recover_prospect net number was) was.kept))
             (same_device fault.NoMemory raised same.0),
       )
 
@@ -279,9 +280,9 @@ module _ {C : Type 0} (words : CellWords C) (slots : SlotWords C)
   no_epoch more (Ok came) raised is stays failed =
       let same = stays refl in (
         same_has fault.Spent refl raised same,
-        subst (λ (o : Outcome). IsPutEvent (recover_prospect was) round was now old new {E = AllocError} (Ok o))
+        subst (λ (o : Outcome). IsPutEvent (recover_prospect net number was) round was now old new {E = AllocError} (Ok o))
             (sym is)
-            (last_event round was now old new refl (back_spent was down more) (same_now fault.Spent refl raised same)
+            (last_event net number round was now old new refl (back_spent net number was down more) (same_now fault.Spent refl raised same)
             (same_count fault.Spent refl raised same) (nothing_then fault.Spent refl raised same.0 was.kept)
             (same_device fault.Spent raised same.0)),
       )
@@ -291,7 +292,7 @@ module _ {C : Type 0} (words : CellWords C) (slots : SlotWords C)
   no_device (Ok came) raised is stays failed = (
     failed_has words slots includes_now may_stay ready_settled number old mid new before after has raised.any_moment lost.0
         restart lost.1,
-    subst (λ (o : Outcome). IsPutEvent (recover_prospect was) round was now old new {E = AllocError} (Ok o)) (sym is)
+    subst (λ (o : Outcome). IsPutEvent (recover_prospect net number was) round was now old new {E = AllocError} (Ok o)) (sym is)
         (at (nat_lt (record_in old).epoch MAX_COUNT) refl),
   )
     where
@@ -320,16 +321,16 @@ module _ {C : Type 0} (words : CellWords C) (slots : SlotWords C)
 
       -- where there is no next epoch nothing was put, and the record is the old one
       at : (b : Bool) → nat_lt (record_in old).epoch MAX_COUNT ≡ b
-          → IsPutEvent (recover_prospect was) round was now old new {E = AllocError} (Ok outcome.Failed)
+          → IsPutEvent (recover_prospect net number was) round was now old new {E = AllocError} (Ok outcome.Failed)
       at true test =
-          lost_event round was now old new refl (back_planned was down (ltb-true (record_in old).epoch MAX_COUNT test))
+          lost_event net number round was now old new refl (back_planned net number was down (ltb-true (record_in old).epoch MAX_COUNT test))
           (failed_now words slots includes_now may_stay ready_settled number old mid new before after has raised.any_moment
           lost.0 restart lost.1) fits count
           (failed_moments words slots includes_now may_stay ready_settled number old mid new before after has
           raised.any_moment lost.0 restart lost.1) setup
       at false test =
           let more = not_less (record_in old).epoch MAX_COUNT test in
-          looked_event round was now old new refl (back_spent was down more)
+          looked_event net number round was now old new refl (back_spent net number was down more)
           (ap (λ (r : RecordView). node_view r after) (kept_so more) ∙ lost.1 (record_in old)) count
           (looked words slots includes_now may_stay ready_settled was.kept old new (quiet more)) setup
         where

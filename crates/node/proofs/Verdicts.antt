@@ -1,6 +1,6 @@
 -- That a store has no cause to refuse a decision, a verdict or a confirmation, and what becomes of the node by one.
-use Rattle.std.proofs.Common.{◌≡◌, ◌≢◌, ℕ, zero, suc, ◌+◌, ◌<◌, ◌≤◌, Bool, true, false, ◌&&◌, ◌||◌, not, List, [], ◌∷◌, ◌++◌, length}
-use Rattle.std.proofs.Common.{Option, Some, None, refl, sym, ◌∙◌, ap, subst, arith, eqb, All}
+use Rattle.std.proofs.Common.{◌≡◌, ℕ, zero, suc, ◌+◌, ◌<◌, ◌≤◌, Bool, true, false, ◌&&◌, ◌||◌, not, List, [], ◌∷◌, length}
+use Rattle.std.proofs.Common.{Option, Some, None, option_map, refl, sym, ◌∙◌, ap, subst, arith, eqb, All}
 use Rattle.std.specs.Prelude.{◌==◌, cond, nat_le, nat_lt}
 use Rattle.std.specs.List.{list_any}
 use Rattle.std.proofs.lemmas.Bool.{le-leb, lt-ltb, eqb-true}
@@ -32,8 +32,11 @@ use Rattle.ckpt_store.specs.Refusals.{is_held, is_named_by, refusal_to_decide, r
 use Rattle.ckpt_store.specs.declared.fault.StoreFault.{StoreFault}
 use Rattle.ckpt_store.specs.declared.fault.StoreFault.TheVariants as fault
 use Rattle.protocol.specs.Node.Answering.{holds}
-use Rattle.protocol.specs.Node.NodeView.{NodeView, ModeView, Down, InDoubt, Runs}
-use Rattle.node.specs.Said.{held_image, image_if_doubtful}
+use Rattle.protocol.specs.Node.NodeView.{ModeView, Down, InDoubt, Runs, RunningView}
+use Rattle.kahn_net.specs.Syntax.{Network}
+use Rattle.node.specs.Said.{held_image, restored_if_doubtful}
+use Rattle.rollback_core.specs.RestoredView.{restored_view}
+use Rattle.rollback_core.specs.declared.restoring.Restored.{Restored}
 use Rattle.node.specs.Then.{mode_of}
 
 -- what is held is said in the same words
@@ -134,13 +137,37 @@ held_image_is initiator number (Some held) image is =
     at true same e = (same, λ permanent. (let is : held.image ≡ image = cc in is))
     at false same e = absurd (cc)
 
--- what a node runs from that was in doubt
-pub then_runs : (kept : RecordView) (image : ImageView) (o : Option ImageView) (mode : ModeView)
-    → o ≡ image_if_doubtful mode image → kept.permanent ≡ image → mode_then kept mode ≡ mode_of o mode
-then_runs kept image o Down is same = ap (λ (x : Option ImageView). mode_of x Down) (sym is)
-then_runs kept image o InDoubt is same =
-    ap (λ (i : ImageView). restored_from i false) same ∙ ap (λ (x : Option ImageView). mode_of x InDoubt) (sym is)
-then_runs kept image o (Runs running) is same = ap (λ (x : Option ImageView). mode_of x (Runs running)) (sym is)
+-- it is that of a tentative image
+pub held_there : (initiator number : ℕ) (o : Option Tentative) (image : ImageView)
+    → held_image initiator number o ≡ Some image → (held : Tentative) × (o ≡ Some held) × (held.image ≡ image)
+held_there initiator number None image is = absurd (cc)
+held_there initiator number (Some held) image is =
+    at (eqb held.initiator initiator && eqb held.number number) is
+  where
+    at : (b : Bool) → cond b (Some held.image) None ≡ Some image
+        → (h : Tentative) × (Some held ≡ Some h) × (h.image ≡ image)
+    at true same = (held, refl, (let is : held.image ≡ image = cc in is))
+    at false same = absurd (cc)
+
+-- what a node runs with that was in doubt
+runs_with : (o : Option Restored) (running : RunningView) → option_map restored_view o ≡ Some running
+    → mode_of o InDoubt ≡ Runs running
+runs_with None running is = absurd (cc)
+runs_with (Some restored) running is = (let same : restored_view restored ≡ running = cc in ap Runs same)
+
+stays_with : (o : Option Restored) (mode : ModeView) → option_map restored_view o ≡ None → mode_of o mode ≡ mode
+stays_with None mode is = refl
+stays_with (Some restored) mode is = absurd (cc)
+
+pub then_runs : (net : Network) (home : ℕ) (kept : RecordView) (image : ImageView) (epoch : ℕ) (o : Option Restored)
+    (mode : ModeView) → option_map restored_view o ≡ restored_if_doubtful net home mode image epoch
+    → kept.permanent ≡ image → kept.epoch ≡ epoch → mode_then net home kept mode ≡ mode_of o mode
+then_runs net home kept image epoch o Down is same number = sym (stays_with o Down is)
+then_runs net home kept image epoch o InDoubt is same number =
+    ap (λ (i : ImageView). Runs (restored_from net home i kept.epoch)) same
+    ∙ (ap (λ (e : ℕ). Runs (restored_from net home image e)) number
+    ∙ sym (runs_with o (restored_from net home image epoch) is))
+then_runs net home kept image epoch o (Runs running) is same number = sym (stays_with o (Runs running) is)
 
 -- ---- what fits
 

@@ -10,9 +10,12 @@ use Rattle.record.specs.declared.record.TheConstants.{MAX_DECISIONS}
 use Rattle.recovery_line.specs.Observers.{has_node}
 use Rattle.protocol.specs.Node.Beginning.{live_in}
 use Rattle.protocol.specs.Node.LiveView.{LiveView}
-use Rattle.protocol.specs.Node.NodeView.{NodeView, ModeView, Down, InDoubt, Runs}
+use Rattle.kahn_net.specs.Syntax.{Network}
+use Rattle.protocol.specs.Node.Recovering.{restored_from}
+use Rattle.protocol.specs.Node.NodeView.{NodeView, ModeView, Down, InDoubt, Runs, RunningView}
 use Rattle.protocol.specs.Node.Plans.{Prospect, packets_by}
 use Rattle.protocol.specs.Node.Verdicts.{may_decide}
+use Rattle.protocol.specs.declared.links.Inbox.{Inbox}
 use Rattle.protocol.specs.declared.outcome.Outcome.TheVariants as outcome
 use Rattle.protocol.specs.declared.outcome.Refusal.TheVariants.{TooLarge}
 
@@ -27,17 +30,23 @@ held_image initiator number None = None
 held_image initiator number (Some held) =
     if (held.initiator == initiator) && (held.number == number) then Some held.image else None
 
--- an image, for a node that is in doubt
-abbrev pub image_if_doubtful : ModeView → ImageView → Option ImageView
-image_if_doubtful Down image = None
-image_if_doubtful InDoubt image = Some image
-image_if_doubtful (Runs running) image = None
+-- what a node runs with that was in doubt, where it restores this image in this epoch
+abbrev pub restored_if_doubtful : Network → ℕ → ModeView → ImageView → ℕ → Option RunningView
+restored_if_doubtful net home Down image epoch = None
+restored_if_doubtful net home InDoubt image epoch = Some (restored_from net home image epoch)
+restored_if_doubtful net home (Runs running) image epoch = None
 
 -- where a node stands that runs
 abbrev pub current_in : ModeView → Option ImageView
 current_in Down = None
 current_in InDoubt = None
 current_in (Runs running) = Some running.current
+
+-- what came of each channel from another node, of one that runs
+abbrev pub inboxes_in : ModeView → Option (List Inbox)
+inboxes_in Down = None
+inboxes_in InDoubt = None
+inboxes_in (Runs running) = Some running.inboxes
 
 -- Where a checkpoint is decided for which answers are collected, its decision names other nodes, of no more than there may
 -- be, there is room for it, and the record is within the bounds in which it fits.

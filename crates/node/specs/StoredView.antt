@@ -7,7 +7,7 @@ use Rattle.gate_cell.specs.declared.slot_cell.SlotCell.{Ghosts as SlotWords}
 use Rattle.gate_cell.specs.Setup.{LeavesSetup}
 use Rattle.gate_cell.specs.Whole.{Whole}
 use Rattle.record.specs.RecordView.{RecordView}
-use Rattle.record.specs.ImageView.{ImageView}
+use Rattle.kahn_net.specs.Syntax.{Network}
 use Rattle.record.specs.Moves.{with_epoch}
 use Rattle.kahn_net.specs.declared.limits.TheConstants.{MAX_COUNT}
 use Rattle.ckpt_store.specs.Spelling.{Spells, fits_in}
@@ -18,6 +18,9 @@ use Rattle.ckpt_store.specs.declared.fault.StoreFault.{StoreFault}
 use Rattle.ckpt_store.specs.declared.fault.StoreFault.TheVariants as fault
 use Rattle.protocol.specs.Node.NodeView.{ModeView}
 use Rattle.protocol.specs.Node.Modes.{is_down}
+use Rattle.protocol.specs.Node.Recovering.{restored_mode}
+use Rattle.rollback_core.specs.RestoredView.{recovery_mode}
+use Rattle.rollback_core.specs.declared.restoring.Recovery.{Recovery}
 use Rattle.protocol.specs.declared.outcome.Outcome.{Outcome}
 use Rattle.protocol.specs.declared.outcome.Outcome.TheVariants.{NotDue, Made, Refused, Failed}
 use Rattle.protocol.specs.declared.outcome.Refusal.TheVariants.{TooLarge, Spent}
@@ -76,9 +79,9 @@ IsRaiseRefusal fits kept other = ⊥
 -- The store of a node that is down was reopened, and its record is in the next epoch: `result` is the permanent image,
 -- or why it isn't. After a failure of the device the record is the old one or the next one; after any other refusal the
 -- old one.
-pub record IsRaised {C : Type 0} {words : CellWords C} {slots : SlotWords C} (old new : Store C slots words)
-    (result : Result ImageView StoreFault) : Type 0 where
-  pub image : IfOk result (λ image. image ≡ (record_in old).permanent)
+pub record IsRaised {C : Type 0} {words : CellWords C} {slots : SlotWords C} (net : Network) (home : ℕ)
+    (old new : Store C slots words) (result : Result Recovery StoreFault) : Type 0 where
+  pub recovery : IfOk result (λ recovery. recovery_mode recovery ≡ restored_mode net home (with_epoch (record_in old)))
   pub raised : OnOk result
       ((record_in new ≡ with_epoch (record_in old)) × IsSome (known_in new) × ((record_in old).epoch < MAX_COUNT)
       × IsTrue (fits_in (slots.slot_capacity (cell_in old)) (with_epoch (record_in old))))

@@ -1,24 +1,42 @@
 -- What becomes of a node's memory behind a put that was made.
-use Rattle.std.specs.Prelude.{false, Option, Some, None}
-use Rattle.record.specs.ImageView.{ImageView}
+use Rattle.std.specs.Prelude.{◌≤◌, Option, Some, None}
+use Rattle.kahn_net.specs.declared.limits.TheConstants.{MAX_COUNT}
+use Rattle.protocol.specs.Node.GoingBack.{set_back_from}
+use Rattle.protocol.specs.Node.Modes.{next_number}
+use Rattle.protocol.specs.Node.Recovering.{IsRestorable}
 use Rattle.protocol.specs.Node.Beginning.{collecting}
-use Rattle.protocol.specs.Node.NodeView.{NodeView, ModeView, Down, InDoubt, Runs, on_running, with_mode}
-use Rattle.protocol.specs.Node.Recovering.{restored_from}
+use Rattle.protocol.specs.Node.NodeView.{NodeView, ModeView, Down, InDoubt, Runs, on_mode, on_running, with_mode}
+use Rattle.rollback_core.specs.RestoredView.{restored_view}
+use Rattle.rollback_core.specs.declared.restoring.Restored.{Restored}
 use Rattle.node.specs.declared.checkpoint.Then.{Then}
 use Rattle.node.specs.declared.checkpoint.Then.TheVariants as then_is
 
--- a node that was in doubt runs from an image
-abbrev pub mode_from : ImageView → ModeView → ModeView
-mode_from image Down = Down
-mode_from image InDoubt = restored_from image false
-mode_from image (Runs running) = Runs running
+-- a node that was in doubt runs with what it restored
+abbrev pub mode_from : Restored → ModeView → ModeView
+mode_from restored Down = Down
+mode_from restored InDoubt = Runs (restored_view restored)
+mode_from restored (Runs running) = Runs running
 
 -- or stays as it is
-abbrev pub mode_of : Option ImageView → ModeView → ModeView
+abbrev pub mode_of : Option Restored → ModeView → ModeView
 mode_of None mode = mode
-mode_of (Some image) mode = mode_from image mode
+mode_of (Some restored) mode = mode_from restored mode
 
 abbrev pub then_node : Then → NodeView → NodeView
 then_node then_is.Stays node = node
 then_node (then_is.Collects live) node = on_running (collecting live) node
-then_node (then_is.Runs image) node = with_mode (mode_of image node.mode) node
+then_node (then_is.Runs restored) node = with_mode (mode_of restored node.mode) node
+then_node (then_is.GoesBack image own channel epoch) node = record {
+  kept = node.kept;
+  version = next_number node.version;
+  restart = node.restart;
+  armed = node.armed;
+  mode = on_mode (set_back_from image own channel epoch) node.mode;
+}
+
+-- it may be done
+abbrev pub MayFollow : Then → Type 0
+MayFollow then_is.Stays = Unit {0}
+MayFollow (then_is.Collects live) = Unit {0}
+MayFollow (then_is.Runs restored) = Unit {0}
+MayFollow (then_is.GoesBack image own channel epoch) = IsRestorable image × (own ≤ MAX_COUNT)

@@ -4,17 +4,16 @@ ghost use Rattle.ckpt_store.specs.StoreView.{cell_in, record_in};
 ghost use Rattle.protocol.specs.Node.ArmedRestarts.{restart_after};
 ghost use Rattle.protocol.specs.Node.Modes.{crashed};
 ghost use Rattle.protocol.specs.Node.Plans.{LeavesCell, packets_by};
-ghost use Rattle.protocol.specs.Node.Beginning.{live_in, start_prospect};
+ghost use Rattle.protocol.specs.Node.Beginning.{start_prospect};
 ghost use Rattle.protocol.specs.Node.Starting.{IsLikeNow};
 ghost use Rattle.protocol.specs.Node.Verdicts.{decide_prospect};
 ghost use Rattle.node.specs.Putting.{IsPutEvent};
 ghost use Rattle.node.specs.NodeView.{mode_view, node_view};
 ghost use Rattle.node.specs.StoredView.{HasRecord, IsCrashed, IsAnswer, has_failed, put_outcome};
-ghost use Rattle.node.specs.Then.{then_node};
+ghost use Rattle.node.specs.Then.{MayFollow, then_node};
 ghost use Rattle.node.specs.Said.{MayBeDecided};
 ghost use Rattle.kahn_net.specs.Syntax.{network_of};
 ghost use Rattle.kahn_net.specs.declared.limits.TheConstants.{MAX_NODES};
-ghost use Rattle.protocol.specs.Node.Recovering.{restored_from};
 ghost use Rattle.record.specs.Moves.{highest_seen};
 ghost use Rattle.record.specs.RecordView.{RecordView};
 
@@ -29,6 +28,7 @@ use kahn_net::MAX_COUNT;
 use net_check::Net;
 use protocol::{Outcome, Refusal};
 use record::{Image, Record};
+use rollback_core::Restored;
 use std::alloc::{AllocError, Global};
 
 // What comes of an event whose put the store did, or refused. (A node's own events give it no cause for any refusal but those of a put.)
@@ -92,25 +92,19 @@ pub(crate) enum Then {
     Stays,
     /// It collects answers for this checkpoint, or for none.
     Collects(Option<Initiator>),
-    /// Where it was in doubt it runs, from this image.
-    Runs(Option<Image>),
-}
-
-// The mode of a node that was in doubt, and runs from this image.
-fn run_from(alloc: Global, image: Image) -> Mode
-    ensures { mode_view result ≡ restored_from image false }
-{
-    Mode::Running(Running {
-        current: image,
-        out: None,
-        last: None,
-        inboxes: Vec::new(alloc),
-        outboxes: Vec::new(alloc),
-        live: None,
-    })
+    /// Where it was in doubt it runs, with what it restored.
+    Runs(Option<Restored>),
+    /// It goes back to this image, in this epoch of its own, and notes that of a channel's sender.
+    GoesBack {
+        image: Image,
+        own: u64,
+        channel: u16,
+        epoch: u64,
+    },
 }
 
 fn carry_on(alloc: Global, then: Then, state: &mut NodeState)
+    requires { MayFollow then }
     ensures { (kept : RecordView) → node_view kept state.new
         ≡ then_node then (node_view kept state.old) }
 {
@@ -122,11 +116,17 @@ fn carry_on(alloc: Global, then: Then, state: &mut NodeState)
             }
         }
         Then::Runs(None) => {}
-        Then::Runs(Some(image)) => {
+        Then::Runs(Some(restored)) => {
             if let Mode::InDoubt = &state.mode {
-                state.mode = run_from(alloc, image);
+                state.mode = Mode::Running(Running::from_restored(restored));
             }
         }
+        Then::GoesBack {
+            image,
+            own,
+            channel,
+            epoch,
+        } => state.go_back(alloc, image, own, channel, epoch),
     }
 }
 
@@ -139,6 +139,7 @@ pub(crate) fn end_put_then<C: SlotCell>(
     store: &mut Store<C>,
     round: u64,
 ) -> Result<Outcome, AllocError>
+    requires { MayFollow then }
     ensures answer { IsAnswer (put_outcome put) result }
     ensures store { has_failed put ≡ false → store.new ≡ store.old }
     ensures done { OnOk put ((kept : RecordView) → node_view kept state.new

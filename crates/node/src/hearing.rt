@@ -1,30 +1,30 @@
 // A packet comes to a node: what it says then, and what becomes of the node.
 //
 // What is said is found first, and changes nothing, so that whoever sends it has the memory for it before anything is put.
-ghost use Rattle.std.specs.Prelude.{◌≡◌, ◌<◌, ◌≤◌, ◌++◌, [], All, false, true, length, IfOk, OnOk, option_copied};
+ghost use Rattle.std.specs.Prelude.{◌≡◌, ◌<◌, ◌≤◌, ◌++◌, [], All, false, true, length, IfOk, OnOk, option_copied, option_map};
 ghost use Rattle.kahn_net.specs.Nodes.{node_count};
 ghost use Rattle.kahn_net.specs.Syntax.{network_of};
 ghost use Rattle.ckpt_codec.specs.SizeLaws.{IsRecordWithin};
 ghost use Rattle.ckpt_codec.specs.declared.lengths.TheConstants.{MAX_RETAINED_ITEMS};
 ghost use Rattle.ckpt_store.specs.StoreView.{cell_in, record_in};
-ghost use Rattle.ckpt_store.specs.Spelling.{IsLike};
 ghost use Rattle.protocol.specs.Node.Addresses.{names_right};
-ghost use Rattle.protocol.specs.Node.Answering.{answer_packets, answer_to_ask, ask_prospect, holds, kept_then};
-ghost use Rattle.protocol.specs.Node.Beginning.{in_front, live_in};
+ghost use Rattle.protocol.specs.Node.Answering.{answer_to_ask, ask_prospect, holds};
+ghost use Rattle.protocol.specs.Node.Beginning.{in_front};
 ghost use Rattle.protocol.specs.Node.Collecting.{answer_to_took, give_up_prospect, joined_asks, refused_prospect, took_prospect};
 ghost use Rattle.protocol.specs.Node.Delivering.{packet_for};
 ghost use Rattle.protocol.specs.Node.Hearing.{hear_prospect};
 ghost use Rattle.protocol.specs.Node.Modes.{is_down};
-ghost use Rattle.protocol.specs.Node.Plans.{LeavesCell, packets_by};
+ghost use Rattle.protocol.specs.Node.Plans.{LeavesCell, putting};
 ghost use Rattle.protocol.specs.Node.Starting.{IsLikeNow};
 ghost use Rattle.protocol.specs.Node.Verdicts.{commit_prospect, ended_prospect, settled_prospect};
 ghost use Rattle.node.specs.NodeView.{mode_view, node_view};
 ghost use Rattle.node.specs.Putting.{IsPutEvent};
 ghost use Rattle.node.specs.StoredView.{HasRecord};
-ghost use Rattle.node.specs.Said.{IsSaid, held_image, image_if_doubtful};
+ghost use Rattle.node.specs.Said.{IsSaid, held_image, restored_if_doubtful};
+ghost use Rattle.rollback_core.specs.RestoredView.{restored_view};
+ghost use Rattle.protocol.specs.Node.GoingBack.{gone_back, undone_prospect};
+ghost use Rattle.protocol.specs.Node.Recovering.{IsRestorable};
 ghost use Rattle.datagram.specs.PacketText.{IsPacket};
-ghost use Rattle.record.specs.RecordView.{RecordView};
-ghost use Rattle.ckpt_core.specs.AskView.{answer_view};
 ghost use Rattle.kahn_net.specs.declared.limits.TheConstants.{MAX_CHANNELS, MAX_COUNT};
 
 use crate::checkpoint::{Then, end_put_then};
@@ -39,6 +39,7 @@ use layout::names_right;
 use net_check::Net;
 use protocol::Outcome;
 use record::{Image, Record};
+use rollback_core::{Restored, UndoneAnswer, answer_to_undone, restore};
 use std::alloc::{AllocError, Global};
 
 /// The packet for this node that these bytes spell, if they spell one.
@@ -347,12 +348,22 @@ fn hear_refused<C: SlotCell>(
     give_up(alloc, home, state, store, number, round)
 }
 
-// What a node runs from that was in doubt, once the verdict makes this image its permanent one; nothing where it wasn't.
-fn run_image(alloc: Global, state: &NodeState, image: &Image) -> Result<Option<Image>, AllocError>
-    ensures { IfOk result (λ copy. copy ≡ image_if_doubtful (mode_view state.now.mode) image.now) }
+// What a node runs with that was in doubt, once the verdict makes this image its permanent one; nothing where it wasn't.
+fn restore_if_doubtful(
+    alloc: Global,
+    net: &Net,
+    home: u8,
+    state: &NodeState,
+    image: &Image,
+    epoch: u64,
+) -> Result<Option<Restored>, AllocError>
+    requires counts { IsRestorable image.now }
+    requires epoch { epoch ≤ MAX_COUNT }
+    ensures { IfOk result (λ restored. option_map restored_view restored
+        ≡ restored_if_doubtful (network_of net.now.program) home (mode_view state.now.mode) image.now epoch) }
 {
     match &state.mode {
-        Mode::InDoubt => Ok(Some(image.copy(alloc)?)),
+        Mode::InDoubt => Ok(Some(restore(alloc, net, home, image, epoch)?)),
         Mode::Down | Mode::Running(_) => Ok(None),
     }
 }
@@ -370,6 +381,7 @@ fn held_image(kept: &Record, initiator: u8, number: u64) -> Option<&Image>
 // The verdict that a checkpoint is decided: its image becomes permanent where it is held.
 fn hear_commit<C: SlotCell>(
     alloc: Global,
+    net: &Net,
     home: u8,
     state: &mut NodeState,
     store: &mut Store<C>,
@@ -380,7 +392,7 @@ fn hear_commit<C: SlotCell>(
     requires kept { HasRecord home (mode_view state.old.mode) store.old }
     requires up { is_down (mode_view state.old.mode) ≡ false }
     ensures kept { HasRecord home (mode_view state.new.mode) store.new }
-    ensures event { IsPutEvent (commit_prospect home from number
+    ensures event { IsPutEvent (commit_prospect (network_of net.now.program) home from number
         (node_view (record_in store.old) state.old)) round
         (node_view (record_in store.old) state.old) (node_view (record_in store.new) state.new)
         store.old store.new result }
@@ -392,14 +404,15 @@ fn hear_commit<C: SlotCell>(
     let Some(image) = held_image(kept, from, number) else {
         return Ok(Outcome::Made);
     };
-    let image = run_image(alloc, state, image)?;
+    let restored = restore_if_doubtful(alloc, net, home, state, image, kept.epoch)?;
     let put = store.make_permanent(alloc, from, number);
-    end_put_then(alloc, put, Then::Runs(image), state, store, round)
+    end_put_then(alloc, put, Then::Runs(restored), state, store, round)
 }
 
 // The verdict that a checkpoint is over: its image is dropped where it is held.
 fn hear_ended<C: SlotCell>(
     alloc: Global,
+    net: &Net,
     home: u8,
     state: &mut NodeState,
     store: &mut Store<C>,
@@ -411,7 +424,7 @@ fn hear_ended<C: SlotCell>(
     requires bounded { IsRecordWithin MAX_RETAINED_ITEMS (record_in store.old) }
     requires up { is_down (mode_view state.old.mode) ≡ false }
     ensures kept { HasRecord home (mode_view state.new.mode) store.new }
-    ensures event { IsPutEvent (ended_prospect from number
+    ensures event { IsPutEvent (ended_prospect (network_of net.now.program) home from number
         (node_view (record_in store.old) state.old)) round
         (node_view (record_in store.old) state.old) (node_view (record_in store.new) state.new)
         store.old store.new result }
@@ -423,9 +436,9 @@ fn hear_ended<C: SlotCell>(
     if !holds(&kept.tentative, from, number) {
         return Ok(Outcome::Made);
     }
-    let image = run_image(alloc, state, &kept.permanent)?;
+    let restored = restore_if_doubtful(alloc, net, home, state, &kept.permanent, kept.epoch)?;
     let put = store.drop_tentative(alloc, from, number);
-    end_put_then(alloc, put, Then::Runs(image), state, store, round)
+    end_put_then(alloc, put, Then::Runs(restored), state, store, round)
 }
 
 // A node has done what it was told: it leaves the decision that names it.
@@ -456,6 +469,76 @@ fn hear_settled<C: SlotCell>(
     }
     let put = store.confirm(alloc, number, from);
     end_put_then(alloc, put, Then::Stays, state, store, round)
+}
+
+// Goes back to the permanent image, in the next epoch.
+fn go_back<C: SlotCell>(
+    alloc: Global,
+    home: u8,
+    state: &mut NodeState,
+    store: &mut Store<C>,
+    channel: u16,
+    epoch: u64,
+    round: u64,
+) -> Result<Outcome, AllocError>
+    requires kept { HasRecord home (mode_view state.old.mode) store.old }
+    requires bounded { IsRecordWithin MAX_RETAINED_ITEMS (record_in store.old) }
+    requires up { is_down (mode_view state.old.mode) ≡ false }
+    requires below { (record_in store.old).epoch < MAX_COUNT }
+    ensures kept { HasRecord home (mode_view state.new.mode) store.new }
+    ensures event { IsPutEvent (putting false (gone_back channel epoch
+        (node_view (record_in store.old) state.old))) round
+        (node_view (record_in store.old) state.old) (node_view (record_in store.new) state.new)
+        store.old store.new result }
+    ensures unchanged { LeavesCell result → cell_in store.new ≡ cell_in store.old }
+{
+    let Ok(kept) = store.record() else {
+        return Ok(Outcome::NotDue);
+    };
+    let own = kept.epoch + 1;
+    let image = kept.permanent.copy(alloc)?;
+    let put = store.raise_epoch(alloc);
+    let then = Then::GoesBack {
+        image,
+        own,
+        channel,
+        epoch,
+    };
+    end_put_then(alloc, put, then, state, store, round)
+}
+
+// The sender of a channel restored an image that had put so many items, in this epoch.
+fn hear_undone<C: SlotCell>(
+    alloc: Global,
+    home: u8,
+    state: &mut NodeState,
+    store: &mut Store<C>,
+    channel: u16,
+    epoch: u64,
+    sent: u64,
+    round: u64,
+) -> Result<Outcome, AllocError>
+    requires kept { HasRecord home (mode_view state.old.mode) store.old }
+    requires bounded { IsRecordWithin MAX_RETAINED_ITEMS (record_in store.old) }
+    requires up { is_down (mode_view state.old.mode) ≡ false }
+    ensures kept { HasRecord home (mode_view state.new.mode) store.new }
+    ensures event { IsPutEvent (undone_prospect channel epoch sent
+        (node_view (record_in store.old) state.old)) round
+        (node_view (record_in store.old) state.old) (node_view (record_in store.new) state.new)
+        store.old store.new result }
+    ensures unchanged { LeavesCell result → cell_in store.new ≡ cell_in store.old }
+{
+    let Ok(kept) = store.record() else {
+        return Ok(Outcome::NotDue);
+    };
+    match answer_to_undone(kept, state.inboxes(), channel, epoch, sent) {
+        UndoneAnswer::PassesOver => Ok(Outcome::Made),
+        UndoneAnswer::Notes => {
+            state.note_epoch(channel, epoch);
+            Ok(Outcome::Made)
+        }
+        UndoneAnswer::GoesBack => go_back(alloc, home, state, store, channel, epoch, round),
+    }
 }
 
 /// What becomes of a node that is up and hears a packet for it. Refuses for want of memory alone, and then nothing is changed.
@@ -524,9 +607,15 @@ pub(crate) fn hear<C: SlotCell>(
         }
         Body::Refused { number, .. } => { hear_refused(alloc, home, state, store, *number, round) }
         Body::Query { .. } => Ok(Outcome::Made),
-        Body::Commit { number } => hear_commit(alloc, home, state, store, from, *number, round),
-        Body::Ended { number } => hear_ended(alloc, home, state, store, from, *number, round),
+        Body::Commit { number } => hear_commit(
+            alloc, net, home, state, store, from, *number, round,
+        ),
+        Body::Ended { number } => hear_ended(alloc, net, home, state, store, from, *number, round),
         Body::Settled { number } => hear_settled(alloc, home, state, store, from, *number, round),
-        Body::Undone { .. } => Ok(Outcome::Made),
+        Body::Undone {
+            channel,
+            epoch,
+            sent,
+        } => hear_undone(alloc, home, state, store, *channel, *epoch, *sent, round),
     }
 }

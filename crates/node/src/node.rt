@@ -37,7 +37,7 @@ use crate::hearing::{Said, answers, hear, read_for};
 use crate::mode::Mode;
 use crate::opening::open_state;
 use crate::preparing::{arm, recount};
-use crate::recover::{crash, recover};
+use crate::recover::{come_back, crash};
 use crate::state::NodeState;
 use ckpt_store::Store;
 use datagram::Packet;
@@ -306,14 +306,22 @@ impl<C: SlotCell> Node<C> {
     /// from its permanent image, or is in doubt where it holds another's tentative one. Where the device fails it stays
     /// down, for as many rounds as of a start. Refuses for want of memory alone; device calls may have been made then, and
     /// nothing else is changed.
-    pub fn recover(&mut self, alloc: Global, round: u64) -> Result<Outcome, AllocError>
-        ensures event { IsPutEvent (recover_prospect (view_of self.old)) round
+    pub fn recover(&mut self, alloc: Global, net: &Net, round: u64) -> Result<Outcome, AllocError>
+        ensures event { IsPutEvent (recover_prospect (network_of net.now.program) self.old.number
+            (view_of self.old)) round
             (view_of self.old) (view_of self.new) self.old.store self.new.store result }
         ensures unchanged { IfOk result
             (λ outcome. outcome ≡ Outcome.NotDue → self.new.store ≡ self.old.store) }
         ensures same_number { self.new.number ≡ self.old.number }
     {
-        recover(alloc, self.number, &mut self.state, &mut self.store, round)
+        come_back(
+            alloc,
+            net,
+            self.number,
+            &mut self.state,
+            &mut self.store,
+            round,
+        )
     }
 
     /// Prepares a failure of the node's disk, where there is one, and for how many rounds it is to keep the node down.

@@ -123,6 +123,7 @@ fn new_inbox(alloc: Global, channel: u8) -> Result<Inbox, AllocError>
         channel,
         window: RecvWindow::new(alloc, WINDOW)?,
         log: Log::new(alloc),
+        undone: 0,
     })
 }
 
@@ -132,6 +133,7 @@ fn new_outbox(channel: u8) -> Outbox
     Outbox {
         channel,
         window: SendWindow::new(WINDOW),
+        restored: 0,
     }
 }
 

@@ -1,9 +1,11 @@
 // A node crashes, and comes back.
-ghost use Rattle.std.specs.Prelude.{◌≡◌, false, not, IfOk, IsSome, IsTrue, None, Some, is_some};
+ghost use Rattle.std.specs.Prelude.{◌≡◌, false, not, IfOk, IsSome, IsTrue, None};
+ghost use Rattle.kahn_net.specs.Syntax.{network_of};
 ghost use Rattle.sector_disk.specs.Clock.{Only};
 ghost use Rattle.ckpt_store.specs.StoreView.{cell_in, known_in, record_in};
 ghost use Rattle.protocol.specs.Node.Modes.{crashed, is_down};
-ghost use Rattle.protocol.specs.Node.Recovering.{recover_prospect, restored_from};
+ghost use Rattle.protocol.specs.Node.Recovering.{recover_prospect};
+ghost use Rattle.rollback_core.specs.RestoredView.{recovery_mode};
 ghost use Rattle.node.specs.NodeView.{mode_view, node_view};
 ghost use Rattle.node.specs.Putting.{IsPutEvent};
 ghost use Rattle.node.specs.StoredView.{HasRecord, IsRaised, LeavesAsBefore, LeavesDevice};
@@ -14,8 +16,10 @@ use crate::running::Running;
 use crate::state::NodeState;
 use ckpt_store::{Store, StoreFault};
 use gate_cell::SlotCell;
+use kahn_net::MAX_COUNT;
+use net_check::Net;
 use protocol::Outcome;
-use record::Image;
+use rollback_core::{Recovery, recover};
 use std::alloc::{AllocError, Global};
 
 // A node that is up crashes; says whether it was. What its cell holds is settled by this byte, where one is given.
@@ -45,67 +49,63 @@ pub(crate) fn crash<C: SlotCell>(
     true
 }
 
-// The mode in which a node comes back, with this permanent image. No ends of channels between nodes are restored so far.
-fn mode_from(alloc: Global, image: Image, holds: bool) -> Mode
-    ensures { mode_view result ≡ restored_from image holds }
+// The mode of a node that comes back so.
+fn mode_from(recovery: Recovery) -> Mode
+    ensures { mode_view result ≡ recovery_mode recovery }
 {
-    if holds {
-        Mode::InDoubt
-    } else {
-        Mode::Running(Running {
-            current: image,
-            out: None,
-            last: None,
-            inboxes: Vec::new(alloc),
-            outboxes: Vec::new(alloc),
-            live: None,
-        })
+    match recovery {
+        Recovery::InDoubt => Mode::InDoubt,
+        Recovery::Running(restored) => Mode::Running(Running::from_restored(restored)),
     }
 }
 
-// Takes the memory for the permanent image of a store that is open, and raises its epoch.
-fn raise_open<C: SlotCell>(alloc: Global, store: &mut Store<C>) -> Result<Image, StoreFault>
+// Makes what a node comes back with, whose store is open, and then raises its epoch.
+fn raise_open<C: SlotCell>(
+    alloc: Global,
+    net: &Net,
+    home: u8,
+    store: &mut Store<C>,
+) -> Result<Recovery, StoreFault>
     requires known { IsSome (known_in store.old) }
     requires settled { Only (C.whole (cell_in store.old)) (C.may_leave_whole (cell_in store.old)) }
-    ensures { IsRaised store.old store.new result }
+    ensures { IsRaised (network_of net.now.program) home store.old store.new result }
 {
     let Ok(kept) = store.record() else {
         return Err(StoreFault::Reopen);
     };
-    let Ok(image) = kept.permanent.copy(alloc) else {
+    if kept.epoch >= MAX_COUNT {
+        return Err(StoreFault::Spent);
+    }
+    let Ok(recovery) = recover(alloc, net, home, kept) else {
         return Err(StoreFault::NoMemory);
     };
     match store.raise_epoch(alloc) {
-        Ok(()) => Ok(image),
+        Ok(()) => Ok(recovery),
         Err(fault) => Err(fault),
     }
 }
 
 // Reopens the store of a node that is down, and raises its epoch.
-fn raise<C: SlotCell>(alloc: Global, store: &mut Store<C>) -> Result<Image, StoreFault>
+fn raise<C: SlotCell>(
+    alloc: Global,
+    net: &Net,
+    home: u8,
+    store: &mut Store<C>,
+) -> Result<Recovery, StoreFault>
     requires { Only (C.whole (cell_in store.old)) (C.may_leave_whole (cell_in store.old)) }
-    ensures { IsRaised store.old store.new result }
+    ensures { IsRaised (network_of net.now.program) home store.old store.new result }
 {
     match store.reopen(alloc) {
-        Ok(()) => raise_open(alloc, store),
+        Ok(()) => raise_open(alloc, net, home, store),
         Err(fault) => Err(fault),
     }
 }
 
-// Whether a store's record holds a tentative image.
-fn holds<C: SlotCell>(store: &Store<C>) -> bool
-    ensures { IsSome (known_in store.now) → result ≡ is_some (record_in store.now).tentative }
-{
-    match store.record() {
-        Ok(kept) => kept.tentative.is_some(),
-        Err(_) => false,
-    }
-}
-
-// A node that is down comes back in its next epoch, without a tentative image of its own, and runs from its permanent image unless it holds
-// another's.
-pub(crate) fn recover<C: SlotCell>(
+// A node that is down comes back in its next epoch, without a tentative image of its own, and runs from its permanent image
+// unless it holds another's.
+pub(crate) fn come_back<C: SlotCell>(
     alloc: Global,
+    net: &Net,
     number: u8,
     state: &mut NodeState,
     store: &mut Store<C>,
@@ -113,7 +113,8 @@ pub(crate) fn recover<C: SlotCell>(
 ) -> Result<Outcome, AllocError>
     requires { HasRecord number (mode_view state.old.mode) store.old }
     ensures kept { HasRecord number (mode_view state.new.mode) store.new }
-    ensures event { IsPutEvent (recover_prospect (node_view (record_in store.old) state.old))
+    ensures event { IsPutEvent (recover_prospect (network_of net.now.program) number
+        (node_view (record_in store.old) state.old))
         round (node_view (record_in store.old) state.old) (node_view (record_in store.new) state.new)
         store.old store.new result }
     ensures unchanged { IfOk result (λ outcome. outcome ≡ Outcome.NotDue → store.new ≡ store.old) }
@@ -121,9 +122,9 @@ pub(crate) fn recover<C: SlotCell>(
     if !state.is_down() {
         return Ok(Outcome::NotDue);
     }
-    match raise(alloc, store) {
-        Ok(image) => {
-            state.mode = mode_from(alloc, image, holds(store));
+    match raise(alloc, net, number, store) {
+        Ok(recovery) => {
+            state.mode = mode_from(recovery);
             Ok(Outcome::Made)
         }
         Err(fault) => end_put(Err(fault), state, store, round),

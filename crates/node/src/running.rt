@@ -1,22 +1,26 @@
 //! What a node has while it runs.
-ghost use Rattle.std.specs.Prelude.{◌≡◌, ◌↔◌, ◌<◌, if◌then◌else◌, length, IfOk, IfSome, IsErrOf, IsTrue, None, OnErr, OnOk, Some, is_some, option_copied, option_map};
+ghost use Rattle.kahn_net.specs.declared.limits.TheConstants.{MAX_COUNT};
+ghost use Rattle.std.specs.Prelude.{◌≡◌, ◌↔◌, ◌<◌, ◌≤◌, if◌then◌else◌, length, IfOk, IfSome, IsErrOf, IsTrue, None, OnErr, OnOk, Some, is_some, option_copied, option_map};
 ghost use Rattle.kahn_net.specs.Syntax.{network_of};
 ghost use Rattle.kahn_net.specs.States.{standing_of};
 ghost use Rattle.protocol.specs.Node.Choosing.{granted, may_grant, next_job, next_process};
 ghost use Rattle.protocol.specs.Node.Granting.{job_for};
 ghost use Rattle.protocol.specs.Node.Collecting.{hearing_covered, joining};
 ghost use Rattle.protocol.specs.Node.Delivering.{hearing};
+ghost use Rattle.protocol.specs.Node.GoingBack.{noting_undone, set_back_from};
+ghost use Rattle.protocol.specs.Node.Recovering.{IsRestorable};
 ghost use Rattle.protocol.specs.Node.NodeView.{Runs};
 ghost use Rattle.protocol.specs.Node.Telling.{turn_packets};
 ghost use Rattle.protocol.specs.Node.Trimming.{cut_at};
 ghost use Rattle.protocol.specs.Node.Installing.{ImageTakes, IsTaken};
 ghost use Rattle.node.specs.JobView.{job_view};
+ghost use Rattle.rollback_core.specs.RestoredView.{restored_view};
 
 use crate::choosing::next_process;
 use crate::delivering::{hear_acknowledgement, hear_item};
 use crate::granting::make_job;
 use crate::installing::install_from;
-use crate::sending::{add_all_answers, add_all_outgoing};
+use crate::sending::{add_all_answers, add_all_outgoing, add_all_undone};
 use crate::sharing::retained_share;
 use crate::telling::{add_live_asks, add_verdicts};
 use datagram::{Body, Need, Packet};
@@ -27,6 +31,7 @@ use proc_step::{Done, Job};
 use protocol::{Inbox, Outbox};
 use record::{Image, Record, SavedProcess};
 use retained::LogFault;
+use rollback_core::{Restored, note_epoch, set_back};
 use std::alloc::{AllocError, Global};
 use std::sync::Arc;
 
@@ -50,6 +55,20 @@ pub struct Running {
 impl Running {
     ghost use Rattle.protocol.specs.Node.NodeView.{running_node};
     ghost use Rattle.node.specs.NodeView.{running_view};
+
+    /// What a node has in memory that restored this.
+    pub fn from_restored(restored: Restored) -> Running
+        ensures { running_view result ≡ restored_view restored }
+    {
+        Running {
+            current: restored.current,
+            out: None,
+            last: None,
+            inboxes: restored.inboxes,
+            outboxes: restored.outboxes,
+            live: None,
+        }
+    }
 
     // Whether a job may be granted, if a process is ready, at a node with this record and version.
     fn can_grant(&self, kept: &Record, version: u64) -> bool
@@ -240,6 +259,28 @@ impl Running {
         self.current.trim(channel, count);
     }
 
+    /// Notes that an epoch of a channel's sender was handled.
+    pub fn note_epoch(&mut self, channel: u16, epoch: u64)
+        ensures { running_view self.new ≡ noting_undone channel epoch (running_view self.old) }
+    {
+        note_epoch(&mut self.inboxes, channel, epoch);
+    }
+
+    /// Goes back to this image, in this epoch of its own, and notes that of a channel's sender. No job is out any more.
+    /// Takes no memory.
+    pub fn go_back(&mut self, alloc: Global, image: Image, own: u64, channel: u16, epoch: u64)
+        requires counts { IsRestorable image }
+        requires own { own ≤ MAX_COUNT }
+        ensures { running_view self.new ≡ set_back_from image own channel epoch (running_view self.old) }
+    {
+        note_epoch(&mut self.inboxes, channel, epoch);
+        set_back(alloc, &mut self.inboxes, &mut self.outboxes, &image, own);
+        self.current = image;
+        self.out = None;
+        self.last = None;
+        self.live = None;
+    }
+
     /// What was asked of a channel is kept for good, if answers are collected for the checkpoint of this number.
     pub fn on_covered(&mut self, number: u64, channel: u16)
         ensures { running_view self.new ≡ hearing_covered number channel (running_view self.old) }
@@ -284,6 +325,7 @@ impl Running {
     {
         let mut packets = Vec::with_capacity(alloc, 2 * self.inboxes.len())?;
         add_all_answers(&mut packets, net, number, &kept.permanent, &self.inboxes)?;
+        add_all_undone(&mut packets, net, number, kept.epoch, &self.outboxes)?;
         add_live_asks(&mut packets, net, number, &self.live)?;
         add_verdicts(&mut packets, number, kept)?;
         if kept.tentative.is_none() {

@@ -1,7 +1,8 @@
 // What a node sends to the others.
-ghost use Rattle.std.specs.Prelude.{◌≡◌, ◌+◌, ◌<◌, ◌≤◌, ◌++◌, length, IfOk, OnOk};
+ghost use Rattle.std.specs.Prelude.{◌≡◌, ◌+◌, ◌<◌, ◌≤◌, ◌++◌, length, map, IfOk, OnOk};
 ghost use Rattle.std.specs.List.{flat_map};
 ghost use Rattle.kahn_net.specs.Syntax.{network_of};
+ghost use Rattle.protocol.specs.Node.Telling.{undone_packet, undone_packets};
 ghost use Rattle.protocol.specs.Node.Sending.{data_packets, first_due, inbox_packets, items_due, outbox_packets};
 ghost use Rattle.kahn_net.specs.declared.limits.TheConstants.{MAX_COUNT};
 
@@ -45,6 +46,54 @@ fn add_answers(
         },
     })?;
     Ok(())
+}
+
+// How much of a channel to another node the image had put that the node restored, in this epoch.
+fn undone_packet(net: &Net, home: u8, epoch: u64, outbox: &Outbox) -> Packet
+    ensures { result ≡ undone_packet (network_of net.now.program) home epoch outbox.now }
+{
+    Packet {
+        from: home,
+        to: consumer_node(net, usize::from(outbox.channel)),
+        body: Body::Undone {
+            channel: u16::from(outbox.channel),
+            epoch,
+            sent: outbox.restored,
+        },
+    }
+}
+
+fn add_undone(
+    packets: &mut Vec<Packet>,
+    net: &Net,
+    home: u8,
+    epoch: u64,
+    outboxes: &[Outbox],
+) -> Result<(), AllocError>
+    ensures { OnOk result (packets.new.items ≡ packets.old.items
+        ++ map (undone_packet (network_of net.now.program) home epoch) outboxes.now) }
+{
+    for outbox in outboxes {
+        packets.push(undone_packet(net, home, epoch, outbox))?;
+    }
+    Ok(())
+}
+
+/// Adds what is said of each channel to another node by a node that restored an image, in this epoch: nothing in the first.
+pub(crate) fn add_all_undone(
+    packets: &mut Vec<Packet>,
+    net: &Net,
+    home: u8,
+    epoch: u64,
+    outboxes: &[Outbox],
+) -> Result<(), AllocError>
+    ensures { OnOk result (packets.new.items ≡ packets.old.items
+        ++ undone_packets (network_of net.now.program) home epoch outboxes.now) }
+{
+    if epoch == 0 {
+        return Ok(());
+    }
+    add_undone(packets, net, home, epoch, outboxes)
 }
 
 // Adds these items of a channel, the first one of this position.

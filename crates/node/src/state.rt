@@ -1,5 +1,6 @@
 //! What a node has beside its record.
-ghost use Rattle.std.specs.Prelude.{◌≡◌, ◌⊎◌, ◌+◌, ℤ, List, length, IfOk, IsErrOf, OnErr, OnOk, Some, is_some, option_copied, option_map};
+ghost use Rattle.kahn_net.specs.declared.limits.TheConstants.{MAX_COUNT};
+ghost use Rattle.std.specs.Prelude.{◌≡◌, ◌⊎◌, ◌+◌, ◌≤◌, ℤ, List, length, IfOk, IsErrOf, OnErr, OnOk, Some, is_some, option_copied, option_map};
 ghost use Rattle.kahn_net.specs.Streams.{IsPrefix};
 ghost use Rattle.kahn_net.specs.Syntax.{network_of};
 ghost use Rattle.kahn_net.specs.States.{standing_of};
@@ -13,9 +14,11 @@ ghost use Rattle.protocol.specs.Node.Installing.{IsOut, IsTakenIn, TakesTurn};
 ghost use Rattle.node.specs.JobView.{job_view};
 ghost use Rattle.protocol.specs.Node.Beginning.{live_in, may_start};
 ghost use Rattle.protocol.specs.Node.Collecting.{hearing_covered, joining};
+ghost use Rattle.protocol.specs.Node.GoingBack.{noting_undone, set_back_from};
+ghost use Rattle.protocol.specs.Node.Recovering.{IsRestorable};
 ghost use Rattle.protocol.specs.Node.NodeView.{on_running};
 ghost use Rattle.protocol.specs.Node.Telling.{turn_packets};
-ghost use Rattle.node.specs.Said.{current_in};
+ghost use Rattle.node.specs.Said.{current_in, inboxes_in};
 ghost use Rattle.protocol.specs.Node.Modes.{crashed, is_down, is_running, next_number};
 ghost use Rattle.protocol.specs.Node.Trimming.{HasNext, TookNext, current_log, cut_at};
 
@@ -29,7 +32,7 @@ use kahn_net::{Channel, MAX_COUNT};
 use net_check::{Inputs, Net};
 use outlet::{Outlet, OutletFault};
 use proc_step::{Done, Job};
-use protocol::ArmedRestart;
+use protocol::{ArmedRestart, Inbox};
 use record::{Image, MAX_DECISIONS, Record};
 use retained::LogFault;
 use std::alloc::{AllocError, Global};
@@ -50,7 +53,7 @@ pub fn next_after(number: u64) -> u64
 #[derive(Drop)]
 pub struct NodeState {
     pub mode: Mode,
-    /// Rises with each crash, so that a job from before it can be told. At the greatest no job is granted.
+    /// Rises with each crash, and where the node goes back, so that a job from before can be told. At the greatest no job is granted.
     pub version: u64,
     /// The round from which a node that is down may be recovered.
     pub restart: u64,
@@ -99,6 +102,16 @@ impl NodeState {
     {
         match &self.mode {
             Mode::Running(running) => Some(&running.current),
+            Mode::Down | Mode::InDoubt => None,
+        }
+    }
+
+    /// What came of each channel from another node, if it runs.
+    pub fn inboxes(&self) -> Option<&[Inbox]>
+        ensures { option_copied result ≡ inboxes_in (mode_view self.now.mode) }
+    {
+        match &self.mode {
+            Mode::Running(running) => Some(running.inboxes.as_slice()),
             Mode::Down | Mode::InDoubt => None,
         }
     }
@@ -194,6 +207,39 @@ impl NodeState {
     {
         if let Mode::Running(running) = &mut self.mode {
             running.on_covered(number, channel);
+        }
+    }
+
+    // Notes that an epoch of a channel's sender was handled, if it runs.
+    pub(crate) fn note_epoch(&mut self, channel: u16, epoch: u64)
+        ensures { (kept : RecordView) → node_view kept self.new
+            ≡ on_running (noting_undone channel epoch) (node_view kept self.old) }
+    {
+        if let Mode::Running(running) = &mut self.mode {
+            running.note_epoch(channel, epoch);
+        }
+    }
+
+    // Goes back to this image, in this epoch of its own, if it runs. Its version rises.
+    pub(crate) fn go_back(
+        &mut self,
+        alloc: Global,
+        image: Image,
+        own: u64,
+        channel: u16,
+        epoch: u64,
+    )
+        requires counts { IsRestorable image }
+        requires own { own ≤ MAX_COUNT }
+        ensures mode { mode_view self.new.mode
+            ≡ on_mode (set_back_from image own channel epoch) (mode_view self.old.mode) }
+        ensures version { self.new.version ≡ next_number self.old.version }
+        ensures same { (self.new.restart ≡ self.old.restart)
+            × (self.new.armed ≡ self.old.armed) }
+    {
+        self.version = next_after(self.version);
+        if let Mode::Running(running) = &mut self.mode {
+            running.go_back(alloc, image, own, channel, epoch);
         }
     }
 

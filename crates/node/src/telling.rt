@@ -1,11 +1,11 @@
 // What a node says of checkpoints in its turn.
-ghost use Rattle.std.specs.Prelude.{◌≡◌, ◌++◌, ◌<◌, [], map, IfOk, OnOk};
+ghost use Rattle.std.specs.Prelude.{◌≡◌, ◌++◌, ◌<◌, map, IfOk, OnOk};
 ghost use Rattle.std.specs.List.{flat_map};
 ghost use Rattle.kahn_net.specs.Syntax.{network_of};
-ghost use Rattle.protocol.specs.Node.Beginning.{in_front, live_asks};
+ghost use Rattle.protocol.specs.Node.Beginning.{live_asks};
 ghost use Rattle.protocol.specs.Node.Layout.{incoming_on};
 ghost use Rattle.protocol.specs.Node.NodeView.{InDoubt};
-ghost use Rattle.protocol.specs.Node.Telling.{decision_packets, kept_packet, query_packets, turn_packets, verdicts_told};
+ghost use Rattle.protocol.specs.Node.Telling.{decision_packets, kept_packet, turn_packets, verdicts_told};
 ghost use Rattle.protocol.specs.Node.Verdicts.{commit_to};
 ghost use Rattle.kahn_net.specs.declared.limits.TheConstants.{MAX_CHANNELS};
 

@@ -43,7 +43,7 @@
 //! | `items 0 -> 5 -2 4`, `room -> 0 64` | the items of a channel that it has at hand; its room on each channel |
 //! | `packets -> 01 00 .., 01 00 ..` | the bytes of each packet that the node sends in its turn; `none`, and of a node that is down |
 //! | `record -> 01 00 ..` | the bytes of the node's record; `none` where it isn't known |
-//! | `state -> up version 0 restart 0` | whether the node is `up`, `down` or `in doubt`, how often it went down, and from which round on it may be recovered |
+//! | `state -> up version 0 restart 0` | whether the node is `up`, `down` or `in doubt`, how often it went down or back, and from which round on it may be recovered |
 //! | `processes -> 0 at 1 with 5 -2` | where each process stands now, `not begun`, `at` a site or `finished`, and its variables; a comma between two |
 //! | `now 1 -> got 0 put 3 let go of 0` | how many items of the channel the node has got and put now, and how many of those that it put its log let go of |
 //! | `log 1 -> 5 3 7` | the items that its log retains |

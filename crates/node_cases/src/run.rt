@@ -43,11 +43,11 @@ fn done_of(alloc: Global, job: Job) -> anyhow::Result<Done> {
 }
 
 /// Lets a node crash and come back so often.
-fn raise(alloc: Global, node: &mut CaseNode, times: u64) -> anyhow::Result<()> {
+fn raise(alloc: Global, node: &mut CaseNode, net: &Net, times: u64) -> anyhow::Result<()> {
     for _time in 0..times {
         node.crash(None, 0);
         anyhow::ensure!(
-            node.recover(alloc, 0)? == Outcome::Made,
+            node.recover(alloc, net, 0)? == Outcome::Made,
             "the other node doesn't come back"
         );
     }
@@ -126,7 +126,7 @@ impl Run {
                 String::from_str(alloc, yes_or_no(node.crash(fill, restart)))?
             }
             Event::Recover(round) => {
-                let outcome = node.recover(alloc, round)?;
+                let outcome = node.recover(alloc, &self.net, round)?;
                 outcome_text(alloc, outcome, back_word(&node.state.mode))?
             }
             Event::Arm { fault, rounds } => {
@@ -158,7 +158,7 @@ impl Run {
         let inputs = inputs_of(alloc, &self.net, inputs)?;
         let mut other = node_of(alloc, &self.net, settings)?;
         let own = &self.node.state;
-        raise(alloc, &mut other, own.version)?;
+        raise(alloc, &mut other, &self.net, own.version)?;
         first_done(alloc, &mut other, &self.net, &inputs, self.room)
     }
 

@@ -24,5 +24,6 @@ pub mod Beginning
 pub mod Answering
 pub mod Collecting
 pub mod Verdicts
+pub mod GoingBack
 pub mod Hearing
 pub mod Telling

@@ -24,3 +24,4 @@ pub mod VariableLaws
 pub mod SiteLaws
 pub mod LikeLaws
 pub mod SizeLaws
+pub mod RestoreLaws

@@ -12,6 +12,7 @@ pub mod CutLaws
 pub mod PlanLaws
 pub mod TellLaws
 pub mod MoveLaws
+pub mod BackLaws
 pub mod HeardLaws
 pub mod DeedLaws
 pub mod KeptLaws

@@ -13,6 +13,9 @@ pub struct Inbox {
     pub window: RecvWindow,
     /// What came, and wasn't got yet.
     pub log: Log,
+    /// The last epoch of the channel's sender of which this end was told, and that was handled: 0 before the first, and
+    /// where the node came back since.
+    pub undone: u64,
 }
 
 /// The end of a channel on which the node puts, and from which another node gets. The items to be sent lie in the log of the
@@ -22,4 +25,6 @@ pub struct Outbox {
     pub channel: u8,
     /// Which positions of the channel are under way.
     pub window: SendWindow,
+    /// How many items the image had put that the node restored last: 0 where it never restored one.
+    pub restored: u64,
 }

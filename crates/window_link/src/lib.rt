@@ -1,7 +1,7 @@
 //! A link between two nodes over a network that loses, repeats and reorders: the windows of its two ends, and its law.
 //!
 //! A `SendWindow` says which positions of a channel are due to be sent. A `RecvWindow` says what becomes of an item that
-//! comes. No call takes memory: the items themselves lie with the caller.
+//! comes. Items that overtook others lie in it until their turn comes; making one takes memory, and no other call does.
 #![tactic(auto)]
 
 mod laws;

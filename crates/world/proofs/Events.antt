@@ -6,36 +6,23 @@ use Rattle.std.specs.declared.alloc.AllocError.{AllocError}
 use Rattle.gate_cell.specs.Whole.{Whole}
 use Rattle.record.specs.RecordView.{RecordView}
 use Rattle.wire.specs.Traffic.{Traffic}
-use Rattle.protocol.specs.Node.Plans.{Undue}
 use Rattle.protocol.specs.World.DoneView.{DoneView}
-use Rattle.protocol.specs.World.EventView.{EventView, ByNode, ByNetwork, Deed, Install, NetworkAct, Release}
+use Rattle.protocol.specs.World.EventView.{EventView, ByNetwork, Install, NetworkAct, Release}
 use Rattle.protocol.specs.World.Pairs.{HasMoved, LeaveEitherSince}
 use Rattle.protocol.specs.World.Replies.{act_reply, has_happened}
 use Rattle.protocol.specs.World.ReplyView as reply
 use Rattle.protocol.specs.World.StationView.{OutletView, StationView}
-use Rattle.protocol.specs.World.Steps.{IsInstalled, IsRelease, Setting, flight_at, next_release, plan_of, traffic_acted}
+use Rattle.protocol.specs.World.Steps.{IsInstalled, IsRelease, Setting, flight_at, next_release, traffic_acted}
 use Rattle.protocol.specs.declared.outcome.Outcome.TheVariants as outcome
 use Rattle.world.specs.Coming.{HasCome}
 use Rattle.world.specs.ReplyView.{reply_view}
 use Rattle.world.specs.declared.event.Reply.{Reply}
-use Rattle.world.proofs.Planned.{not_due_is}
 
 either_way : (b : Bool) (traffic : Traffic) → traffic ≡ cond b traffic traffic
 either_way true traffic = refl
 either_way false traffic = refl
 
 module _ (setting : Setting) (fits : RecordView → Bool) (seen : EventView) (old : StationView) where
-  -- a deed that can't happen
-  pub undue_came : (k : ℕ) (deed : Deed) → seen ≡ ByNode k deed → (plan_of setting k deed old).prospect ≡ Undue
-      → HasCome setting fits seen old reply.NotDue old setting.traffic
-  undue_came k deed is undue =
-      subst (λ (e : EventView). HasCome setting fits e old reply.NotDue old setting.traffic) (sym is)
-      (record {
-        came = outcome.NotDue;
-        step = not_due_is fits setting.round (plan_of setting k deed old) old old undue reply.NotDue refl refl;
-        traffic = refl;
-      })
-
   module _ (new : StationView) (after : Traffic) (result : Result Reply AllocError) where
     abbrev Comes : EventView → Type 0
     Comes event = IfOk result (λ (r : Reply). HasCome setting fits event old (reply_view r) new after)

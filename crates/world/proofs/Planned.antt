@@ -143,13 +143,13 @@ put_made restart false less next old new (e, same) = absurd (cc)
 put_made restart true false next old new step = absurd step
 put_made restart true true next old new step = step
 
-pub back_mode : (restart : ℕ) (old new : NodeView) (came : Outcome)
-    → IsMade restart (recover_prospect old) old came new → came ≡ outcome.Made
-    → new.mode ≡ restored_mode (with_epoch old.kept)
-back_mode restart old new came step made =
+pub back_mode : (net : Network) (home restart : ℕ) (old new : NodeView) (came : Outcome)
+    → IsMade restart (recover_prospect net home old) old came new → came ≡ outcome.Made
+    → new.mode ≡ restored_mode net home (with_epoch old.kept)
+back_mode net home restart old new came step made =
     ap (λ (n : NodeView). n.mode)
-    (put_made restart (is_down old.mode) (nat_lt old.kept.epoch MAX_COUNT) (restored old) old new
-    (subst (λ (o : Outcome). IsMade restart (recover_prospect old) old o new) made step))
+    (put_made restart (is_down old.mode) (nat_lt old.kept.epoch MAX_COUNT) (restored net home old) old new
+    (subst (λ (o : Outcome). IsMade restart (recover_prospect net home old) old o new) made step))
 
 -- what is answered where it is made counts there alone
 pub answer_then : (made planned otherwise : ReplyView) (came : Outcome) → (came ≡ outcome.Made → made ≡ planned)

@@ -13,13 +13,12 @@ use Rattle.protocol.specs.Node.Trimming.{current_log, trimmed_node}
 use Rattle.kahn_net.specs.Nodes.{node_count}
 use Rattle.protocol.specs.World.Invariant.{outputs_of, AreJoined, AreSound, IsNumbered}
 use Rattle.protocol.specs.WorldLaws.PlanLaws.{IsSoundStation}
-use Rattle.protocol.specs.WorldLaws.StepKeeps.{all_here}
 use Rattle.protocol.specs.WorldLaws.OutputLaws.{map_at, set_same}
 use Rattle.protocol.specs.World.OutputView.{OutputView}
 use Rattle.world.specs.OutputView.{output_view, outputs_view}
 use Rattle.protocol.specs.World.StationView.{OutletView, StationView}
 use Rattle.world.specs.StationView.{outlet_view, outlet_views}
-use Rattle.protocol.specs.World.Steps.{may_restart, next_release, setting_in, setting_of, IsHanded, IsRelease}
+use Rattle.protocol.specs.World.Steps.{next_release, setting_in, setting_of, IsHanded, IsRelease}
 use Rattle.protocol.specs.World.Steps.{IsActOf, IsStep, Setting, WorldView, round_after, traffic_after}
 use Rattle.protocol.specs.World.ReplyView.{NotDue, ReplyView}
 use Rattle.protocol.specs.declared.outcome.Outcome.TheVariants as outcome
@@ -122,7 +121,7 @@ acted {S} setting view room event xs place x y flown (Ok reply) within is come =
 -- the setting of a world by its stations, as they are and as they are seen
 pub setting_is : {S : Type 0} (view : S → StationView) (net : Network) (inputs : List (List ℤ)) (traffic : Traffic)
     (xs : List S) (round room : ℕ)
-    → setting_in net inputs traffic (may_restart (length xs)) round room
+    → setting_in net inputs traffic round room
     ≡ setting_of
     (record {
       net = net;
@@ -132,32 +131,20 @@ pub setting_is : {S : Type 0} (view : S → StationView) (net : Network) (inputs
       round = round;
       room = room;
     })
-setting_is view net inputs traffic xs round room =
-    ap (λ (n : ℕ). setting_in net inputs traffic (may_restart n) round room) (sym (length-map xs view))
-
--- whether nodes may restart, by the number of stations
-pub restarts_are : {S : Type 0} (net : Network) (inputs : List (List ℤ)) (traffic : Traffic) (xs : List S)
-    (restarts : Bool) (count round room : ℕ) → restarts ≡ may_restart count → count ≡ length xs
-    → setting_in net inputs traffic restarts round room
-    ≡ setting_in net inputs traffic (may_restart (length xs)) round room
-restarts_are net inputs traffic xs restarts count round room may many =
-    ap (λ (b : Bool). setting_in net inputs traffic b round room) (may ∙ ap may_restart many)
+setting_is view net inputs traffic xs round room = refl
 
 -- the station of this place is a sound one
 pub sound_at : {S : Type 0} (view : S → StationView) (net : Network) (inputs : List (List ℤ)) (traffic : Traffic)
-    (xs : List S) (place : ℕ) (x : S) (restarts : Bool) (count round room : ℕ) → restarts ≡ may_restart count
-    → count ≡ length xs
+    (xs : List S) (place : ℕ) (x : S) (round room : ℕ)
     → length (map view xs) ≡ node_count net → IsNumbered (map view xs) → AreSound net inputs (map view xs)
     → AreJoined net (map view xs) → place < length xs → x ≡ get_or xs place x
-    → IsSoundStation (setting_in net inputs traffic restarts round room) (view x)
-sound_at view net inputs traffic xs place x restarts count round room may many all numbered sound joined within is =
+    → IsSoundStation (setting_in net inputs traffic round room) (view x)
+sound_at view net inputs traffic xs place x round room all numbered sound joined within is =
     let there : slice_get (map view xs) place ≡ Some (view x) =
     map_at view xs place x (slice_get_read xs (length xs) place x refl within is) in
     record {
       inv = sound place (view x) there;
       named = (let named = numbered place (view x) there in named.1 ∙ sym named.0);
-      here = λ alone. all_here net (map view xs) all numbered place (view x) there
-          (ap may_restart (length-map xs view ∙ sym many) ∙ (sym may ∙ alone));
       below = (let few = length-map xs view in let number = (numbered place (view x) there).0 in
           omega (arith, within, few, all, number));
       joined = joined place (view x) there;

@@ -85,29 +85,27 @@ impl<C: SlotCell, O: Outlet> Station<C, O> {
         Reply::Idled
     }
 
-    /// An event of this station's node. An `Idle` is noted, and the round may then advance. Where nodes may not restart, a
-    /// crash and a recovery can't happen.
+    /// An event of this station's node. An `Idle` is noted, and the round may then advance.
     pub(crate) fn act(
         &mut self,
         alloc: Global,
         net: &Arc<Net>,
         inputs: &Arc<Inputs>,
         wire: &mut Wire,
-        restarts: bool,
         round: u64,
         room: usize,
         event: &Event,
     ) -> Result<Reply, AllocError>
         requires sure { IsSoundSetting (setting_in (network_of net.now.value.program) inputs.now.value
-            (traffic_of wire.old) restarts round room) }
+            (traffic_of wire.old) round room) }
         requires sound { IsSoundStation (setting_in (network_of net.now.value.program)
-            inputs.now.value (traffic_of wire.old) restarts round room)
+            inputs.now.value (traffic_of wire.old) round room)
             (station_view O.taken O.failures self.old) }
         requires node { event_node (event_view event.now) < NODES }
         ensures moved { HasMoved C.moment C.left_since_whole (cell_in self.old.node.store)
             (cell_in self.new.node.store) (view_of self.old.node).kept
             (next_kept (setting_in (network_of net.now.value.program) inputs.now.value
-            (traffic_of wire.old) restarts round room) (event_view event.now)
+            (traffic_of wire.old) round room) (event_view event.now)
             (station_view O.taken O.failures self.old))
             (outlet_views O.taken O.failures self.old.outputs.items)
             (outlet_views O.taken O.failures self.new.outputs.items) }
@@ -116,7 +114,7 @@ impl<C: SlotCell, O: Outlet> Station<C, O> {
             × TakesMemory (event_view event.now)) }
         ensures come { IfOk result
             (λ reply. HasCome (setting_in (network_of net.now.value.program) inputs.now.value
-            (traffic_of wire.old) restarts round room)
+            (traffic_of wire.old) round room)
             (fits_in (C.slot_capacity (cell_in self.old.node.store))) (event_view event.now)
             (station_view O.taken O.failures self.old) (reply_view reply)
             (station_view O.taken O.failures self.new) (traffic_of wire.new)) }
@@ -138,18 +136,8 @@ impl<C: SlotCell, O: Outlet> Station<C, O> {
             Event::Start(_) => self.start(alloc, net, wire, round),
             Event::Decide(_) => self.decide(alloc, wire, round),
             Event::Release(_) => self.release(net, inputs, round),
-            Event::Crash { fill, rounds, .. } => {
-                if !restarts {
-                    return Ok(Reply::NotDue);
-                }
-                Ok(self.crash(round, *fill, *rounds))
-            }
-            Event::Recover(_) => {
-                if !restarts {
-                    return Ok(Reply::NotDue);
-                }
-                self.recover(alloc, round)
-            }
+            Event::Crash { fill, rounds, .. } => Ok(self.crash(round, *fill, *rounds)),
+            Event::Recover(_) => self.recover(alloc, net, round),
             Event::Arm { fault, rounds, .. } => self.arm(*fault, *rounds, round),
             Event::Idle(_) => Ok(self.idle(round)),
             Event::Lose { node, place } => Ok(lose(wire, *node, *place)),

@@ -1,5 +1,5 @@
 // A packet comes to a station.
-ghost use Rattle.std.specs.Prelude.{◌≡◌, ◌≤◌, ◌<◌, ℕ, false, All, IfOk, IsTrue, List, OnErr, OnOk, Some, length, map, slice_get};
+ghost use Rattle.std.specs.Prelude.{◌≡◌, ◌≤◌, ◌<◌, ℕ, false, All, IfOk, List, OnErr, Some, length, map, slice_get};
 ghost use Rattle.ckpt_codec.specs.SizeLaws.{IsRecordWithin};
 ghost use Rattle.ckpt_codec.specs.declared.lengths.TheConstants.{MAX_RETAINED_ITEMS};
 ghost use Rattle.ckpt_store.specs.Spelling.{fits_in};
@@ -13,8 +13,7 @@ ghost use Rattle.node.specs.StoredView.{LeavesDevice};
 ghost use Rattle.protocol.specs.Node.Delivering.{packet_for};
 ghost use Rattle.protocol.specs.Node.Hearing.{hear_prospect};
 ghost use Rattle.protocol.specs.Node.Modes.{is_down};
-ghost use Rattle.protocol.specs.Node.Plans.{IsMade, IsPut, next_record, packets_by, room_for};
-ghost use Rattle.protocol.specs.Node.ArmedRestarts.{restart_after};
+ghost use Rattle.protocol.specs.Node.Plans.{next_record, packets_by};
 ghost use Rattle.protocol.specs.Node.Starting.{IsLikeNow};
 ghost use Rattle.protocol.specs.World.Pairs.{LeaveEitherSince};
 ghost use Rattle.protocol.specs.World.Replies.{AnswerLeaves};
@@ -24,7 +23,6 @@ ghost use Rattle.protocol.specs.WorldLaws.HeardLaws.{IsHeard};
 ghost use Rattle.protocol.specs.declared.outcome.Outcome.{Outcome as OutcomeValue};
 ghost use Rattle.protocol.specs.declared.outcome.Refusal.TheVariants.{TooLarge};
 ghost use Rattle.wire.specs.Traffic.{flights_to, traffic_of};
-ghost use Rattle.wire.specs.Wire.{in_flight};
 ghost use Rattle.wire.specs.declared.queue.TheConstants.{NODES};
 ghost use Rattle.world.specs.Coming.{ComesHeard, ComesOut, IsReadyFor};
 ghost use Rattle.world.specs.ReplyView.{answer_view, reply_view};

@@ -12,7 +12,6 @@ mod delivering;
 mod event;
 mod laws;
 mod network;
-mod nodes;
 mod opening;
 mod output;
 mod outputs;

@@ -19,7 +19,6 @@ ghost use Rattle.world.specs.WorldView.{station_view};
 
 use crate::event::Event;
 use crate::network::{first_due, packet_at};
-use crate::nodes::may_restart;
 use crate::station::Station;
 use crate::world::World;
 use decide_core::may_decide;
@@ -69,12 +68,12 @@ fn has_new(state: &NodeState, kept: &Record) -> bool
 }
 
 impl<C: SlotCell, O: Outlet> Station<C, O> {
-    // Whether its node is down and may be recovered by now, where nodes may restart.
-    fn may_recover(&self, restarts: bool, round: u64) -> bool
-        ensures { result ≡ may_recover restarts round (station_view O.taken O.failures self.now) }
+    // Whether its node is down and may be recovered by now.
+    fn may_recover(&self, round: u64) -> bool
+        ensures { result ≡ may_recover round (station_view O.taken O.failures self.now) }
     {
         let state = &self.node.state;
-        restarts && state.is_down() && state.restart <= round
+        state.is_down() && state.restart <= round
     }
 
     // Whether a job is next where a channel has so much room: a process is ready, and fewer were granted in this round than
@@ -181,7 +180,7 @@ impl<C: SlotCell, O: Outlet> Station<C, O> {
             (traffic_of wire.now) nodes round (station_view O.taken O.failures self.now) }
     {
         let node = self.node.number;
-        if self.may_recover(may_restart(nodes), round) {
+        if self.may_recover(round) {
             return Event::Recover(node);
         }
         match self.due_place(wire, round) {

@@ -1,5 +1,6 @@
 // A station's node crashes, and comes back.
-ghost use Rattle.std.specs.Prelude.{◌≡◌, ◌≤◌, if◌then◌else◌, true, IfOk, OnErr};
+ghost use Rattle.std.specs.Prelude.{◌≡◌, ◌≤◌, if◌then◌else◌, IfOk, OnErr};
+ghost use Rattle.kahn_net.specs.Syntax.{network_of};
 ghost use Rattle.ckpt_store.specs.Spelling.{fits_in};
 ghost use Rattle.ckpt_store.specs.StoreView.{cell_in};
 ghost use Rattle.node.specs.NodeOf.{view_of};
@@ -23,6 +24,7 @@ use crate::checkpoints::answer_by;
 use crate::event::Reply;
 use crate::station::Station;
 use gate_cell::SlotCell;
+use net_check::Net;
 use node::{Mode, Refusal, round_later};
 use outlet::Outlet;
 use sector_disk::ArmedFault;
@@ -61,7 +63,7 @@ impl<C: SlotCell, O: Outlet> Station<C, O> {
             ≤ C.moment (cell_in self.new.node.store) }
         ensures same_setup { LeavesDevice self.old.node.store self.new.node.store }
         ensures step { ComesBy (fits_in (C.slot_capacity (cell_in self.old.node.store))) round
-            (crash_plan true (round_later round rounds) (station_view O.taken O.failures self.old))
+            (crash_plan (round_later round rounds) (station_view O.taken O.failures self.old))
             (station_view O.taken O.failures self.old) (reply_view result)
             (station_view O.taken O.failures self.new) }
         ensures unchanged { reply_view result ≡ NotDue → IsCellUnchanged self.old self.new }
@@ -71,12 +73,18 @@ impl<C: SlotCell, O: Outlet> Station<C, O> {
     }
 
     /// Its node, if it is down, comes back.
-    pub(crate) fn recover(&mut self, alloc: Global, round: u64) -> Result<Reply, AllocError>
+    pub(crate) fn recover(
+        &mut self,
+        alloc: Global,
+        net: &Net,
+        round: u64,
+    ) -> Result<Reply, AllocError>
         ensures outputs { outlet_views O.taken O.failures self.new.outputs.items
             ≡ outlet_views O.taken O.failures self.old.outputs.items }
         ensures leaves { LeaveEitherSince C.moment C.left_since_whole (cell_in self.old.node.store)
             (cell_in self.new.node.store) (view_of self.old.node).kept
-            (next_record (recover_prospect (view_of self.old.node)) (view_of self.old.node).kept) }
+            (next_record (recover_prospect (network_of net.now.program) self.old.node.number
+            (view_of self.old.node)) (view_of self.old.node).kept) }
         ensures later { C.moment (cell_in self.old.node.store)
             ≤ C.moment (cell_in self.new.node.store) }
         ensures same_setup { LeavesDevice self.old.node.store self.new.node.store }
@@ -84,7 +92,7 @@ impl<C: SlotCell, O: Outlet> Station<C, O> {
             (station_view O.taken O.failures self.new ≡ station_view O.taken O.failures self.old) }
         ensures step { IfOk result
             (λ reply. ComesBy (fits_in (C.slot_capacity (cell_in self.old.node.store))) round
-            (recover_plan true (station_view O.taken O.failures self.old))
+            (recover_plan (network_of net.now.program) (station_view O.taken O.failures self.old))
             (station_view O.taken O.failures self.old) (reply_view reply)
             (station_view O.taken O.failures self.new)) }
         ensures armed { IfOk result
@@ -92,7 +100,7 @@ impl<C: SlotCell, O: Outlet> Station<C, O> {
         ensures unchanged { IfOk result
             (λ reply. reply_view reply ≡ NotDue → IsCellUnchanged self.old self.new) }
     {
-        match self.node.recover(alloc, round) {
+        match self.node.recover(alloc, net, round) {
             Ok(outcome) => {
                 let state = &self.node.state;
                 let back = back_reply(&state.mode);

@@ -18,11 +18,10 @@ ghost use Rattle.protocol.specs.World.Replies.{IsDropped, IsTooLarge, LeavesCell
 ghost use Rattle.world.specs.ReplyView.{answer_view, reply_view};
 ghost use Rattle.protocol.specs.World.ReplyView.{Down};
 ghost use Rattle.protocol.specs.World.Roomy.{HasFullRoom};
-ghost use Rattle.protocol.specs.World.Steps.{are_done_with, is_done_with, may_restart, round_after, setting_in, IsStep};
+ghost use Rattle.protocol.specs.World.Steps.{are_done_with, is_done_with, round_after, setting_in, IsStep};
 ghost use Rattle.world.specs.WorldView.{capacities, rooms, station_view, world_view, IsCellUnchanged, IsGrown, LeavesDeviceAt, RestartsAsArmedAt};
 
 use crate::event::{Event, Refused, Reply};
-use crate::nodes::may_restart;
 use crate::station::Station;
 use gate_cell::SlotCell;
 use net_check::{Inputs, Net};
@@ -77,7 +76,7 @@ fn act_at<C: SlotCell, O: Outlet>(
     ensures grown { AllZip (IsGrown O.taken) stations.old.items stations.new.items }
     ensures line { AllZip (StaysInLine O.taken O.failures
         (setting_in (network_of net.now.value.program) inputs.now.value (traffic_of wire.old)
-        (may_restart (length stations.old.items)) round room) (event_view event.now))
+        round room) (event_view event.now))
         stations.old.items stations.new.items }
     ensures refused { OnErr result
         ((map (station_view O.taken O.failures) stations.new.items
@@ -85,7 +84,7 @@ fn act_at<C: SlotCell, O: Outlet>(
         × TakesMemory (event_view event.now)) }
     ensures come { IfOk result
         (λ reply. HasActed (setting_in (network_of net.now.value.program) inputs.now.value
-        (traffic_of wire.old) (may_restart (length stations.old.items)) round room) number
+        (traffic_of wire.old) round room) number
         (rooms stations.old.items) (event_view event.now)
         (map (station_view O.taken O.failures) stations.old.items) (reply_view reply)
         (map (station_view O.taken O.failures) stations.new.items) (traffic_of wire.new)) }
@@ -104,32 +103,25 @@ fn act_at<C: SlotCell, O: Outlet>(
     if number >= stations.len() {
         return Ok(Reply::NotDue);
     }
-    let restarts = may_restart(stations.len());
-    stations[number].act(alloc, net, inputs, wire, restarts, round, room, event)
+    stations[number].act(alloc, net, inputs, wire, round, room, event)
 }
 
 impl<C: SlotCell, O: Outlet> Station<C, O> {
-    // Whether the round need not wait for this node: it has idled, or it is down and not to be recovered yet, or not at
-    // all.
-    fn is_done_with(&self, restarts: bool, round: u64) -> bool
-        ensures { result ≡ is_done_with restarts round (station_view O.taken O.failures self.now) }
+    // Whether the round need not wait for this node: it has idled, or it is down and not to be recovered yet.
+    fn is_done_with(&self, round: u64) -> bool
+        ensures { result ≡ is_done_with round (station_view O.taken O.failures self.now) }
     {
         let node = &self.node;
-        self.turns.of(round).idled
-            || (node.state.is_down() && (!restarts || node.state.restart > round))
+        self.turns.of(round).idled || (node.state.is_down() && node.state.restart > round)
     }
 }
 
-fn are_done_with<C: SlotCell, O: Outlet>(
-    stations: &[Station<C, O>],
-    restarts: bool,
-    round: u64,
-) -> bool
-    ensures { result ≡ are_done_with restarts round
+fn are_done_with<C: SlotCell, O: Outlet>(stations: &[Station<C, O>], round: u64) -> bool
+    ensures { result ≡ are_done_with round
         (map (station_view O.taken O.failures) stations.now) }
 {
     for station in stations {
-        if !station.is_done_with(restarts, round) {
+        if !station.is_done_with(round) {
             return false;
         }
     }
@@ -142,9 +134,7 @@ fn round_after<C: SlotCell, O: Outlet>(reply: &Reply, round: u64, stations: &[St
         (map (station_view O.taken O.failures) stations.now) }
 {
     match reply {
-        Reply::Idled if are_done_with(stations, may_restart(stations.len()), round) => {
-            next_after(round)
-        }
+        Reply::Idled if are_done_with(stations, round) => next_after(round),
         _ => round,
     }
 }

@@ -28,6 +28,7 @@
 //! | `deliver 1 0`, `lose 1 0`, `repeat 1 0`, `delay 1 0 rounds 2` | an event of the packet at a place of those in flight to the node |
 //! | `install`, `install 1`, `install of i: 1 2 4` | what came of the job that was granted last comes back, or of the first, the second and so on; or of the first job of another world of the network, on these inputs |
 //! | `run 40` | each node in turn does what `pick` says, with what comes of a job brought back at once, until the world is complete, for so many rounds at most |
+//! | `in turn 7` | so many events, of the nodes in turn from node 0 on, whether the world is complete or not |
 //! | `turns 1 10` | one node does so alone, so many times |
 //! | `jobs 0 896` | so many jobs are granted to the node, and what comes of each is brought back at once |
 //! | `chance 1 1500` | so many events, each of a node that this number chooses, as `pick` says or of a packet to it |
@@ -36,7 +37,7 @@
 //! | `released 1 -> 1 3 6` | what has left by the output; `nothing`, or the first items and `..` |
 //! | `complete -> yes`, `round -> 3`, `nodes -> 2`, `room -> 4096` | what the world says of itself |
 //! | `packet 1 0 -> 03 01 00 0001 0000000000000003` | the bytes of the packet at a place, in hexadecimal, with spaces where one likes; `none` |
-//! | `node 0 -> up version 0 restart 0` | whether the node is `up`, `down` or `in doubt`, how often it went down, and from which round on it may be recovered |
+//! | `node 0 -> up version 0 restart 0` | whether the node is `up`, `down` or `in doubt`, how often it went down or back, and from which round on it may be recovered |
 //! | `record 0 -> epoch 0 number 1 held none` | of the node's record the epoch, the number that it used last, and that of the image that is held |
 //! | `kept 0 1 -> got 0 put 3` | how many items of the channel the permanent image has got and put |
 //! | `now 0 2 -> got 3 put 3 let go of 3` | the same of where the node stands, and how many of those that it put its log let go of |
@@ -49,9 +50,10 @@
 //! | `closed disk 0 gate -> 0`, `closed disk 0 header -> 02 00 ..`, `closed disk 0 slot 1 -> 01 ..` | the first byte of its gate; the header in the area that it names, and the bytes in a slot (of one sector), in hexadecimal |
 //! | `closed outputs -> 2 3`, `closed output 2 -> 4 9` | the channels of the outputs, as they come; what has left by one |
 //!
-//! `run`, `turns`, `jobs` and `chance` answer nothing. An event answers `delivered`, `dropped 33`, `job`, `done` (of an install),
-//! `discarded`, `sent`, `started`, `decided`, `refused 22`, `released 1 3` (so many items have left by the output), `outlet failed`,
-//! `crashed`, `recovered`, `in doubt`, `down`, `acted`, `idled` or `not due`. Behind items that end in `..` more may have left.
+//! `run`, `in turn`, `turns`, `jobs` and `chance` answer nothing. An event answers `delivered`, `dropped 33`, `job`, `done` (of an
+//! install), `discarded`, `sent`, `started`, `decided`, `refused 22`, `released 1 3` (so many items have left by the output),
+//! `outlet failed`, `crashed`, `recovered`, `in doubt`, `down`, `acted`, `idled` or `not due`. Behind items that end in `..` more may
+//! have left.
 //!
 //! After each event, also of those that `pick` and chance choose, what has left has to be a beginning of what each `released` line
 //! below it says.

@@ -221,6 +221,23 @@ impl Run {
         anyhow::bail!("it goes on for more than {MAX_TURNS} turns of a node")
     }
 
+    fn in_turn(
+        &mut self,
+        alloc: Global,
+        events: u64,
+        streams: &[Stream],
+        line: usize,
+    ) -> anyhow::Result<Came> {
+        for event in 0..events {
+            let node = (event % u64::from(self.nodes().max(1))) as u8;
+            take_turn(alloc, &mut self.world, node)?;
+            if let Some(stray) = self.stray(alloc, streams, line)? {
+                return Ok(stray);
+            }
+        }
+        Ok(Came::Nothing)
+    }
+
     fn turns(
         &mut self,
         alloc: Global,
@@ -327,6 +344,7 @@ impl Run {
             }
             Step::Ask(question) => Ok(Came::Answer(shown(alloc, &self.world, question)?)),
             Step::Run(rounds) => self.run(alloc, rounds, streams, line),
+            Step::InTurn(events) => self.in_turn(alloc, events, streams, line),
             Step::Turns { node, count } => self.turns(alloc, node, count, streams, line),
             Step::Jobs { node, count } => self.jobs(alloc, node, count, streams, line),
             Step::Chance { seed, events } => self.chance(alloc, seed, events, streams, line),

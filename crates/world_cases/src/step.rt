@@ -44,6 +44,8 @@ pub enum Step {
     Ask(Question),
     /// Each node in turn goes on through `pick`, until the world is complete, at most for so many rounds.
     Run(u64),
+    /// The nodes in turn go on through `pick`, for so many events in all.
+    InTurn(u64),
     /// A node goes on through `pick` for so many events.
     Turns { node: u8, count: u64 },
     /// A node is granted so many jobs, and what comes of each is brought back at once.
@@ -58,7 +60,11 @@ impl Step {
         match self {
             Step::Open | Step::Event(_) | Step::Install(_) | Step::SetRoom(_) | Step::Ask(_) =>
                 true,
-            Step::Run(_) | Step::Turns { .. } | Step::Jobs { .. } | Step::Chance { .. } => false,
+            Step::Run(_)
+            | Step::InTurn(_)
+            | Step::Turns { .. }
+            | Step::Jobs { .. }
+            | Step::Chance { .. } => false,
         }
     }
 }
@@ -152,6 +158,7 @@ fn other_step(words: &[&str]) -> anyhow::Result<Option<Step>> {
         ["install", job] => Step::Install(Brought::Earlier(size(job)?)),
         ["room", items] => Step::SetRoom(size(items)?),
         ["run", rounds] => Step::Run(number(rounds)?),
+        ["in", "turn", events] => Step::InTurn(number(events)?),
         ["turns", node, count] => Step::Turns {
             node: byte(node)?,
             count: number(count)?,

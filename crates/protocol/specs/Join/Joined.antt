@@ -18,7 +18,6 @@ use Rattle.protocol.specs.Join.Seen.{questions_seen}
 use Rattle.protocol.specs.Node.Addresses.{are_nodes, producer_node}
 use Rattle.protocol.specs.Node.Layout.{is_incoming, is_outgoing}
 use Rattle.protocol.specs.Node.LiveView.{LiveView}
-use Rattle.protocol.specs.Node.NodeView.{InDoubt}
 use Rattle.protocol.specs.World.StationView.{StationView}
 
 -- another node of the network
@@ -63,9 +62,7 @@ pub record KeepsNodes (net : Network) (home : ℕ) (kept : RecordView) : Type 0 
   pub room : (held : Tentative) → kept.tentative ≡ Some held → held.initiator ≡ home
       → length kept.decisions < MAX_DECISIONS
 
--- So it is of a station's record, and of what its node collects; and no node is in doubt: nodes come back in a world of
--- one alone so far, and that one holds no image but its own.
+-- So it is of a station's record, and of what its node collects.
 pub record IsJoined (net : Network) (station : StationView) : Type 0 where
-  pub sure : station.node.mode ≢ InDoubt
   pub kept : KeepsNodes net station.number station.node.kept
   pub live : (live : LiveView) → live_in station.node.mode ≡ Some live → LiveIsSound net station.number live

@@ -2,7 +2,7 @@
 use Rattle.std.proofs.Common.{◌≡◌, inl, inr, ℕ, zero, suc, ◌<◌, ◌≤◌, ◌&&◌, Bool, true, false, cond, List, [], ◌∷◌, ◌++◌}
 use Rattle.std.proofs.Common.{length}
 use Rattle.std.proofs.Common.{Option, Some, None, option_map, refl, sym, ap, subst, ◌∙◌}
-use Rattle.std.specs.Prelude.{◌==◌, slice_get, slice_set}
+use Rattle.std.specs.Prelude.{◌==◌, nat_lt, slice_get, slice_set}
 use Rattle.std.specs.List.{list_all}
 use Rattle.std.proofs.lemmas.Bool.{eqb-true}
 use Rattle.datagram.specs.declared.packet.Body.{Body}
@@ -11,12 +11,14 @@ use Rattle.datagram.specs.declared.packet.Need.{Need}
 use Rattle.datagram.specs.declared.packet.Packet.{Packet as Datagram}
 use Rattle.kahn_net.specs.Syntax.{Network}
 use Rattle.kahn_net.specs.Valid.{IsValid}
+use Rattle.kahn_net.specs.declared.limits.TheConstants.{MAX_COUNT}
 use Rattle.record.specs.Changes.{trimmed_image}
 use Rattle.record.specs.Ends.{base_of, sent_of}
 use Rattle.record.specs.ImageView.{ImageView}
-use Rattle.record.specs.Moves.{with_permanent, without_tentative, with_confirmed}
+use Rattle.record.specs.declared.record.Tentative.{Tentative}
+use Rattle.record.specs.Moves.{with_epoch, with_permanent, without_tentative, with_confirmed}
 use Rattle.recovery_line.specs.Images.{Image}
-use Rattle.recovery_line.specs.Nodes.{Mode}
+use Rattle.recovery_line.specs.Nodes.{Mode, NodeStep}
 use Rattle.recovery_line.specs.Observers.{image_seen, record_seen, names}
 use Rattle.recovery_line.specs.Packets.{Packet, Kept, Ask, Took, Covered, Query, Commit, Ended, Settled, HearsKept}
 use Rattle.protocol.specs.Node.Answering.{holds, answer_to_ask, kept_then, takes_now, AskAnswer, Silent}
@@ -26,6 +28,8 @@ use Rattle.protocol.specs.Node.Collecting.{is_live, was_asked, are_met, Ignores,
 use Rattle.protocol.specs.Node.Collecting.{answer_to_took}
 use Rattle.protocol.specs.Node.Collecting.{joining, joined_asks, joined_live, give_up_prospect, took_by, loses}
 use Rattle.protocol.specs.Node.Collecting.{hearing_covered, refused_prospect, took_prospect}
+use Rattle.protocol.specs.Node.GoingBack.{PassesOver, Notes, GoesBack, answer_at, answer_with, gone_back, inbox_of}
+use Rattle.protocol.specs.Node.GoingBack.{noting_undone, set_back_to, undone_by, undone_prospect}
 use Rattle.protocol.specs.Node.Hearing.{remembering, hear_prospect}
 use Rattle.protocol.specs.Join.Runs.{Leads, WasSent}
 use Rattle.protocol.specs.Join.Seen.{need_of, body_seen, live_seen, mode_seen, all_seen, world_seen}
@@ -37,7 +41,8 @@ use Rattle.protocol.specs.JoinLaws.Collects.{covered_leads, give_up_leads, joine
 use Rattle.protocol.specs.JoinLaws.Crossings.{both_true, between_cross, channel_within, goes_cross}
 use Rattle.protocol.specs.JoinLaws.Cuts.{cut_trims, cut_unseen, within_or_out}
 use Rattle.protocol.specs.JoinLaws.Holding.{IsHeld, held_where}
-use Rattle.protocol.specs.JoinLaws.Leading.{leads_here, leads_by, leads_from, hears, outlets_same, unseen}
+use Rattle.protocol.specs.JoinLaws.Returns.{goes_back}
+use Rattle.protocol.specs.JoinLaws.Leading.{acts, leads_here, leads_by, leads_from, hears, outlets_same, unseen}
 use Rattle.protocol.specs.JoinLaws.Plans.{ProspectLeads}
 use Rattle.protocol.specs.JoinLaws.Settles.{commit_leads, confirm_leads, ended_leads, settled_leads, query_leads}
 use Rattle.protocol.specs.Node.Addresses.{are_nodes, runs_between, names_run}
@@ -51,6 +56,7 @@ use Rattle.protocol.specs.Node.Trimming.{cut_at}
 use Rattle.protocol.specs.World.RecoveryLine.{net_seen, outlets_seen}
 use Rattle.protocol.specs.World.StationView.{StationView}
 use Rattle.protocol.specs.World.Steps.{moved_to}
+use Rattle.protocol.specs.declared.links.Inbox.{Inbox}
 use Rattle.protocol.specs.declared.round_turns.RoundTurns.{RoundTurns}
 
 -- ---- what isn't seen of a node's memory
@@ -313,14 +319,14 @@ module _ (net : Network) (valid : IsValid net) (stations : List StationView) (k 
   }
 
   committed : (n : ℕ) → WasSent sent (Commit from k n)
-      → ProspectLeads net stations k old sent (commit_prospect k from n old.node)
+      → ProspectLeads net stations k old sent (commit_prospect net k from n old.node)
   committed n came = by (holds from n old.node.kept.tentative) refl
     where
       by : (b : Bool) → holds from n old.node.kept.tentative ≡ b
           → ProspectLeads net stations k old sent
           (cond b
           (Planned (record {
-            node = after_verdict (with_permanent old.node.kept) old.node;
+            node = after_verdict net k (with_permanent old.node.kept) old.node;
             puts = true;
             grows = false;
             packets = settled_packets k from n (with_permanent old.node.kept);
@@ -337,12 +343,12 @@ module _ (net : Network) (valid : IsValid net) (stations : List StationView) (k 
           (λ failures turns. confirm_leads net stations k old there sent up failures turns from n came free)
 
   ended : (n : ℕ) → WasSent sent (Ended from k n)
-      → ProspectLeads net stations k old sent (ended_prospect from n old.node)
+      → ProspectLeads net stations k old sent (ended_prospect net k from n old.node)
   ended n came = by (holds from n old.node.kept.tentative) refl
     where
       by : (b : Bool) → holds from n old.node.kept.tentative ≡ b
           → ProspectLeads net stations k old sent
-          (cond b (putting false (after_verdict (without_tentative old.node.kept) old.node)) (becoming old.node))
+          (cond b (putting false (after_verdict net k (without_tentative old.node.kept) old.node)) (becoming old.node))
       by true held = puts _ (λ failures turns.
           ended_leads net stations k old there sent up failures turns from n came held)
       by false free = stays
@@ -355,6 +361,55 @@ module _ (net : Network) (valid : IsValid net) (stations : List StationView) (k 
           (cond b (putting false (with_kept (with_confirmed n from old.node.kept) old.node)) (becoming old.node))
       by true = puts _ (λ failures turns. settled_leads net stations k old there sent up failures turns from n came)
       by false = stays
+
+  -- ---- the sender of a channel restored an image
+
+  undone : (c epoch count : ℕ) → ProspectLeads net stations k old sent (undone_prospect c epoch count old.node)
+  undone c epoch count = by_held old.node.kept.tentative refl
+    where
+      goes : (running : RunningView) → old.node.mode ≡ Runs running → old.node.kept.tentative ≡ None
+          → ProspectLeads net stations k old sent (undone_by c epoch GoesBack old.node)
+      goes running is free = puts (gone_back c epoch old.node) (λ failures turns.
+          let new = moved_to (gone_back c epoch old.node) failures turns old in
+          leads_by (net_seen net) (world_seen stations sent) _
+          (acts stations k old new there (net_seen net) sent (outlets_same stations k old new there refl)
+          (subst (λ (mode : ModeView). NodeStep (net_seen net) k
+          (record { disk = record_seen old.node.kept; mode = mode_seen mode; outlets = outlets_seen stations })
+          (record {
+            disk = record_seen (with_epoch old.node.kept);
+            mode = mode_seen (on_mode (set_back_to (with_epoch old.node.kept) c epoch) mode);
+            outlets = outlets_seen stations;
+          })) (sym is)
+          (goes_back (net_seen net) k old.node.kept running c epoch (outlets_seen stations) free))))
+
+      at : (running : RunningView) → old.node.mode ≡ Runs running → old.node.kept.tentative ≡ None
+          → (o : Option Inbox)
+          → ProspectLeads net stations k old sent
+          (undone_by c epoch (answer_at epoch count old.node.kept.epoch o) old.node)
+      at running is free None = stays
+      at running is free (Some inbox) =
+          by (nat_lt inbox.undone epoch) (nat_lt count inbox.window.next) (nat_lt old.node.kept.epoch MAX_COUNT)
+        where
+          by : (news ahead more : Bool)
+              → ProspectLeads net stations k old sent
+              (undone_by c epoch (cond news (cond ahead (cond more GoesBack PassesOver) Notes) PassesOver) old.node)
+          by true true true = goes running is free
+          by true true false = stays
+          by true false more = remembers (noting_undone c epoch) (record { current = λ r. refl; live = λ r. refl })
+          by false ahead more = stays
+
+      by_mode : old.node.kept.tentative ≡ None → (mode : ModeView) → old.node.mode ≡ mode
+          → ProspectLeads net stations k old sent
+          (undone_by c epoch (answer_with c epoch count old.node.kept.epoch None mode) old.node)
+      by_mode free Down is = stays
+      by_mode free InDoubt is = stays
+      by_mode free (Runs running) is = at running is free (inbox_of running.inboxes c)
+
+      by_held : (o : Option Tentative) → old.node.kept.tentative ≡ o
+          → ProspectLeads net stations k old sent
+          (undone_by c epoch (answer_with c epoch count old.node.kept.epoch o old.node.mode) old.node)
+      by_held (Some held) is = stays
+      by_held None is = by_mode is old.node.mode refl
 
   -- ---- whatever comes, where its names are right, and what it says was sent
 
@@ -386,4 +441,4 @@ module _ (net : Network) (valid : IsValid net) (stations : List StationView) (k 
   hear_leads (says.Commit n) right was = committed n (was (Commit from k n) refl)
   hear_leads (says.Ended n) right was = ended n (was (Ended from k n) refl)
   hear_leads (says.Settled n) right was = settled n (was (Settled from k n) refl)
-  hear_leads (says.Undone channel epoch count) right was = stays
+  hear_leads (says.Undone channel epoch count) right was = undone channel epoch count

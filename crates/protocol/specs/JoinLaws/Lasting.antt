@@ -1,5 +1,5 @@
 -- What a station keeps and collects may be said at any time.
-use Rattle.std.proofs.Common.{◌≡◌, ◌≢◌, ⊎_elim, ℕ, zero, suc, ◌<◌, Bool, true, false, cond, List, ℤ, [], ◌∷◌}
+use Rattle.std.proofs.Common.{◌≡◌, ⊎_elim, ℕ, zero, suc, ◌<◌, Bool, true, false, cond, List, ℤ, [], ◌∷◌}
 use Rattle.std.proofs.Common.{length, Option, Some, None, refl, sym, ap, subst, ◌∙◌, arith}
 use Rattle.std.specs.Prelude.{◌==◌, nat_lt, not, slice_get}
 use Rattle.std.proofs.Math.Bool.{Bool-set}
@@ -14,7 +14,7 @@ use Rattle.datagram.specs.declared.packet.Packet.{Packet}
 use Rattle.kahn_net.specs.Nodes.{node_count}
 use Rattle.kahn_net.specs.Syntax.{Network}
 use Rattle.kahn_net.specs.declared.limits.TheConstants.{MAX_COUNT}
-use Rattle.record.specs.Moves.{with_epoch, without_own}
+use Rattle.record.specs.Moves.{with_epoch}
 use Rattle.record.specs.RecordView.{RecordView}
 use Rattle.record.specs.declared.record.Tentative.{Tentative}
 use Rattle.recovery_line.proofs.Basics.{one_inside, some_not_none}
@@ -57,7 +57,6 @@ use Rattle.protocol.specs.declared.outcome.Refusal.TheVariants.{TooLarge, Spent}
 -- ---- nodes
 
 pub record NodeJoins (net : Network) (home : ℕ) (node : NodeView) : Type 0 where
-  pub sure : node.mode ≢ InDoubt
   pub kept : KeepsNodes net home node.kept
   pub live : (live : LiveView) → live_in node.mode ≡ Some live → LiveIsSound net home live
 
@@ -70,17 +69,17 @@ says_joins : (net : Network) (inputs : List (List ℤ)) (home : ℕ) (prospect :
     → ProspectSays net inputs home prospect → ProspectJoins net home prospect
 says_joins net inputs home Undue says = tt
 says_joins net inputs home (Exhausted looks) says = tt
-says_joins net inputs home (Planned plan) says = record { sure = says.sure; kept = says.kept; live = says.live }
+says_joins net inputs home (Planned plan) says = record { kept = says.kept; live = says.live }
 
 module _ (net : Network) (home : ℕ) (old : NodeView) (joins : NodeJoins net home old) where
   down_joins : (restart : ℕ) (kept : RecordView) → KeepsNodes net home kept
       → NodeJoins net home (crashed restart (with_kept kept old))
   down_joins restart kept keeps =
-      record { sure = λ is. absurd (cc); kept = keeps; live = λ live is. absurd (some_not_none refl is) }
+      record { kept = keeps; live = λ live is. absurd (some_not_none refl is) }
 
   went_down : (restart : ℕ) → NodeJoins net home (crashed restart old)
   went_down restart =
-      record { sure = λ is. absurd (cc); kept = joins.kept; live = λ live is. absurd (some_not_none refl is) }
+      record { kept = joins.kept; live = λ live is. absurd (some_not_none refl is) }
 
   -- however it comes out
   made_joins : (restart : ℕ) (prospect : Prospect) (came : Outcome) (new : NodeView) → ProspectJoins net home prospect
@@ -108,57 +107,36 @@ module _ (net : Network) (home : ℕ) (old : NodeView) (joins : NodeJoins net ho
       → ((running : RunningView) → (change running).live ≡ running.live)
       → NodeJoins net home (record old { mode = on_mode change old.mode })
   changed_joins change same = record {
-    sure = surely old.mode joins.sure;
     kept = joins.kept;
     live = λ live is. joins.live live (sym (by old.mode) ∙ is);
   }
     where
-      surely : (mode : ModeView) → mode ≢ InDoubt → on_mode change mode ≢ InDoubt
-      surely Down known is = absurd (cc)
-      surely InDoubt known is = known refl
-      surely (Runs running) known is = absurd (cc)
-
       by : (mode : ModeView) → live_in (on_mode change mode) ≡ live_in mode
       by Down = refl
       by InDoubt = refl
       by (Runs running) = same running
 
-  crash_joins : (due : Bool) (restart : ℕ) → ProspectJoins net home (if_due due (crash_prospect restart old))
-  crash_joins false restart = tt
-  crash_joins true restart = by (not (is_down old.mode))
+  crash_joins : (restart : ℕ) → ProspectJoins net home (crash_prospect restart old)
+  crash_joins restart = by (not (is_down old.mode))
     where
       by : (b : Bool) → ProspectJoins net home (if_due b (becoming (crashed restart old)))
       by false = tt
       by true = went_down restart
 
-  -- a node that comes back is the only one, and holds no image but its own
-  recover_joins : (due : Bool) → old.kept.node ≡ home → home < node_count net → (due ≡ true → node_count net ≡ 1)
-      → ProspectJoins net home (if_due due (recover_prospect old))
-  recover_joins false named below alone = tt
-  recover_joins true named below alone = by (is_down old.mode) (nat_lt old.kept.epoch MAX_COUNT)
+  -- a node that comes back collects nothing
+  recover_joins : ProspectJoins net home (recover_prospect net home old)
+  recover_joins = by (is_down old.mode) (nat_lt old.kept.epoch MAX_COUNT)
     where
-      own : (o : Option Tentative) → old.kept.tentative ≡ o → without_own old.kept.node o ≡ None
-      own None is = refl
-      own (Some held) is =
-          let few = (joins.kept.held held is).initiator in
-          let one = alone refl in
-          let same : held.initiator ≡ old.kept.node = omega (arith, few, one, below, named) in
-          ap (λ (b : Bool). cond b None (Some held)) (eq-eqb held.initiator old.kept.node same)
-
-      surely : (o : Option Tentative) → o ≡ None → restored_with (with_epoch old.kept) o ≢ InDoubt
-      surely None free is = absurd (cc)
-      surely (Some held) free is = absurd (some_not_none refl (sym free))
-
-      none : (o : Option Tentative) (live : LiveView) → live_in (restored_with (with_epoch old.kept) o) ≡ Some live
+      none : (o : Option Tentative) (live : LiveView) → live_in (restored_with net home (with_epoch old.kept) o) ≡ Some live
           → LiveIsSound net home live
       none None live is = absurd (some_not_none refl is)
       none (Some held) live is = absurd (some_not_none refl is)
 
-      by : (b d : Bool) → ProspectJoins net home (if_due b (unless_spent true d (putting false (restored old))))
+      by : (b d : Bool)
+          → ProspectJoins net home (if_due b (unless_spent true d (putting false (restored net home old))))
       by false d = tt
       by true false = tt
       by true true = record {
-        sure = surely (with_epoch old.kept).tentative (own old.kept.tentative refl);
         kept = epoch_keeps net home old.kept joins.kept;
         live = none (with_epoch old.kept).tentative;
       }
@@ -173,7 +151,7 @@ module _ (net : Network) (home : ℕ) (old : NodeView) (joins : NodeJoins net ho
 
 node_of_station : (net : Network) (station : StationView) → IsJoined net station
     → NodeJoins net station.number station.node
-node_of_station net station joined = record { sure = joined.sure; kept = joined.kept; live = joined.live }
+node_of_station net station joined = record { kept = joined.kept; live = joined.live }
 
 -- ---- deeds
 
@@ -225,7 +203,7 @@ module _ (setting : Setting) (stations : List StationView) (k : ℕ) (old : Stat
       by true =
           says_joins setting.net setting.inputs old.number
           (hear_prospect setting.net old.number says.packet.from says.packet.body old.node)
-          (hears_says setting.net setting.inputs in_world.valid old.number here_below old.node in_world.joined.sure
+          (hears_says setting.net setting.inputs in_world.valid old.number here_below old.node
           in_world.joined.kept
           in_world.joined.live counts says.packet.from says.packet.body says.text.allowed.body
           (ap (λ (n : ℕ). names_run setting.net says.packet.from n says.packet.body) (sym to_here) ∙ says.names))
@@ -243,19 +221,17 @@ module _ (setting : Setting) (stations : List StationView) (k : ℕ) (old : Stat
       (turn_packets setting.net old.number old.node.kept old.node.mode)
   deed_joins event.Start says =
       says_joins setting.net setting.inputs old.number (start_prospect setting.net old.number old.node)
-      (begins_says setting.net setting.inputs in_world.valid old.number here_below old.node in_world.joined.sure
+      (begins_says setting.net setting.inputs in_world.valid old.number here_below old.node
       in_world.joined.kept in_world.joined.live counts)
   deed_joins event.Decide says =
       says_joins setting.net setting.inputs old.number (decide_prospect old.number old.node)
-      (concludes_says setting.net setting.inputs in_world.valid old.number here_below old.node in_world.joined.sure
+      (concludes_says setting.net setting.inputs in_world.valid old.number here_below old.node
       in_world.joined.kept in_world.joined.live counts)
   deed_joins (event.Crash fill rounds) says =
-      crash_joins setting.net old.number old.node joins_now setting.restarts (round_later setting.round rounds)
-  deed_joins event.Recover says =
-      recover_joins setting.net old.number old.node joins_now setting.restarts (in_world.node ∙ sym in_world.number)
-      here_below in_world.alone
+      crash_joins setting.net old.number old.node joins_now (round_later setting.round rounds)
+  deed_joins event.Recover says = recover_joins setting.net old.number old.node joins_now
   deed_joins (event.Arm fault rounds) says =
-      record { sure = joins_now.sure; kept = joins_now.kept; live = joins_now.live }
+      record { kept = joins_now.kept; live = joins_now.live }
   deed_joins event.Idle says = joins_now
 
   -- the bytes that come in a deed are spelled
@@ -299,7 +275,7 @@ deeds_stay_joined setting stations k old new deed fits came answer in_world step
   where
     as_station : {failures : _} {turns : _} → NodeJoins setting.net old.number new.node
         → IsJoined setting.net (moved_to new.node failures turns old)
-    as_station joins = record { sure = joins.sure; kept = joins.kept; live = joins.live }
+    as_station joins = record { kept = joins.kept; live = joins.live }
 
 pub install_joined : (net : Network) (old new : StationView) (done : DoneView) (answer : ReplyView)
     → IsInstalled net.channels done old answer new → IsJoined net old → IsJoined net new
@@ -308,12 +284,12 @@ install_joined net old new done answer step joined = subst (IsJoined net) (sym s
     by : (applied : Bool) → IsInstall net.channels done.job done.after done.taken done.sent old.node applied new.node
         → IsJoined net (moved_to new.node old.failures old.turns old)
     by false is = subst (λ (n : NodeView). IsJoined net (moved_to n old.failures old.turns old)) (sym is.1)
-        (record { sure = joined.sure; kept = joined.kept; live = joined.live })
+        (record { kept = joined.kept; live = joined.live })
     by true is =
         let joins = changed_joins net old.number old.node (node_of_station net old joined)
         (turned net.channels done.job.process done.after done.taken done.sent) (λ r. refl) in
         subst (λ (n : NodeView). IsJoined net (moved_to n old.failures old.turns old)) (sym is.1)
-        (record { sure = joins.sure; kept = joins.kept; live = joins.live })
+        (record { kept = joins.kept; live = joins.live })
 
 pub release_joined : (net : Network) (old new : StationView) (round : ℕ) (answer : ReplyView)
     → IsRelease round (next_release round old) old answer new → IsJoined net old → IsJoined net new
@@ -324,7 +300,7 @@ release_joined net old new round answer step joined = by (next_release round old
     by (Some place) is =
         let joins = changed_joins net old.number old.node (node_of_station net old joined)
         (cut_at is.outlet.channel (length is.later.taken)) (λ r. refl) in
-        subst (IsJoined net) (sym is.same) (record { sure = joins.sure; kept = joins.kept; live = joins.live })
+        subst (IsJoined net) (sym is.same) (record { kept = joins.kept; live = joins.live })
 
 pub opening_is_joined : OpeningIsJoined
 opening_is_joined net failures outlets k station is = from_number (node_count net) 0 failures k refl is
@@ -333,7 +309,6 @@ opening_is_joined net failures outlets k station is = from_number (node_count ne
         → slice_get (stations_from net nodes number failures outlets) k ≡ Some station → IsJoined net station
     from_number nodes number [] k same is = absurd (cc)
     from_number nodes number (f ∷ failures) zero same is = subst (IsJoined net) (one_inside refl is) (record {
-      sure = λ e. absurd (cc);
       kept = record {
         listed = length-replicate nodes 0 ∙ same;
         held = λ held e. absurd (some_not_none refl e);

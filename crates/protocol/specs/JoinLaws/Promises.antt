@@ -1,5 +1,5 @@
 -- What the laws of checkpoints that several nodes take together say, in one form for all events.
-use Rattle.std.specs.Prelude.{◌≡◌, ℕ, ℤ, Bool, true, if◌then◌else◌, List, [], length, Some, slice_get, slice_set}
+use Rattle.std.specs.Prelude.{◌≡◌, ℕ, ℤ, Bool, if◌then◌else◌, List, [], length, Some, slice_get, slice_set}
 use Rattle.kahn_net.specs.Nodes.{node_count}
 use Rattle.kahn_net.specs.Syntax.{Network}
 use Rattle.kahn_net.specs.Valid.{IsValid}
@@ -43,7 +43,6 @@ pub record StandsIn (setting : Setting) (stations : List StationView) (k : ℕ) 
   pub node : old.node.kept.node ≡ k
   pub sound : StationInvariant setting.net setting.inputs old
   pub joined : IsJoined setting.net old
-  pub alone : setting.restarts ≡ true → node_count setting.net ≡ 1
   pub traffic : TrafficIsSound setting.net setting.inputs setting.traffic
 
 -- An opening world of outlets that have taken nothing has run, with no step.

@@ -18,6 +18,7 @@ use Rattle.recovery_line.specs.Packets.{Packet}
 use Rattle.protocol.specs.Join.Seen.{live_seen, mode_seen, node_seen, world_seen}
 use Rattle.protocol.specs.JoinLaws.Leading.{leads_by, acts, outlets_same}
 use Rattle.protocol.specs.JoinLaws.Plans.{falls_leads, ProspectLeads}
+use Rattle.protocol.specs.Node.GoingBack.{set_back_to}
 use Rattle.protocol.specs.Node.Modes.{is_down, crashed}
 use Rattle.protocol.specs.Node.NodeView.{ModeView, Down, InDoubt, Runs, RunningView}
 use Rattle.protocol.specs.Node.Plans.{becoming, if_due, putting, unless_spent}
@@ -26,18 +27,18 @@ use Rattle.protocol.specs.World.RecoveryLine.{net_seen, outlets_seen}
 use Rattle.protocol.specs.World.StationView.{StationView}
 use Rattle.protocol.specs.World.Steps.{moved_to}
 
-module _ (net : Net) (k : ℕ) (kept : RecordView) (left : ℕ → ℕ) (home : kept.node ≡ k) where
+module _ (network : Network) (net : Net) (k : ℕ) (kept : RecordView) (left : ℕ → ℕ) (home : kept.node ≡ k) where
   mode_back : (o : Option HeldImage) → kept.tentative ≡ o
-      → mode_seen (restored_mode (with_epoch kept))
-      ≡ mode_seen (restored_with (with_epoch kept) (without_own kept.node o))
+      → mode_seen (restored_mode network k (with_epoch kept))
+      ≡ mode_seen (restored_with network k (with_epoch kept) (without_own kept.node o))
   mode_back o is =
-      ap (λ (t : Option HeldImage). mode_seen (restored_with (with_epoch kept) (without_own kept.node t))) is
+      ap (λ (t : Option HeldImage). mode_seen (restored_with network k (with_epoch kept) (without_own kept.node t))) is
 
   -- whatever it held
   pub comes_back : NodeStep net k (record { disk = record_seen kept; mode = Mode.Down; outlets = left })
       (record {
         disk = record_seen (with_epoch kept);
-        mode = mode_seen (restored_mode (with_epoch kept));
+        mode = mode_seen (restored_mode network k (with_epoch kept));
         outlets = left;
       })
   comes_back = by kept.tentative refl
@@ -46,7 +47,7 @@ module _ (net : Net) (k : ℕ) (kept : RecordView) (left : ℕ → ℕ) (home : 
           → NodeStep net k (record { disk = record_seen kept; mode = Mode.Down; outlets = left })
           (record {
             disk = record_seen (with_epoch kept);
-            mode = mode_seen (restored_mode (with_epoch kept));
+            mode = mode_seen (restored_mode network k (with_epoch kept));
             outlets = left;
           })
       by_own held is true own =
@@ -56,7 +57,7 @@ module _ (net : Net) (k : ℕ) (kept : RecordView) (left : ℕ → ℕ) (home : 
             drops = epoch_drops_own kept held is initiator;
             was = refl;
             now = mode_back (Some held) is
-                ∙ ap (λ (b : Bool). mode_seen (restored_with (with_epoch kept) (cond b None (Some held)))) own;
+                ∙ ap (λ (b : Bool). mode_seen (restored_with network k (with_epoch kept) (cond b None (Some held)))) own;
             outlets = refl;
           })
       by_own held is false other =
@@ -72,14 +73,14 @@ module _ (net : Net) (k : ℕ) (kept : RecordView) (left : ℕ → ℕ) (home : 
             other = λ e. apart (e ∙ sym home);
             held = ap tentative_seen is;
             now = mode_back (Some held) is
-                ∙ ap (λ (b : Bool). mode_seen (restored_with (with_epoch kept) (cond b None (Some held)))) other;
+                ∙ ap (λ (b : Bool). mode_seen (restored_with network k (with_epoch kept) (cond b None (Some held)))) other;
           })
 
       by : (o : Option HeldImage) → kept.tentative ≡ o
           → NodeStep net k (record { disk = record_seen kept; mode = Mode.Down; outlets = left })
           (record {
             disk = record_seen (with_epoch kept);
-            mode = mode_seen (restored_mode (with_epoch kept));
+            mode = mode_seen (restored_mode network k (with_epoch kept));
             outlets = left;
           })
       by None is = Restore (record {
@@ -91,15 +92,15 @@ module _ (net : Net) (k : ℕ) (kept : RecordView) (left : ℕ → ℕ) (home : 
       by (Some held) is = by_own held is (held.initiator == kept.node) refl
 
 -- a node that holds nothing goes back to its permanent image
-pub goes_back : (net : Net) (k : ℕ) (kept : RecordView) (running : RunningView) (left : ℕ → ℕ)
+pub goes_back : (net : Net) (k : ℕ) (kept : RecordView) (running : RunningView) (channel epoch : ℕ) (left : ℕ → ℕ)
     → kept.tentative ≡ None
     → NodeStep net k (record { disk = record_seen kept; mode = mode_seen (Runs running); outlets = left })
     (record {
       disk = record_seen (with_epoch kept);
-      mode = mode_seen (restored_with (with_epoch kept) None);
+      mode = mode_seen (Runs (set_back_to (with_epoch kept) channel epoch running));
       outlets = left;
     })
-goes_back net k kept running left free =
+goes_back net k kept running channel epoch left free =
     Roll_back (image_seen running.current) (option_map live_seen running.live) (record {
       same = record { disk = epoch_is_not_seen kept (λ h is. absurd (some_not_none free is)); outlets = refl };
       was = refl;
@@ -122,7 +123,7 @@ module _ (net : Network) (stations : List StationView) (k : ℕ) (old : StationV
         keeps = λ e. refl;
       }
 
-  pub recover_leads : old.node.kept.node ≡ k → ProspectLeads net stations k old sent (recover_prospect old.node)
+  pub recover_leads : old.node.kept.node ≡ k → ProspectLeads net stations k old sent (recover_prospect net k old.node)
   recover_leads home = by (is_down old.node.mode) refl (nat_lt old.node.kept.epoch MAX_COUNT)
     where
       down_seen : (mode : ModeView) → is_down mode ≡ true → mode_seen mode ≡ Mode.Down
@@ -132,18 +133,18 @@ module _ (net : Network) (stations : List StationView) (k : ℕ) (old : StationV
 
       by : (down : Bool) → is_down old.node.mode ≡ down → (less : Bool)
           → ProspectLeads net stations k old sent
-          (if_due down (unless_spent true less (putting false (restored old.node))))
+          (if_due down (unless_spent true less (putting false (restored net k old.node))))
       by false is less = tt
       by true is false = tt
       by true is true = record {
         leads = λ failures turns.
-            let new = moved_to (restored old.node) failures turns old in
+            let new = moved_to (restored net k old.node) failures turns old in
             leads_by (net_seen net) (world_seen stations sent) _
             (acts stations k old new there (net_seen net) sent (outlets_same stations k old new there refl)
             (subst (λ (mode : Mode). NodeStep (net_seen net) k
             (record { disk = record_seen old.node.kept; mode = mode; outlets = outlets_seen stations })
             (node_seen new (outlets_seen stations))) (sym (down_seen old.node.mode is))
-            (comes_back (net_seen net) k old.node.kept (outlets_seen stations) home)));
+            (comes_back net (net_seen net) k old.node.kept (outlets_seen stations) home)));
         silent = refl;
         keeps = λ e. absurd (cc);
       }

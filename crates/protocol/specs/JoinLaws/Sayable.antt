@@ -1,5 +1,5 @@
 -- After each deed a station's record and what it collects may be said, and so may what is sent in the deed.
-use Rattle.std.proofs.Common.{◌≡◌, ◌≢◌, ℕ, ◌+◌, ◌<◌, ◌&&◌, Bool, true, false, cond, List, ℤ, [], length, All, Option}
+use Rattle.std.proofs.Common.{◌≡◌, ℕ, ◌+◌, ◌<◌, ◌&&◌, Bool, true, false, cond, List, ℤ, [], length, All, Option}
 use Rattle.std.proofs.Common.{Some, None, option_map, refl, sym, ap, subst, ◌∙◌, arith}
 use Rattle.std.specs.Prelude.{nat_lt}
 use Rattle.std.specs.List.{list_all}
@@ -15,7 +15,7 @@ use Rattle.kahn_net.specs.Nodes.{node_count}
 use Rattle.kahn_net.specs.Syntax.{Network}
 use Rattle.kahn_net.specs.Valid.{IsValid}
 use Rattle.kahn_net.specs.declared.limits.TheConstants.{MAX_COUNT}
-use Rattle.record.specs.Moves.{highest_seen, with_permanent, without_tentative, with_confirmed}
+use Rattle.record.specs.Moves.{highest_seen, with_epoch, with_permanent, without_tentative, with_confirmed}
 use Rattle.record.specs.RecordView.{RecordView}
 use Rattle.record.specs.declared.record.TheConstants.{MAX_DECISIONS}
 use Rattle.recovery_line.proofs.Basics.{one_inside}
@@ -29,6 +29,8 @@ use Rattle.protocol.specs.Node.Collecting.{TookAnswer, Ignores, Joins, GivesUp, 
 use Rattle.protocol.specs.Node.Collecting.{awaits, with_covered, hearing_covered, joining, joined_asks}
 use Rattle.protocol.specs.Node.Collecting.{joined_live, give_up_prospect, took_by, took_prospect, loses}
 use Rattle.protocol.specs.Node.Collecting.{refused_prospect, with_answer}
+use Rattle.protocol.specs.Node.GoingBack.{UndoneAnswer, PassesOver, Notes, GoesBack, answer_to_undone, noting_undone}
+use Rattle.protocol.specs.Node.GoingBack.{set_back_to, undone_by, undone_prospect}
 use Rattle.protocol.specs.Node.Hearing.{hear_prospect}
 use Rattle.protocol.specs.Join.Joined.{IsOther, LiveIsSound, MayBeAskedFor, KeepsNodes}
 use Rattle.protocol.specs.Node.Verdicts.{may_decide, concluded, decided_now, commit_packets, decide_prospect, mode_then}
@@ -36,7 +38,7 @@ use Rattle.protocol.specs.Node.Verdicts.{after_verdict, settled_packets, commit_
 use Rattle.protocol.specs.Node.Verdicts.{settled_prospect}
 use Rattle.protocol.specs.Node.Verdicts.{participants_of, verdict_packets}
 use Rattle.protocol.specs.JoinLaws.Crossings.{both_true}
-use Rattle.protocol.specs.JoinLaws.Keeps.{takes_keeps, drops_keeps, settles_keeps, decides_keeps, confirms_keeps}
+use Rattle.protocol.specs.JoinLaws.Keeps.{epoch_keeps, takes_keeps, drops_keeps, settles_keeps, decides_keeps, confirms_keeps}
 use Rattle.protocol.specs.JoinLaws.Keeps.{begun_sound, covered_sound, joined_sound}
 use Rattle.protocol.specs.JoinLaws.NeedLaws.{has_where_below}
 use Rattle.protocol.specs.JoinLaws.Spelled.{IsSayable, one_sendable, other_of, asks_sendable, new_sendable}
@@ -59,7 +61,6 @@ use Rattle.protocol.specs.Node.Trimming.{cut_at}
 
 -- of the node of this number that a plan makes, and of what it sends
 pub record PlanSays (net : Network) (inputs : List (List ℤ)) (home : ℕ) (plan : Plan) : Type 0 where
-  pub sure : plan.node.mode ≢ InDoubt
   pub kept : KeepsNodes net home plan.node.kept
   pub live : (live : LiveView) → live_in plan.node.mode ≡ Some live → LiveIsSound net home live
   pub sendable : All (IsSayable net inputs) plan.packets
@@ -71,26 +72,19 @@ ProspectSays net inputs home (Exhausted looks) = Unit {0}
 ProspectSays net inputs home (Planned plan) = PlanSays net inputs home plan
 
 module _ (net : Network) (inputs : List (List ℤ)) (valid : IsValid net) (home : ℕ) (here : home < node_count net)
-    (old : NodeView) (sure : old.mode ≢ InDoubt) (kept : KeepsNodes net home old.kept)
+    (old : NodeView) (kept : KeepsNodes net home old.kept)
     (live : (live : LiveView) → live_in old.mode ≡ Some live → LiveIsSound net home live)
     (counts : (running : RunningView) → old.mode ≡ Runs running → MayBeAskedFor net home running.current) where
   nothing : All (IsSayable net inputs) []
   nothing = All-nil (IsSayable net inputs)
 
-  -- a change of what is in memory leaves no doubt
-  surely : (change : RunningView → RunningView) (mode : ModeView) → mode ≢ InDoubt → on_mode change mode ≢ InDoubt
-  surely change Down known is = absurd (cc)
-  surely change InDoubt known is = known refl
-  surely change (Runs running) known is = absurd (cc)
-
   stays : ProspectSays net inputs home (becoming old)
-  stays = record { sure = sure; kept = kept; live = live; sendable = nothing; refusable = nothing }
+  stays = record { kept = kept; live = live; sendable = nothing; refusable = nothing }
 
   -- a change that leaves what is collected
   changes : (change : RunningView → RunningView) → ((running : RunningView) → (change running).live ≡ running.live)
       → ProspectSays net inputs home (becoming (on_running change old))
   changes change same = record {
-    sure = surely change old.mode sure;
     kept = kept;
     live = λ l is. live l (sym (live_same old.mode) ∙ is);
     sendable = nothing;
@@ -104,7 +98,7 @@ module _ (net : Network) (inputs : List (List ℤ)) (valid : IsValid net) (home 
 
   tells : (packets : List Packet) → All (IsSayable net inputs) packets
       → ProspectSays net inputs home (telling packets old)
-  tells packets sendable = record { sure = sure; kept = kept; live = live; sendable = sendable; refusable = nothing }
+  tells packets sendable = record { kept = kept; live = live; sendable = sendable; refusable = nothing }
 
   -- ---- it begins, and decides
 
@@ -154,7 +148,6 @@ module _ (net : Network) (inputs : List (List ℤ)) (valid : IsValid net) (home 
       by false is less e = tt
       by true is false e = tt
       by true is true e = record {
-        sure = surely (beginning net home old.kept) old.mode sure;
         kept = begun_kept e (few_now is) old.mode refl;
         live = begun_live e old.mode refl;
         sendable = live_sendable (live_in (begun net home old).mode) (begun_live e old.mode refl);
@@ -194,7 +187,6 @@ module _ (net : Network) (inputs : List (List ℤ)) (valid : IsValid net) (home 
       })))
       by false = tt
       by true = record {
-        sure = surely (collecting None) old.mode sure;
         kept = decided_kept (live_in old.mode) live;
         live = none_live old.mode;
         sendable = decided_told (live_in old.mode) live;
@@ -225,7 +217,6 @@ module _ (net : Network) (inputs : List (List ℤ)) (valid : IsValid net) (home 
     asked_says =
         let answer = answer_to_ask x n c m old.kept old.mode in
         record {
-          sure = sure;
           kept = kept_after (answer_to_ask x n c m old.kept old.mode);
           live = live;
           sendable = answers_sendable net inputs valid home here x n c m asked right
@@ -241,7 +232,6 @@ module _ (net : Network) (inputs : List (List ℤ)) (valid : IsValid net) (home 
 
   gives_up : ProspectSays net inputs home (give_up_prospect old)
   gives_up = record {
-    sure = surely (collecting None) old.mode sure;
     kept = drops_keeps net home old.kept kept;
     live = none_live old.mode;
     sendable = nothing;
@@ -257,7 +247,6 @@ module _ (net : Network) (inputs : List (List ℤ)) (valid : IsValid net) (home 
 
   covered_says : (n c : ℕ) → ProspectSays net inputs home (becoming (on_running (hearing_covered n c) old))
   covered_says n c = record {
-    sure = surely (hearing_covered n c) old.mode sure;
     kept = kept;
     live = λ l is. by old.mode refl l is;
     sendable = nothing;
@@ -319,7 +308,6 @@ module _ (net : Network) (inputs : List (List ℤ)) (valid : IsValid net) (home 
       by Ignores = stays
       by GivesUp = gives_up
       by Joins = record {
-        sure = surely (joining net home p c needs) old.mode sure;
         kept = kept;
         live = joined old.mode refl;
         sendable = asks (live_in old.mode) live;
@@ -330,24 +318,19 @@ module _ (net : Network) (inputs : List (List ℤ)) (valid : IsValid net) (home 
 
   -- what is collected afterwards, where a node that was in doubt runs on
   verdict_live : (next : RecordView) (mode : ModeView) → old.mode ≡ mode → (l : LiveView)
-      → live_in (mode_then next mode) ≡ Some l → LiveIsSound net home l
+      → live_in (mode_then net home next mode) ≡ Some l → LiveIsSound net home l
   verdict_live next Down at l is = absurd (cc)
   verdict_live next InDoubt at l is = absurd (cc)
   verdict_live next (Runs running) at l is = live l (ap live_in at ∙ is)
 
-  verdict_sure : (next : RecordView) (mode : ModeView) → mode_then next mode ≢ InDoubt
-  verdict_sure next Down is = absurd (cc)
-  verdict_sure next InDoubt is = absurd (cc)
-  verdict_sure next (Runs running) is = absurd (cc)
-
   commit_says : (x n : ℕ) → IsPositive n → IsOther net home x
-      → ProspectSays net inputs home (commit_prospect home x n old)
+      → ProspectSays net inputs home (commit_prospect net home x n old)
   commit_says x n positive other = by (holds x n old.kept.tentative)
     where
       by : (b : Bool) → ProspectSays net inputs home
           (cond b
           (Planned (record {
-            node = after_verdict (with_permanent old.kept) old;
+            node = after_verdict net home (with_permanent old.kept) old;
             puts = true;
             grows = false;
             packets = settled_packets home x n (with_permanent old.kept);
@@ -355,7 +338,6 @@ module _ (net : Network) (inputs : List (List ℤ)) (valid : IsValid net) (home 
           }))
           (telling (settled_packets home x n old.kept) old))
       by true = record {
-        sure = verdict_sure (with_permanent old.kept) old.mode;
         kept = settles_keeps net home old.kept kept;
         live = verdict_live (with_permanent old.kept) old.mode refl;
         sendable = settled_sendable net inputs valid home here x n (with_permanent old.kept) positive other;
@@ -365,13 +347,12 @@ module _ (net : Network) (inputs : List (List ℤ)) (valid : IsValid net) (home 
           tells (settled_packets home x n old.kept)
           (settled_sendable net inputs valid home here x n old.kept positive other)
 
-  ended_says : (x n : ℕ) → ProspectSays net inputs home (ended_prospect x n old)
+  ended_says : (x n : ℕ) → ProspectSays net inputs home (ended_prospect net home x n old)
   ended_says x n = by (holds x n old.kept.tentative)
     where
       by : (b : Bool) → ProspectSays net inputs home
-          (cond b (putting false (after_verdict (without_tentative old.kept) old)) (becoming old))
+          (cond b (putting false (after_verdict net home (without_tentative old.kept) old)) (becoming old))
       by true = record {
-        sure = verdict_sure (without_tentative old.kept) old.mode;
         kept = drops_keeps net home old.kept kept;
         live = verdict_live (without_tentative old.kept) old.mode refl;
         sendable = nothing;
@@ -379,13 +360,34 @@ module _ (net : Network) (inputs : List (List ℤ)) (valid : IsValid net) (home 
       }
       by false = stays
 
+  -- ---- the sender of a channel restored an image
+
+  -- a node that goes back collects nothing
+  back_live : (c epoch : ℕ) (mode : ModeView) (l : LiveView)
+      → live_in (on_mode (set_back_to (with_epoch old.kept) c epoch) mode) ≡ Some l → LiveIsSound net home l
+  back_live c epoch Down l is = absurd (cc)
+  back_live c epoch InDoubt l is = absurd (cc)
+  back_live c epoch (Runs running) l is = absurd (cc)
+
+  undone_says : (c epoch count : ℕ) → ProspectSays net inputs home (undone_prospect c epoch count old)
+  undone_says c epoch count = by (answer_to_undone c epoch count old.kept old.mode)
+    where
+      by : (answer : UndoneAnswer) → ProspectSays net inputs home (undone_by c epoch answer old)
+      by PassesOver = stays
+      by Notes = changes (noting_undone c epoch) (λ r. refl)
+      by GoesBack = record {
+        kept = epoch_keeps net home old.kept kept;
+        live = back_live c epoch old.mode;
+        sendable = nothing;
+        refusable = nothing;
+      }
+
   settled_says : (p n : ℕ) → ProspectSays net inputs home (settled_prospect p n old)
   settled_says p n = by (names old.kept.decisions n p)
     where
       by : (b : Bool) → ProspectSays net inputs home
           (cond b (putting false (with_kept (with_confirmed n p old.kept) old)) (becoming old))
       by true = record {
-        sure = sure;
         kept = confirms_keeps net home old.kept kept n p;
         live = live;
         sendable = nothing;
@@ -413,7 +415,7 @@ module _ (net : Network) (inputs : List (List ℤ)) (valid : IsValid net) (home 
       commit_says from n is (other_of net inputs valid home here from right)
   hears_says from (says.Ended n) is right = ended_says from n
   hears_says from (says.Settled n) is right = settled_says from n
-  hears_says from (says.Undone channel epoch count) is right = stays
+  hears_says from (says.Undone channel epoch count) is right = undone_says channel epoch count
 
 -- what such a plan sends has a spelling, however it comes out
 plan_allowed : (net : Network) (inputs : List (List ℤ)) (home : ℕ) (plan : Plan) → PlanSays net inputs home plan

@@ -36,45 +36,45 @@ use Rattle.protocol.specs.declared.round_turns.RoundTurns.{RoundTurns}
 
 -- ---- as steps of one node
 
-mode_is : (kept : RecordView) (mode : ModeView)
-    → mode_seen (mode_then kept mode) ≡ verdict_mode (mode_seen mode) (image_seen kept.permanent)
-mode_is kept Down = refl
-mode_is kept InDoubt = refl
-mode_is kept (Runs running) = refl
+mode_is : (net : Network) (home : ℕ) (kept : RecordView) (mode : ModeView)
+    → mode_seen (mode_then net home kept mode) ≡ verdict_mode (mode_seen mode) (image_seen kept.permanent)
+mode_is net home kept Down = refl
+mode_is net home kept InDoubt = refl
+mode_is net home kept (Runs running) = refl
 
-hears_commit : (x n : ℕ) (kept : RecordView) (mode : ModeView) (left : ℕ → ℕ) → mode_seen mode ≢ Mode.Down
+hears_commit : (net : Network) (home x n : ℕ) (kept : RecordView) (mode : ModeView) (left : ℕ → ℕ) → mode_seen mode ≢ Mode.Down
     → IsHeld x n kept.tentative
     → HearsCommit (record { disk = record_seen kept; mode = mode_seen mode; outlets = left })
     (record {
       disk = record_seen (with_permanent kept);
-      mode = mode_seen (mode_then (with_permanent kept) mode);
+      mode = mode_seen (mode_then net home (with_permanent kept) mode);
       outlets = left;
     }) x n
-hears_commit x n kept mode left up at = record {
+hears_commit net home x n kept mode left up at = record {
   image = image_seen at.held.image;
   up = up;
   settles = named_so x n kept.tentative at
       (λ (y m : ℕ). Settles (record_seen kept) (record_seen (with_permanent kept)) y m (image_seen at.held.image))
       (settling_moves kept at.held at.is);
-  mode = mode_is (with_permanent kept) mode;
+  mode = mode_is net home (with_permanent kept) mode;
   outlets = refl;
 }
 
-hears_ended : (x n : ℕ) (kept : RecordView) (mode : ModeView) (left : ℕ → ℕ) → mode_seen mode ≢ Mode.Down
+hears_ended : (net : Network) (home x n : ℕ) (kept : RecordView) (mode : ModeView) (left : ℕ → ℕ) → mode_seen mode ≢ Mode.Down
     → IsHeld x n kept.tentative
     → HearsEnded (record { disk = record_seen kept; mode = mode_seen mode; outlets = left })
     (record {
       disk = record_seen (without_tentative kept);
-      mode = mode_seen (mode_then (without_tentative kept) mode);
+      mode = mode_seen (mode_then net home (without_tentative kept) mode);
       outlets = left;
     }) x n
-hears_ended x n kept mode left up at = record {
+hears_ended net home x n kept mode left up at = record {
   image = image_seen at.held.image;
   up = up;
   drops = named_so x n kept.tentative at
       (λ (y m : ℕ). Drops (record_seen kept) (record_seen (without_tentative kept)) y m (image_seen at.held.image))
       (dropping_moves kept at.held at.is);
-  mode = mode_is (without_tentative kept) mode;
+  mode = mode_is net home (without_tentative kept) mode;
   outlets = refl;
 }
 
@@ -151,10 +151,11 @@ verdict_may net w home p n kept mode is mode_same up asked =
       tt,
     )
 
-up_then : (mode : ModeView) (kept : RecordView) → is_down mode ≡ false → is_down (mode_then kept mode) ≡ false
-up_then Down kept up = absurd (cc)
-up_then InDoubt kept up = refl
-up_then (Runs running) kept up = refl
+up_then : (net : Network) (home : ℕ) (mode : ModeView) (kept : RecordView) → is_down mode ≡ false
+    → is_down (mode_then net home kept mode) ≡ false
+up_then net home Down kept up = absurd (cc)
+up_then net home InDoubt kept up = refl
+up_then net home (Runs running) kept up = refl
 
 -- ---- one station of several
 
@@ -178,20 +179,20 @@ module _ (net : Network) (stations : List StationView) (k : ℕ) (old : StationV
 
   pub commit_leads : (x n : ℕ) → WasSent sent (Commit x k n) → holds x n old.node.kept.tentative ≡ true
       → Leads (net_seen net) (world_seen stations sent)
-      (world_seen (Later (after_verdict (with_permanent old.node.kept) old.node))
+      (world_seen (Later (after_verdict net k (with_permanent old.node.kept) old.node))
       (all_seen (settled_packets k x n (with_permanent old.node.kept)) ++ sent))
   commit_leads x n came held =
-      let node = after_verdict (with_permanent old.node.kept) old.node in
+      let node = after_verdict net k (with_permanent old.node.kept) old.node in
       let new = moved_to node failures turns old in
       leads_then (net_seen net) (world_seen stations sent) (world_seen (Later node) sent) _
       (leads_by (net_seen net) (world_seen stations sent) (world_seen (Later node) sent)
       (hears stations k old new there (net_seen net) sent (outlets_same stations k old new there refl) (Commit x k n)
       came (
         refl,
-        hears_commit x n old.node.kept old.node.mode (outlets_seen stations) (up_seen old.node.mode up)
+        hears_commit net k x n old.node.kept old.node.mode (outlets_seen stations) (up_seen old.node.mode up)
             (held_where x n old.node.kept.tentative held),
       )))
-      (says_settled x n node (up_then old.node.mode (with_permanent old.node.kept) up) came refl) refl
+      (says_settled x n node (up_then net k old.node.mode (with_permanent old.node.kept) up) came refl) refl
 
   pub confirm_leads : (x n : ℕ) → WasSent sent (Commit x k n) → holds x n old.node.kept.tentative ≡ false
       → Leads (net_seen net) (world_seen (Later old.node) sent)
@@ -201,14 +202,14 @@ module _ (net : Network) (stations : List StationView) (k : ℕ) (old : StationV
 
   pub ended_leads : (x n : ℕ) → WasSent sent (Ended x k n) → holds x n old.node.kept.tentative ≡ true
       → Leads (net_seen net) (world_seen stations sent)
-      (world_seen (Later (after_verdict (without_tentative old.node.kept) old.node)) sent)
+      (world_seen (Later (after_verdict net k (without_tentative old.node.kept) old.node)) sent)
   ended_leads x n came held =
-      let new = moved_to (after_verdict (without_tentative old.node.kept) old.node) failures turns old in
+      let new = moved_to (after_verdict net k (without_tentative old.node.kept) old.node) failures turns old in
       leads_by (net_seen net) (world_seen stations sent) _
       (hears stations k old new there (net_seen net) sent (outlets_same stations k old new there refl) (Ended x k n)
       came (
         refl,
-        hears_ended x n old.node.kept old.node.mode (outlets_seen stations) (up_seen old.node.mode up)
+        hears_ended net k x n old.node.kept old.node.mode (outlets_seen stations) (up_seen old.node.mode up)
             (held_where x n old.node.kept.tentative held),
       ))
 

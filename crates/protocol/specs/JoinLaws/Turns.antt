@@ -22,7 +22,7 @@ use Rattle.recovery_line.specs.Worlds.{World}
 use Rattle.protocol.specs.Node.Beginning.{live_in, live_asks}
 use Rattle.protocol.specs.Join.Seen.{mode_seen, world_seen}
 use Rattle.protocol.specs.Node.Telling.{decision_packets, packet_if, query_packets, verdicts_told, kept_packet}
-use Rattle.protocol.specs.Node.Telling.{turn_packets}
+use Rattle.protocol.specs.Node.Telling.{turn_packets, undone_packet, undone_packets}
 use Rattle.protocol.specs.Node.Telling.{send_prospect}
 use Rattle.protocol.specs.JoinLaws.Concludes.{commits_may}
 use Rattle.protocol.specs.JoinLaws.Crossings.{comes_cross}
@@ -153,18 +153,34 @@ module _ (net : Network) (valid : IsValid net) (w : World) (home : ℕ) (kept : 
             map_same (x ∷ xs) = ap (λ (rest : List ℕ). x ∷ rest) (map_same xs)
         by (Runs running) at =
             may_both (net_seen net) w (flat_map (inbox_packets net home kept.permanent) running.inboxes)
-            (live_asks net home running.live ++ (verdicts_told home kept ++
-            (cond (is_none kept.tentative) (flat_map (outbox_packets net home running.current) running.outboxes) [])))
+            (undone_packets net home kept.epoch running.outboxes
+            ++ (live_asks net home running.live ++ (verdicts_told home kept ++
+            (cond (is_none kept.tentative) (flat_map (outbox_packets net home running.current) running.outboxes) []))))
             (may_each (net_seen net) w (inbox_packets net home kept.permanent) running.inboxes
             (λ i inbox there. kept_may inbox.channel (incoming running at i inbox there)))
+            (may_both (net_seen net) w (undone_packets net home kept.epoch running.outboxes)
+            (live_asks net home running.live ++ (verdicts_told home kept ++
+            (cond (is_none kept.tentative) (flat_map (outbox_packets net home running.current) running.outboxes) [])))
+            (undone_told (kept.epoch == 0))
             (may_both (net_seen net) w (live_asks net home running.live) (verdicts_told home kept ++
             (cond (is_none kept.tentative) (flat_map (outbox_packets net home running.current) running.outboxes) []))
             (asks_told running.live (ap live_in at))
             (may_both (net_seen net) w (verdicts_told home kept)
             (cond (is_none kept.tentative) (flat_map (outbox_packets net home running.current) running.outboxes) [])
             verdicts_may
-            (items_told (is_none kept.tentative))))
+            (items_told (is_none kept.tentative)))))
           where
+            -- what a node restored is no matter of the machine's
+            each_undone : (outboxes : List Outbox)
+                → MaySendAll (net_seen net) w (map (undone_packet net home kept.epoch) outboxes)
+            each_undone [] = tt
+            each_undone (outbox ∷ outboxes) = each_undone outboxes
+
+            undone_told : (b : Bool) → MaySendAll (net_seen net) w
+                (cond b [] (map (undone_packet net home kept.epoch) running.outboxes))
+            undone_told true = tt
+            undone_told false = each_undone running.outboxes
+
             items_told : (b : Bool) → MaySendAll (net_seen net) w
                 (cond b (flat_map (outbox_packets net home running.current) running.outboxes) [])
             items_told true =

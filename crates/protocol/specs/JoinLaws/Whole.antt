@@ -41,8 +41,8 @@ use Rattle.protocol.specs.Node.Delivering.{delivery_of, packet_for}
 use Rattle.protocol.specs.Node.JobView.{JobView}
 use Rattle.protocol.specs.Node.Layout.{is_incoming}
 use Rattle.protocol.specs.Node.NodeView.{Down, InDoubt, ModeView, NodeView, Runs, RunningView, running_node, running_in}
-use Rattle.protocol.specs.Node.Plans.{Prospect, if_due}
-use Rattle.protocol.specs.Node.Recovering.{crash_prospect, recover_prospect, restored_mode}
+use Rattle.protocol.specs.Node.Plans.{Prospect}
+use Rattle.protocol.specs.Node.Recovering.{recover_prospect, restored_mode}
 use Rattle.protocol.specs.NodeLaws.NumberedLaws.{where_mark}
 use Rattle.protocol.specs.World.EventView.{Deed}
 use Rattle.protocol.specs.World.EventView as event
@@ -129,13 +129,6 @@ module _ (setting : Setting) (stations : List StationView) (k : ℕ) (old : Stat
   -- ---- each deed's plan is steps
 
   module _ (run : HasRun setting.net stations setting.traffic) where
-    -- a prospect that may be due
-    where_due : (due : Bool) (prospect : Prospect)
-        → ProspectLeads setting.net stations k old run.sent prospect
-        → ProspectLeads setting.net stations k old run.sent (if_due due prospect)
-    where_due true prospect leads = leads
-    where_due false prospect leads = tt
-
     -- a prospect of the node by its number
     as_numbered : (prospect : ℕ → Prospect) → ProspectLeads setting.net stations k old run.sent (prospect k)
         → ProspectLeads setting.net stations k old run.sent (prospect old.number)
@@ -177,10 +170,9 @@ module _ (setting : Setting) (stations : List StationView) (k : ℕ) (old : Stat
         as_numbered (λ (n : ℕ). decide_prospect n old.node)
         (concludes_lead setting.net stations k old in_world.there run.sent run.reached in_world.count in_world.joined)
     deed_leads (event.Crash fill rounds) says =
-        where_due setting.restarts (crash_prospect (round_later setting.round rounds) old.node)
-        (crash_leads setting.net stations k old in_world.there run.sent (round_later setting.round rounds))
+        crash_leads setting.net stations k old in_world.there run.sent (round_later setting.round rounds)
     deed_leads event.Recover says =
-        where_due setting.restarts (recover_prospect old.node)
+        as_numbered (λ (n : ℕ). recover_prospect setting.net n old.node)
         (recover_leads setting.net stations k old in_world.there run.sent in_world.node)
     deed_leads (event.Arm fault rounds) says =
         same_leads setting.net stations k old in_world.there run.sent (with_armed fault.call rounds old.node) refl refl
@@ -218,7 +210,7 @@ answers_so setting k event.Start station = inr (refl, refl)
 answers_so setting k event.Decide station = inr (refl, refl)
 answers_so setting k (event.Crash fill rounds) station = inr (refl, refl)
 answers_so setting k event.Recover station =
-    inr (back_answers (restored_mode (with_epoch station.node.kept)), refl)
+    inr (back_answers (restored_mode setting.net station.number (with_epoch station.node.kept)), refl)
 answers_so setting k (event.Arm fault rounds) station = inr (refl, refl)
 answers_so setting k event.Idle station = inr (refl, refl)
 

@@ -24,9 +24,15 @@ use Rattle.protocol.specs.declared.links.Outbox.{Outbox}
 -- for the positions after it.
 abbrev pub with_arrival : Arrival → Receiver → ℤ → Inbox → Inbox
 with_arrival arrival.Taken window item inbox =
-    popping (record { channel = inbox.channel; window = window; log = log_with (item ∷ []) inbox.log })
+    popping
+    (record {
+      channel = inbox.channel;
+      window = window;
+      log = log_with (item ∷ []) inbox.log;
+      undone = inbox.undone;
+    })
 with_arrival arrival.Held window item inbox =
-    record { channel = inbox.channel; window = window; log = inbox.log }
+    record { channel = inbox.channel; window = window; log = inbox.log; undone = inbox.undone }
 with_arrival arrival.Dropped window item inbox = inbox
 
 abbrev pub after_arrival : Received → ℤ → Inbox → Inbox
@@ -39,7 +45,12 @@ taking position item inbox =
 
 -- what was acknowledged is noted
 abbrev pub acknowledged : ℕ → ℕ → Outbox → Outbox
-acknowledged epoch next outbox = record { channel = outbox.channel; window = sender_after outbox.window epoch next }
+acknowledged epoch next outbox =
+    record {
+      channel = outbox.channel;
+      window = sender_after outbox.window epoch next;
+      restored = outbox.restored;
+    }
 
 -- a list with the element of a place so changed, where there is one
 abbrev pub put_at : {A : Type 0} → List A → ℕ → Option A → List A

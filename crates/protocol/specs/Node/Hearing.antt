@@ -9,6 +9,7 @@ use Rattle.protocol.specs.Node.Answering.{ask_prospect}
 use Rattle.protocol.specs.Node.Collecting.{hearing_covered, took_prospect, refused_prospect}
 use Rattle.protocol.specs.Node.Verdicts.{commit_prospect, ended_prospect, query_prospect, settled_prospect}
 use Rattle.protocol.specs.Node.Delivering.{hearing}
+use Rattle.protocol.specs.Node.GoingBack.{undone_prospect}
 use Rattle.protocol.specs.Node.Modes.{is_down}
 use Rattle.protocol.specs.Node.NodeView.{NodeView, RunningView, on_running}
 use Rattle.protocol.specs.Node.Plans.{Prospect, becoming, if_due}
@@ -19,8 +20,8 @@ abbrev pub remembering : (RunningView → RunningView) → NodeView → Prospect
 remembering change node = becoming (on_running change node)
 
 -- A node that is up hears this from a node. Items and acknowledgements change its ends of channels, and what the
--- receiver of a channel keeps for good cuts the log; all else is about checkpoints. (What is told of roll-backs changes
--- nothing so far.)
+-- receiver of a channel keeps for good cuts the log; what its sender restored may set the node back; all else is about
+-- checkpoints.
 abbrev pub hear_prospect : Network → ℕ → ℕ → Body → NodeView → Prospect
 hear_prospect net home from (Data channel position item) node = remembering (hearing (Data channel position item)) node
 hear_prospect net home from (Ack channel epoch next) node = remembering (hearing (Ack channel epoch next)) node
@@ -30,10 +31,10 @@ hear_prospect net home from (Took n c m needs) node = took_prospect net home fro
 hear_prospect net home from (Covered n c m) node = remembering (hearing_covered n c) node
 hear_prospect net home from (Refused n c reason) node = refused_prospect home n node
 hear_prospect net home from (Query n) node = query_prospect home from n node
-hear_prospect net home from (Commit n) node = commit_prospect home from n node
-hear_prospect net home from (Ended n) node = ended_prospect from n node
+hear_prospect net home from (Commit n) node = commit_prospect net home from n node
+hear_prospect net home from (Ended n) node = ended_prospect net home from n node
 hear_prospect net home from (Settled n) node = settled_prospect from n node
-hear_prospect net home from (Undone channel epoch sent) node = becoming node
+hear_prospect net home from (Undone channel epoch sent) node = undone_prospect channel epoch sent node
 
 -- bytes that spell this packet for it, or none, come to a node that is up
 abbrev pub told_prospect : Network → ℕ → Option Packet → NodeView → Prospect

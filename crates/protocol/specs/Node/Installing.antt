@@ -66,6 +66,7 @@ inbox_taken channels process taken inbox =
       window = inbox.window;
       log =
           trimmed_log (inbox.log.base + taken_from channels process taken inbox.channel) inbox.log;
+      undone = inbox.undone;
     }
 
 -- and with what its window held for the places that are free then

@@ -1,6 +1,6 @@
 -- What of a network lies on a node: its processes, and its ends of channels.
-use Rattle.std.specs.Prelude.{◌≡◌, ℕ, zero, suc, Bool, true, false, ◌==◌, ◌||◌, ◌&&◌, not, if◌then◌else◌}
-use Rattle.std.specs.Prelude.{List, [], ◌∷◌, length, Option, Some, None, option_map, slice_get, IsTrue}
+use Rattle.std.specs.Prelude.{ℕ, zero, suc, Bool, true, false, ◌==◌, ◌||◌, ◌&&◌, not, if◌then◌else◌}
+use Rattle.std.specs.Prelude.{List, [], ◌∷◌, length, Option, Some, None, option_map, slice_get}
 use Rattle.kahn_net.specs.Syntax.{Code, Network}
 use Rattle.kahn_net.specs.declared.program.Channel.{Channel}
 use Rattle.kahn_net.specs.declared.program.Port.{Port}
@@ -92,7 +92,3 @@ incoming_on net node = numbers_where (is_incoming net node) 0 (length net.channe
 
 abbrev pub outgoing_on : Network → ℕ → List ℕ
 outgoing_on net node = numbers_where (is_outgoing net node) 0 (length net.channels)
-
--- each process of the network is on the node
-abbrev pub AllHere : Network → ℕ → Type 0
-AllHere net node = (p : ℕ) (code : Code) → slice_get net.codes p ≡ Some code → IsTrue (has_process net node p)

@@ -62,10 +62,12 @@ new_inbox channel =
       channel = channel;
       window = record { epoch = 0; next = 0; held = replicate WINDOW None };
       log = record { base = 0; items = [] };
+      undone = 0;
     }
 
 abbrev pub new_outbox : ℕ → Outbox
-new_outbox channel = record { channel = channel; window = record { size = WINDOW; epoch = 0; acknowledged = 0 } }
+new_outbox channel =
+    record { channel = channel; window = record { size = WINDOW; epoch = 0; acknowledged = 0 }; restored = 0 }
 
 -- those of a node, in order of their channels
 abbrev pub opening_inboxes : Network → ℕ → List Inbox

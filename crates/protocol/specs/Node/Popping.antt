@@ -26,4 +26,5 @@ popping inbox =
       channel = inbox.channel;
       window = popped_times (length (items_out inbox.log inbox.window.held)) inbox.window;
       log = log_with (items_out inbox.log inbox.window.held) inbox.log;
+      undone = inbox.undone;
     }

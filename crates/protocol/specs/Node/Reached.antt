@@ -119,11 +119,12 @@ pub record InboxIsSound (image : ImageView) (inbox : Inbox) : Type 0 where
   pub epoch : inbox.window.epoch ≤ MAX_COUNT
 
 -- A node has an inbox for each channel that comes from another node, and an outbox for each that goes to one, in order
--- of their numbers.
+-- of their numbers; what an outbox says was restored is a count.
 pub record LinksAreLaidOut (net : Network) (home : ℕ) (node : RunningNode) : Type 0 where
   pub incoming : map (λ (inbox : Inbox). inbox.channel) node.inboxes ≡ incoming_on net home
   pub outgoing : map (λ (outbox : Outbox). outbox.channel) node.outboxes ≡ outgoing_on net home
   pub inboxes : (k : ℕ) (inbox : Inbox) → slice_get node.inboxes k ≡ Some inbox → InboxIsSound node.current inbox
+  pub restored : (k : ℕ) (outbox : Outbox) → slice_get node.outboxes k ≡ Some outbox → outbox.restored ≤ MAX_COUNT
 
 -- what an inbox holds comes next of its channel's history, and what its window holds stands there at its positions
 pub record InboxStands (histories : List (List ℤ)) (inbox : Inbox) : Type 0 where

@@ -2,7 +2,7 @@
 use Rattle.std.specs.Prelude.{◌==◌, ◌++◌, ℕ, not, Bool, true, false, if◌then◌else◌, List, [], ◌∷◌, map, Option, Some}
 use Rattle.std.specs.Prelude.{None}
 use Rattle.std.specs.List.{flat_map}
-use Rattle.datagram.specs.declared.packet.Body.TheVariants.{Kept, Query}
+use Rattle.datagram.specs.declared.packet.Body.TheVariants.{Kept, Query, Undone}
 use Rattle.datagram.specs.declared.packet.Packet.{Packet}
 use Rattle.kahn_net.specs.Syntax.{Network}
 use Rattle.record.specs.DecisionView.{DecisionView}
@@ -12,12 +12,13 @@ use Rattle.record.specs.RecordView.{RecordView}
 use Rattle.record.specs.declared.record.Tentative.{Tentative}
 use Rattle.protocol.specs.Node.Beginning.{live_asks}
 use Rattle.protocol.specs.Node.Verdicts.{commit_to}
-use Rattle.protocol.specs.Node.Addresses.{producer_node}
+use Rattle.protocol.specs.Node.Addresses.{producer_node, consumer_node}
 use Rattle.protocol.specs.Node.Layout.{incoming_on}
 use Rattle.protocol.specs.Node.Modes.{is_none, is_down}
 use Rattle.protocol.specs.Node.NodeView.{NodeView, ModeView, Down, InDoubt, Runs}
 use Rattle.protocol.specs.Node.Plans.{Prospect, if_due, telling}
 use Rattle.protocol.specs.Node.Sending.{inbox_packets, outbox_packets}
+use Rattle.protocol.specs.declared.links.Outbox.{Outbox}
 
 -- to each node that a decision names
 abbrev pub decision_packets : ℕ → DecisionView → List Packet
@@ -43,17 +44,32 @@ abbrev pub kept_packet : Network → ℕ → ImageView → ℕ → Packet
 kept_packet net home permanent c =
     record { from = home; to = producer_node net c; body = Kept c (received_of permanent c) }
 
--- A node that runs says of each channel from another node what comes next there and what it keeps for good; then what
--- it still asks, what it decided, and what it waits for; and then it sends items, unless it holds an image. One in
--- doubt says what it keeps, what it decided and what it waits for.
+-- of a channel to another node: how much the image has put there that was restored in this epoch
+abbrev pub undone_packet : Network → ℕ → ℕ → Outbox → Packet
+undone_packet net home epoch outbox =
+    record {
+      from = home;
+      to = consumer_node net outbox.channel;
+      body = Undone outbox.channel epoch outbox.restored;
+    }
+
+-- a node that never went down or back has nothing to say of that
+abbrev pub undone_packets : Network → ℕ → ℕ → List Outbox → List Packet
+undone_packets net home epoch outboxes =
+    if epoch == 0 then [] else map (undone_packet net home epoch) outboxes
+
+-- A node that runs says of each channel from another node what comes next there and what it keeps for good; then of
+-- each channel to another node what it restored; then what it still asks, what it decided, and what it waits for; and
+-- then it sends items, unless it holds an image. One in doubt says what it keeps, what it decided and what it waits for.
 abbrev pub turn_packets : Network → ℕ → RecordView → ModeView → List Packet
 turn_packets net home kept Down = []
 turn_packets net home kept InDoubt =
     map (kept_packet net home kept.permanent) (incoming_on net home) ++ verdicts_told home kept
 turn_packets net home kept (Runs running) =
     flat_map (inbox_packets net home kept.permanent) running.inboxes
+    ++ (undone_packets net home kept.epoch running.outboxes
     ++ (live_asks net home running.live ++ (verdicts_told home kept
-    ++ (if is_none kept.tentative then flat_map (outbox_packets net home running.current) running.outboxes else [])))
+    ++ (if is_none kept.tentative then flat_map (outbox_packets net home running.current) running.outboxes else []))))
 
 -- a node that is up sends that
 abbrev pub send_prospect : Network → ℕ → NodeView → Prospect

@@ -5,6 +5,7 @@ use Rattle.std.specs.Prelude.{Some, None}
 use Rattle.std.specs.List.{list_all}
 use Rattle.datagram.specs.declared.packet.Body.TheVariants.{Commit, Ended, Settled}
 use Rattle.datagram.specs.declared.packet.Packet.{Packet}
+use Rattle.kahn_net.specs.Syntax.{Network}
 use Rattle.record.specs.Moves.{highest_seen, with_decision, with_permanent, without_tentative, with_confirmed}
 use Rattle.record.specs.RecordView.{RecordView}
 use Rattle.recovery_line.specs.Observers.{decides, has_node, names}
@@ -16,7 +17,7 @@ use Rattle.protocol.specs.Node.LiveView.{QuestionView, LiveView}
 use Rattle.protocol.specs.Node.Modes.{with_kept}
 use Rattle.protocol.specs.Node.NodeView.{NodeView, ModeView, Down, InDoubt, Runs, on_running, with_mode}
 use Rattle.protocol.specs.Node.Plans.{Prospect, Planned, becoming, if_due, putting, telling}
-use Rattle.protocol.specs.Node.Recovering.{restored_with}
+use Rattle.protocol.specs.Node.Recovering.{restored_running}
 
 -- ---- a decision
 
@@ -65,13 +66,13 @@ decide_prospect home node =
 -- ---- verdicts for whoever took part
 
 -- a node that waited for the verdict runs on from its permanent image
-abbrev pub mode_then : RecordView → ModeView → ModeView
-mode_then kept Down = Down
-mode_then kept InDoubt = restored_with kept None
-mode_then kept (Runs running) = Runs running
+abbrev pub mode_then : Network → ℕ → RecordView → ModeView → ModeView
+mode_then net home kept Down = Down
+mode_then net home kept InDoubt = Runs (restored_running net home kept)
+mode_then net home kept (Runs running) = Runs running
 
-abbrev pub after_verdict : RecordView → NodeView → NodeView
-after_verdict kept node = with_mode (mode_then kept node.mode) (with_kept kept node)
+abbrev pub after_verdict : Network → ℕ → RecordView → NodeView → NodeView
+after_verdict net home kept node = with_mode (mode_then net home kept node.mode) (with_kept kept node)
 
 -- a node that has seen the number, and doesn't hold the image, says that it is settled
 abbrev pub settled_packets : ℕ → ℕ → ℕ → RecordView → List Packet
@@ -79,11 +80,11 @@ settled_packets home x n kept =
     if nat_le n (highest_seen x kept) then record { from = home; to = x; body = Settled n } ∷ [] else []
 
 -- The verdict that it is committed makes the image permanent where it is held, and is confirmed.
-abbrev pub commit_prospect : ℕ → ℕ → ℕ → NodeView → Prospect
-commit_prospect home x n node =
+abbrev pub commit_prospect : Network → ℕ → ℕ → ℕ → NodeView → Prospect
+commit_prospect net home x n node =
     if holds x n node.kept.tentative
     then Planned (record {
-      node = after_verdict (with_permanent node.kept) node;
+      node = after_verdict net home (with_permanent node.kept) node;
       puts = true;
       grows = false;
       packets = settled_packets home x n (with_permanent node.kept);
@@ -92,10 +93,10 @@ commit_prospect home x n node =
     else telling (settled_packets home x n node.kept) node
 
 -- the verdict that it is over drops it
-abbrev pub ended_prospect : ℕ → ℕ → NodeView → Prospect
-ended_prospect x n node =
+abbrev pub ended_prospect : Network → ℕ → ℕ → ℕ → NodeView → Prospect
+ended_prospect net home x n node =
     if holds x n node.kept.tentative
-    then putting false (after_verdict (without_tentative node.kept) node) else becoming node
+    then putting false (after_verdict net home (without_tentative node.kept) node) else becoming node
 
 -- ---- what the node that began it hears then
 

@@ -238,4 +238,5 @@ module _ (net : Network) (home : ℕ) (inputs : List (List ℤ)) (node : Running
         subst (InboxIsSound (installed net.channels job.process after taken sent node.current)) old.2
         (popping_sound (installed net.channels job.process after taken sent node.current)
         (inbox_taken net.channels job.process taken old.0) (inbox_sound k old.0 old.1)));
+    restored = links.restored;
   }

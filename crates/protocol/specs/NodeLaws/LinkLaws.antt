@@ -92,4 +92,9 @@ pub links_kept : (net : Network) (home version : ℕ) (kept : RecordView) (out :
       outboxes = node.outboxes;
     })
 links_kept net home version kept out last node links =
-    record { incoming = links.incoming; outgoing = links.outgoing; inboxes = links.inboxes }
+    record {
+      incoming = links.incoming;
+      outgoing = links.outgoing;
+      inboxes = links.inboxes;
+      restored = links.restored;
+    }

@@ -25,6 +25,7 @@ use Rattle.protocol.specs.Node.Reached.{CountIsWithin, CountsAreWithin, LogsAreW
 use Rattle.protocol.specs.Node.Reached.{InboxesStand}
 use Rattle.window_link.specs.Laws.Holding.{holds_none}
 use Rattle.protocol.specs.NodeLaws.ImageLaws.{map_got}
+use Rattle.kahn_net.specs.declared.limits.TheConstants.{MAX_COUNT}
 use Rattle.protocol.specs.declared.limits.TheConstants.{WINDOW}
 use Rattle.protocol.specs.declared.links.Inbox.{Inbox}
 use Rattle.protocol.specs.declared.links.Outbox.{Outbox}
@@ -424,6 +425,9 @@ links_opening net nodes number = record {
       let old = map_got new_inbox (incoming_on net number) k inbox is in
       subst (InboxIsSound (opening_image net number)) old.2
       (new_inbox_sound (opening_image net number) old.0 (received_from net number 0 old.0 net.channels)));
+  restored = λ k outbox is. (
+      let old = map_got new_outbox (outgoing_on net number) k outbox is in
+      subst (λ (o : Outbox). o.restored ≤ MAX_COUNT) old.2 (omega arith));
 }
 
 pub inboxes_opening : (net : Network) (home : ℕ) (histories : List (List ℤ))

@@ -242,6 +242,7 @@ links_trimmed net home c position node links = record {
         last = sound.last;
         epoch = sound.epoch;
       });
+  restored = links.restored;
 }
 
 -- what was received is as much as before; where the log is of a channel that goes elsewhere, no count is any other

@@ -16,7 +16,7 @@ use Rattle.wire.specs.Queue.{is_due}
 use Rattle.wire.specs.Traffic.{Traffic, flights_to}
 use Rattle.protocol.specs.World.Turns.{turns_of}
 use Rattle.protocol.specs.World.StationView.{StationView}
-use Rattle.protocol.specs.World.Steps.{WorldView, may_restart, next_release}
+use Rattle.protocol.specs.World.Steps.{WorldView, next_release}
 use Rattle.protocol.specs.World.EventView.{EventView, ByNode, Release}
 use Rattle.protocol.specs.World.EventView as event
 use Rattle.protocol.specs.declared.limits.TheConstants.{MAX_GRANTS}
@@ -49,9 +49,9 @@ has_sent round station =
     (turns_of round station.turns).sent && not
     ((turns_of round station.turns).sent_holding && is_none station.node.kept.tentative)
 
--- it is down, and may be recovered by now, where nodes may restart
-abbrev pub may_recover : Bool → ℕ → StationView → Bool
-may_recover restarts round station = restarts && (is_down station.node.mode && nat_le station.node.restart round)
+-- it is down, and may be recovered by now
+abbrev pub may_recover : ℕ → StationView → Bool
+may_recover round station = is_down station.node.mode && nat_le station.node.restart round
 
 -- the place of the first packet that is due to a node that is up
 abbrev pub due_place : Traffic → ℕ → StationView → Option ℕ
@@ -78,7 +78,7 @@ own_choice net inputs room nodes round station =
 -- the first that is due: the node is recovered, a packet comes to it, or one of those
 abbrev pub station_choice : Network → List (List ℤ) → ℕ → Traffic → ℕ → ℕ → StationView → EventView
 station_choice net inputs room traffic nodes round station =
-    if may_recover (may_restart nodes) round station then ByNode station.number event.Recover
+    if may_recover round station then ByNode station.number event.Recover
     else deliver_or station.number (due_place traffic round station) (own_choice net inputs room nodes round station)
 
 abbrev pub choice_of : WorldView → ℕ → Option StationView → EventView

@@ -4,6 +4,7 @@ use Rattle.kahn_net.specs.Streams.{IsPrefix}
 use Rattle.kahn_net.specs.Syntax.{Network}
 use Rattle.kahn_net.specs.Processes.{sent_on}
 use Rattle.kahn_net.specs.Approximations.{approximation}
+use Rattle.kahn_net.specs.declared.limits.TheConstants.{MAX_COUNT}
 use Rattle.kahn_net.specs.declared.program.Channel.{Channel}
 use Rattle.kahn_net.specs.declared.program.Port.TheVariants.{Process}
 use Rattle.record.specs.Ends.{base_of, sent_of}
@@ -49,8 +50,8 @@ pub record RecordHasCome (net : Network) (inputs : List (List ℤ)) (kept : Reco
       → IsPrefix output.taken (sent_on output.channel (acts_of net (approximation net inputs n) permanent_acts p))
 
 -- All of it: there is an outlet for each output of the record's node, in order, the permanent image covers what has
--- left, the tentative one isn't behind it, the record is within the bounds in which it fits `MAX_RECORD_BYTES`, and
--- what is said above.
+-- left, the tentative one isn't behind it, the epoch is a count, the record is within the bounds in which it fits
+-- `MAX_RECORD_BYTES`, and what is said above.
 pub record RecordIsSound (net : Network) (inputs : List (List ℤ)) (kept : RecordView)
     (outputs : List OutputView) : Type 0 where
   pub listed : map (λ (output : OutputView). output.channel) outputs ≡ outputs_on net kept.node
@@ -59,5 +60,6 @@ pub record RecordIsSound (net : Network) (inputs : List (List ℤ)) (kept : Reco
       → ImageIsSound net kept.node inputs tentative.image outputs
   pub ahead : (tentative : Tentative) → kept.tentative ≡ Some tentative → IsBehind kept.permanent tentative.image
   pub covered : CoversAll kept.permanent outputs
+  pub epoch : kept.epoch ≤ MAX_COUNT
   pub bounded : IsRecordWithin MAX_RETAINED_ITEMS kept
   pub come : ∥ RecordHasCome net inputs kept outputs ∥₁

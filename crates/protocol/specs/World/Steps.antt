@@ -28,7 +28,7 @@ use Rattle.protocol.specs.Node.Installing.{IsInstall}
 use Rattle.protocol.specs.Node.JobView.{JobView}
 use Rattle.protocol.specs.Node.Modes.{is_none, is_running, is_down, next_number}
 use Rattle.protocol.specs.Node.NodeView.{NodeView}
-use Rattle.protocol.specs.Node.Plans.{Prospect, Undue, becoming, if_due, IsMade, IsPut, room_for, packets_by}
+use Rattle.protocol.specs.Node.Plans.{Prospect, Undue, becoming, IsMade, IsPut, room_for, packets_by}
 use Rattle.protocol.specs.Node.Recovering.{crash_prospect, recover_prospect, restored_mode}
 use Rattle.protocol.specs.Node.Telling.{send_prospect}
 use Rattle.protocol.specs.Node.Trimming.{current_log, trimmed_node, TookNext}
@@ -63,28 +63,21 @@ pub record WorldView : Type 0 where
 abbrev pub with_room : ℕ → WorldView → WorldView
 with_room room world = record world { room = room }
 
--- what a station's event finds around it: the network and its inputs, what is in flight, whether nodes may restart, the
--- round, and the room of a channel
+-- what a station's event finds around it: the network and its inputs, what is in flight, the round, and the room of a
+-- channel
 pub record Setting : Type 0 where
   pub net : Network
   pub inputs : List (List ℤ)
   pub traffic : Traffic
-  pub restarts : Bool
   pub round : ℕ
   pub room : ℕ
 
--- Nodes may crash and come back in a world of so many nodes: of one alone, since the checkpoints of several aren't
--- coordinated yet.
-abbrev pub may_restart : ℕ → Bool
-may_restart nodes = nodes == 1
-
-abbrev pub setting_in : Network → List (List ℤ) → Traffic → Bool → ℕ → ℕ → Setting
-setting_in net inputs traffic restarts round room =
-    record { net = net; inputs = inputs; traffic = traffic; restarts = restarts; round = round; room = room }
+abbrev pub setting_in : Network → List (List ℤ) → Traffic → ℕ → ℕ → Setting
+setting_in net inputs traffic round room =
+    record { net = net; inputs = inputs; traffic = traffic; round = round; room = room }
 
 abbrev pub setting_of : WorldView → Setting
-setting_of world =
-    setting_in world.net world.inputs world.traffic (may_restart (length world.stations)) world.round world.room
+setting_of world = setting_in world.net world.inputs world.traffic world.round world.room
 
 -- the packet at a place of those in flight to a node
 abbrev pub flight_at : Setting → ℕ → ℕ → Option Flight
@@ -156,15 +149,14 @@ start_plan net round station =
 abbrev pub decide_plan : StationView → StationPlan
 decide_plan station = plainly (decide_prospect station.number station.node) reply.Decided station
 
--- a node crashes, and comes back, where nodes may restart
-abbrev pub crash_plan : Bool → ℕ → StationView → StationPlan
-crash_plan restarts restart station =
-    plainly (if_due restarts (crash_prospect restart station.node)) reply.Crashed station
+-- a node crashes, and comes back
+abbrev pub crash_plan : ℕ → StationView → StationPlan
+crash_plan restart station = plainly (crash_prospect restart station.node) reply.Crashed station
 
-abbrev pub recover_plan : Bool → StationView → StationPlan
-recover_plan restarts station =
-    plainly (if_due restarts (recover_prospect station.node))
-    (back_reply (restored_mode (with_epoch station.node.kept))) station
+abbrev pub recover_plan : Network → StationView → StationPlan
+recover_plan net station =
+    plainly (recover_prospect net station.number station.node)
+    (back_reply (restored_mode net station.number (with_epoch station.node.kept))) station
 
 -- a fault is armed for this device call, and for how many rounds it is to keep the node down
 abbrev pub arm_plan : ℕ → ℕ → StationView → StationPlan
@@ -183,8 +175,8 @@ plan_of setting k event.Send station = send_plan setting.net setting.round stati
 plan_of setting k event.Start station = start_plan setting.net setting.round station
 plan_of setting k event.Decide station = decide_plan station
 plan_of setting k (event.Crash fill rounds) station =
-    crash_plan setting.restarts (round_later setting.round rounds) station
-plan_of setting k event.Recover station = recover_plan setting.restarts station
+    crash_plan (round_later setting.round rounds) station
+plan_of setting k event.Recover station = recover_plan setting.net station
 plan_of setting k (event.Arm fault rounds) station = arm_plan fault.call rounds station
 plan_of setting k event.Idle station = idle_plan setting.round station
 
@@ -313,21 +305,19 @@ IsAct setting place fits event came old answer new =
 
 -- ---- the round
 
--- a round need not wait for this node: it has idled, or it is down and not to be recovered yet, or not at all
-abbrev pub is_done_with : Bool → ℕ → StationView → Bool
-is_done_with restarts round station =
-    (turns_of round station.turns).idled ||
-    (is_down station.node.mode && (not restarts || nat_lt round station.node.restart))
+-- a round need not wait for this node: it has idled, or it is down and not to be recovered yet
+abbrev pub is_done_with : ℕ → StationView → Bool
+is_done_with round station =
+    (turns_of round station.turns).idled || (is_down station.node.mode && nat_lt round station.node.restart)
 
-abbrev pub are_done_with : Bool → ℕ → List StationView → Bool
-are_done_with restarts round [] = true
-are_done_with restarts round (station ∷ stations) =
-    is_done_with restarts round station && are_done_with restarts round stations
+abbrev pub are_done_with : ℕ → List StationView → Bool
+are_done_with round [] = true
+are_done_with round (station ∷ stations) = is_done_with round station && are_done_with round stations
 
 -- the round after this answer: after an idle node it advances if it need wait for nobody
 abbrev pub round_after : ReplyView → ℕ → List StationView → ℕ
 round_after reply.Idled round stations =
-    if are_done_with (may_restart (length stations)) round stations then next_number round else round
+    if are_done_with round stations then next_number round else round
 round_after answer round stations = round
 
 -- ---- what is in flight afterwards

@@ -1,9 +1,8 @@
 -- Checkpoints are coordinated in each event: each is steps of the abstract machine of which none but the first writes a
 -- record, so that what the machine's laws say of a step and of records is so of the event.
-use Rattle.std.proofs.Common.{◌≡◌, ◌⊎◌, inl, inr, ℕ, Bool, true, false, List, [], ◌∷◌, Some, None, refl, sym, ap, subst}
+use Rattle.std.proofs.Common.{◌≡◌, ◌⊎◌, inl, inr, ℕ, Bool, true, false, List, [], ◌∷◌, Some, None, sym, ap, subst}
 use Rattle.std.specs.Prelude.{◌≢◌}
 use Rattle.std.proofs.Math.Logic.{∥∥₁_map}
-use Rattle.datagram.specs.declared.packet.Packet.{Packet as Datagram}
 use Rattle.kahn_net.specs.Syntax.{Network}
 use Rattle.record.specs.RecordView.{RecordView}
 use Rattle.wire.specs.Traffic.{Traffic}
@@ -15,7 +14,7 @@ use Rattle.recovery_line.specs.Laws.{Needed, Wanted}
 use Rattle.recovery_line.specs.Line.{NoOrphan, Over, line_with}
 use Rattle.recovery_line.specs.Packets.{Packet, Ended}
 use Rattle.recovery_line.specs.Records.{Record, Holds}
-use Rattle.recovery_line.specs.Worlds.{World, IsLive, Reachable, Step, Run}
+use Rattle.recovery_line.specs.Worlds.{World, Reachable, Step, Run}
 use Rattle.protocol.specs.Join.Runs.{Carries, Leads, RunsOn, SaysWhatWasSent, WriteAtFirst}
 use Rattle.protocol.specs.Join.Seen.{body_seen, packet_seen, world_seen}
 use Rattle.protocol.specs.JoinLaws.Leading.{reached_then, records_at_end}

@@ -4,7 +4,7 @@ use Rattle.std.proofs.Common.{◌≡◌, ℕ, Bool, true, false, cond, ℤ, List
 use Rattle.std.proofs.Common.{option_map, refl, sym, ap, subst, ◌∙◌}
 use Rattle.std.specs.Prelude.{◌==◌, nat_lt, not}
 use Rattle.std.proofs.Math.Logic.{∥∥₁_elim}
-use Rattle.std.proofs.lemmas.Bool.{and_from, eq-eqb}
+use Rattle.std.proofs.lemmas.Bool.{and_from, eq-eqb, ltb-true}
 use Rattle.std.proofs.lemmas.List.Elements.{All-nil}
 use mathlib.Core.HLevel.{⊥_prop}
 use Rattle.datagram.proofs.Exactness.{whole_again}
@@ -90,19 +90,18 @@ pub grant_sends : (job : Option JobView) (node : NodeView) (came : Outcome)
 grant_sends None node came = refl
 grant_sends (Some job) node came = becoming_sends (with_grant (Some job) node) came
 
-pub crash_sends : (restarts : Bool) (restart : ℕ) (node : NodeView) (came : Outcome)
-    → packets_by (if_due restarts (crash_prospect restart node)) came ≡ []
-crash_sends restarts restart node came =
-    due_sends restarts _ came (due_sends (not (is_down node.mode)) _ came (becoming_sends (crashed restart node) came))
+pub crash_sends : (restart : ℕ) (node : NodeView) (came : Outcome)
+    → packets_by (crash_prospect restart node) came ≡ []
+crash_sends restart node came =
+    due_sends (not (is_down node.mode)) _ came (becoming_sends (crashed restart node) came)
 
-pub recover_sends : (restarts : Bool) (node : NodeView) (came : Outcome)
-    → packets_by (if_due restarts (recover_prospect node)) came ≡ []
-recover_sends restarts node came =
-    due_sends restarts (recover_prospect node) came
-    (due_sends (is_down node.mode)
-    (unless_spent true (nat_lt node.kept.epoch MAX_COUNT) (putting false (restored node))) came
-    (spent_sends true (nat_lt node.kept.epoch MAX_COUNT) (putting false (restored node)) came
-    (putting_sends false (restored node) came)))
+pub recover_sends : (net : Network) (home : ℕ) (node : NodeView) (came : Outcome)
+    → packets_by (recover_prospect net home node) came ≡ []
+recover_sends net home node came =
+    due_sends (is_down node.mode)
+    (unless_spent true (nat_lt node.kept.epoch MAX_COUNT) (putting false (restored net home node))) came
+    (spent_sends true (nat_lt node.kept.epoch MAX_COUNT) (putting false (restored net home node)) came
+    (putting_sends false (restored net home node) came))
 
 -- a node that is down hears nothing, and neither begins nor decides
 down_start : (node : NodeView) → is_down node.mode ≡ true → may_start node ≡ false
@@ -209,7 +208,7 @@ module _ (setting : Setting) (sure : IsSoundSetting setting) (old : StationView)
         (hear_prospect setting.net old.number packet.from packet.body old.node)
         (λ up. whole_prospect setting.net setting.inputs old.number old
         (hear_prospect setting.net old.number packet.from packet.body old.node)
-        (hear_keeps setting.net setting.inputs sure.valid sure.fits old sound.inv sound.joined.sure sound.named
+        (hear_keeps setting.net setting.inputs sure.valid sure.fits old sound.inv sound.named
         packet.from packet.body (whole_sound setting.net setting.inputs packet to bytes says right.0)
         (ap (λ (n : ℕ). names_run setting.net packet.from n packet.body) (sym named.0) ∙ named.1))
         (hears_said setting.net setting.inputs sure.valid old sound.inv sound.named sound.below sound.joined
@@ -283,17 +282,21 @@ module _ (setting : Setting) (sure : IsSoundSetting setting) (old : StationView)
     deed_sound k event.Decide = decides_sound
     deed_sound k (event.Crash fill rounds) =
         let down = crashed (round_later setting.round rounds) old.node in
-        sound_if_due setting.net setting.inputs old setting.restarts _
-        (λ may. sound_if_due setting.net setting.inputs old (not (is_down old.node.mode)) (becoming down)
+        sound_if_due setting.net setting.inputs old (not (is_down old.node.mode)) (becoming down)
         (λ up. sound_becoming setting.net setting.inputs down old
         (down_keeps setting.net setting.inputs (round_later setting.round rounds) old.node old.failures old.turns old
-        sound.inv.kept) refl))
+        sound.inv.kept) refl)
     deed_sound k event.Recover =
-        sound_if_due setting.net setting.inputs old setting.restarts _
-        (λ may. sound_if_due setting.net setting.inputs old (is_down old.node.mode) _
-        (λ down. sound_unless_spent setting.net setting.inputs old true
-        _ (Planned (record { node = restored old.node; puts = true; grows = false; packets = []; refused = [] }))
-        (back_sound setting.net setting.inputs old sure.valid (sound.here may) sound.inv)))
+        sound_if_due setting.net setting.inputs old (is_down old.node.mode) _
+        (λ down. sound_unless_spent setting.net setting.inputs old true _
+        (Planned (record {
+          node = restored setting.net old.number old.node;
+          puts = true;
+          grows = false;
+          packets = [];
+          refused = [];
+        })) (λ less. back_sound setting.net setting.inputs old sound.named
+        (ltb-true old.node.kept.epoch MAX_COUNT less) sound.inv))
     deed_sound k (event.Arm fault rounds) =
         sound_becoming setting.net setting.inputs (with_armed fault.call rounds old.node) old
         (moved_keeps setting.net setting.inputs (with_armed fault.call rounds old.node) old.failures old.turns old
@@ -326,8 +329,9 @@ deed_sends setting k event.Decide station came down =
     undue_sends (may_decide station.number station.node.kept (live_in station.node.mode)) _ came
     (down_decides station.number station.node down)
 deed_sends setting k (event.Crash fill rounds) station came down =
-    crash_sends setting.restarts (round_later setting.round rounds) station.node came
-deed_sends setting k event.Recover station came down = recover_sends setting.restarts station.node came
+    crash_sends (round_later setting.round rounds) station.node came
+deed_sends setting k event.Recover station came down =
+    recover_sends setting.net station.number station.node came
 deed_sends setting k (event.Arm fault rounds) station came down =
     becoming_sends (with_armed fault.call rounds station.node) came
 deed_sends setting k event.Idle station came down = becoming_sends station.node came
@@ -341,7 +345,7 @@ module _ (setting : Setting) (flying : TrafficIsSound setting.net setting.inputs
   deed_is k event.Start old here = refl
   deed_is k event.Decide old here = refl
   deed_is k (event.Crash fill rounds) old here = refl
-  deed_is k event.Recover old here = back_is (restored_mode (with_epoch old.node.kept))
+  deed_is k event.Recover old here = back_is (restored_mode setting.net old.number (with_epoch old.node.kept))
   deed_is k (event.Arm fault rounds) old here = refl
   deed_is k event.Idle old here = refl
 

@@ -185,12 +185,12 @@ inbox_placed inboxes channel k inbox found is =
 -- the item goes last into the log, and the window goes on
 abbrev pub with_next : ℤ → Inbox → Inbox
 with_next item inbox =
-    record { channel = inbox.channel; window = advanced inbox.window; log = log_with (item ∷ []) inbox.log }
+    record { channel = inbox.channel; window = advanced inbox.window; log = log_with (item ∷ []) inbox.log; undone = inbox.undone }
 
 -- the item goes into the window
 abbrev pub with_later : ℕ → ℤ → Inbox → Inbox
 with_later position item inbox =
-    record { channel = inbox.channel; window = with_held inbox.window position item; log = inbox.log }
+    record { channel = inbox.channel; window = with_held inbox.window position item; log = inbox.log; undone = inbox.undone }
 
 -- the item is the next one, and there is a place for it
 pub record IsTaking (position : ℕ) (item : ℤ) (inbox later : Inbox) : Type 0 where
@@ -565,6 +565,7 @@ module _ (net : Network) (inputs : List (List ℤ)) (valid : IsValid net) (fits 
     inboxes =
         λ k inbox is. sound k inbox
         (changed_cases (taking position item) running.inboxes (inbox_place running.inboxes channel) k inbox is);
+    restored = links.restored;
   }
     where
       keeps_name : (position : ℕ) (item : ℤ) (inbox : Inbox) → (taking position item inbox).channel ≡ inbox.channel
@@ -587,7 +588,17 @@ module _ (net : Network) (inputs : List (List ℤ)) (valid : IsValid net) (fits 
         changed_names (acknowledged epoch next) (λ (outbox : Outbox). outbox.channel) (λ outbox. refl) running.outboxes
         (outbox_place running.outboxes channel) ∙ links.outgoing;
     inboxes = links.inboxes;
+    restored = λ k outbox is. by k outbox
+        (changed_cases (acknowledged epoch next) running.outboxes (outbox_place running.outboxes channel) k outbox is);
   }
+    where
+      by : (k : ℕ) (outbox : Outbox) → (slice_get running.outboxes k ≡ Some outbox)
+          ⊎ ((x : Outbox) × (slice_get running.outboxes k ≡ Some x)
+          × (outbox_place running.outboxes channel ≡ Some k) × (outbox ≡ acknowledged epoch next x))
+          → outbox.restored ≤ MAX_COUNT
+      by k outbox (inl same) = links.restored k outbox same
+      by k outbox (inr other) =
+          subst (λ (o : Outbox). o.restored ≤ MAX_COUNT) (sym other.3) (links.restored k other.0 other.1)
 
   ack_come : (channel epoch next : ℕ) → HasCome net inputs now outputs
       → HasCome net inputs (after (Ack channel epoch next)) outputs

@@ -1,11 +1,11 @@
 -- Whatever a node hears, what it makes of its station is sound.
-use Rattle.std.proofs.Common.{◌≡◌, ◌≢◌, ℕ, Bool, true, false, ◌&&◌, cond, List, ℤ, [], Option, Some, None, refl, sym}
+use Rattle.std.proofs.Common.{◌≡◌, ℕ, Bool, true, false, ◌&&◌, cond, List, ℤ, [], Option, Some, None, refl, sym}
 use Rattle.std.proofs.Common.{ap}
 use Rattle.std.proofs.Common.{subst, ◌∙◌}
-use Rattle.std.specs.Prelude.{◌==◌}
+use Rattle.std.specs.Prelude.{◌==◌, nat_lt}
 use Rattle.std.proofs.Math.Bridge.{le_prop}
 use Rattle.std.proofs.Math.Logic.{∥∥₁_elim, ∥∥₁_map}
-use Rattle.std.proofs.lemmas.Bool.{eqb-true}
+use Rattle.std.proofs.lemmas.Bool.{eqb-true, ltb-true}
 use mathlib.Core.HLevel.{⊥_prop}
 use Rattle.ckpt_codec.specs.SizeLaws.{within_permanent}
 use Rattle.ckpt_codec.specs.declared.lengths.TheConstants.{MAX_RETAINED_ITEMS}
@@ -19,6 +19,9 @@ use Rattle.datagram.specs.declared.packet.Packet.{Packet}
 use Rattle.kahn_net.specs.Fits.{Fits}
 use Rattle.kahn_net.specs.Syntax.{Network}
 use Rattle.kahn_net.specs.Valid.{IsValid}
+use Rattle.kahn_net.specs.declared.limits.TheConstants.{MAX_COUNT}
+use Rattle.record.specs.declared.record.Tentative.{Tentative}
+use Rattle.protocol.specs.declared.links.Inbox.{Inbox}
 use Rattle.record.specs.Changes.{trimmed_image}
 use Rattle.record.specs.Moves.{with_confirmed, with_permanent, with_tentative, without_tentative}
 use Rattle.recovery_line.specs.Observers.{names}
@@ -32,6 +35,8 @@ use Rattle.protocol.specs.Node.Collecting.{TookAnswer, Ignores, Joins, GivesUp, 
 use Rattle.protocol.specs.Node.Collecting.{hearing_covered, joining, loses, refused_prospect, took_by}
 use Rattle.protocol.specs.Node.Collecting.{took_prospect}
 use Rattle.protocol.specs.Node.Delivering.{hearing, if_right, packet_for}
+use Rattle.protocol.specs.Node.GoingBack.{PassesOver, Notes, GoesBack, answer_at, answer_with, inbox_of, noting_undone}
+use Rattle.protocol.specs.Node.GoingBack.{undone_by, undone_prospect}
 use Rattle.protocol.specs.Node.Hearing.{hear_prospect}
 use Rattle.protocol.specs.Node.Modes.{with_kept}
 use Rattle.protocol.specs.Node.NodeView.{ModeView, Down, InDoubt, Runs, RunningView, RunningNode}
@@ -49,12 +54,13 @@ use Rattle.protocol.specs.World.Traffic.{BodyIsSound, BytesAreSound}
 use Rattle.protocol.specs.WorldLaws.CutLaws.{GoesElsewhere, cross_elsewhere, sound_cut}
 use Rattle.protocol.specs.WorldLaws.HearLaws.{body_known, hear_sound, order_heard}
 use Rattle.protocol.specs.WorldLaws.MoveLaws.{changed_from, confirmed_keeps, gives_up_keeps, node_keeps, over_keeps}
+use Rattle.protocol.specs.WorldLaws.BackLaws.{goes_back_keeps, noted_runs}
 use Rattle.protocol.specs.WorldLaws.MoveLaws.{runs_same, taken_keeps, verdict_keeps}
 use Rattle.protocol.specs.WorldLaws.OrderLaws.{behind_itself, order_ahead}
 use Rattle.protocol.specs.WorldLaws.PlanLaws.{KeepsStation, ProspectKeeps, keeps_still, moved_keeps, runs_at}
 
 module _ (net : Network) (inputs : List (List ℤ)) (valid : IsValid net) (fits : Fits net inputs) (old : StationView)
-    (inv : StationInvariant net inputs old) (sure : old.node.mode ≢ InDoubt) where
+    (inv : StationInvariant net inputs old) (named : old.node.kept.node ≡ old.number) where
   -- nothing changes, whatever is sent
   as_it_is : (packets refused : List Packet)
       → KeepsStation net inputs old
@@ -148,7 +154,14 @@ module _ (net : Network) (inputs : List (List ℤ)) (valid : IsValid net) (fits 
             same_node = refl;
             ahead = behind_itself old.node.kept.permanent;
           }
-      takes InDoubt is packets refused = absurd (sure is)
+      takes InDoubt is packets refused =
+          let still = as_it_is packets refused in
+          record {
+            keeps = still.keeps;
+            stays = λ none. absurd (cc);
+            same_node = refl;
+            ahead = behind_itself old.node.kept.permanent;
+          }
       takes (Runs running) is packets refused =
           taken_keeps net inputs old inv valid x n running is old.node.mode
           (λ later now. ap
@@ -182,13 +195,13 @@ module _ (net : Network) (inputs : List (List ℤ)) (valid : IsValid net) (fits 
 
   -- ---- it hears a verdict, and what becomes of one
 
-  committed : (x n : ℕ) → ProspectKeeps net inputs old (commit_prospect old.number x n old.node)
+  committed : (x n : ℕ) → ProspectKeeps net inputs old (commit_prospect net old.number x n old.node)
   committed x n = by (holds x n old.node.kept.tentative)
     where
       by : (b : Bool) → ProspectKeeps net inputs old
           (cond b
           (Planned (record {
-            node = after_verdict (with_permanent old.node.kept) old.node;
+            node = after_verdict net old.number (with_permanent old.node.kept) old.node;
             puts = true;
             grows = false;
             packets = settled_packets old.number x n (with_permanent old.node.kept);
@@ -197,15 +210,15 @@ module _ (net : Network) (inputs : List (List ℤ)) (valid : IsValid net) (fits 
           (telling (settled_packets old.number x n old.node.kept) old.node))
       by true =
           verdict_keeps net inputs old inv 0 [] (within_permanent MAX_RETAINED_ITEMS old.node.kept inv.kept.bounded)
-          sure (settled_packets old.number x n (with_permanent old.node.kept)) []
+          named (settled_packets old.number x n (with_permanent old.node.kept)) []
       by false = as_it_is (settled_packets old.number x n old.node.kept) []
 
-  ended : (x n : ℕ) → ProspectKeeps net inputs old (ended_prospect x n old.node)
+  ended : (x n : ℕ) → ProspectKeeps net inputs old (ended_prospect net old.number x n old.node)
   ended x n = by (holds x n old.node.kept.tentative)
     where
       by : (b : Bool) → ProspectKeeps net inputs old
-          (cond b (putting false (after_verdict (without_tentative old.node.kept) old.node)) (becoming old.node))
-      by true = over_keeps net inputs old inv sure [] []
+          (cond b (putting false (after_verdict net old.number (without_tentative old.node.kept) old.node)) (becoming old.node))
+      by true = over_keeps net inputs old inv named [] []
       by false = as_it_is [] []
 
   settled : (p n : ℕ) → ProspectKeeps net inputs old (settled_prospect p n old.node)
@@ -216,27 +229,63 @@ module _ (net : Network) (inputs : List (List ℤ)) (valid : IsValid net) (fits 
       by true = confirmed_keeps net inputs old inv n p [] []
       by false = as_it_is [] []
 
+  -- ---- the sender of a channel restored an image
+
+  undone : (c epoch count : ℕ) → ProspectKeeps net inputs old (undone_prospect c epoch count old.node)
+  undone c epoch count = by_held old.node.kept.tentative refl
+    where
+      at : old.node.kept.tentative ≡ None → (o : Option Inbox)
+          → ProspectKeeps net inputs old (undone_by c epoch (answer_at epoch count old.node.kept.epoch o) old.node)
+      at free None = as_it_is [] []
+      at free (Some inbox) =
+          by (nat_lt inbox.undone epoch) (nat_lt count inbox.window.next) (nat_lt old.node.kept.epoch MAX_COUNT) refl
+        where
+          by : (news ahead more : Bool) → nat_lt old.node.kept.epoch MAX_COUNT ≡ more
+              → ProspectKeeps net inputs old
+              (undone_by c epoch (cond news (cond ahead (cond more GoesBack PassesOver) Notes) PassesOver) old.node)
+          by true true true less =
+              goes_back_keeps net inputs old inv c epoch free (ltb-true old.node.kept.epoch MAX_COUNT less)
+          by true true false less = as_it_is [] []
+          by true false more less =
+              changed (noting_undone c epoch) (λ running is.
+              noted_runs net inputs c epoch old.node.kept old.node.version running (outputs_of old.outlets)
+              (runs_at net inputs old inv running is)) [] []
+          by false ahead more less = as_it_is [] []
+
+      by_mode : old.node.kept.tentative ≡ None → (mode : ModeView)
+          → ProspectKeeps net inputs old
+          (undone_by c epoch (answer_with c epoch count old.node.kept.epoch None mode) old.node)
+      by_mode free Down = as_it_is [] []
+      by_mode free InDoubt = as_it_is [] []
+      by_mode free (Runs running) = at free (inbox_of running.inboxes c)
+
+      by_held : (o : Option Tentative) → old.node.kept.tentative ≡ o
+          → ProspectKeeps net inputs old
+          (undone_by c epoch (answer_with c epoch count old.node.kept.epoch o old.node.mode) old.node)
+      by_held (Some held) free = as_it_is [] []
+      by_held None free = by_mode free old.node.mode
+
   -- ---- whatever it hears
 
-  pub hear_keeps : old.node.kept.node ≡ old.number → (from : ℕ) (what : Body) → BodyIsSound net inputs what
+  pub hear_keeps : (from : ℕ) (what : Body) → BodyIsSound net inputs what
       → names_run net from old.number what ≡ true
       → ProspectKeeps net inputs old (hear_prospect net old.number from what old.node)
-  hear_keeps named from (says.Data channel position item) is right = heard (says.Data channel position item) is
-  hear_keeps named from (says.Ack channel epoch next) is right = heard (says.Ack channel epoch next) is
-  hear_keeps named from (says.Kept channel count) is right =
+  hear_keeps from (says.Data channel position item) is right = heard (says.Data channel position item) is
+  hear_keeps from (says.Ack channel epoch next) is right = heard (says.Ack channel epoch next) is
+  hear_keeps from (says.Kept channel count) is right =
       cut channel count
       (subst (λ (home : ℕ). GoesElsewhere net home channel) (sym named)
       (cross_elsewhere net old.number from channel (between_cross net old.number from channel right)))
-  hear_keeps named from (says.Ask n c m) is right = asked from n c m
-  hear_keeps named from (says.Took n c m needs) is right = took from n c needs
-  hear_keeps named from (says.Covered n c m) is right = collected (hearing_covered n c) (λ running. refl) [] []
-  hear_keeps named from (says.Refused n c reason) is right = refused_so n
-  hear_keeps named from (says.Query n) is right =
+  hear_keeps from (says.Ask n c m) is right = asked from n c m
+  hear_keeps from (says.Took n c m needs) is right = took from n c needs
+  hear_keeps from (says.Covered n c m) is right = collected (hearing_covered n c) (λ running. refl) [] []
+  hear_keeps from (says.Refused n c reason) is right = refused_so n
+  hear_keeps from (says.Query n) is right =
       as_it_is (verdict_packets old.number from n old.node.kept (live_in old.node.mode)) []
-  hear_keeps named from (says.Commit n) is right = committed from n
-  hear_keeps named from (says.Ended n) is right = ended from n
-  hear_keeps named from (says.Settled n) is right = settled from n
-  hear_keeps named from (says.Undone channel epoch count) is right = as_it_is [] []
+  hear_keeps from (says.Commit n) is right = committed from n
+  hear_keeps from (says.Ended n) is right = ended from n
+  hear_keeps from (says.Settled n) is right = settled from n
+  hear_keeps from (says.Undone channel epoch count) is right = undone channel epoch count
 
 -- the packet that bytes spell is sound where they are
 pub whole_sound : (net : Network) (inputs : List (List ℤ)) (packet : Packet) (to : ℕ) (bytes : List ℕ)

@@ -1,6 +1,6 @@
 -- What an event makes of a sound station is sound: its node takes an image, makes one permanent, drops one, or changes
 -- what it has in memory.
-use Rattle.std.proofs.Common.{◌≡◌, ◌≢◌, ℕ, zero, suc, ◌+◌, ◌<◌, ◌≤◌, Bool, true, false, cond, List, ℤ, ◌∷◌, length}
+use Rattle.std.proofs.Common.{◌≡◌, ◌⊎◌, inl, inr, ⊎_elim, ℕ, zero, suc, ◌+◌, ◌<◌, ◌≤◌, Bool, true, false, cond, List, ℤ, ◌∷◌, length}
 use Rattle.std.proofs.Common.{Option}
 use Rattle.std.proofs.Common.{Some, None, refl, sym, ap, subst, ◌∙◌, arith}
 use Rattle.std.specs.Prelude.{◌==◌}
@@ -10,6 +10,7 @@ use Rattle.ckpt_codec.specs.declared.lengths.TheConstants.{MAX_RETAINED_ITEMS}
 use Rattle.datagram.specs.declared.packet.Packet.{Packet}
 use Rattle.kahn_net.specs.Syntax.{Network}
 use Rattle.kahn_net.specs.Valid.{IsValid}
+use Rattle.kahn_net.specs.declared.limits.TheConstants.{MAX_COUNT}
 use Rattle.record.specs.DecisionView.{DecisionView}
 use Rattle.record.specs.Moves.{confirmed, highest_seen, with_confirmed, with_decision, with_tentative}
 use Rattle.record.specs.Moves.{without_tentative}
@@ -29,6 +30,7 @@ use Rattle.protocol.specs.Node.Modes.{is_running, with_kept}
 use Rattle.protocol.specs.Node.NodeView.{NodeView, ModeView, Down, InDoubt, Runs, RunningView, RunningNode}
 use Rattle.protocol.specs.Node.NodeView.{running_node}
 use Rattle.protocol.specs.Node.NodeView.{running_in, on_mode, on_running}
+use Rattle.protocol.specs.Node.Recovering.{restored_running}
 use Rattle.protocol.specs.Node.Starting.{IsBehind, own_at, with_own, with_own_now}
 use Rattle.protocol.specs.Node.Verdicts.{after_verdict, concluded, decided_now, may_decide, mode_then, participants_of}
 use Rattle.protocol.specs.NodeLaws.SizeLaws.{decided_within}
@@ -39,7 +41,7 @@ use Rattle.protocol.specs.World.StationView.{StationView}
 use Rattle.protocol.specs.World.Steps.{moved_to}
 use Rattle.protocol.specs.WorldLaws.BoundLaws.{taken_bounded}
 use Rattle.protocol.specs.WorldLaws.OrderLaws.{behind_itself, order_decided, order_less, order_taken}
-use Rattle.protocol.specs.WorldLaws.PlanLaws.{KeepsStation, first_true, moved_keeps, runs_at, runs_now}
+use Rattle.protocol.specs.WorldLaws.PlanLaws.{KeepsStation, first_true, moved_keeps, restored_runs, runs_at, runs_now}
 use Rattle.protocol.specs.WorldLaws.RecordLaws.{current_sound, last_more, record_decided, record_less, record_of}
 use Rattle.protocol.specs.WorldLaws.RecordLaws.{record_taken}
 use Rattle.protocol.specs.WorldLaws.SoundLaws.{decided_sound, less_sound, taken_sound}
@@ -53,12 +55,14 @@ changed_from change Down running is = absurd (cc)
 changed_from change InDoubt running is = absurd (cc)
 changed_from change (Runs before) running is = (before, refl, (let same : change before ≡ running = cc in same))
 
--- and so did one that runs after a verdict, unless it was in doubt
-then_from : (kept : RecordView) (mode : ModeView) (running : RunningView) → mode ≢ InDoubt
-    → mode_then kept mode ≡ Runs running → mode ≡ Runs running
-then_from kept Down running sure is = absurd (cc)
-then_from kept InDoubt running sure is = absurd (sure refl)
-then_from kept (Runs before) running sure is = is
+-- one that runs after a verdict ran before it, or was in doubt, and has restored its permanent image
+pub then_from : (net : Network) (home : ℕ) (kept : RecordView) (mode : ModeView) (running : RunningView)
+    → mode_then net home kept mode ≡ Runs running
+    → (mode ≡ Runs running) ⊎ (restored_running net home kept ≡ running)
+then_from net home kept Down running is = absurd (cc)
+then_from net home kept InDoubt running is =
+    inr (let same : restored_running net home kept ≡ running = cc in same)
+then_from net home kept (Runs before) running is = inl is
 
 -- of so many nodes no more than so many took part
 where_few : (test : ℕ → Bool) (first count : ℕ) → length (numbers_where test first count) ≤ count
@@ -139,7 +143,7 @@ module _ (net : Network) (inputs : List (List ℤ)) (old : StationView) (inv : S
     taken_record valid x n =
         record_of net inputs (outputs_of old.outlets)
         (running_node (with_tentative x n running.current old.node.kept) old.node.version running)
-        (taken_bounded net inputs valid (outputs_of old.outlets) x n
+        inv.kept.epoch (taken_bounded net inputs valid (outputs_of old.outlets) x n
         (running_node old.node.kept old.node.version running) was.sound inv.kept.bounded) inv.kept.permanent
         (record_taken net inputs (outputs_of old.outlets) x n old.node.kept running.current
         (current_sound net inputs (outputs_of old.outlets) (running_node old.node.kept old.node.version running)
@@ -225,37 +229,52 @@ module _ (net : Network) (inputs : List (List ℤ)) (old : StationView) (inv : S
       ahead = decided_ahead;
     }
 
-    -- by a node that hears the verdict, and isn't in doubt
-    pub verdict_keeps : old.node.mode ≢ InDoubt → (packets refused : List Packet)
+    -- by a node that hears the verdict
+    pub verdict_keeps : old.node.kept.node ≡ old.number → (packets refused : List Packet)
         → KeepsStation net inputs old (record {
-          node = after_verdict (with_decision number nodes old.node.kept) old.node;
+          node = after_verdict net old.number (with_decision number nodes old.node.kept) old.node;
           puts = true;
           grows = false;
           packets = packets;
           refused = refused;
         })
-    verdict_keeps sure packets refused = record {
+    verdict_keeps named packets refused = record {
       keeps = node_keeps _ decided_record (λ later now.
-          decided_runs later
-          (then_from (with_decision number nodes old.node.kept) old.node.mode later sure now) number nodes);
+          ⊎_elim (λ ran. decided_runs later ran number nodes)
+          (λ restored. subst (λ (r : RunningView). RunsSoundly net inputs
+          (running_node (with_decision number nodes old.node.kept) old.node.version r) (outputs_of old.outlets))
+          restored
+          (restored_runs net inputs old.number old.node.version (with_decision number nodes old.node.kept)
+          (outputs_of old.outlets) named refl decided_record))
+          (then_from net old.number (with_decision number nodes old.node.kept) old.node.mode later now));
       stays = λ none. absurd (cc);
       same_node = refl;
       ahead = decided_ahead;
     }
 
   module _ (epoch : ℕ) (decisions : List DecisionView) (held : Option Tentative)
-      (still : (t : Tentative) → held ≡ Some t → old.node.kept.tentative ≡ Some t)
+      (still : (t : Tentative) → held ≡ Some t → old.node.kept.tentative ≡ Some t) (few : epoch ≤ MAX_COUNT)
       (bounded : IsRecordWithin MAX_RETAINED_ITEMS (lessened epoch decisions held old.node.kept)) where
     less_record : RecordIsSound net inputs (lessened epoch decisions held old.node.kept) (outputs_of old.outlets)
     less_record =
-        record_less net inputs (outputs_of old.outlets) epoch decisions held old.node.kept still bounded inv.kept
+        record_less net inputs (outputs_of old.outlets) epoch decisions held old.node.kept still few bounded inv.kept
 
-    -- with a node in this mode, in which it runs as it ran
+    -- it runs as it ran
+    still_runs : (before later : RunningView) → old.node.mode ≡ Runs before
+        → running_node (lessened epoch decisions held old.node.kept) old.node.version before
+        ≡ running_node (lessened epoch decisions held old.node.kept) old.node.version later
+        → RunsSoundly net inputs
+        (running_node (lessened epoch decisions held old.node.kept) old.node.version later) (outputs_of old.outlets)
+    still_runs before later is same =
+        subst (λ (r : RunningNode). RunsSoundly net inputs r (outputs_of old.outlets)) same
+        (less_runs before is epoch decisions held still)
+
+    -- with a node in this mode, in which it runs soundly
     pub less_keeps : (mode : ModeView)
         → ((running : RunningView) → mode ≡ Runs running
-        → (before : RunningView) × (old.node.mode ≡ Runs before)
-        × (running_node (lessened epoch decisions held old.node.kept) old.node.version before
-        ≡ running_node (lessened epoch decisions held old.node.kept) old.node.version running))
+        → RunsSoundly net inputs
+        (running_node (lessened epoch decisions held old.node.kept) old.node.version running)
+        (outputs_of old.outlets))
         → (packets refused : List Packet)
         → KeepsStation net inputs old (record {
           node = record old.node { kept = lessened epoch decisions held old.node.kept; mode = mode };
@@ -264,17 +283,14 @@ module _ (net : Network) (inputs : List (List ℤ)) (old : StationView) (inv : S
           packets = packets;
           refused = refused;
         })
-    less_keeps mode ran packets refused = record {
-      keeps = node_keeps _ less_record (λ later now.
-          let before = ran later now in
-          subst (λ (r : RunningNode). RunsSoundly net inputs r (outputs_of old.outlets)) before.2
-          (less_runs before.0 before.1 epoch decisions held still));
+    less_keeps mode soundly packets refused = record {
+      keeps = node_keeps _ less_record soundly;
       stays = λ none. absurd (cc);
       same_node = refl;
       ahead = behind_itself old.node.kept.permanent;
     }
 
-  -- the tentative image is dropped, by a node that gives up, or one that hears the verdict and isn't in doubt
+  -- the tentative image is dropped, by a node that gives up, or one that hears the verdict
   dropped : (t : Tentative) → None ≡ Some t → old.node.kept.tentative ≡ Some t
   dropped t is = absurd (cc)
 
@@ -282,29 +298,41 @@ module _ (net : Network) (inputs : List (List ℤ)) (old : StationView) (inv : S
       → KeepsStation net inputs old
       (record { node = given_up old.node; puts = true; grows = false; packets = packets; refused = refused })
   gives_up_keeps packets refused =
-      less_keeps old.node.kept.epoch old.node.kept.decisions None dropped
+      less_keeps old.node.kept.epoch old.node.kept.decisions None dropped inv.kept.epoch
       (within_without_tentative MAX_RETAINED_ITEMS old.node.kept inv.kept.bounded)
       (on_mode (collecting None) old.node.mode)
-      (λ later now. let before = changed_from (collecting None) old.node.mode later now in (
-        before.0,
-        before.1,
-        ap (running_node (without_tentative old.node.kept) old.node.version) before.2,
-      )) packets refused
+      (λ later now. let before = changed_from (collecting None) old.node.mode later now in
+      still_runs old.node.kept.epoch old.node.kept.decisions None dropped inv.kept.epoch
+      (within_without_tentative MAX_RETAINED_ITEMS old.node.kept inv.kept.bounded) before.0 later before.1
+      (ap (running_node (without_tentative old.node.kept) old.node.version) before.2)) packets refused
 
-  pub over_keeps : old.node.mode ≢ InDoubt → (packets refused : List Packet)
+  -- the record without it
+  over_record : RecordIsSound net inputs (without_tentative old.node.kept) (outputs_of old.outlets)
+  over_record =
+      less_record old.node.kept.epoch old.node.kept.decisions None dropped inv.kept.epoch
+      (within_without_tentative MAX_RETAINED_ITEMS old.node.kept inv.kept.bounded)
+
+  pub over_keeps : old.node.kept.node ≡ old.number → (packets refused : List Packet)
       → KeepsStation net inputs old
       (record {
-        node = after_verdict (without_tentative old.node.kept) old.node;
+        node = after_verdict net old.number (without_tentative old.node.kept) old.node;
         puts = true;
         grows = false;
         packets = packets;
         refused = refused;
       })
-  over_keeps sure packets refused =
-      less_keeps old.node.kept.epoch old.node.kept.decisions None dropped
+  over_keeps named packets refused =
+      less_keeps old.node.kept.epoch old.node.kept.decisions None dropped inv.kept.epoch
       (within_without_tentative MAX_RETAINED_ITEMS old.node.kept inv.kept.bounded)
-      (mode_then (without_tentative old.node.kept) old.node.mode)
-      (λ later now. (later, then_from (without_tentative old.node.kept) old.node.mode later sure now, refl))
+      (mode_then net old.number (without_tentative old.node.kept) old.node.mode)
+      (λ later now.
+      ⊎_elim (λ ran. still_runs old.node.kept.epoch old.node.kept.decisions None dropped inv.kept.epoch
+      (within_without_tentative MAX_RETAINED_ITEMS old.node.kept inv.kept.bounded) later later ran refl)
+      (λ restored. subst (λ (r : RunningView). RunsSoundly net inputs
+      (running_node (without_tentative old.node.kept) old.node.version r) (outputs_of old.outlets)) restored
+      (restored_runs net inputs old.number old.node.version (without_tentative old.node.kept)
+      (outputs_of old.outlets) named refl over_record))
+      (then_from net old.number (without_tentative old.node.kept) old.node.mode later now))
       packets refused
 
   -- a decision is confirmed
@@ -319,8 +347,10 @@ module _ (net : Network) (inputs : List (List ℤ)) (old : StationView) (inv : S
       })
   confirmed_keeps n p packets refused =
       less_keeps old.node.kept.epoch (confirmed n p old.node.kept.decisions) old.node.kept.tentative (λ t is. is)
-      (within_confirmed MAX_RETAINED_ITEMS old.node.kept inv.kept.bounded n p) old.node.mode
-      (λ later now. (later, now, refl)) packets refused
+      inv.kept.epoch (within_confirmed MAX_RETAINED_ITEMS old.node.kept inv.kept.bounded n p) old.node.mode
+      (λ later now. still_runs old.node.kept.epoch (confirmed n p old.node.kept.decisions) old.node.kept.tentative
+      (λ t is. is) inv.kept.epoch (within_confirmed MAX_RETAINED_ITEMS old.node.kept inv.kept.bounded n p) later later
+      now refl) packets refused
 
   -- ---- a start, and a decision
 

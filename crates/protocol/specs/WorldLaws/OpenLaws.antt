@@ -141,7 +141,7 @@ station_opened : (net : Network) (inputs : List (List ℤ)) (nodes number failur
     → NothingLeft (outputs_of outlets)
     → StationInvariant net inputs (opening_station net nodes number failures outlets)
 station_opened net inputs nodes number failures outlets valid few listed none = record {
-  kept = record_of net inputs (outputs_of outlets) (opening_running net nodes number)
+  kept = record_of net inputs (outputs_of outlets) (opening_running net nodes number) (omega arith)
       (opening_within net nodes number valid few) (image_opened net inputs number (outputs_of outlets))
       (λ tentative is. absurd (cc)) runs.order runs.sound;
   runs = λ node

@@ -6,22 +6,24 @@ use Rattle.std.proofs.lemmas.List.Elements.{All-nil}
 use Rattle.kahn_net.specs.Fits.{Fits}
 use Rattle.kahn_net.specs.Syntax.{Network}
 use Rattle.kahn_net.specs.Valid.{IsValid}
+use Rattle.kahn_net.specs.declared.limits.TheConstants.{MAX_COUNT}
 use Rattle.datagram.specs.declared.packet.Packet.{Packet}
 use Rattle.record.specs.Moves.{with_epoch}
 use Rattle.record.specs.RecordView.{RecordView}
 use Rattle.record.specs.declared.record.Tentative.{Tentative}
 use Rattle.protocol.specs.Node.JobView.{JobView}
-use Rattle.protocol.specs.Node.Layout.{AllHere}
 use Rattle.protocol.specs.Node.NodeView.{NodeView, ModeView, Down, InDoubt, Runs, RunningView, RunningNode}
 use Rattle.protocol.specs.Node.NodeView.{running_node, running_in, running_of, on_mode}
 use Rattle.protocol.specs.Node.Plans.{Plan, Prospect, Undue, Exhausted, Planned, becoming, if_due, unless_spent}
 use Rattle.protocol.specs.Node.Plans.{HasFailedAt, IsCarriedOut, IsHeldUp, IsMade, next_record, plan_record}
-use Rattle.protocol.specs.Node.Recovering.{restored, restored_with}
+use Rattle.protocol.specs.Node.Recovering.{restored, restored_running, restored_with}
+use Rattle.protocol.specs.NodeLaws.RestoreLaws.{restored_begin}
 use Rattle.protocol.specs.declared.outcome.Outcome.{Outcome}
 use Rattle.protocol.specs.declared.outcome.Outcome.TheVariants as outcome
 use Rattle.protocol.specs.declared.outcome.Refusal.TheVariants.{TooLarge, Spent}
 use Rattle.protocol.specs.declared.round_turns.RoundTurns.{RoundTurns}
 use Rattle.protocol.specs.World.Invariant.{outputs_of, RunsSoundly, StationInvariant}
+use Rattle.protocol.specs.World.OutputView.{OutputView}
 use Rattle.protocol.specs.World.RecordSound.{RecordIsSound}
 use Rattle.protocol.specs.World.StationView.{StationView}
 use Rattle.protocol.specs.World.Steps.{Setting, moved_to}
@@ -34,7 +36,7 @@ use Rattle.protocol.specs.World.Traffic.{TrafficIsSound}
 use Rattle.protocol.specs.JoinLaws.Sayable.{ProspectSays}
 use Rattle.protocol.specs.JoinLaws.Spelled.{all_sendable}
 use Rattle.protocol.specs.WorldLaws.OrderLaws.{behind_itself, order_granted}
-use Rattle.protocol.specs.WorldLaws.RecordLaws.{record_epoch, restarted, restarted_sound, restarted_order}
+use Rattle.protocol.specs.WorldLaws.RecordLaws.{record_epoch, restarts_soundly}
 use Rattle.protocol.specs.WorldLaws.SendLaws.{IsSendable}
 use Rattle.protocol.specs.WorldLaws.SoundLaws.{granted_sound}
 
@@ -50,8 +52,6 @@ pub record IsSoundSetting (setting : Setting) : Type 0 where
 pub record IsSoundStation (setting : Setting) (station : StationView) : Type 0 where
   pub inv : StationInvariant setting.net setting.inputs station
   pub named : station.node.kept.node ≡ station.number
-  -- where nodes may restart there is but this one
-  pub here : setting.restarts ≡ true → AllHere setting.net station.node.kept.node
   -- it is one of the network's nodes, and what it keeps and collects may be said
   pub below : station.number < node_count setting.net
   pub joined : IsJoined setting.net station
@@ -148,8 +148,9 @@ module _ (net : Network) (inputs : List (List ℤ)) where
   sound_if_due old false prospect sound = tt
 
   pub sound_unless_spent : (old : StationView) (looks less : Bool) (prospect : Prospect)
-      → IsSoundProspect net inputs old prospect → IsSoundProspect net inputs old (unless_spent looks less prospect)
-  sound_unless_spent old looks true prospect sound = sound
+      → (less ≡ true → IsSoundProspect net inputs old prospect)
+      → IsSoundProspect net inputs old (unless_spent looks less prospect)
+  sound_unless_spent old looks true prospect sound = sound refl
   sound_unless_spent old looks false prospect sound = tt
 
   pub keeps_if_due : (old : StationView) (due : Bool) (prospect : Prospect)
@@ -236,39 +237,43 @@ module _ (net : Network) (inputs : List (List ℤ)) where
 
   -- ---- a recovery
 
-  epoch_kept : (old : StationView) → StationInvariant net inputs old
+  epoch_kept : (old : StationView) → old.node.kept.epoch < MAX_COUNT → StationInvariant net inputs old
       → RecordIsSound net inputs (with_epoch old.node.kept) (outputs_of old.outlets)
-  epoch_kept old inv = record_epoch net inputs (outputs_of old.outlets) old.node.kept inv.kept
+  epoch_kept old below inv = record_epoch net inputs (outputs_of old.outlets) old.node.kept below inv.kept
 
-  restored_keeps : (old : StationView) (failures : ℕ) (turns : RoundTurns) → IsValid net
-      → AllHere net old.node.kept.node → StationInvariant net inputs old
-      → StationInvariant net inputs (moved_to (restored old.node) failures turns old)
-  restored_keeps old failures turns valid here inv =
-      moved_keeps (restored old.node) failures turns old (epoch_kept old inv)
+  -- a node that restores its permanent image runs soundly
+  pub restored_runs : (home version : ℕ) (kept : RecordView) (outputs : List OutputView) → kept.node ≡ home
+      → kept.tentative ≡ None → RecordIsSound net inputs kept outputs
+      → RunsSoundly net inputs (running_node kept version (restored_running net home kept)) outputs
+  restored_runs home version kept outputs named free sound =
+      subst (λ (h : ℕ). RunsSoundly net inputs (running_node kept version (restored_running net h kept)) outputs) named
+      (restarts_soundly net inputs outputs kept version (restored_running net kept.node kept).inboxes
+      (restored_running net kept.node kept).outboxes (restored_begin net kept.node kept) free sound)
+
+  restored_keeps : (home : ℕ) (old : StationView) → old.node.kept.node ≡ home → old.node.kept.epoch < MAX_COUNT
+      → StationInvariant net inputs old
+      → StationInvariant net inputs (moved_to (restored net home old.node) old.failures old.turns old)
+  restored_keeps home old named below inv =
+      moved_keeps (restored net home old.node) old.failures old.turns old (epoch_kept old below inv)
       (λ run is. at (with_epoch old.node.kept).tentative refl run is)
     where
-      kept : RecordView
-      kept = with_epoch old.node.kept
-
       at : (o : Option Tentative) → (with_epoch old.node.kept).tentative ≡ o → (run : RunningNode)
-          → running_in (with_epoch old.node.kept) old.node.version (restored_with (with_epoch old.node.kept) o)
+          → running_in (with_epoch old.node.kept) old.node.version (restored_with net home (with_epoch old.node.kept) o)
           ≡ Some run → RunsSoundly net inputs run (outputs_of old.outlets)
       at (Some held) free run is = absurd (cc)
       at None free run is =
-          let same : restarted net inputs (outputs_of old.outlets) (with_epoch old.node.kept) old.node.version ≡ run =
-          cc in
+          let same : running_node (with_epoch old.node.kept) old.node.version
+          (restored_running net home (with_epoch old.node.kept)) ≡ run = cc in
           subst (λ (n : RunningNode). RunsSoundly net inputs n (outputs_of old.outlets)) same
-          (record {
-            order = restarted_order net inputs (outputs_of old.outlets) (with_epoch old.node.kept) free;
-            sound = restarted_sound net inputs (outputs_of old.outlets) (with_epoch old.node.kept) old.node.version
-                valid here free (epoch_kept old inv);
-          })
+          (restored_runs home old.node.version (with_epoch old.node.kept) (outputs_of old.outlets) named free
+          (epoch_kept old below inv))
 
-  pub back_sound : (old : StationView) → IsValid net → AllHere net old.node.kept.node → StationInvariant net inputs old
+  pub back_sound : (old : StationView) → old.node.kept.node ≡ old.number → old.node.kept.epoch < MAX_COUNT
+      → StationInvariant net inputs old
       → IsSoundPlan net inputs old
-      (record { node = restored old.node; puts = true; grows = false; packets = []; refused = [] })
-  back_sound old valid here inv = record {
-    keeps = restored_keeps old old.failures old.turns valid here inv;
+      (record { node = restored net old.number old.node; puts = true; grows = false; packets = []; refused = [] })
+  back_sound old named below inv = record {
+    keeps = restored_keeps old.number old named below inv;
     stays = λ none. absurd (cc);
     same_node = refl;
     ahead = behind_itself old.node.kept.permanent;

@@ -1,17 +1,13 @@
 -- What is true of a record stays so: as images are taken and become permanent, as items leave, and over a crash.
-use Rattle.std.proofs.Common.{◌≡◌, ◌⊎◌, inl, inr, ℕ, zero, suc, ◌+◌, ◌<◌, ◌≤◌, Bool, true, false, ◌&&◌, cond, eqb, ℤ}
+use Rattle.std.proofs.Common.{◌≡◌, ℕ, ◌+◌, ◌<◌, ◌≤◌, Bool, true, false, cond, eqb, ℤ}
 use Rattle.std.proofs.Common.{List}
-use Rattle.std.proofs.Common.{[], ◌∷◌, length, map, take, get_or, Option, Some, None, refl, sym, ap, subst, ◌∙◌, arith}
-use Rattle.std.specs.Prelude.{slice_get, not, IsTrue}
+use Rattle.std.proofs.Common.{length, map, take, Option, Some, None, refl, sym, ap, subst, ◌∙◌, arith}
+use Rattle.std.specs.Prelude.{slice_get}
 use Rattle.std.proofs.Math.Logic.{∥∥₁_map}
 use Rattle.std.proofs.lemmas.List.{take-take}
-use Rattle.std.proofs.lemmas.Option.{slice_get_cases}
-use Rattle.kahn_net.specs.Valid.{IsValid}
-use Rattle.kahn_net.specs.declared.program.Channel.{Channel}
-use Rattle.kahn_net.specs.declared.program.Port.{Port}
-use Rattle.kahn_net.specs.declared.program.Port.TheVariants.{Outside, Process}
+use Rattle.kahn_net.specs.declared.limits.TheConstants.{MAX_COUNT}
 use Rattle.kahn_net.specs.Streams.{IsPrefix}
-use Rattle.kahn_net.specs.Syntax.{Code, Network}
+use Rattle.kahn_net.specs.Syntax.{Network}
 use Rattle.kahn_net.specs.Processes.{sent_on}
 use Rattle.kahn_net.specs.Approximations.{approximation}
 use Rattle.kahn_net.specs.Laws.Prefixes.{prefix_trans}
@@ -24,81 +20,25 @@ use Rattle.record.specs.declared.record.Tentative.{Tentative}
 use Rattle.ckpt_codec.specs.SizeLaws.{IsRecordWithin, within_epoch}
 use Rattle.ckpt_codec.specs.declared.lengths.TheConstants.{MAX_RETAINED_ITEMS}
 use Rattle.protocol.specs.Node.NodeView.{RunningNode}
-use Rattle.protocol.specs.Node.Layout.{numbers_where, has_process, port_on, port_away, comes_in, goes_out, is_incoming}
-use Rattle.protocol.specs.Node.Layout.{is_outgoing, AllHere}
-use Rattle.protocol.specs.Node.Reached.{ImageStands, LinksAreLaidOut, acts_of}
+use Rattle.protocol.specs.Node.Reached.{ImageStands, acts_of}
 use Rattle.protocol.specs.NodeLaws.ReleaseLaws.{acts_grow}
 use Rattle.protocol.specs.NodeLaws.SentLaws.{sent_stands}
+use Rattle.protocol.specs.NodeLaws.RestoreLaws.{BeginAnew, anew_node, inboxes_anew, links_anew}
 use Rattle.protocol.specs.NodeLaws.StepLaws.{lessened}
 use Rattle.protocol.specs.Node.Starting.{AreInOrder, IsBehind}
 use Rattle.protocol.specs.WorldLaws.OrderLaws.{behind_itself}
+use Rattle.protocol.specs.World.Invariant.{RunsSoundly}
 use Rattle.protocol.specs.World.OutputView.{OutputView}
 use Rattle.protocol.specs.World.RecordSound.{ImageIsSound, RecordHasCome, RecordIsSound}
 use Rattle.protocol.specs.World.Sound.{outputs_on, HasCome, IsSound}
 use Rattle.protocol.specs.WorldLaws.OutputLaws.{output_from}
+use Rattle.protocol.specs.declared.links.Inbox.{Inbox}
+use Rattle.protocol.specs.declared.links.Outbox.{Outbox}
 
 -- of two beginnings of one list, the shorter is a beginning of the longer
 prefix_within : (xs ys zs : List ℤ) → IsPrefix xs zs → IsPrefix ys zs → length xs ≤ length ys → IsPrefix xs ys
 prefix_within xs ys zs a b shorter =
     a ∙ (sym (take-take (length xs) (length ys) zs shorter) ∙ ap (take (length xs)) (sym b))
-
--- the process that puts on a channel is on the node, where all are
-pub producer_here : (net : Network) (home c p : ℕ) (channel : Channel) → IsValid net → AllHere net home
-    → slice_get net.channels c ≡ Some channel → channel.producer ≡ Process p → IsTrue (has_process net home p)
-producer_here net home c p channel valid here is from = at (slice_get_cases net.codes p).1
-  where
-    at : ((x : Code) × (p < length net.codes) × (slice_get net.codes p ≡ Some x) × (get_or net.codes p x ≡ x))
-        ⊎ ((length net.codes ≤ p) × (slice_get net.codes p ≡ None)) → IsTrue (has_process net home p)
-    at (inl there) = here p there.0 there.2
-    at (inr past) = (let below = valid.producer_is_here c p channel is from in absurd (omega (arith, below, past.0)))
-
-pub consumer_here : (net : Network) (home c p : ℕ) (channel : Channel) → IsValid net → AllHere net home
-    → slice_get net.channels c ≡ Some channel → channel.consumer ≡ Process p → IsTrue (has_process net home p)
-consumer_here net home c p channel valid here is to = at (slice_get_cases net.codes p).1
-  where
-    at : ((x : Code) × (p < length net.codes) × (slice_get net.codes p ≡ Some x) × (get_or net.codes p x ≡ x))
-        ⊎ ((length net.codes ≤ p) × (slice_get net.codes p ≡ None)) → IsTrue (has_process net home p)
-    at (inl there) = here p there.0 there.2
-    at (inr past) = (let below = valid.consumer_is_here c p channel is to in absurd (omega (arith, below, past.0)))
-
--- where all processes are on the node, no channel comes from another one, or goes there
-none_where : (test : ℕ → Bool) (first count : ℕ) → ((n : ℕ) → test n ≡ false) → numbers_where test first count ≡ []
-none_where test first zero fails = refl
-none_where test first (suc count) fails =
-    ap (λ (b : Bool). cond b (first ∷ numbers_where test (suc first) count) (numbers_where test (suc first) count))
-    (fails first) ∙ none_where test (suc first) count fails
-
-never_both : (a b : Bool) → b ≡ false → (a && b) ≡ false
-never_both true b is = is
-never_both false b is = refl
-
-nothing_comes : (net : Network) (home : ℕ) → IsValid net → AllHere net home → (c : ℕ) → is_incoming net home c ≡ false
-nothing_comes net home valid here c = at (slice_get net.channels c) refl
-  where
-    by_port : (channel : Channel) → slice_get net.channels c ≡ Some channel → (port : Port) → channel.producer ≡ port
-        → port_away net home port ≡ false
-    by_port channel on Outside from = refl
-    by_port channel on (Process q) from = ap not (producer_here net home c q channel valid here on from)
-
-    at : (o : Option Channel) → slice_get net.channels c ≡ o → comes_in net home o ≡ false
-    at None on = refl
-    at (Some channel) on =
-        never_both (port_on net home channel.consumer) (port_away net home channel.producer)
-        (by_port channel on channel.producer refl)
-
-nothing_goes : (net : Network) (home : ℕ) → IsValid net → AllHere net home → (c : ℕ) → is_outgoing net home c ≡ false
-nothing_goes net home valid here c = at (slice_get net.channels c) refl
-  where
-    by_port : (channel : Channel) → slice_get net.channels c ≡ Some channel → (port : Port) → channel.consumer ≡ port
-        → port_away net home port ≡ false
-    by_port channel on Outside to = refl
-    by_port channel on (Process q) to = ap not (consumer_here net home c q channel valid here on to)
-
-    at : (o : Option Channel) → slice_get net.channels c ≡ o → goes_out net home o ≡ false
-    at None on = refl
-    at (Some channel) on =
-        never_both (port_on net home channel.producer) (port_away net home channel.consumer)
-        (by_port channel on channel.consumer refl)
 
 module _ (net : Network) (inputs : List (List ℤ)) (outputs : List OutputView) where
   -- what a node that runs has now may be taken
@@ -142,17 +82,18 @@ module _ (net : Network) (inputs : List (List ℤ)) (outputs : List OutputView) 
   }
 
   -- so the record of a node that runs is sound where its images are, and it is within bounds
-  pub record_of : (node : RunningNode) → IsRecordWithin MAX_RETAINED_ITEMS node.kept
+  pub record_of : (node : RunningNode) → node.kept.epoch ≤ MAX_COUNT → IsRecordWithin MAX_RETAINED_ITEMS node.kept
       → ImageIsSound net node.kept.node inputs node.kept.permanent outputs
       → ((tentative : Tentative) → node.kept.tentative ≡ Some tentative
       → ImageIsSound net node.kept.node inputs tentative.image outputs) → AreInOrder node.kept node.current
       → IsSound net inputs node outputs → RecordIsSound net inputs node.kept outputs
-  record_of node bounded permanent held order sound = record {
+  record_of node few bounded permanent held order sound = record {
     listed = sound.listed;
     permanent = permanent;
     held = held;
     ahead = order.held_ahead;
     covered = λ j output is. (sound.covered j output is).covered;
+    epoch = few;
     bounded = bounded;
     come = ∥∥₁_map sound.come
         (come_of node sound.listed permanent (λ j output is. (sound.covered j output is).covered));
@@ -222,6 +163,7 @@ module _ (net : Network) (inputs : List (List ℤ)) (outputs : List OutputView) 
           λ j output
           is. (let few = sound.covered j output is in let more =
           (last_more kept sound kept.tentative refl).sent output.channel in omega (arith, few, more));
+      epoch = sound.epoch;
       bounded = bounded;
       come = ∥∥₁_map sound.come (come_decided kept kept.tentative refl);
     }
@@ -241,15 +183,16 @@ module _ (net : Network) (inputs : List (List ℤ)) (outputs : List OutputView) 
       released = come.released;
     }
 
-    pub record_less : IsRecordWithin MAX_RETAINED_ITEMS (lessened epoch decisions held kept)
+    pub record_less : epoch ≤ MAX_COUNT → IsRecordWithin MAX_RETAINED_ITEMS (lessened epoch decisions held kept)
         → RecordIsSound net inputs kept outputs
         → RecordIsSound net inputs (lessened epoch decisions held kept) outputs
-    record_less bounded sound = record {
+    record_less few bounded sound = record {
       listed = sound.listed;
       permanent = sound.permanent;
       held = λ tentative is. sound.held tentative (still tentative is);
       ahead = λ tentative is. sound.ahead tentative (still tentative is);
       covered = sound.covered;
+      epoch = few;
       bounded = bounded;
       come = ∥∥₁_map sound.come come_less;
     }
@@ -264,11 +207,11 @@ module _ (net : Network) (inputs : List (List ℤ)) (outputs : List OutputView) 
       at true e = absurd (cc)
       at false e = e
 
-  pub record_epoch : (kept : RecordView) → RecordIsSound net inputs kept outputs
+  pub record_epoch : (kept : RecordView) → kept.epoch < MAX_COUNT → RecordIsSound net inputs kept outputs
       → RecordIsSound net inputs (with_epoch kept) outputs
-  record_epoch kept sound =
+  record_epoch kept below sound =
       record_less (kept.epoch + 1) kept.decisions (without_own kept.node kept.tentative) kept
-      (still_held kept.node kept.tentative) (within_epoch MAX_RETAINED_ITEMS kept sound.bounded) sound
+      (still_held kept.node kept.tentative) (omega (arith, below)) (within_epoch MAX_RETAINED_ITEMS kept sound.bounded) sound
 
   -- ---- a node that starts again
 
@@ -276,68 +219,54 @@ module _ (net : Network) (inputs : List (List ℤ)) (outputs : List OutputView) 
   not_some None held free is = cc
   not_some (Some t) held free is = cc
 
-  abbrev pub restarted : RecordView → ℕ → RunningNode
-  restarted kept version =
-      record {
-        kept = kept;
-        version = version;
-        current = kept.permanent;
-        out = None;
-        last = None;
-        inboxes =
-            [];
-        outboxes = [];
-      }
-
-  come_restarted : (kept : RecordView) (version : ℕ) → kept.tentative ≡ None → RecordHasCome net inputs kept outputs
-      → HasCome net inputs (restarted kept version) outputs
-  come_restarted kept version free come = record {
-    reached = record {
-      n = come.n;
-      permanent_acts = come.permanent_acts;
-      held_acts = come.permanent_acts;
-      current_acts = come.permanent_acts;
-      permanent = come.permanent;
-      held = λ tentative is. absurd (not_some kept.tentative tentative free is);
-      current = come.permanent;
-      held_after = λ p. omega arith;
-      current_after = λ p. omega arith;
-    };
-    inboxes = λ k inbox is. absurd (cc);
-    out = λ job is. absurd (cc);
-    released = come.released;
-  }
-
-  -- it has no ends of channels between nodes, since all processes are on the node
-  links_restarted : (kept : RecordView) (version : ℕ) → IsValid net → AllHere net kept.node
-      → LinksAreLaidOut net kept.node (restarted kept version)
-  links_restarted kept version valid here = record {
-    incoming =
-        sym (none_where (is_incoming net kept.node) 0 (length net.channels) (nothing_comes net kept.node valid here));
-    outgoing =
-        sym (none_where (is_outgoing net kept.node) 0 (length net.channels) (nothing_goes net kept.node valid here));
-    inboxes = λ k inbox is. absurd (cc);
-  }
-
-  pub restarted_sound : (kept : RecordView) (version : ℕ) → IsValid net → AllHere net kept.node → kept.tentative ≡ None
-      → RecordIsSound net inputs kept outputs → IsSound net inputs (restarted kept version) outputs
-  restarted_sound kept version valid here free sound = record {
-    listed = sound.listed;
-    kept = record {
-      laid_out = sound.permanent.laid_out;
-      counts = sound.permanent.counts;
-      logs = sound.permanent.logs;
-      links =
-          links_restarted kept version valid here;
-    };
-    covered =
-        λ j output is. record { no_gap = sound.permanent.no_gap j output is; covered = sound.covered j output is };
-    come = ∥∥₁_map sound.come (come_restarted kept version free);
-  }
-
   pub restarted_order : (kept : RecordView) → kept.tentative ≡ None → AreInOrder kept kept.permanent
   restarted_order kept free = record {
     current_ahead = behind_itself kept.permanent;
     held_ahead = λ held is. absurd (not_some kept.tentative held free is);
     held_behind = λ held is. absurd (not_some kept.tentative held free is);
   }
+
+  module _ (kept : RecordView) (version : ℕ) (inboxes : List Inbox) (outboxes : List Outbox)
+      (anew : BeginAnew net kept.node kept inboxes outboxes) (free : kept.tentative ≡ None)
+      (sound : RecordIsSound net inputs kept outputs) where
+    abbrev pub restarted : RunningNode
+    restarted = anew_node net inputs kept version inboxes outboxes anew sound.permanent.laid_out
+
+    come_restarted : RecordHasCome net inputs kept outputs → HasCome net inputs restarted outputs
+    come_restarted come = record {
+      reached = record {
+        n = come.n;
+        permanent_acts = come.permanent_acts;
+        held_acts = come.permanent_acts;
+        current_acts = come.permanent_acts;
+        permanent = come.permanent;
+        held = λ tentative is. absurd (not_some kept.tentative tentative free is);
+        current = come.permanent;
+        held_after = λ p. omega arith;
+        current_after = λ p. omega arith;
+      };
+      inboxes =
+          inboxes_anew net inputs kept version inboxes outboxes anew sound.permanent.laid_out come.n
+          come.permanent_acts come.permanent;
+      out = λ job is. absurd (cc);
+      released = come.released;
+    }
+
+    pub restarted_sound : IsSound net inputs restarted outputs
+    restarted_sound = record {
+      listed = sound.listed;
+      kept = record {
+        laid_out = sound.permanent.laid_out;
+        counts = sound.permanent.counts;
+        logs = sound.permanent.logs;
+        links =
+            links_anew net inputs kept version inboxes outboxes anew sound.permanent.laid_out sound.permanent.counts
+            sound.permanent.logs sound.epoch;
+      };
+      covered =
+          λ j output is. record { no_gap = sound.permanent.no_gap j output is; covered = sound.covered j output is };
+      come = ∥∥₁_map sound.come come_restarted;
+    }
+
+    pub restarts_soundly : RunsSoundly net inputs restarted outputs
+    restarts_soundly = record { order = restarted_order kept free; sound = restarted_sound }

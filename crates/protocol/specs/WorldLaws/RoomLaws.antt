@@ -137,7 +137,8 @@ made_fits setting k event.Send station = λ large. cc
 made_fits setting k event.Start station = λ large. cc
 made_fits setting k event.Decide station = λ large. cc
 made_fits setting k (event.Crash fill rounds) station = λ large. cc
-made_fits setting k event.Recover station = back_fits (restored_mode (with_epoch station.node.kept))
+made_fits setting k event.Recover station =
+    back_fits (restored_mode setting.net station.number (with_epoch station.node.kept))
 made_fits setting k (event.Arm fault rounds) station = λ large. cc
 made_fits setting k event.Idle station = λ large. cc
 

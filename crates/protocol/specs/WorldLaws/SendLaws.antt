@@ -1,7 +1,7 @@
 -- What a sound node says of channels between nodes is right: it may be spelled, it names what there is, and its items
 -- belong. (What it says of checkpoints besides: `Spelled` in `JoinLaws`.)
 use Rattle.std.proofs.Common.{◌≡◌, ◌≢◌, ◌⊎◌, inl, inr, ℕ, zero, suc, ◌+◌, ◌-◌, ◌<◌, ◌≤◌, Bool, true, false, eqb, cond}
-use Rattle.std.proofs.Common.{ℤ, List, [], ◌∷◌, length, take, drop, get_or, Option, Some, None, refl, sym, ap, subst}
+use Rattle.std.proofs.Common.{ℤ, List, [], ◌∷◌, length, map, take, drop, get_or, Option, Some, None, refl, sym, ap, subst}
 use Rattle.std.proofs.Common.{◌∙◌, arith}
 use Rattle.std.specs.Prelude.{◌&&◌, not, All, IsTrue, option_map, slice_get}
 use Rattle.std.specs.List.{flat_map}
@@ -27,12 +27,14 @@ use Rattle.datagram.specs.declared.packet.Body.TheVariants.{Data, Ack, Kept}
 use Rattle.datagram.specs.declared.packet.Packet.{Packet}
 use Rattle.protocol.specs.Node.Addresses.{address, port_node, producer_node, consumer_node, ends_run, runs_between}
 use Rattle.protocol.specs.Node.Addresses.{names_right}
-use Rattle.protocol.specs.Node.Layout.{producer_of, consumer_of, is_incoming, is_on, is_outgoing, comes_in, goes_out}
+use Rattle.protocol.specs.Node.Layout.{producer_of, consumer_of, incoming_on, is_incoming, is_on, is_outgoing, comes_in, goes_out}
 use Rattle.protocol.specs.Node.Layout.{port_away, port_on}
 use Rattle.protocol.specs.Node.NodeView.{RunningNode}
 use Rattle.protocol.specs.Node.Reached.{InboxIsSound, LinksAreLaidOut, acts_of}
 use Rattle.protocol.specs.Node.Sending.{inbox_packets, data_packets, first_due, items_due, log_packets, outbox_packets}
 use Rattle.protocol.specs.Node.Sending.{IsWritable}
+use Rattle.protocol.specs.Node.Telling.{kept_packet, undone_packet}
+use Rattle.protocol.specs.Join.Joined.{MayBeAskedFor}
 use Rattle.protocol.specs.NodeLaws.ImageLaws.{entry_of}
 use Rattle.protocol.specs.NodeLaws.NumberedLaws.{where_mark}
 use Rattle.protocol.specs.NodeLaws.ReleaseLaws.{acts_put_prefix, log_entry, log_stands}
@@ -55,6 +57,12 @@ all_of : {A B : Type 0} (P : B → Type 0) (f : A → List B) (xs : List A)
 all_of P f [] each = All-nil P
 all_of P f (x ∷ xs) each =
     All-append P (f x) (flat_map f xs) (each 0 x refl) (all_of P f xs (λ k y is. each (suc k) y is))
+
+all_mapped : {A B : Type 0} (P : B → Type 0) (f : A → B) (xs : List A)
+    → ((k : ℕ) (x : A) → slice_get xs k ≡ Some x → P (f x)) → All P (map f xs)
+all_mapped P f [] each = All-nil P
+all_mapped P f (x ∷ xs) each =
+    All-cons P (f x) (map f xs) (each 0 x refl) (all_mapped P f xs (λ k y is. each (suc k) y is))
 
 got_drop : (k : ℕ) (xs : List ℤ) (j n : ℕ) → n ≡ k + j → slice_get (drop k xs) j ≡ slice_get xs n
 got_drop zero xs j n sum = (let same : j ≡ n = omega (arith, sum) in ap (slice_get xs) same)
@@ -321,6 +329,33 @@ module _ (net : Network) (inputs : List (List ℤ)) (valid : IsValid net) (home 
             sound = belongs (skip + j) n item there place;
           }
 
+  -- what is kept for good of each channel from another node, where it may be asked for
+  pub kept_sendable : (permanent : ImageView) → MayBeAskedFor net home permanent
+      → All (IsSendable net inputs) (map (kept_packet net home permanent) (incoming_on net home))
+  kept_sendable permanent counts =
+      all_mapped (IsSendable net inputs) (kept_packet net home permanent) (incoming_on net home) (λ k channel is. (
+      let mark =
+      where_mark (λ (n : ℕ). n) (is_incoming net home) 0 (length net.channels) (incoming_on net home) k channel
+      (map_same (incoming_on net home)) is in
+      let from = comes_from net valid home channel mark.0 in
+      let number = from.number in
+      let below = from.below in
+      let home_below = from.home_below in
+      record {
+        writable = λ fits. record {
+          from = omega (arith, home_below);
+          to = omega (arith, below);
+          apart = from.apart;
+          body = (omega (arith, number), counts channel mark.0);
+        };
+        names = from.runs;
+        sound = tt;
+      }))
+    where
+      map_same : (xs : List ℕ) → map (λ (n : ℕ). n) xs ≡ xs
+      map_same [] = refl
+      map_same (x ∷ xs) = ap (λ (rest : List ℕ). x ∷ rest) (map_same xs)
+
   -- of a node that runs: what it says of each channel from another node, and the items that it sends
   module _ (outputs : List OutputView) (node : RunningNode) (named : node.kept.node ≡ home)
       (runs : RunsSoundly net inputs node outputs) where
@@ -336,6 +371,32 @@ module _ (net : Network) (inputs : List (List ℤ)) (valid : IsValid net) (home 
         links.incoming is in
         answers_sendable node.kept.permanent node.current inbox (comes_from net valid home inbox.channel mark.0)
         (links.inboxes k inbox is) (runs.order.current_ahead.received inbox.channel)))
+
+    -- what each channel to another node had when an image was restored
+    pub undone_sendable : node.kept.epoch ≤ MAX_COUNT → (none : Bool)
+        → All (IsSendable net inputs)
+        (cond none [] (map (undone_packet net home node.kept.epoch) node.outboxes))
+    undone_sendable few true = All-nil (IsSendable net inputs)
+    undone_sendable few false =
+        all_mapped (IsSendable net inputs) (undone_packet net home node.kept.epoch) node.outboxes (λ k outbox is. (
+        let mark =
+        where_mark (λ (o : Outbox). o.channel) (is_outgoing net home) 0 (length net.channels) node.outboxes k
+        outbox links.outgoing is in
+        let to = goes_to net valid home outbox.channel mark.0 in
+        let number = to.number in
+        let below = to.below in
+        let home_below = to.home_below in
+        let restored = links.restored k outbox is in
+        record {
+          writable = λ fits. record {
+            from = omega (arith, home_below);
+            to = omega (arith, below);
+            apart = to.apart;
+            body = (omega (arith, number), few, restored);
+          };
+          names = to.runs;
+          sound = tt;
+        }))
 
     by_log : (outbox : Outbox) → IsTo net valid home outbox.channel → (o : Option LogState)
         → log_of node.current outbox.channel ≡ o → All (IsSendable net inputs) (log_packets net home outbox o)

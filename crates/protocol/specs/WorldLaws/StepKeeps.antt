@@ -5,7 +5,6 @@ use Rattle.std.specs.Prelude.{All, slice_get, slice_set}
 use Rattle.std.proofs.Math.Logic.{∥∥₁_map}
 use Rattle.std.proofs.lemmas.List.{map-set}
 use Rattle.std.proofs.lemmas.List.Elements.{All-map, All-nil}
-use Rattle.std.proofs.lemmas.Bool.{eqb-true, eq-eqb}
 use Rattle.std.proofs.lemmas.Option.{slice_get_within}
 use Rattle.kahn_net.specs.Streams.{IsPrefix}
 use Rattle.kahn_net.specs.Laws.Prefixes.{prefix_length}
@@ -23,7 +22,6 @@ use Rattle.record.specs.RecordView.{RecordView}
 use Rattle.wire.specs.Traffic.{Traffic, all_sent}
 use Rattle.protocol.specs.Node.ArmedRestarts.{restart_after}
 use Rattle.protocol.specs.Node.Installing.{turned, IsOut, IsInstall}
-use Rattle.protocol.specs.Node.Layout.{is_on, AllHere}
 use Rattle.protocol.specs.Node.Modes.{is_running}
 use Rattle.protocol.specs.Node.NodeView.{NodeView, ModeView, Runs, RunningView, RunningNode, running_node, running_in}
 use Rattle.protocol.specs.Node.NodeView.{running_of, on_mode, on_running}
@@ -31,7 +29,6 @@ use Rattle.protocol.specs.Node.Plans.{Plan, Prospect, Undue, Exhausted, Planned,
 use Rattle.protocol.specs.Node.Starting.{AreInOrder}
 use Rattle.protocol.specs.Node.Trimming.{with_current, current_log, cut_at, trimmed_node, HasNext, TookNext}
 use Rattle.protocol.specs.NodeLaws.FitLaws.{behind_installed}
-use Rattle.protocol.specs.NodeLaws.PlaceLaws.{node_below}
 use Rattle.protocol.specs.NodeLaws.TrimLaws.{behind_trimmed}
 use Rattle.protocol.specs.declared.outcome.Outcome.{Outcome}
 use Rattle.protocol.specs.declared.outcome.Outcome.TheVariants as outcome
@@ -56,7 +53,7 @@ use Rattle.protocol.specs.World.Sound.{IsSound}
 use Rattle.protocol.specs.World.StationView.{StationView}
 use Rattle.protocol.specs.World.Steps.{IsActOf, IsAct, IsRelease, IsReleaseAt, IsStationStep, IsStep, Setting}
 use Rattle.protocol.specs.World.Steps.{with_room}
-use Rattle.protocol.specs.World.Steps.{WorldView, first_waiting, may_restart, moved_to, next_release, plan_of}
+use Rattle.protocol.specs.World.Steps.{WorldView, first_waiting, moved_to, next_release, plan_of}
 use Rattle.protocol.specs.World.Steps.{round_after, sending_of, sendings_then, setting_of, traffic_acted, traffic_after}
 use Rattle.protocol.specs.World.Steps.{traffic_left, traffic_then}
 use Rattle.protocol.specs.World.Traffic.{SendingIsSound, TrafficIsSound}
@@ -219,7 +216,7 @@ module _ (net : Network) (inputs : List (List ℤ)) where
           (record { channel = step.outlet.channel; taken = step.later.taken }))
       kept = record_of net inputs
           _ (with_current (trimmed_image step.outlet.channel (length step.later.taken) running.current)
-          (running_node old.node.kept old.node.version running)) inv.kept.bounded
+          (running_node old.node.kept old.node.version running)) inv.kept.epoch inv.kept.bounded
           (image_set old.node.kept.node old.node.kept.permanent (outputs_of old.outlets) place (output_of step.outlet)
           (record { channel = step.outlet.channel; taken = step.later.taken }) there refl more_items
           inv.kept.permanent)
@@ -439,19 +436,6 @@ module _ (setting : Setting) (sure : IsSoundSetting setting) (place : ℕ) (came
 
 -- ---- a world
 
--- where nodes may restart there is but one
-pub all_here : (net : Network) (stations : List StationView) → length stations ≡ node_count net → IsNumbered stations
-    → (place : ℕ) (station : StationView) → slice_get stations place ≡ Some station
-    → may_restart (length stations) ≡ true → AllHere net station.node.kept.node
-all_here net stations count numbered place station there alone p code is =
-    let one : length stations ≡ 1 = eqb-true (length stations) 1 alone in
-    let within = slice_get_within stations place station there in
-    let first : place ≡ 0 = omega (arith, one, within) in
-    let below = node_below net p code is in
-    let node : code.node ≡ station.node.kept.node =
-    (let named = (numbered place station there).1 in omega (arith, one, count, below, first, named)) in
-    ap (is_on station.node.kept.node) is ∙ eq-eqb code.node station.node.kept.node node
-
 -- a sound world's setting is sound
 pub world_sure : (world : WorldView) → WorldInvariant world → IsSoundSetting (setting_of world)
 world_sure world inv = record { valid = inv.valid; fits = inv.fits; traffic = inv.traffic }
@@ -462,7 +446,6 @@ pub world_station : (world : WorldView) → WorldInvariant world → (place : �
 world_station world inv place station there = record {
   inv = inv.stations place station there;
   named = (let named = inv.numbered place station there in named.1 ∙ sym named.0);
-  here = all_here world.net world.stations inv.count inv.numbered place station there;
   below = (let within = slice_get_within world.stations place station there in let count = inv.count in
       let named = (inv.numbered place station there).0 in omega (arith, within, count, named));
   joined = inv.joined place station there;
@@ -481,8 +464,6 @@ stands_in world inv k station there = record {
   node = (inv.numbered k station there).1;
   sound = inv.stations k station there;
   joined = inv.joined k station there;
-  alone = λ may. (let one : length world.stations ≡ 1 = eqb-true (length world.stations) 1 may in
-      let count = inv.count in omega (arith, one, count));
   traffic = inv.traffic;
 }
 

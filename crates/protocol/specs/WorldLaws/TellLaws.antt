@@ -1,5 +1,6 @@
 -- What a station sends may be in flight, or has a spelling: in its turn, and as it begins, decides and hears.
-use Rattle.std.proofs.Common.{◌≡◌, ◌<◌, List, ℤ, All, Option, Some, None, refl}
+use Rattle.std.proofs.Common.{◌≡◌, ◌<◌, List, ℤ, All, map, Option, Some, None, refl}
+use Rattle.std.specs.Prelude.{◌==◌}
 use Rattle.std.specs.List.{flat_map}
 use Rattle.std.proofs.lemmas.List.Elements.{All-append, All-nil}
 use Rattle.kahn_net.specs.Nodes.{node_count}
@@ -13,10 +14,13 @@ use Rattle.protocol.specs.Node.Modes.{is_none}
 use Rattle.protocol.specs.Node.NodeView.{Down, InDoubt, ModeView, Runs, running_in}
 use Rattle.protocol.specs.Node.NodeView.{running_node}
 use Rattle.protocol.specs.Node.Sending.{inbox_packets, IsWritable}
-use Rattle.protocol.specs.Node.Telling.{turn_packets, verdicts_told}
+use Rattle.protocol.specs.Node.Telling.{kept_packet, turn_packets, undone_packets, verdicts_told}
+use Rattle.protocol.specs.Node.Layout.{incoming_on}
+use Rattle.protocol.specs.Node.Reached.{IsLaidOut}
+use Rattle.protocol.specs.NodeLaws.RestoreLaws.{received_few}
 use Rattle.protocol.specs.World.Invariant.{StationInvariant, outputs_of}
 use Rattle.protocol.specs.World.StationView.{StationView}
-use Rattle.protocol.specs.WorldLaws.SendLaws.{IsSendable, inboxes_sendable, outboxes_sendable}
+use Rattle.protocol.specs.WorldLaws.SendLaws.{IsSendable, inboxes_sendable, kept_sendable, outboxes_sendable, undone_sendable}
 use Rattle.datagram.specs.PacketText.{IsPacket}
 use Rattle.datagram.specs.Reading.{whole_at}
 use Rattle.datagram.specs.declared.packet.Packet.{Packet}
@@ -48,20 +52,31 @@ module _ (net : Network) (inputs : List (List ℤ)) (valid : IsValid net) (stati
   in_mode : (mode : ModeView) → station.node.mode ≡ mode
       → All (IsSendable net inputs) (turn_packets net station.number station.node.kept mode)
   in_mode Down is = All-nil (IsSendable net inputs)
-  in_mode InDoubt is = absurd (joined.sure is)
+  in_mode InDoubt is =
+      All-append (IsSendable net inputs)
+      (map (kept_packet net station.number station.node.kept.permanent) (incoming_on net station.number)) _
+      (kept_sendable net inputs valid station.number station.node.kept.permanent
+      (λ c comes. received_few net station.number inputs station.node.kept.permanent c
+      (subst (λ (n : ℕ). IsLaidOut net n station.node.kept.permanent) named inv.kept.permanent.laid_out)
+      inv.kept.permanent.counts comes))
+      (all_sendable net inputs (verdicts_told station.number station.node.kept)
+      (told_sendable net inputs valid station.number below station.node.kept joined.kept))
   in_mode (Runs running) is =
       let node = running_node station.node.kept station.node.version running in
       let runs = inv.runs node (ap (running_in station.node.kept station.node.version) is) in
       All-append (IsSendable net inputs)
       (flat_map (inbox_packets net station.number station.node.kept.permanent) running.inboxes)
       _ (inboxes_sendable net inputs valid station.number (outputs_of station.outlets) node named runs)
+      (All-append (IsSendable net inputs) (undone_packets net station.number station.node.kept.epoch running.outboxes)
+      _ (undone_sendable net inputs valid station.number (outputs_of station.outlets) node named runs
+      inv.kept.epoch (station.node.kept.epoch == 0))
       (All-append (IsSendable net inputs) (live_asks net station.number running.live)
       _ (asked running.live (λ live e. joined.live live (ap live_in is ∙ e)))
       (All-append (IsSendable net inputs) (verdicts_told station.number station.node.kept)
       _ (all_sendable net inputs (verdicts_told station.number station.node.kept)
       (told_sendable net inputs valid station.number below station.node.kept joined.kept))
       (outboxes_sendable net inputs valid station.number (outputs_of station.outlets) node named runs
-      (is_none station.node.kept.tentative))))
+      (is_none station.node.kept.tentative)))))
 
   pub turn_sendable : All (IsSendable net inputs)
       (turn_packets net station.number station.node.kept station.node.mode)
@@ -88,11 +103,11 @@ module _ (net : Network) (inputs : List (List ℤ)) (valid : IsValid net) (stati
 
   pub begins_said : ProspectSays net inputs station.number (start_prospect net station.number station.node)
   begins_said =
-      begins_says net inputs valid station.number below station.node joined.sure joined.kept joined.live counts
+      begins_says net inputs valid station.number below station.node joined.kept joined.live counts
 
   pub decides_said : ProspectSays net inputs station.number (decide_prospect station.number station.node)
   decides_said =
-      concludes_says net inputs valid station.number below station.node joined.sure joined.kept joined.live counts
+      concludes_says net inputs valid station.number below station.node joined.kept joined.live counts
 
   pub hears_said : (bytes : List ℕ) (to : ℕ) → BytesAreSound net inputs to bytes → (packet : Packet)
       → packet_for net station.number bytes ≡ Some packet
@@ -100,7 +115,7 @@ module _ (net : Network) (inputs : List (List ℤ)) (valid : IsValid net) (stati
       (hear_prospect net station.number packet.from packet.body station.node)
   hears_said bytes to says packet is =
       let right = named_here net station.number bytes packet is in
-      hears_says net inputs valid station.number below station.node joined.sure joined.kept joined.live counts
+      hears_says net inputs valid station.number below station.node joined.kept joined.live counts
       packet.from packet.body
       (whole_written net inputs packet to bytes says
       (right_is net station.number (whole_at bytes) packet is).0)

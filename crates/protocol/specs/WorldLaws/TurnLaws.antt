@@ -163,6 +163,7 @@ module _ (net : Network) (inputs : List (List ℤ)) (valid : IsValid net) (node 
       epoch = ∥∥₁_elim sound.come le_prop
           (λ come. ∥∥₁_elim turn le_prop (λ t. ((within come t).inboxes k inbox is).epoch));
     };
+    restored = sound.kept.links.restored;
   }
     where
       within : HasCome net inputs node outputs → IsTurnOf net job after taken sent

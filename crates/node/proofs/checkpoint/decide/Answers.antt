@@ -1,4 +1,4 @@
-use Rattle.std.proofs.Common.{◌≡◌, ◌<◌, ◌≤◌, ℕ, Bool, List, false, true, [], length, Option, Some, None, refl, ap, sym, subst, ◌∙◌, arith}
+use Rattle.std.proofs.Common.{◌≡◌, ◌≤◌, ℕ, Bool, List, false, true, [], length, Option, Some, None, refl, ap, sym, subst, ◌∙◌, arith}
 use Rattle.ckpt_store.proofs.Room.{record_fits}
 use Rattle.ckpt_store.specs.Refusals.{refusal_to_decide}
 use Rattle.ckpt_store.specs.Spelling.{AreOthers}
@@ -6,13 +6,12 @@ use Rattle.ckpt_store.specs.StoreView.{cell_in, record_in}
 use Rattle.kahn_net.specs.declared.limits.TheConstants.{MAX_NODES}
 use Rattle.record.specs.Moves.{with_decision}
 use Rattle.record.specs.RecordView.{RecordView}
-use Rattle.recovery_line.specs.Observers.{has_node}
 use Rattle.protocol.specs.Node.Answering.{holds}
 use Rattle.protocol.specs.Node.Beginning.{collecting, live_in}
 use Rattle.protocol.specs.Node.LiveView.{LiveView}
 use Rattle.protocol.specs.Node.Modes.{is_down, with_kept}
 use Rattle.protocol.specs.Node.NodeView.{ModeView, Down, InDoubt, Runs, on_running}
-use Rattle.protocol.specs.Node.Plans.{Plan, Planned, if_due}
+use Rattle.protocol.specs.Node.Plans.{Planned, if_due}
 use Rattle.protocol.specs.Node.Verdicts.{all_answered, commit_packets, concluded, decide_prospect, decided_now, may_decide}
 use Rattle.protocol.specs.Node.Verdicts.{participants_of}
 use Rattle.node.specs.NodeView.{mode_view, node_view}

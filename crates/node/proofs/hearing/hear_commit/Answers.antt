@@ -1,4 +1,9 @@
-use Rattle.std.proofs.Common.{◌≡◌, Bool, false, true, cond, [], refl, ap, sym, ◌∙◌}
+use Rattle.kahn_net.specs.declared.limits.TheConstants.{MAX_COUNT}
+use Rattle.record.specs.Ends.{received_of}
+use Rattle.record.specs.ImageView.{ImageView}
+use Rattle.node.proofs.Restores.{epoch_count, held_counts}
+use Rattle.std.proofs.Common.{◌≤◌, subst, Bool, false, true, cond, [], refl, ap, sym, ◌∙◌}
+use Rattle.kahn_net.specs.Syntax.{network_of}
 use Rattle.ckpt_store.proofs.Room.{permanent_fits, record_fits}
 use Rattle.ckpt_store.specs.Refusals.{refusal_unless_held}
 use Rattle.ckpt_store.specs.StoreView.{cell_in, record_in}
@@ -7,12 +12,26 @@ use Rattle.record.specs.RecordView.{RecordView}
 use Rattle.protocol.specs.Node.NodeView.{ModeView, NodeView}
 use Rattle.protocol.specs.Node.Plans.{Plan, Planned, telling}
 use Rattle.protocol.specs.Node.Verdicts.{after_verdict, commit_prospect, settled_packets}
-use Rattle.node.specs.NodeView.{mode_view, node_view}
+use Rattle.node.specs.NodeView.{node_view}
 use Rattle.node.specs.Said.{held_image}
-use Rattle.node.proofs.Verdicts.{fine_unless_held, held_image_is, then_runs}
+use Rattle.node.proofs.Verdicts.{fine_unless_held, held_image_is, held_there, then_runs}
 use Rattle.node.specs.declared.checkpoint.Then.TheVariants as then_is
 use Rattle.node.proofs.Puts.{put_event, put_kept}
 use Rattle.node.proofs.hearing.hear_commit.Goals as goal
+
+pub restore_if_doubtful-requires-clause-counts : goal.restore_if_doubtful-requires-clause-counts
+restore_if_doubtful-requires-clause-counts g c = λ channel. (
+    let old = record_in c.args.store.now in
+    let there = held_there c.args.from c.args.number old.tentative c.in-Some.image.now
+    (ap (λ (r : RecordView). held_image c.args.from c.args.number r.tentative) c.in-Ok.ensures.1
+    ∙ sym c.in-Some.ensures) in
+    subst (λ (i : ImageView). received_of i channel ≤ MAX_COUNT) there.2
+    (held_counts g.C.StableCell g.C.SlotCell g.met.C.SlotCell.whole_may_stay c.args.store.now there.0 there.1 channel))
+
+pub restore_if_doubtful-requires-clause-epoch : goal.restore_if_doubtful-requires-clause-epoch
+restore_if_doubtful-requires-clause-epoch g c =
+    subst (λ (r : RecordView). r.epoch ≤ MAX_COUNT) (c.in-Ok.ensures.1 ∙ sym c.kept.view_is)
+    (epoch_count g.C.StableCell g.C.SlotCell g.met.C.SlotCell.whole_may_stay c.args.store.now)
 
 pub returns-clause-kept : goal.returns-clause-kept
 returns-clause-kept g c =
@@ -24,7 +43,7 @@ returns-clause-kept g c =
     let up = c.requires.up in
     let next = with_permanent old in
     let plan : Plan = record {
-      node = after_verdict next was;
+      node = after_verdict (network_of c.args.net.now.program) c.args.home next was;
       puts = true;
       grows = false;
       packets = settled_packets c.args.home c.args.from c.args.number next;
@@ -35,7 +54,7 @@ returns-clause-kept g c =
     ∙ sym c.in-Some.ensures) in
     put_kept C S met.includes_now_whole met.whole_may_stay met.settled_whole c.args.home c.args.round
     (C.failed_call c.end_put_then.new.store.cell) c.args.store.now c.make_permanent-put.new.self c.end_put_then.new.store
-    c.args.state.now c.end_put_then.new.state c.make_permanent-put.result (then_is.Runs c.in_ok-image.image) c.requires.kept up
+    c.args.state.now c.end_put_then.new.state c.make_permanent-put.result (then_is.Runs c.in_ok-restored.restored) c.requires.kept up
     c.end_put_then.ensures.store c.end_put_then.ensures.done c.end_put_then.ensures.stays
     c.end_put_then.ensures.failed (refusal_unless_held c.args.from c.args.number) with_permanent
     (fine_unless_held c.args.from c.args.number old found.0) c.make_permanent-put.ensures refl refl
@@ -50,7 +69,7 @@ returns-clause-event g c =
     let up = c.requires.up in
     let next = with_permanent old in
     let plan : Plan = record {
-      node = after_verdict next was;
+      node = after_verdict (network_of c.args.net.now.program) c.args.home next was;
       puts = true;
       grows = false;
       packets = settled_packets c.args.home c.args.from c.args.number next;
@@ -61,7 +80,7 @@ returns-clause-event g c =
     ∙ sym c.in-Some.ensures) in
     put_event C S met.includes_now_whole met.whole_may_stay met.settled_whole c.args.home c.args.round
     (C.failed_call c.end_put_then.new.store.cell) c.args.store.now c.make_permanent-put.new.self c.end_put_then.new.store
-    c.args.state.now c.end_put_then.new.state c.make_permanent-put.result (then_is.Runs c.in_ok-image.image) c.requires.kept up
+    c.args.state.now c.end_put_then.new.state c.make_permanent-put.result (then_is.Runs c.in_ok-restored.restored) c.requires.kept up
     c.end_put_then.ensures.store c.end_put_then.ensures.done c.end_put_then.ensures.stays
     c.end_put_then.ensures.failed (refusal_unless_held c.args.from c.args.number) with_permanent
     (fine_unless_held c.args.from c.args.number old found.0) c.make_permanent-put.ensures
@@ -73,8 +92,9 @@ returns-clause-event g c =
       armed = was.armed;
       mode = m;
     } in node)
-    (then_runs next c.in-Some.image.now c.in_ok-image.image was.mode c.in_ok-image.ensures (found.1 old.permanent)))
+    (then_runs (network_of c.args.net.now.program) c.args.home next c.in-Some.image.now _ c.in_ok-restored.restored was.mode
+    c.in_ok-restored.ensures (found.1 old.permanent) (ap (λ (r : RecordView). r.epoch) (c.in-Ok.ensures.1 ∙ sym c.kept.view_is))))
     (λ no. permanent_fits (S.slot_capacity (cell_in c.args.store.now)) old
-    (record_fits C S met.fits_slot met.whole_may_stay c.args.store.now)) (commit_prospect c.args.home c.args.from c.args.number was) (ap (λ (b : Bool). cond b (Planned plan)
+    (record_fits C S met.fits_slot met.whole_may_stay c.args.store.now)) (commit_prospect (network_of c.args.net.now.program) c.args.home c.args.from c.args.number was) (ap (λ (b : Bool). cond b (Planned plan)
     (telling (settled_packets c.args.home c.args.from c.args.number old) was)) found.0)
     c.end_put_then.result c.end_put_then.ensures.answer refl

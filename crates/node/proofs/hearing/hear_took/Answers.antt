@@ -1,4 +1,4 @@
-use Rattle.std.proofs.Common.{◌≡◌, false, [], List, Option, refl, ap, sym, ◌∙◌}
+use Rattle.std.proofs.Common.{◌≡◌, false, [], List, refl, ap, sym, ◌∙◌}
 use Rattle.datagram.specs.declared.packet.Need.{Need}
 use Rattle.kahn_net.specs.Syntax.{network_of}
 use Rattle.record.specs.RecordView.{RecordView}
@@ -6,7 +6,6 @@ use Rattle.ckpt_store.specs.StoreView.{record_in}
 use Rattle.decide_core.specs.InitiatorView.{took_view}
 use Rattle.protocol.specs.Node.Beginning.{live_in}
 use Rattle.protocol.specs.Node.Collecting.{TookAnswer, Joins, answer_to_took, joined_asks, joining, took_by, took_prospect}
-use Rattle.protocol.specs.Node.LiveView.{LiveView}
 use Rattle.protocol.specs.Node.NodeView.{on_running}
 use Rattle.node.specs.NodeView.{mode_view, node_view}
 use Rattle.node.proofs.Memory.{memory_event}

@@ -1,4 +1,4 @@
-use Rattle.std.proofs.Common.{◌≡◌, ℕ, false, true, [], ◌∷◌, length, Option, Some, None, refl, ap, sym, ◌∙◌, length-set}
+use Rattle.std.proofs.Common.{◌≡◌, [], ◌∷◌, length, Option, Some, refl, ap, sym, ◌∙◌, length-set}
 use Rattle.datagram.specs.declared.packet.Body.TheVariants.{Refused}
 use Rattle.datagram.specs.declared.packet.Reason.TheVariants.{TooLarge}
 use Rattle.kahn_net.specs.Syntax.{network_of}

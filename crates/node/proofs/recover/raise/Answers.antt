@@ -1,4 +1,5 @@
 use Rattle.std.proofs.Common.{Result, subst}
+use Rattle.kahn_net.specs.Syntax.{network_of}
 use Rattle.ckpt_store.specs.StoreView.{Reopens}
 use Rattle.ckpt_store.specs.declared.fault.StoreFault.{StoreFault}
 use Rattle.node.proofs.Raising.{not_reopened, reopened_then}
@@ -9,7 +10,7 @@ returns-in-Ok g c =
     let C = g.C.StableCell in
     let S = g.C.SlotCell in
     let met = g.met.C.SlotCell in
-    reopened_then C S met.includes_now_whole met.whole_may_stay met.settled_whole c.args.store.now c.requires c.reopen.new.self
+    reopened_then C S (network_of c.args.net.now.program) c.args.home met.includes_now_whole met.whole_may_stay met.settled_whole c.args.store.now c.requires c.reopen.new.self
     c.raise_open.new.store c.raise_open.result
     (subst (λ (r : Result (Unit {0}) StoreFault). Reopens c.args.store.now c.reopen.new.self r) c.in-Ok.is
     c.reopen.ensures) c.raise_open.ensures
@@ -19,7 +20,7 @@ returns-in-Err g c =
     let C = g.C.StableCell in
     let S = g.C.SlotCell in
     let met = g.met.C.SlotCell in
-    not_reopened C S met.includes_now_whole met.whole_may_stay met.settled_whole c.args.store.now c.requires c.reopen.new.self
+    not_reopened C S (network_of c.args.net.now.program) c.args.home met.includes_now_whole met.whole_may_stay met.settled_whole c.args.store.now c.requires c.reopen.new.self
     c.in-Err.fault
     (subst (λ (r : Result (Unit {0}) StoreFault). Reopens c.args.store.now c.reopen.new.self r) c.in-Err.is
     c.reopen.ensures)

@@ -1,12 +1,11 @@
 use Rattle.std.proofs.Common.{rules, refl, ◌<◌, ◌≤◌, ◌∙◌, sym, subst, length, map, ℕ, arith}
-use Rattle.std.specs.Prelude.{IfOk, slice_set}
-use Rattle.std.specs.List.{AllZip}
+use Rattle.std.specs.Prelude.{slice_set}
 use Rattle.std.proofs.lemmas.List.{length-map}
 use Rattle.protocol.specs.NodeLaws.PlaceLaws.{nodes_few}
 use Rattle.protocol.specs.World.EventView.{event_node}
-use Rattle.protocol.specs.World.Steps.{may_restart, setting_in, Setting}
+use Rattle.protocol.specs.World.Steps.{setting_in}
 use Rattle.wire.specs.Traffic.{traffic_of}
-use Rattle.world.specs.ReplyView.{answer_view, reply_view}
+use Rattle.world.specs.ReplyView.{answer_view}
 use Rattle.std.proofs.lemmas.Option.{slice_get_read}
 use Rattle.kahn_net.specs.Syntax.{network_of}
 use Rattle.ckpt_store.specs.Spelling.{fits_in}
@@ -15,13 +14,11 @@ use Rattle.world.specs.EventView.{event_view}
 use Rattle.protocol.specs.WorldLaws.OutputLaws.{set_keeps}
 use Rattle.protocol.specs.World.Pairs.{AreSameElsewhere}
 use Rattle.protocol.specs.WorldLaws.PairLaws.{elsewhere_set, on_err_map, pairs_refl, pairs_set}
-use Rattle.world.specs.Coming.{HasActed}
-use Rattle.world.specs.RecoveryLine.{StaysInLine}
 use Rattle.world.specs.WorldView.{station_view}
 use Rattle.world.specs.declared.station.Station.{Station}
 use Rattle.world.proofs.Restarts.{devices_at, devices_nowhere, restarts_at}
 use Rattle.world.proofs.Stations.{all_still, all_grown, all_still_in_line, all_in_line}
-use Rattle.world.proofs.Views.{acted, cell_stays, none_acted, refused_at, restarts_are, seen_at, sound_at}
+use Rattle.world.proofs.Views.{acted, cell_stays, none_acted, refused_at, seen_at, sound_at}
 use Rattle.world.proofs.world.act_at.Goals as goal
 
 pub act-requires : goal.act-requires
@@ -36,9 +33,8 @@ act-requires g c =
     record {
       sure = record { valid = net.valid; fits = c.requires.fits; traffic = c.requires.flying };
       sound = sound_at view (network_of net.program) c.args.inputs.now.value (traffic_of c.args.wire.now)
-          c.args.stations.now.items c.args.number x c.may_restart-restarts.result c.len-2.result c.args.round
-          c.args.room
-          c.may_restart-restarts.ensures (search rules) (length-map c.args.stations.now.items view ∙ c.requires.count)
+          c.args.stations.now.items c.args.number x c.args.round
+          c.args.room (length-map c.args.stations.now.items view ∙ c.requires.count)
           c.requires.numbered c.requires.sound c.requires.joined within c.index_mut.ensures.value;
       node = omega (arith, few, count, at, within);
     }
@@ -56,7 +52,7 @@ returns-then-number-len-clause-line g c =
     g.met.C.SlotCell.only_now_whole
     net c.args.inputs.now.value
     (setting_in net c.args.inputs.now.value (traffic_of c.args.wire.now)
-    (may_restart (length c.args.stations.now.items)) c.args.round c.args.room) (event_view c.args.event.now)
+    c.args.round c.args.room) (event_view c.args.event.now)
     c.args.stations.now.items
 
 pub returns-then-number-len-clause-come : goal.returns-then-number-len-clause-come
@@ -65,7 +61,7 @@ returns-then-number-len-clause-come g c =
     let past : length c.args.stations.now.items ≤ c.args.number = search rules in
     none_acted
     (setting_in net c.args.inputs.now.value (traffic_of c.args.wire.now)
-    (may_restart (length c.args.stations.now.items)) c.args.round c.args.room)
+    c.args.round c.args.room)
     (station_view {cell = g.C.StableCell} {slots = g.C.SlotCell} g.O.Outlet.taken g.O.Outlet.failures)
     (λ (station : Station g.row.C.Denot g.row.O.Denot g.C.SlotCell g.C.StableCell). fits_in
     (g.C.SlotCell.slot_capacity (cell_in station.node.store))) (event_view c.args.event.now)
@@ -82,14 +78,13 @@ returns-clause-grown g c =
     all_grown {cell = g.C.StableCell} {slots = g.C.SlotCell} g.O.Outlet.taken g.O.Outlet.failures
     g.met.C.SlotCell.only_now_whole
     (setting_in (network_of net.program) c.args.inputs.now.value (traffic_of c.args.wire.now)
-    c.may_restart-restarts.result c.args.round c.args.room)
+    c.args.round c.args.room)
     (record { valid = net.valid; fits = c.requires.fits; traffic = c.requires.flying })
     (fits_in (g.C.SlotCell.slot_capacity (cell_in x.node.store))) (event_view c.args.event.now)
     c.args.stations.now.items c.args.number x _ _ c.act.result
     (sound_at view (network_of net.program) c.args.inputs.now.value (traffic_of c.args.wire.now)
     c.args.stations.now.items
-    c.args.number x c.may_restart-restarts.result c.len-2.result c.args.round c.args.room
-    c.may_restart-restarts.ensures (search rules) (length-map c.args.stations.now.items view ∙ c.requires.count)
+    c.args.number x c.args.round c.args.room (length-map c.args.stations.now.items view ∙ c.requires.count)
     c.requires.numbered c.requires.sound c.requires.joined (search rules) c.index_mut.ensures.value)
     c.requires.sound (search rules) c.index_mut.ensures.value c.act.ensures.moved c.act.ensures.come
     (on_err_map c.act.result c.act.ensures.refused (λ same. same.0))
@@ -101,28 +96,20 @@ returns-clause-line g c =
     let view = station_view {cell = g.C.StableCell} {slots = g.C.SlotCell} g.O.Outlet.taken g.O.Outlet.failures in
     let there =
     seen_at view c.args.stations.now.items c.args.number x (search rules) c.index_mut.ensures.value in
-    subst (λ (setting : Setting). AllZip
-    (StaysInLine {cell = g.C.StableCell} {slots = g.C.SlotCell} g.O.Outlet.taken g.O.Outlet.failures setting
-    (event_view c.args.event.now)) c.args.stations.now.items
-    (slice_set c.args.stations.now.items c.args.number c.act.new.self))
-    (restarts_are (network_of net.program) c.args.inputs.now.value (traffic_of c.args.wire.now)
-    c.args.stations.now.items c.may_restart-restarts.result c.len-2.result c.args.round c.args.room
-    c.may_restart-restarts.ensures (search rules))
-    (all_in_line {cell = g.C.StableCell} {slots = g.C.SlotCell} g.O.Outlet.taken g.O.Outlet.failures
+    all_in_line {cell = g.C.StableCell} {slots = g.C.SlotCell} g.O.Outlet.taken g.O.Outlet.failures
     g.met.C.SlotCell.only_now_whole
     (setting_in (network_of net.program) c.args.inputs.now.value (traffic_of c.args.wire.now)
-    c.may_restart-restarts.result c.args.round c.args.room)
+    c.args.round c.args.room)
     (record { valid = net.valid; fits = c.requires.fits; traffic = c.requires.flying })
     (fits_in (g.C.SlotCell.slot_capacity (cell_in x.node.store))) (event_view c.args.event.now)
     c.args.stations.now.items c.args.number x _ _ c.act.result
     (sound_at view (network_of net.program) c.args.inputs.now.value (traffic_of c.args.wire.now)
     c.args.stations.now.items
-    c.args.number x c.may_restart-restarts.result c.len-2.result c.args.round c.args.room
-    c.may_restart-restarts.ensures (search rules) (length-map c.args.stations.now.items view ∙ c.requires.count)
+    c.args.number x c.args.round c.args.room (length-map c.args.stations.now.items view ∙ c.requires.count)
     c.requires.numbered c.requires.sound c.requires.joined (search rules) c.index_mut.ensures.value)
     c.requires.sound (search rules) c.index_mut.ensures.value c.act.ensures.moved c.act.ensures.come
     (on_err_map c.act.result c.act.ensures.refused (λ same. same.0))
-    ((c.requires.numbered c.args.number (view x) there).0 ∙ sym c.requires.at))
+    ((c.requires.numbered c.args.number (view x) there).0 ∙ sym c.requires.at)
 
 pub returns-clause-refused : goal.returns-clause-refused
 returns-clause-refused g c =
@@ -136,16 +123,9 @@ returns-clause-come g c =
     let room =
     λ (station : Station g.row.C.Denot g.row.O.Denot g.C.SlotCell g.C.StableCell). fits_in
     (g.C.SlotCell.slot_capacity (cell_in station.node.store)) in
-    subst (λ (setting : Setting). IfOk c.act.result
-    (λ reply. HasActed setting c.args.number (map room c.args.stations.now.items) (event_view c.args.event.now)
-    (map view c.args.stations.now.items) (reply_view reply)
-    (map view (slice_set c.args.stations.now.items c.args.number c.act.new.self)) (traffic_of c.act.new.wire)))
-    (restarts_are net c.args.inputs.now.value (traffic_of c.args.wire.now) c.args.stations.now.items
-    c.may_restart-restarts.result c.len-2.result c.args.round c.args.room c.may_restart-restarts.ensures (search rules))
-    (acted (setting_in net c.args.inputs.now.value (traffic_of c.args.wire.now) c.may_restart-restarts.result
-    c.args.round c.args.room)
+    acted (setting_in net c.args.inputs.now.value (traffic_of c.args.wire.now) c.args.round c.args.room)
     view room (event_view c.args.event.now) c.args.stations.now.items c.args.number c.index_mut.result.now
-    _ _ c.act.result (search rules) c.index_mut.ensures.value c.act.ensures.come)
+    _ _ c.act.result (search rules) c.index_mut.ensures.value c.act.ensures.come
 
 pub returns-clause-same_capacities : goal.returns-clause-same_capacities
 returns-clause-same_capacities g c =

@@ -6,6 +6,6 @@ use Rattle.world.proofs.world.are_done_with.Given as goal
 -- the round waits for none of those that were looked at
 abbrev pub invariant-loop-station : goal.invariant-loop-station
 invariant-loop-station g l =
-    are_done_with l.restarts l.round
+    are_done_with l.round
     (map (station_view g.O.Outlet.taken g.O.Outlet.failures) (drop l.station-index l.stations))
-    ≡ are_done_with l.restarts l.round (map (station_view g.O.Outlet.taken g.O.Outlet.failures) l.stations)
+    ≡ are_done_with l.round (map (station_view g.O.Outlet.taken g.O.Outlet.failures) l.stations)

@@ -1,4 +1,4 @@
-use Rattle.std.proofs.Common.{rules, ◌≡◌, ◌<◌, Err, Result, ℤ, Bool, List, Ok, true, false, refl, sym, subst, ap, ◌∙◌}
+use Rattle.std.proofs.Common.{rules, ◌≡◌, ◌<◌, Err, Result, ℤ, List, Ok, refl, sym, subst, ap, ◌∙◌}
 use Rattle.std.proofs.Common.{arith}
 use Rattle.std.specs.Prelude.{All, IfOk, slice_get}
 use Rattle.std.specs.declared.alloc.AllocError.{AllocError}
@@ -39,7 +39,7 @@ use Rattle.world.specs.EventView.{event_view}
 use Rattle.world.specs.StationView.{outlet_views}
 use Rattle.world.specs.WorldView.{station_view}
 use Rattle.world.proofs.Arriving.{arrives_allowed, arrives_heard}
-use Rattle.world.proofs.Events.{acted_came, installed_came, moved_put, released_came, undue_came}
+use Rattle.world.proofs.Events.{acted_came, installed_came, moved_put, released_came}
 use Rattle.world.proofs.Planned.{deed_came, quiet_came}
 use Rattle.world.proofs.station.Station.act.Goals as goal
 
@@ -91,8 +91,7 @@ deliver-requires g c =
     let net = c.args.net.now.value in
     let was = station_view g.O.Outlet.taken g.O.Outlet.failures c.args.self.now in
     let setting =
-    setting_in (network_of net.program) c.args.inputs.now.value (traffic_of c.args.wire.now) c.args.restarts
-    c.args.round c.args.room in
+    setting_in (network_of net.program) c.args.inputs.now.value (traffic_of c.args.wire.now) c.args.round c.args.room in
     let is = ap (λ (n : Net). network_of n.program) (sym c.deref.ensures) in
     record {
       to = subst (λ (e : Event). view.event_node (event_view e) < NODES) c.in-Deliver.is c.requires.node;
@@ -135,7 +134,7 @@ returns-in-Deliver-clause-come g c =
     c.args.self.now in
     let setting =
     setting_in (network_of c.args.net.now.value.program) c.args.inputs.now.value (traffic_of c.args.wire.now)
-    c.args.restarts c.args.round c.args.room in
+    c.args.round c.args.room in
     let fits = fits_in (g.C.SlotCell.slot_capacity (cell_in c.args.self.now.node.store)) in
     let found = due_bytes c.args.round
     (slice_get (flights_to (traffic_of c.args.wire.now) c.in-Deliver.node) c.in-Deliver.place) in
@@ -152,7 +151,7 @@ returns-in-Grant-clause-come g c =
     c.args.self.now in
     let setting =
     setting_in (network_of c.args.net.now.value.program) c.args.inputs.now.value (traffic_of c.args.wire.now)
-    c.args.restarts c.args.round c.args.room in
+    c.args.round c.args.room in
     let fits = fits_in (g.C.SlotCell.slot_capacity (cell_in c.args.self.now.node.store)) in
     quiet_came setting fits (event_view c.args.event.now) was _ (traffic_of c.args.wire.now) c.grant.result
     _ view.Grant _
@@ -169,7 +168,7 @@ returns-in-Install-clause-come g c =
     c.args.self.now in
     let setting =
     setting_in (network_of c.args.net.now.value.program) c.args.inputs.now.value (traffic_of c.args.wire.now)
-    c.args.restarts c.args.round c.args.room in
+    c.args.round c.args.room in
     let fits = fits_in (g.C.SlotCell.slot_capacity (cell_in c.args.self.now.node.store)) in
     installed_came setting fits (event_view c.args.event.now) was _ (traffic_of c.args.wire.now) c.install.result
     (done_view c.in-Install.done) (ap event_view c.in-Install.is) refl
@@ -186,7 +185,7 @@ returns-in-Send-clause-come g c =
     c.args.self.now in
     let setting =
     setting_in (network_of c.args.net.now.value.program) c.args.inputs.now.value (traffic_of c.args.wire.now)
-    c.args.restarts c.args.round c.args.room in
+    c.args.round c.args.room in
     let fits = fits_in (g.C.SlotCell.slot_capacity (cell_in c.args.self.now.node.store)) in
     deed_came setting fits (event_view c.args.event.now) was _ (traffic_of c.send.new.wire) c.send.result _ view.Send
     (send_plan (network_of c.deref-in-Send.result.now.program) c.args.round was) (ap event_view c.in-Send.is)
@@ -200,7 +199,7 @@ returns-in-Start-clause-come g c =
     c.args.self.now in
     let setting =
     setting_in (network_of c.args.net.now.value.program) c.args.inputs.now.value (traffic_of c.args.wire.now)
-    c.args.restarts c.args.round c.args.room in
+    c.args.round c.args.room in
     let fits = fits_in (g.C.SlotCell.slot_capacity (cell_in c.args.self.now.node.store)) in
     deed_came setting fits (event_view c.args.event.now) was _ (traffic_of c.start.new.wire) c.start.result _ view.Start
     (start_plan (network_of c.deref-in-Start.result.now.program) c.args.round was) (ap event_view c.in-Start.is)
@@ -214,7 +213,7 @@ returns-in-Decide-clause-come g c =
     c.args.self.now in
     let setting =
     setting_in (network_of c.args.net.now.value.program) c.args.inputs.now.value (traffic_of c.args.wire.now)
-    c.args.restarts c.args.round c.args.room in
+    c.args.round c.args.room in
     let fits = fits_in (g.C.SlotCell.slot_capacity (cell_in c.args.self.now.node.store)) in
     deed_came setting fits (event_view c.args.event.now) was _ (traffic_of c.decide.new.wire) c.decide.result
     _ view.Decide
@@ -227,67 +226,39 @@ returns-in-Release-clause-come g c =
     c.args.self.now in
     let setting =
     setting_in (network_of c.args.net.now.value.program) c.args.inputs.now.value (traffic_of c.args.wire.now)
-    c.args.restarts c.args.round c.args.room in
+    c.args.round c.args.room in
     let fits = fits_in (g.C.SlotCell.slot_capacity (cell_in c.args.self.now.node.store)) in
     released_came setting fits (event_view c.args.event.now) was _ (traffic_of c.args.wire.now) c.release.result _
     (ap event_view c.in-Release.is) refl c.release.ensures.step
 
-pub returns-then-not-restarts-clause-come : goal.returns-then-not-restarts-clause-come
-returns-then-not-restarts-clause-come g c =
+pub returns-in-Crash-clause-come : goal.returns-in-Crash-clause-come
+returns-in-Crash-clause-come g c =
     let was =
     station_view {cell = g.C.StableCell} {slots = g.C.SlotCell} g.O.Outlet.taken g.O.Outlet.failures
     c.args.self.now in
     let setting =
     setting_in (network_of c.args.net.now.value.program) c.args.inputs.now.value (traffic_of c.args.wire.now)
-    c.args.restarts c.args.round c.args.room in
+    c.args.round c.args.room in
     let fits = fits_in (g.C.SlotCell.slot_capacity (cell_in c.args.self.now.node.store)) in
-    let none : c.args.restarts ≡ false = search rules in
-    undue_came setting fits (event_view c.args.event.now) was _ (view.Crash c.in-Crash.fill c.in-Crash.rounds)
-    (ap event_view c.in-Crash.is)
-    (ap (λ (b : Bool). (crash_plan b (round_later c.args.round c.in-Crash.rounds) was).prospect) none)
-
-pub returns-else-not-restarts-clause-come : goal.returns-else-not-restarts-clause-come
-returns-else-not-restarts-clause-come g c =
-    let was =
-    station_view {cell = g.C.StableCell} {slots = g.C.SlotCell} g.O.Outlet.taken g.O.Outlet.failures
-    c.args.self.now in
-    let setting =
-    setting_in (network_of c.args.net.now.value.program) c.args.inputs.now.value (traffic_of c.args.wire.now)
-    c.args.restarts c.args.round c.args.room in
-    let fits = fits_in (g.C.SlotCell.slot_capacity (cell_in c.args.self.now.node.store)) in
-    let some : true ≡ c.args.restarts = search rules in
     let restart = round_later c.args.round c.in-Crash.rounds in
     quiet_came setting fits (event_view c.args.event.now) was _ (traffic_of c.args.wire.now) (Ok c.crash.result) _
-    (view.Crash c.in-Crash.fill c.in-Crash.rounds) (crash_plan true restart was) (ap event_view c.in-Crash.is)
-    (ap (λ (b : Bool). crash_plan b restart was) some) refl refl
-    (λ came. crash_sends c.args.restarts restart was.node came) c.crash.ensures.step
+    (view.Crash c.in-Crash.fill c.in-Crash.rounds) (crash_plan restart was) (ap event_view c.in-Crash.is) refl refl refl
+    (λ came. crash_sends restart was.node came) c.crash.ensures.step
 
-pub returns-then-not-restarts-2-clause-come : goal.returns-then-not-restarts-2-clause-come
-returns-then-not-restarts-2-clause-come g c =
+pub returns-in-Recover-clause-come : goal.returns-in-Recover-clause-come
+returns-in-Recover-clause-come g c =
     let was =
     station_view {cell = g.C.StableCell} {slots = g.C.SlotCell} g.O.Outlet.taken g.O.Outlet.failures
     c.args.self.now in
     let setting =
     setting_in (network_of c.args.net.now.value.program) c.args.inputs.now.value (traffic_of c.args.wire.now)
-    c.args.restarts c.args.round c.args.room in
+    c.args.round c.args.room in
     let fits = fits_in (g.C.SlotCell.slot_capacity (cell_in c.args.self.now.node.store)) in
-    let none : c.args.restarts ≡ false = search rules in
-    undue_came setting fits (event_view c.args.event.now) was _ view.Recover (ap event_view c.in-Recover.is)
-    (ap (λ (b : Bool). (recover_plan b was).prospect) none)
-
-pub returns-else-not-restarts-2-clause-come : goal.returns-else-not-restarts-2-clause-come
-returns-else-not-restarts-2-clause-come g c =
-    let was =
-    station_view {cell = g.C.StableCell} {slots = g.C.SlotCell} g.O.Outlet.taken g.O.Outlet.failures
-    c.args.self.now in
-    let setting =
-    setting_in (network_of c.args.net.now.value.program) c.args.inputs.now.value (traffic_of c.args.wire.now)
-    c.args.restarts c.args.round c.args.room in
-    let fits = fits_in (g.C.SlotCell.slot_capacity (cell_in c.args.self.now.node.store)) in
-    let some : true ≡ c.args.restarts = search rules in
     quiet_came setting fits (event_view c.args.event.now) was _ (traffic_of c.args.wire.now) c.recover.result _
-    view.Recover (recover_plan true was) (ap event_view c.in-Recover.is) (ap (λ (b : Bool). recover_plan b was) some)
-    refl refl (λ came. recover_sends c.args.restarts was.node came) c.recover.ensures.step
+    view.Recover (recover_plan (network_of c.deref-in-Recover.result.now.program) was) (ap event_view c.in-Recover.is)
+    (ap (λ (n : Net). recover_plan (network_of n.program) was) c.deref-in-Recover.ensures)
+    refl refl
+    (λ came. recover_sends (network_of c.args.net.now.value.program) was.number was.node came) c.recover.ensures.step
 
 pub returns-in-Arm-clause-come : goal.returns-in-Arm-clause-come
 returns-in-Arm-clause-come g c =
@@ -296,7 +267,7 @@ returns-in-Arm-clause-come g c =
     c.args.self.now in
     let setting =
     setting_in (network_of c.args.net.now.value.program) c.args.inputs.now.value (traffic_of c.args.wire.now)
-    c.args.restarts c.args.round c.args.room in
+    c.args.round c.args.room in
     let fits = fits_in (g.C.SlotCell.slot_capacity (cell_in c.args.self.now.node.store)) in
     quiet_came setting fits (event_view c.args.event.now) was _ (traffic_of c.args.wire.now) c.arm.result _
     (view.Arm c.in-Arm.fault c.in-Arm.rounds) (arm_plan c.in-Arm.fault.call c.in-Arm.rounds was)
@@ -310,7 +281,7 @@ returns-in-Idle-clause-come g c =
     c.args.self.now in
     let setting =
     setting_in (network_of c.args.net.now.value.program) c.args.inputs.now.value (traffic_of c.args.wire.now)
-    c.args.restarts c.args.round c.args.room in
+    c.args.round c.args.room in
     let fits = fits_in (g.C.SlotCell.slot_capacity (cell_in c.args.self.now.node.store)) in
     quiet_came setting fits (event_view c.args.event.now) was _ (traffic_of c.args.wire.now) (Ok c.idle.result)
     _ view.Idle
@@ -324,7 +295,7 @@ returns-in-Lose-clause-come g c =
     c.args.self.now in
     let setting =
     setting_in (network_of c.args.net.now.value.program) c.args.inputs.now.value (traffic_of c.args.wire.now)
-    c.args.restarts c.args.round c.args.room in
+    c.args.round c.args.room in
     let fits = fits_in (g.C.SlotCell.slot_capacity (cell_in c.args.self.now.node.store)) in
     acted_came setting fits (event_view c.args.event.now) was was (traffic_of c.lose.new.wire) (Ok c.lose.result)
     c.in-Lose.node c.in-Lose.place view.Lose (ap event_view c.in-Lose.is) refl c.lose.ensures.reply
@@ -337,7 +308,7 @@ returns-in-Repeat-clause-come g c =
     c.args.self.now in
     let setting =
     setting_in (network_of c.args.net.now.value.program) c.args.inputs.now.value (traffic_of c.args.wire.now)
-    c.args.restarts c.args.round c.args.room in
+    c.args.round c.args.room in
     let fits = fits_in (g.C.SlotCell.slot_capacity (cell_in c.args.self.now.node.store)) in
     acted_came setting fits (event_view c.args.event.now) was was (traffic_of c.repeat.new.wire) c.repeat.result
     c.in-Repeat.node c.in-Repeat.place view.Repeat (ap event_view c.in-Repeat.is) refl c.repeat.ensures.reply
@@ -350,7 +321,7 @@ returns-in-Delay-clause-come g c =
     c.args.self.now in
     let setting =
     setting_in (network_of c.args.net.now.value.program) c.args.inputs.now.value (traffic_of c.args.wire.now)
-    c.args.restarts c.args.round c.args.room in
+    c.args.round c.args.room in
     let fits = fits_in (g.C.SlotCell.slot_capacity (cell_in c.args.self.now.node.store)) in
     acted_came setting fits (event_view c.args.event.now) was was (traffic_of c.delay.new.wire) (Ok c.delay.result)
     c.in-Delay.node c.in-Delay.place (view.Delay c.in-Delay.rounds) (ap event_view c.in-Delay.is) refl
@@ -365,7 +336,7 @@ returns-in-Deliver-clause-moved g c =
     c.args.self.now in
     let setting =
     setting_in (network_of c.args.net.now.value.program) c.args.inputs.now.value (traffic_of c.args.wire.now)
-    c.args.restarts c.args.round c.args.room in
+    c.args.round c.args.room in
     let fits = fits_in (g.C.SlotCell.slot_capacity (cell_in c.args.self.now.node.store)) in
     let found = due_bytes c.args.round
     (slice_get (flights_to (traffic_of c.args.wire.now) c.in-Deliver.node) c.in-Deliver.place) in
@@ -391,7 +362,7 @@ returns-in-Start-clause-moved g c =
     c.args.self.now in
     let setting =
     setting_in (network_of c.args.net.now.value.program) c.args.inputs.now.value (traffic_of c.args.wire.now)
-    c.args.restarts c.args.round c.args.room in
+    c.args.round c.args.room in
     let fits = fits_in (g.C.SlotCell.slot_capacity (cell_in c.args.self.now.node.store)) in
     let seen = ap event_view c.in-Start.is in
     subst (λ (e : EventView). HasMoved g.C.StableCell.moment g.C.SlotCell.left_since_whole

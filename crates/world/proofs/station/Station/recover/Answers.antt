@@ -1,4 +1,5 @@
-use Rattle.std.proofs.Common.{true, ap, ◌∙◌}
+use Rattle.std.proofs.Common.{ap, ◌∙◌}
+use Rattle.kahn_net.specs.Syntax.{network_of}
 use Rattle.ckpt_store.specs.StoreView.{cell_in}
 use Rattle.node.specs.NodeOf.{view_of}
 use Rattle.node.specs.NodeView.{mode_view}
@@ -42,12 +43,12 @@ returns-in-Ok-clause-step g c =
         put = event.put;
         answers = c.answer_by.ensures
             ∙ (ap (λ (r : ReplyView). answer_by r (Refused TooLarge) came) c.back_reply-back.ensures
-            ∙ answer_then (back_reply mode) (recover_plan true seen).answer (Refused TooLarge) came
+            ∙ answer_then (back_reply mode) (recover_plan (network_of c.args.net.now.program) seen).answer (Refused TooLarge) came
             (λ made. ap back_reply
-            (back_mode (restart_after (view_of was.node).armed call c.args.round) (view_of was.node)
+            (back_mode (network_of c.args.net.now.program) was.node.number (restart_after (view_of was.node).armed call c.args.round) (view_of was.node)
             (view_of c.recover.new.self) came event.step made)));
-        allowed = silent_allowed (packets_by (recover_plan true seen).prospect came)
-            (recover_sends true (view_of was.node) came);
+        allowed = silent_allowed (packets_by (recover_plan (network_of c.args.net.now.program) seen).prospect came)
+            (recover_sends (network_of c.args.net.now.program) was.node.number (view_of was.node) came);
         same = seen_moved seen _ _ _ _ _ c.recover.ensures.same_number (turns_kept was.turns came);
       },
     )

@@ -1,4 +1,4 @@
-use Rattle.std.proofs.Common.{List, [], length, map, refl, ap, sym, subst, ◌∙◌}
+use Rattle.std.proofs.Common.{List, [], map, refl, ap, sym, subst, ◌∙◌}
 use Rattle.kahn_net.specs.Syntax.{network_of}
 use Rattle.ckpt_store.specs.Spelling.{fits_in}
 use Rattle.ckpt_store.specs.StoreView.{cell_in}
@@ -13,7 +13,7 @@ use Rattle.protocol.specs.WorldLaws.RoomLaws.{never_too_large, rooms_of}
 use Rattle.protocol.specs.World.ReplyView.{NotDue}
 use Rattle.protocol.specs.World.StationView.{StationView}
 use Rattle.protocol.specs.declared.outcome.Outcome.TheVariants as outcome
-use Rattle.protocol.specs.World.Steps.{may_restart, round_after, setting_in}
+use Rattle.protocol.specs.World.Steps.{round_after, setting_in}
 use Rattle.protocol.specs.WorldLaws.StepKeeps.{step_keeps}
 use Rattle.wire.specs.Traffic.{Traffic, traffic_of}
 use Rattle.world.specs.WholeView.{world_of}
@@ -30,7 +30,7 @@ returns-in-Ok-clause-step g c =
     let view = station_view {cell = g.C.StableCell} {slots = g.C.SlotCell} g.O.Outlet.taken g.O.Outlet.failures in
     world_steps (rooms was.stations.items) (event_view c.args.event) (world_of was) (reply_view c.in-Ok.reply)
     (setting_in (network_of was.net.value.program) was.inputs.value (traffic_of was.wire)
-    (may_restart (length was.stations.items)) was.round was.room) c.from-number.result c.round_after-self.result
+    was.round was.room) c.from-number.result c.round_after-self.result
     (map view c.act_at.new.stations.items) (traffic_of c.act_at.new.wire)
     (setting_is view (network_of was.net.value.program) was.inputs.value (traffic_of was.wire)
     was.stations.items was.round was.room) (c.from-number.ensures ∙ c.node.ensures) c.in-Ok.ensures.come
@@ -50,7 +50,7 @@ invariant_of-self g c =
           c.act_at.new.stations.items (traffic_of c.act_at.new.wire) c.round_after-self.result was.room) was.sound
           (world_steps (rooms was.stations.items) (event_view c.args.event) (world_of was) (reply_view c.in-Ok.reply)
           (setting_in (network_of was.net.value.program) was.inputs.value (traffic_of was.wire)
-          (may_restart (length was.stations.items)) was.round was.room) c.from-number.result c.round_after-self.result
+          was.round was.room) c.from-number.result c.round_after-self.result
           (map view c.act_at.new.stations.items) (traffic_of c.act_at.new.wire)
           (setting_is view (network_of was.net.value.program) was.inputs.value (traffic_of was.wire)
           was.stations.items was.round was.room) (c.from-number.ensures ∙ c.node.ensures) c.in-Ok.ensures.come
@@ -71,7 +71,7 @@ returns-in-Ok-clause-prefix g c =
     c.act_at.new.stations.items (traffic_of c.act_at.new.wire) c.round_after-self.result was.room) was.sound
     (world_steps (rooms was.stations.items) (event_view c.args.event) (world_of was) (reply_view c.in-Ok.reply)
     (setting_in (network_of was.net.value.program) was.inputs.value (traffic_of was.wire)
-    (may_restart (length was.stations.items)) was.round was.room) c.from-number.result c.round_after-self.result
+    was.round was.room) c.from-number.result c.round_after-self.result
     (map view c.act_at.new.stations.items) (traffic_of c.act_at.new.wire)
     (setting_is view (network_of was.net.value.program) was.inputs.value (traffic_of was.wire)
     was.stations.items was.round was.room) (c.from-number.ensures ∙ c.node.ensures) c.in-Ok.ensures.come
@@ -101,7 +101,7 @@ returns-in-Ok-clause-line g c =
     let view = station_view {cell = g.C.StableCell} {slots = g.C.SlotCell} g.O.Outlet.taken g.O.Outlet.failures in
     keeps_line {cell = g.C.StableCell} {slots = g.C.SlotCell} g.O.Outlet.taken g.O.Outlet.failures
     (setting_in (network_of was.net.value.program) was.inputs.value (traffic_of was.wire)
-    (may_restart (length was.stations.items)) was.round was.room) (event_view c.args.event)
+    was.round was.room) (event_view c.args.event)
     (network_of was.net.value.program) was.inputs.value was.stations.items c.act_at.new.stations.items was.round
     was.room
     (traffic_of was.wire) (rooms was.stations.items) c.in-Ok.ensures.come.came (reply_view c.in-Ok.reply)
@@ -116,7 +116,7 @@ returns-in-Err-clause-line g c =
     let view = station_view {cell = g.C.StableCell} {slots = g.C.SlotCell} g.O.Outlet.taken g.O.Outlet.failures in
     keeps_line {cell = g.C.StableCell} {slots = g.C.SlotCell} g.O.Outlet.taken g.O.Outlet.failures
     (setting_in (network_of was.net.value.program) was.inputs.value (traffic_of was.wire)
-    (may_restart (length was.stations.items)) was.round was.room) (event_view c.args.event)
+    was.round was.room) (event_view c.args.event)
     (network_of was.net.value.program) was.inputs.value was.stations.items c.act_at.new.stations.items was.round
     was.room
     (traffic_of was.wire) [] outcome.NotDue NotDue c.from-number.result was.sound
@@ -135,7 +135,7 @@ returns-in-Ok-clause-coordinated g c =
     c.act_at.new.stations.items (traffic_of c.act_at.new.wire) c.round_after-self.result was.room) was.sound
     (world_steps (rooms was.stations.items) (event_view c.args.event) (world_of was) (reply_view c.in-Ok.reply)
     (setting_in (network_of was.net.value.program) was.inputs.value (traffic_of was.wire)
-    (may_restart (length was.stations.items)) was.round was.room) c.from-number.result c.round_after-self.result
+    was.round was.room) c.from-number.result c.round_after-self.result
     (map view c.act_at.new.stations.items) (traffic_of c.act_at.new.wire)
     (setting_is view (network_of was.net.value.program) was.inputs.value (traffic_of was.wire)
     was.stations.items was.round was.room) (c.from-number.ensures ∙ c.node.ensures) c.in-Ok.ensures.come
@@ -184,7 +184,7 @@ returns-in-Ok-clause-roomy g c = λ room.
     let view = station_view {cell = g.C.StableCell} {slots = g.C.SlotCell} g.O.Outlet.taken g.O.Outlet.failures in
     never_too_large (world_of was)
     (setting_in (network_of was.net.value.program) was.inputs.value (traffic_of was.wire)
-    (may_restart (length was.stations.items)) was.round was.room)
+    was.round was.room)
     (λ (station : Station g.row.C.Denot g.row.O.Denot g.C.SlotCell g.C.StableCell). g.C.SlotCell.slot_capacity
     (cell_in station.node.store)) was.stations.items c.from-number.result _ (event_view c.args.event)
     c.in-Ok.ensures.come.came (reply_view c.in-Ok.reply) (map view c.act_at.new.stations.items)
@@ -198,7 +198,7 @@ returns-in-Ok-clause-heard g c =
     let view = station_view {cell = g.C.StableCell} {slots = g.C.SlotCell} g.O.Outlet.taken g.O.Outlet.failures in
     never_dropped (world_of was)
     (setting_in (network_of was.net.value.program) was.inputs.value (traffic_of was.wire)
-    (may_restart (length was.stations.items)) was.round was.room) (rooms was.stations.items) c.from-number.result
+    was.round was.room) (rooms was.stations.items) c.from-number.result
     (event_view c.args.event) c.in-Ok.ensures.come.came
     (reply_view c.in-Ok.reply) (map view c.act_at.new.stations.items) was.sound
     (setting_is view (network_of was.net.value.program) was.inputs.value (traffic_of was.wire)

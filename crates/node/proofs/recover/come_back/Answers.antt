@@ -1,8 +1,9 @@
 use Rattle.std.proofs.Common.{sym, ◌∙◌}
+use Rattle.kahn_net.specs.Syntax.{network_of}
 use Rattle.ckpt_store.specs.StoreView.{cell_in, record_in}
 use Rattle.ckpt_store.proofs.Room.{epoch_fits, record_fits}
 use Rattle.node.proofs.Recoveries.{not_raised}
-use Rattle.node.proofs.recover.recover.Goals as goal
+use Rattle.node.proofs.recover.come_back.Goals as goal
 
 pub returns-in-Err-clause-kept : goal.returns-in-Err-clause-kept
 returns-in-Err-clause-kept g c =
@@ -10,7 +11,8 @@ returns-in-Err-clause-kept g c =
     let S = g.C.SlotCell in
     let met = g.met.C.SlotCell in
     let old = c.args.store.now in
-    (not_raised C S met.includes_now_whole met.whole_may_stay met.settled_whole c.args.number c.args.round old c.raise.new.store
+    (not_raised C S met.includes_now_whole met.whole_may_stay met.settled_whole
+    (network_of c.args.net.now.program) c.args.number c.args.round old c.raise.new.store
     c.end_put.new.store c.args.state.now c.end_put.new.state c.requires
     (sym c.is_down.ensures ∙ c.if-not-is_down.false)
     (epoch_fits (S.slot_capacity (cell_in old)) (record_in old)
@@ -23,7 +25,8 @@ returns-in-Err-clause-event g c =
     let S = g.C.SlotCell in
     let met = g.met.C.SlotCell in
     let old = c.args.store.now in
-    (not_raised C S met.includes_now_whole met.whole_may_stay met.settled_whole c.args.number c.args.round old c.raise.new.store
+    (not_raised C S met.includes_now_whole met.whole_may_stay met.settled_whole
+    (network_of c.args.net.now.program) c.args.number c.args.round old c.raise.new.store
     c.end_put.new.store c.args.state.now c.end_put.new.state c.requires
     (sym c.is_down.ensures ∙ c.if-not-is_down.false)
     (epoch_fits (S.slot_capacity (cell_in old)) (record_in old)

@@ -1,0 +1,10 @@
+use Rattle.std.proofs.Common.{◌≤◌, sym, subst}
+use Rattle.kahn_net.specs.declared.limits.TheConstants.{MAX_COUNT}
+use Rattle.record.specs.Ends.{received_of}
+use Rattle.record.specs.RecordView.{RecordView}
+use Rattle.rollback_core.proofs.restoring.recover.Goals as goal
+
+pub restore-requires-clause-counts : goal.restore-requires-clause-counts
+restore-requires-clause-counts c =
+    λ channel. subst (λ (kept : RecordView). received_of kept.permanent channel ≤ MAX_COUNT) (sym c.kept.view_is)
+    (c.requires.counts channel)

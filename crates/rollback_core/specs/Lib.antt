@@ -1,0 +1,2 @@
+pub mod RestoredView
+pub mod StoredCounts
