@@ -2,3 +2,4 @@ pub mod Faults
 pub mod Limits
 pub mod Play
 pub mod Laws
+pub mod Reached

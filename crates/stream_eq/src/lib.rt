@@ -5,6 +5,7 @@
 mod approximation;
 mod evaluate;
 mod fault;
+mod freed;
 mod histories;
 mod laws;
 mod process;
@@ -15,6 +16,7 @@ mod unread;
 pub use approximation::approx;
 pub use evaluate::{is_zero, operate, set_variable, value};
 pub use fault::Fault;
+pub use freed::Freed;
 pub use histories::{Histories, are_same};
 pub use laws::{
     agreement_law, growth_law, least_solution_law, monotone_law, one_item_law, standing_law,

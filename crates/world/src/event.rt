@@ -1,13 +1,11 @@
 //! Events, and what comes of them.
 ghost use Rattle.std.specs.Prelude.{◌≡◌};
-ghost use Rattle.kahn_net.specs.Syntax.{network_of};
-ghost use Rattle.protocol.specs.World.Released.{HistoryReaches};
 
-use net_check::{Inputs, Net};
 use proc_step::{Done, Job};
 use protocol::Refusal;
 use sector_disk::ArmedFault;
 use std::sync::Arc;
+use stream_eq::Freed;
 
 /// What can happen. Each names its node, and `Install` that of its job's process.
 #[derive(Drop)]
@@ -90,17 +88,6 @@ impl Event {
             Event::Delay { node, .. } => *node,
         }
     }
-}
-
-/// How far an output's items have left the system: so many of this channel, in a run of this network on these inputs, of
-/// which it has shares. Its type keeps that the channel's history has so many items in some approximation.
-#[derive(Drop)]
-pub struct Freed {
-    pub net: Arc<Net>,
-    pub inputs: Arc<Inputs>,
-    pub output: u8,
-    pub number: u64,
-    pub ghost reached: { HistoryReaches (network_of net.value.program) inputs.value output number },
 }
 
 /// What came of an event.

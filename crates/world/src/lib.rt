@@ -25,7 +25,7 @@ mod station;
 mod turning;
 mod world;
 
-pub use event::{Event, Freed, Refused, Reply};
+pub use event::{Event, Refused, Reply};
 pub use gate_cell::SECTORS;
 pub use laws::{line_law, traffic_law};
 pub use node::node_count;
@@ -35,4 +35,5 @@ pub use outputs::{OutletMaker, list_outputs, outputs_of};
 pub use protocol::{DEFAULT_ROOM, MIN_ROOM, RoundTurns};
 pub use room::RoomOutOfRange;
 pub use station::Station;
+pub use stream_eq::Freed;
 pub use world::World;

@@ -3,14 +3,14 @@ ghost use Rattle.std.specs.Prelude.{◌≡◌, ◌<◌, ◌+◌, ℕ, length, If
 ghost use Rattle.kahn_net.specs.Syntax.{network_of};
 ghost use Rattle.node.specs.NodeOf.{view_of};
 ghost use Rattle.protocol.specs.Node.Trimming.{HasNext, current_log, trimmed_node};
-ghost use Rattle.protocol.specs.World.Released.{HistoryReaches};
+ghost use Rattle.stream_eq.specs.Reached.{HistoryReaches};
 ghost use Rattle.world.specs.ReplyView.{reply_view};
 ghost use Rattle.protocol.specs.World.StationView.{OutletView};
 ghost use Rattle.world.specs.StationView.{outlet_view, outlet_views};
 ghost use Rattle.protocol.specs.World.Steps.{has_failed_in, is_waiting, first_waiting, next_release, IsHanded, IsRelease};
 ghost use Rattle.world.specs.WorldView.{station_view};
 
-use crate::event::{Freed, Reply};
+use crate::event::Reply;
 use crate::output::Output;
 use crate::station::Station;
 use gate_cell::SlotCell;
@@ -20,6 +20,7 @@ use outlet::{Outlet, OutletFault};
 use record::Record;
 use std::alloc::AllocError;
 use std::sync::Arc;
+use stream_eq::Freed;
 
 // Whether an outlet failed in this round.
 fn has_failed_in(failed: Option<u64>, round: u64) -> bool

@@ -21,11 +21,6 @@ released_of channel (station ∷ stations) =
 abbrev pub IsStreamOf : Network → List (List ℤ) → ℕ → List ℤ → Type 0
 IsStreamOf net inputs channel items = ∥ ((n : ℕ) × IsPrefix items (history_of (approximation net inputs n) channel)) ∥₁
 
--- the channel's history in some approximation on these inputs has so many items
-abbrev pub HistoryReaches : Network → List (List ℤ) → ℕ → ℕ → Type 0
-HistoryReaches net inputs channel number =
-    ∥ ((n : ℕ) × (number ≤ length (history_of (approximation net inputs n) channel))) ∥₁
-
 -- the permanent image of the node of which the channel is an output has put as many items as there are in the stream
 abbrev pub IsPutAtHome : Network → List StationView → ℕ → List ℤ → Type 0
 IsPutAtHome net stations channel items = (home : ℕ) (station : StationView) → slice_get stations home ≡ Some station

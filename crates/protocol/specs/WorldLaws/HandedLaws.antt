@@ -24,7 +24,7 @@ use Rattle.protocol.specs.NodeLaws.SentLaws.{sent_stands}
 use Rattle.protocol.specs.World.Invariant.{output_of, outputs_of, StationInvariant}
 use Rattle.protocol.specs.World.OutputView.{OutputView}
 use Rattle.protocol.specs.World.RecordSound.{RecordHasCome, RecordIsSound}
-use Rattle.protocol.specs.World.Released.{HistoryReaches}
+use Rattle.stream_eq.specs.Reached.{HistoryReaches}
 use Rattle.protocol.specs.WorldLaws.LeaveLaws.{beginning_length, has_next}
 use Rattle.protocol.specs.WorldLaws.OutputLaws.{map_at, output_here}
 use Rattle.protocol.specs.World.ReplyView.{ReplyView}
