@@ -65,12 +65,12 @@ fn forty_statements(alloc: Global) -> anyhow::Result<Arc<Net>> {
 }
 
 // A job at the loop's get, with so many items and so much room.
-fn job(alloc: Global, net: &Arc<Net>, items: usize) -> anyhow::Result<Job> {
+fn job(alloc: Global, net: &Arc<Net>, items: usize) -> anyhow::Result<Arc<Job>> {
     let share = Arc::try_clone(net)?;
     anyhow::ensure!(!share.program.processes.is_empty(), "no process");
     let mut all = Vec::new(alloc);
     all.push(History::from_vec(vec![in alloc; 1; items]?))?;
-    Ok(Job {
+    let job = Job {
         net: share,
         process: 0,
         version: 0,
@@ -83,7 +83,8 @@ fn job(alloc: Global, net: &Arc<Net>, items: usize) -> anyhow::Result<Job> {
         },
         items: all,
         room: Vec::from_slice(alloc, &[0, items])?,
-    })
+    };
+    Ok(Arc::new(alloc, job)?)
 }
 
 // Prints how much longer it took than the row before.
@@ -103,7 +104,7 @@ fn long_turns(rt: &(impl Print + CpuClock), alloc: Global) -> anyhow::Result<()>
     for items in [ITEMS, 2 * ITEMS, 4 * ITEMS] {
         let job = job(alloc, &net, items)?;
         let start = processor_micros(rt)?;
-        let done = job.run(alloc)?;
+        let done = Job::run(job, alloc)?;
         let now = processor_micros(rt)?.saturating_sub(start);
         let sent = done.sent.iter().map(|sent| sent.len()).max();
         println!(rt;
@@ -123,7 +124,7 @@ fn short_turns(rt: &(impl Print + CpuClock), alloc: Global) -> anyhow::Result<()
         let net = running_sum(alloc, statements)?;
         let start = processor_micros(rt)?;
         for _ in 0..TURNS {
-            job(alloc, &net, 1)?.run(alloc)?;
+            Job::run(job(alloc, &net, 1)?, alloc)?;
         }
         let now = processor_micros(rt)?.saturating_sub(start);
         println!(rt; "{TURNS} turns behind a prelude of {statements:>5} statements: {now:>7} us")?;
@@ -139,7 +140,7 @@ fn least_micros(rt: &impl CpuClock, alloc: Global, net: &Arc<Net>) -> anyhow::Re
     for _ in 0..READINGS {
         let job = job(alloc, net, ITEMS)?;
         let start = processor_micros(rt)?;
-        let _done = job.run(alloc)?;
+        let _done = Job::run(job, alloc)?;
         least = least.min(processor_micros(rt)?.saturating_sub(start));
     }
     Ok(least)

@@ -9,6 +9,7 @@ use gate_cell::SplitCell;
 use net_check::{bind, check};
 use net_text::{parse, parse_inputs};
 use outlet::ListOutlet;
+use proc_step::Job;
 use sector_disk::MemDisk;
 use std::alloc::{AllocError, Global};
 use std::sync::Arc;
@@ -69,7 +70,7 @@ fn apply(alloc: Global, world: &mut Sums, event: Event) -> anyhow::Result<Reply>
 fn step(alloc: Global, world: &mut Sums, node: u8) -> anyhow::Result<()> {
     let event = world.pick(node);
     if let Reply::Granted(job) = apply(alloc, world, event)? {
-        let Ok(done) = job.run(alloc) else {
+        let Ok(done) = Job::run(job, alloc) else {
             return Err(anyhow::anyhow!("no memory"));
         };
         apply(alloc, world, Event::Install(done))?;

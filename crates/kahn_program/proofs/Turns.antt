@@ -21,6 +21,8 @@ use Rattle.record.specs.RecordView.{RecordView}
 use Rattle.gate_cell.specs.declared.cell.StableCell.{Ghosts as CellWords}
 use Rattle.gate_cell.specs.declared.slot_cell.SlotCell.{Ghosts as SlotWords}
 use Rattle.ckpt_store.specs.Spelling.{fits_in}
+use Rattle.std.specs.declared.alloc.Global.{Global}
+use Rattle.std.specs.declared.sync.Arc.{Arc}
 use Rattle.proc_step.specs.declared.job.Job.{Job}
 use Rattle.wire.specs.Traffic.{opening_traffic}
 use Rattle.protocol.specs.World.OpeningWorld.{opening_outlet, opening_stations, opening_world}
@@ -51,7 +53,7 @@ use Rattle.kahn_program.specs.declared.failure.Failure.TheVariants as failure
 use Rattle.kahn_program.specs.declared.network_run.TheConstants.{MAX_TURNS}
 
 -- where no job was granted nothing follows
-pub nothing_follows : (answer : Reply) (now : WorldView) → ((job : Job) → answer ≡ Granted job → ⊥)
+pub nothing_follows : (answer : Reply) (now : WorldView) → ((job : Arc Job Global) → answer ≡ Granted job → ⊥)
     → Follows (reply_view answer) now now
 nothing_follows (Granted job) now other = absurd (other job refl)
 nothing_follows answer now other = refl

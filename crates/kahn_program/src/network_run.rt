@@ -27,6 +27,7 @@ use gate_cell::SplitCell;
 use kahn_net::{Channel, Port};
 use net_check::{Inputs, Net};
 use outlet::ListOutlet;
+use proc_step::Job;
 use sector_disk::MemDisk;
 use std::alloc::{AllocError, Global};
 use std::sync::Arc;
@@ -86,7 +87,7 @@ fn follow(alloc: Global, world: &mut RunWorld, answer: Reply) -> Result<(), Fail
 {
     match answer {
         Reply::Granted(job) => {
-            let Ok(done) = job.run(alloc) else {
+            let Ok(done) = Job::run(job, alloc) else {
                 return Err(Failure::NoMemory);
             };
             match world.apply(alloc, Event::Install(done)) {

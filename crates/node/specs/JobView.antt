@@ -2,6 +2,8 @@
 use Rattle.std.specs.Prelude.{slice_get}
 use Rattle.kahn_net.specs.Syntax.{network_of}
 use Rattle.kahn_net.specs.States.{standing_of}
+use Rattle.std.specs.declared.alloc.Global.{Global}
+use Rattle.std.specs.declared.sync.Arc.{Arc}
 use Rattle.proc_step.specs.declared.job.Job.{Job}
 use Rattle.protocol.specs.Node.JobView.{JobView}
 
@@ -14,3 +16,7 @@ job_view job = record {
   items = job.items.items;
   room = job.room.items;
 }
+
+-- a job of which several have a share
+abbrev pub shared_view : Arc Job Global → JobView
+shared_view job = job_view job.value

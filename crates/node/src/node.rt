@@ -21,7 +21,7 @@ ghost use Rattle.kahn_net.specs.Nodes.{node_count};
 ghost use Rattle.node.specs.Said.{IsSaid, MayBeDecided};
 ghost use Rattle.kahn_net.specs.declared.limits.TheConstants.{MAX_NODES};
 ghost use Rattle.protocol.specs.Node.Installing.{IsInstall, IsOut, TakesTurn};
-ghost use Rattle.node.specs.JobView.{job_view};
+ghost use Rattle.node.specs.JobView.{job_view, shared_view};
 ghost use Rattle.node.specs.NodeView.{mode_view};
 ghost use Rattle.protocol.specs.Node.Opening.{running_from};
 ghost use Rattle.protocol.specs.Node.Modes.{crashed, is_down};
@@ -108,7 +108,7 @@ impl<C: SlotCell> Node<C> {
     }
 
     /// Grants a job to the ready process that is next: its state, the items at hand and the room, where a channel retains
-    /// at most so many items, and no more than its share of a record. The node keeps a copy to compare with what comes
+    /// at most so many items, and no more than its share of a record. The node keeps a share to compare with what comes
     /// back. `None` where no job can be granted. Refuses for want of memory alone.
     pub fn grant(
         &mut self,
@@ -116,8 +116,8 @@ impl<C: SlotCell> Node<C> {
         net: &Arc<Net>,
         inputs: &Inputs,
         room: usize,
-    ) -> Result<Option<Job>, AllocError>
-        ensures job { IfOk result (λ job. option_map job_view job
+    ) -> Result<Option<Arc<Job>>, AllocError>
+        ensures job { IfOk result (λ job. option_map shared_view job
             ≡ node_job (network_of net.now.value.program) inputs.now room (view_of self.old)) }
         ensures state { IfOk result (λ job. view_of self.new
             ≡ with_grant (node_job (network_of net.now.value.program) inputs.now room
@@ -139,10 +139,10 @@ impl<C: SlotCell> Node<C> {
         channels: &[Channel],
         done: &Done,
     ) -> Result<bool, LogFault>
-        requires { IsOut (job_view done.now.job) (view_of self.old).mode
-            → TakesTurn channels.now done.now.job.process done.now.taken.items
+        requires { IsOut (job_view done.now.job.value) (view_of self.old).mode
+            → TakesTurn channels.now done.now.job.value.process done.now.taken.items
             done.now.sent.items (view_of self.old).mode }
-        ensures step { IfOk result (λ applied. IsInstall channels.now (job_view done.now.job)
+        ensures step { IfOk result (λ applied. IsInstall channels.now (job_view done.now.job.value)
             (standing_of done.now.state) done.now.taken.items done.now.sent.items
             (view_of self.old) applied (view_of self.new)) }
         ensures err { OnErr result (view_of self.new ≡ view_of self.old) }

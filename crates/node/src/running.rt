@@ -13,7 +13,7 @@ ghost use Rattle.protocol.specs.Node.NodeView.{Runs};
 ghost use Rattle.protocol.specs.Node.Telling.{turn_packets};
 ghost use Rattle.protocol.specs.Node.Trimming.{cut_at};
 ghost use Rattle.protocol.specs.Node.Installing.{ImageTakes, IsTaken};
-ghost use Rattle.node.specs.JobView.{job_view};
+ghost use Rattle.node.specs.JobView.{job_view, shared_view};
 ghost use Rattle.rollback_core.specs.RestoredView.{restored_view};
 
 use crate::choosing::next_process;
@@ -41,7 +41,7 @@ pub struct Running {
     /// Where its processes and channels stand now.
     pub current: Image,
     /// The job that is out, to compare with what comes back.
-    pub out: Option<Job>,
+    pub out: Option<Arc<Job>>,
     /// The process to which the last job was granted: none at first, and once an image was restored.
     pub last: Option<u8>,
     /// What came of each channel from another node, by their channels' numbers.
@@ -153,7 +153,7 @@ impl Running {
     }
 
     /// Grants a job to the ready process that is next: its state, the items at hand and the room, where a channel has so
-    /// much. A copy is kept to compare with what comes back. `None` where no job can be granted. Refuses for want of
+    /// much. A share is kept to compare with what comes back. `None` where no job can be granted. Refuses for want of
     /// memory alone.
     pub fn grant(
         &mut self,
@@ -163,8 +163,8 @@ impl Running {
         room: usize,
         kept: &Record,
         version: u64,
-    ) -> Result<Option<Job>, AllocError>
-        ensures job { IfOk result (λ job. option_map job_view job
+    ) -> Result<Option<Arc<Job>>, AllocError>
+        ensures job { IfOk result (λ job. option_map shared_view job
             ≡ next_job (network_of net.now.value.program) inputs.now room
             (running_node kept.now version (running_view self.old))) }
         ensures state { IfOk result (λ job. running_view self.new
@@ -176,8 +176,11 @@ impl Running {
         let Some(saved) = self.next_process(net, inputs, share, kept, version) else {
             return Ok(None);
         };
-        let job = self.make_job(alloc, share, net, inputs, saved, version)?;
-        let out = self.make_job(alloc, share, net, inputs, saved, version)?;
+        let job = Arc::new(
+            alloc,
+            self.make_job(alloc, share, net, inputs, saved, version)?,
+        )?;
+        let out = Arc::try_clone(&job)?;
         self.last = Some(out.process as u8);
         self.out = Some(out);
         Ok(Some(job))
@@ -201,10 +204,10 @@ impl Running {
         channels: &[Channel],
         done: &Done,
     ) -> Result<bool, LogFault>
-        requires { (running_view self.old).out ≡ Some (job_view done.now.job)
-            → ImageTakes channels.now done.now.job.process done.now.taken.items done.now.sent.items
+        requires { (running_view self.old).out ≡ Some (job_view done.now.job.value)
+            → ImageTakes channels.now done.now.job.value.process done.now.taken.items done.now.sent.items
             self.old.current }
-        ensures step { IfOk result (λ applied. IsTaken channels.now (job_view done.now.job)
+        ensures step { IfOk result (λ applied. IsTaken channels.now (job_view done.now.job.value)
             (standing_of done.now.state) done.now.taken.items done.now.sent.items
             (running_view self.old) applied (running_view self.new)) }
         ensures err { OnErr result (running_view self.new ≡ running_view self.old) }

@@ -11,7 +11,7 @@ ghost use Rattle.protocol.specs.Node.ArmedRestarts.{restart_after};
 ghost use Rattle.protocol.specs.Node.Choosing.{node_job, with_grant};
 ghost use Rattle.protocol.specs.Node.Delivering.{hearing};
 ghost use Rattle.protocol.specs.Node.Installing.{IsOut, IsTakenIn, TakesTurn};
-ghost use Rattle.node.specs.JobView.{job_view};
+ghost use Rattle.node.specs.JobView.{job_view, shared_view};
 ghost use Rattle.protocol.specs.Node.Beginning.{live_in, may_start};
 ghost use Rattle.protocol.specs.Node.Collecting.{hearing_covered, joining};
 ghost use Rattle.protocol.specs.Node.GoingBack.{noting_undone, set_back_from};
@@ -135,8 +135,8 @@ impl NodeState {
         inputs: &Inputs,
         room: usize,
         kept: &Record,
-    ) -> Result<Option<Job>, AllocError>
-        ensures job { IfOk result (λ job. option_map job_view job
+    ) -> Result<Option<Arc<Job>>, AllocError>
+        ensures job { IfOk result (λ job. option_map shared_view job
             ≡ node_job (network_of net.now.value.program) inputs.now room
             (node_view kept.now self.old)) }
         ensures state { IfOk result (λ job. node_view kept.now self.new
@@ -159,10 +159,10 @@ impl NodeState {
         channels: &[Channel],
         done: &Done,
     ) -> Result<bool, LogFault>
-        requires { IsOut (job_view done.now.job) (mode_view self.old.mode)
-            → TakesTurn channels.now done.now.job.process done.now.taken.items
+        requires { IsOut (job_view done.now.job.value) (mode_view self.old.mode)
+            → TakesTurn channels.now done.now.job.value.process done.now.taken.items
             done.now.sent.items (mode_view self.old.mode) }
-        ensures step { IfOk result (λ applied. IsTakenIn channels.now (job_view done.now.job)
+        ensures step { IfOk result (λ applied. IsTakenIn channels.now (job_view done.now.job.value)
             (standing_of done.now.state) done.now.taken.items done.now.sent.items
             (mode_view self.old.mode) applied (mode_view self.new.mode)) }
         ensures err { OnErr result (mode_view self.new.mode ≡ mode_view self.old.mode) }

@@ -35,8 +35,8 @@ pub struct Run {
 }
 
 /// What comes of a job.
-fn done_of(alloc: Global, job: Job) -> anyhow::Result<Done> {
-    match job.run(alloc) {
+fn done_of(alloc: Global, job: Arc<Job>) -> anyhow::Result<Done> {
+    match Job::run(job, alloc) {
         Ok(done) => Ok(done),
         Err(_) => anyhow::bail!("no memory"),
     }

@@ -85,7 +85,7 @@ fn put_fits(end: &End, count: usize) -> bool
 
 /// Whether an end takes what came of a job.
 fn end_fits(channels: &[Channel], done: &Done, saved: &SavedEnd) -> bool
-    ensures { IsTrue result → EndTakes channels.now done.now.job.process done.now.taken.items
+    ensures { IsTrue result → EndTakes channels.now done.now.job.value.process done.now.taken.items
         done.now.sent.items saved.now }
 {
     let process = done.job.process;
@@ -95,7 +95,7 @@ fn end_fits(channels: &[Channel], done: &Done, saved: &SavedEnd) -> bool
 }
 
 fn image_fits(channels: &[Channel], done: &Done, image: &Image) -> bool
-    ensures { IsTrue result → ImageTakes channels.now done.now.job.process done.now.taken.items
+    ensures { IsTrue result → ImageTakes channels.now done.now.job.value.process done.now.taken.items
         done.now.sent.items image.now }
 {
     for saved in &image.ends {
@@ -108,7 +108,7 @@ fn image_fits(channels: &[Channel], done: &Done, image: &Image) -> bool
 
 /// Whether what a node has, if it runs, takes what came of a job.
 fn mode_fits(channels: &[Channel], done: &Done, mode: &Mode) -> bool
-    ensures { IsTrue result → TakesTurn channels.now done.now.job.process done.now.taken.items
+    ensures { IsTrue result → TakesTurn channels.now done.now.job.value.process done.now.taken.items
         done.now.sent.items (mode_view mode.now) }
 {
     match mode {

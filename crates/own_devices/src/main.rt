@@ -18,6 +18,7 @@ use gate_cell::SplitCell;
 use net_check::{Net, bind, check};
 use net_text::{parse, parse_inputs};
 use outlet::Outlet;
+use proc_step::Job;
 use sector_disk::MemDisk;
 use std::alloc::{AllocError, Global};
 use std::sync::Arc;
@@ -115,7 +116,7 @@ fn step(rt: &HostRuntime, world: &mut OwnWorld) -> anyhow::Result<()> {
     let event = world.pick(0);
     match apply(alloc, world, event)? {
         Reply::Granted(job) => {
-            let Ok(done) = job.run(alloc) else {
+            let Ok(done) = Job::run(job, alloc) else {
                 return Err(anyhow::anyhow!("no memory"));
             };
             apply(alloc, world, Event::Install(done))?;

@@ -1,13 +1,13 @@
 //! Jobs, and what they came to.
 
-ghost use Rattle.std.specs.Prelude.{◌≡◌, ◌<◌, length, slice_get, Some, MatchResult};
+ghost use Rattle.std.specs.Prelude.{◌≡◌, ◌<◌, length, slice_get, Some, IfOk, MatchResult};
 ghost use Rattle.kahn_net.specs.Syntax.{Code, network_of};
 ghost use Rattle.proc_step.specs.Turns.{IsOwnTurn};
 
-use crate::outcome::take_turn;
+use crate::outcome::{Outcome, take_turn};
 use kahn_net::{History, ProcState};
 use net_check::Net;
-use std::alloc::Global;
+use std::alloc::{AllocError, Global};
 use std::sync::Arc;
 use thiserror::Error;
 
@@ -29,23 +29,23 @@ pub struct Job {
     pub ghost named: { process < length net.value.program.processes.items },
 }
 
-/// A job that was run, with what the process's own turn on it came to: the state after it, how many
-/// items it took from each channel, and what it sent on each.
+/// A share of a job that was run, with what the process's own turn on it came to: the state after it, how many items it
+/// took from each channel, and what it sent on each.
 #[derive(Debug, Drop)]
 pub struct Done {
-    pub job: Job,
+    pub job: Arc<Job>,
     pub state: ProcState,
     pub taken: Vec<usize>,
     pub sent: Vec<History>,
-    pub ghost turn: { ∥ IsOwnTurn job.net.value.program job.process job.state job.items.items
-        job.room.items state taken.items sent.items ∥₁ },
+    pub ghost turn: { ∥ IsOwnTurn job.value.net.value.program job.value.process job.value.state
+        job.value.items.items job.value.room.items state taken.items sent.items ∥₁ },
 }
 
-/// Want of memory (1), with the job as it was.
+/// Want of memory (1), with the share of the job.
 #[derive(Debug, Drop, Error)]
 #[error("no memory")]
 pub struct JobFault {
-    pub job: Job,
+    pub job: Arc<Job>,
 }
 
 impl JobFault {
@@ -67,23 +67,32 @@ impl Job {
         self.net.program.processes[self.process].node
     }
 
-    /// Makes the process's turn: as many of its acts as the items at hand and the room allow, until
-    /// it finishes, or its next act is held back for want of an item or of a place. Refuses for
-    /// want of memory alone, and then hands the job back.
-    pub fn run(self, alloc: Global) -> Result<Done, JobFault>
-        ensures { MatchResult result (λ done. done.job ≡ self) (λ fault. fault.job ≡ self) }
+    // What the process's turn comes to.
+    fn outcome(&self, alloc: Global) -> Result<Outcome, AllocError>
+        ensures { IfOk result (λ after. ∥ IsOwnTurn self.now.net.value.program self.now.process
+            self.now.state self.now.items.items self.now.room.items after.state after.taken.items
+            after.sent.items ∥₁) }
     {
         let net: &Net = &self.net;
         let process = &net.program.processes[self.process];
         let code = &net.codes[self.process];
-        match take_turn(alloc, process, code, &self.state, &self.items, &self.room) {
+        take_turn(alloc, process, code, &self.state, &self.items, &self.room)
+    }
+
+    /// Makes the process's turn: as many of its acts as the items at hand and the room allow, until it finishes, or its
+    /// next act is held back for want of an item or of a place. The job is shared, so that whoever granted it need not copy
+    /// it. Refuses for want of memory alone, and then hands the share back.
+    pub fn run(job: Arc<Job>, alloc: Global) -> Result<Done, JobFault>
+        ensures { MatchResult result (λ done. done.job ≡ job) (λ fault. fault.job ≡ job) }
+    {
+        match job.outcome(alloc) {
             Ok(after) => Ok(Done {
-                job: self,
+                job,
                 state: after.state,
                 taken: after.taken,
                 sent: after.sent,
             }),
-            Err(_) => Err(JobFault { job: self }),
+            Err(_) => Err(JobFault { job }),
         }
     }
 }

@@ -19,6 +19,7 @@ pub mod KeptLaws
 pub mod StepKeeps
 pub mod RoomLaws
 pub mod DropLaws
+pub mod HomeLaws
 pub mod ActLaws
 pub mod GrowLaws
 pub mod OpenLaws

@@ -111,6 +111,11 @@ fn job(
     })
 }
 
+/// What a turn comes to.
+fn run(alloc: Global, job: Job) -> Result<Done, Fail> {
+    Ok(Job::run(Arc::new(alloc, job)?, alloc)?)
+}
+
 /// What a turn sent on channel 1.
 fn sent(done: &Done) -> &[i64] {
     match done.sent.get(1) {
@@ -134,7 +139,7 @@ fn turn(
     room: usize,
 ) -> Result<Done, Fail> {
     let before = state(alloc, place, variables)?;
-    Ok(job(alloc, net, before, items, room)?.run(alloc)?)
+    Ok(run(alloc, job(alloc, net, before, items, room)?)?)
 }
 
 /// What a network's first process puts on channel 1 in all, where each turn has at most so many
@@ -153,7 +158,7 @@ fn cut(
     for _ in 0..100 {
         let rest = items.get(next..).unwrap_or(&[]);
         let hand = rest.get(..at_once).unwrap_or(rest);
-        let done = job(alloc, net, before, hand, room)?.run(alloc)?;
+        let done = run(alloc, job(alloc, net, before, hand, room)?)?;
         next = next.saturating_add(taken(&done));
         for item in sent(&done) {
             out.push(*item)?;
@@ -613,7 +618,7 @@ fn jobs_and_what_they_come_to_go_to_other_threads(rt: HostRuntime) -> Result<(),
     let before = state(alloc, Where::NotBegun, &[0, 0])?;
     let job = sendable(job(alloc, &net, before, &[2], 1)?);
     same(&rt, &job.node(), &0, "node");
-    let done = sendable(job.run(alloc)?);
+    let done = sendable(run(alloc, job)?);
     same(&rt, &done.job.process, &0, "process");
     same(&rt, &done.job.version, &3, "version");
     same_items(&rt, sent(&done), &[2], "sent");

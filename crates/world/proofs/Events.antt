@@ -12,7 +12,7 @@ use Rattle.protocol.specs.World.Pairs.{HasMoved, LeaveEitherSince}
 use Rattle.protocol.specs.World.Replies.{act_reply, has_happened}
 use Rattle.protocol.specs.World.ReplyView as reply
 use Rattle.protocol.specs.World.StationView.{OutletView, StationView}
-use Rattle.protocol.specs.World.Steps.{IsInstalled, IsRelease, Setting, flight_at, next_release, traffic_acted}
+use Rattle.protocol.specs.World.Steps.{IsInstalled, IsRelease, Setting, can_act, flight_at, next_release, traffic_acted}
 use Rattle.protocol.specs.declared.outcome.Outcome.TheVariants as outcome
 use Rattle.world.specs.Coming.{HasCome}
 use Rattle.world.specs.ReplyView.{reply_view}
@@ -62,7 +62,7 @@ module _ (setting : Setting) (fits : RecordView → Bool) (seen : EventView) (ol
 
     -- what the network did
     pub acted_came : (k place : ℕ) (act : NetworkAct) → seen ≡ ByNetwork k place act → new ≡ old
-        → IfOk result (λ (r : Reply). reply_view r ≡ act_reply (is_some (flight_at setting k place)))
+        → IfOk result (λ (r : Reply). reply_view r ≡ act_reply (can_act act (flight_at setting k place)))
         → IfOk result
         (λ (r : Reply). after
         ≡ cond (has_happened (reply_view r)) (traffic_acted act setting.traffic k place) setting.traffic)
@@ -70,7 +70,7 @@ module _ (setting : Setting) (fits : RecordView → Bool) (seen : EventView) (ol
     acted_came k place act is same answers flown = subst Comes (sym is) (by result answers flown)
       where
         by : (res : Result Reply AllocError)
-            → IfOk res (λ (r : Reply). reply_view r ≡ act_reply (is_some (flight_at setting k place)))
+            → IfOk res (λ (r : Reply). reply_view r ≡ act_reply (can_act act (flight_at setting k place)))
             → IfOk res
             (λ (r : Reply). after
             ≡ cond (has_happened (reply_view r)) (traffic_acted act setting.traffic k place) setting.traffic)

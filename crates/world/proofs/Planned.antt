@@ -3,6 +3,8 @@ use Rattle.std.proofs.Common.{◌≡◌, ℕ, Bool, true, false, cond, List, [],
 use Rattle.std.proofs.Common.{ap, subst, ◌∙◌, All}
 use Rattle.std.specs.Prelude.{is_some, map, nat_lt, not, option_map, IfOk}
 use Rattle.std.specs.declared.alloc.AllocError.{AllocError}
+use Rattle.std.specs.declared.alloc.Global.{Global}
+use Rattle.std.specs.declared.sync.Arc.{Arc}
 use Rattle.wire.specs.Traffic.{Traffic, all_sent, traffic_without}
 use Rattle.kahn_net.specs.Syntax.{Network}
 use Rattle.kahn_net.specs.declared.limits.TheConstants.{MAX_COUNT}
@@ -13,7 +15,7 @@ use Rattle.record.specs.Moves.{with_epoch}
 use Rattle.record.specs.RecordView.{RecordView}
 use Rattle.protocol.specs.Node.ArmedRestarts.{restart_after}
 use Rattle.proc_step.specs.declared.job.Job.{Job}
-use Rattle.node.specs.JobView.{job_view}
+use Rattle.node.specs.JobView.{shared_view}
 use Rattle.protocol.specs.Node.Choosing.{granted, with_grant}
 use Rattle.protocol.specs.Node.Delivering.{delivery_of, packet_for}
 use Rattle.protocol.specs.Node.Hearing.{deliver_prospect, hear_prospect, told_prospect}
@@ -105,9 +107,9 @@ mode_stays (Runs running) = refl
 none_granted : (node : NodeView) → with_grant None node ≡ node
 none_granted node = ap (λ (mode : ModeView). with_mode mode node) (mode_stays node.mode)
 
-pub grants : (fits : RecordView → Bool) (round : ℕ) (job : Option JobView) (given : Option Job) (old : StationView)
+pub grants : (fits : RecordView → Bool) (round : ℕ) (job : Option JobView) (given : Option (Arc Job Global)) (old : StationView)
     (number failures : ℕ) (node : NodeView) (turns : RoundTurns) (answer : ReplyView)
-    → option_map job_view given ≡ job → answer ≡ grant_reply (option_map job_view given)
+    → option_map shared_view given ≡ job → answer ≡ grant_reply (option_map shared_view given)
     → node ≡ with_grant job old.node → number ≡ old.number → failures ≡ old.failures
     → turns ≡ cond (is_some given) (count_grant (turns_of round old.turns)) old.turns
     → ComesBy fits round (grant_plan job round old) old answer
@@ -123,7 +125,7 @@ grants fits round job None old number failures node turns answer is answers move
     ∙ ap (λ (f : ℕ). moved_to old.node f old.turns old) same_failures))
 grants fits round job (Some given) old number failures node turns answer is answers moved same_number same_failures
     noted =
-    let some = Some (job_view given) in
+    let some = Some (shared_view given) in
     let counted = count_grant (turns_of round old.turns) in
     let new : StationView =
     record { number = number; node = node; failures = failures; outlets = old.outlets; turns = turns } in

@@ -6,4 +6,4 @@ use Rattle.node.specs.JobView.{job_view}
 
 abbrev pub done_view : Done → DoneView
 done_view done =
-    record { job = job_view done.job; after = standing_of done.state; taken = done.taken.items; sent = done.sent.items }
+    record { job = job_view done.job.value; after = standing_of done.state; taken = done.taken.items; sent = done.sent.items }

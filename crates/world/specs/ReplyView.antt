@@ -3,14 +3,14 @@ use Rattle.std.specs.Prelude.{Option, Some, None, Result, Ok, Err}
 use Rattle.protocol.specs.World.ReplyView.{ReplyView, Delivered, Dropped, Granted, Installed, Discarded, Sent, Started}
 use Rattle.protocol.specs.World.ReplyView.{Decided, Refused, Released, OutletFailed, Crashed, Recovered, InDoubt, Down}
 use Rattle.protocol.specs.World.ReplyView.{Acted, Idled, NotDue}
-use Rattle.node.specs.JobView.{job_view}
+use Rattle.node.specs.JobView.{shared_view}
 use Rattle.world.specs.declared.event.Reply.{Reply}
 use Rattle.world.specs.declared.event.Reply.TheVariants as reply
 
 abbrev pub reply_view : Reply → ReplyView
 reply_view reply.Delivered = Delivered
 reply_view reply.Dropped = Dropped
-reply_view (reply.Granted job) = Granted (job_view job)
+reply_view (reply.Granted job) = Granted (shared_view job)
 reply_view reply.Installed = Installed
 reply_view reply.Discarded = Discarded
 reply_view reply.Sent = Sent

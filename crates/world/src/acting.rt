@@ -22,7 +22,7 @@ ghost use Rattle.protocol.specs.WorldLaws.PlanLaws.{IsSoundSetting, IsSoundStati
 ghost use Rattle.world.specs.WorldView.{station_view, IsCellUnchanged, LeavesDeviceBy, RestartsAsArmed};
 
 use crate::event::{Event, Reply};
-use crate::network::{delay, lose, repeat, spell_all};
+use crate::network::{arm_packet, delay, lose, repeat, spell_all};
 use crate::station::Station;
 use gate_cell::SlotCell;
 use net_check::{Inputs, Net};
@@ -147,6 +147,7 @@ impl<C: SlotCell, O: Outlet> Station<C, O> {
                 place,
                 rounds,
             } => Ok(delay(wire, *node, *place, *rounds)),
+            Event::ArmPacket(rule) => arm_packet(wire, *rule),
         }
     }
 }

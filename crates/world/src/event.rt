@@ -6,6 +6,7 @@ use protocol::Refusal;
 use sector_disk::ArmedFault;
 use std::sync::Arc;
 use stream_eq::Freed;
+use wire::Rule;
 
 /// What can happen. Each names its node, and `Install` that of its job's process.
 #[derive(Drop)]
@@ -61,6 +62,10 @@ pub enum Event {
         place: usize,
         rounds: u64,
     },
+    /// What is to become of the nth packet from one node to another: it is to be lost, put in flight twice, or due so many rounds
+    /// later. Packets are counted from the world's beginning on; of one that was sent already the rule says nothing. Of
+    /// several rules for one packet each applies, in the order of arming.
+    ArmPacket(Rule),
 }
 
 impl Event {
@@ -86,6 +91,7 @@ impl Event {
             Event::Lose { node, .. } => *node,
             Event::Repeat { node, .. } => *node,
             Event::Delay { node, .. } => *node,
+            Event::ArmPacket(rule) => rule.to,
         }
     }
 }
@@ -98,8 +104,8 @@ pub enum Reply {
     /// It spells no packet, or one that isn't for this node or names what isn't there: it is gone (33). In a world this can't
     /// happen, since all that is in flight was sent by its nodes.
     Dropped,
-    /// The job that was granted.
-    Granted(Job),
+    /// A share of the job that was granted.
+    Granted(Arc<Job>),
     /// The turn was taken in.
     Installed,
     /// What came back isn't of the job that is out. It is gone.

@@ -1,5 +1,5 @@
 // What is in flight between the nodes.
-ghost use Rattle.std.specs.Prelude.{◌≡◌, ◌<◌, ℕ, All, List, IfOk, IsSome, IsTrue, OnErr, OnOk, FitsSigned, if◌then◌else◌, is_some, length, map, option_map, slice_get};
+ghost use Rattle.std.specs.Prelude.{◌≡◌, ◌<◌, ℕ, true, All, List, IfOk, IsSome, IsTrue, OnErr, OnOk, FitsSigned, if◌then◌else◌, is_some, length, map, option_map, slice_get};
 ghost use Rattle.std.specs.Int.{w64};
 ghost use Rattle.std.specs.List.{AllZip, position_from};
 ghost use Rattle.datagram.specs.PacketText.{IsPacket};
@@ -10,7 +10,7 @@ ghost use Rattle.world.specs.Coming.{IsReadyFor, sent_then, taken_by};
 ghost use Rattle.world.specs.ReplyView.{reply_view};
 ghost use Rattle.wire.specs.Queue.{is_due};
 ghost use Rattle.wire.specs.Staging.{HasNoLessRoom, HasRoom, IsStaged};
-ghost use Rattle.wire.specs.Traffic.{AreNodes, all_sent, flights_to, traffic_of, traffic_delayed, traffic_repeated, traffic_without};
+ghost use Rattle.wire.specs.Traffic.{AreNodes, all_sent, flights_to, traffic_armed, traffic_of, traffic_delayed, traffic_repeated, traffic_without};
 ghost use Rattle.wire.specs.declared.sending.Sending.{Sending as SendingValue};
 ghost use Rattle.wire.specs.Wire.{in_flight};
 ghost use Rattle.wire.specs.declared.queue.TheConstants.{NODES};
@@ -19,7 +19,7 @@ use crate::event::Reply;
 use datagram::{Body, Packet, write_packet};
 use node::{Outcome, Refusal, Said};
 use std::alloc::{AllocError, Global};
-use wire::{Batch, Bytes, Sending, Wire};
+use wire::{Batch, Bytes, Rule, Sending, Wire};
 
 // Whether there is a packet at a place, of those in flight to a node.
 fn is_there(wire: &Wire, to: u8, place: usize) -> bool
@@ -112,6 +112,18 @@ pub(crate) fn delay(wire: &mut Wire, to: u8, place: usize, rounds: u64) -> Reply
     }
     wire.delay(to, place, rounds);
     Reply::Acted
+}
+
+/// A rule is armed for a packet that is still to be sent.
+pub(crate) fn arm_packet(wire: &mut Wire, rule: Rule) -> Result<Reply, AllocError>
+    ensures reply { IfOk result (λ reply. reply_view reply ≡ act_reply true) }
+    ensures traffic { IfOk result (λ reply. traffic_of wire.new
+        ≡ (if has_happened (reply_view reply)
+        then traffic_armed (traffic_of wire.old) rule else traffic_of wire.old)) }
+    ensures refused { OnErr result (traffic_of wire.new ≡ traffic_of wire.old) }
+{
+    wire.arm(rule)?;
+    Ok(Reply::Acted)
 }
 
 // An item is a number of 64 bits, as its type says.

@@ -4,7 +4,7 @@ ghost use Rattle.kahn_net.specs.Syntax.{network_of};
 ghost use Rattle.ckpt_store.specs.Spelling.{fits_in};
 ghost use Rattle.ckpt_store.specs.StoreView.{cell_in};
 ghost use Rattle.node.specs.NodeOf.{view_of};
-ghost use Rattle.node.specs.JobView.{job_view};
+ghost use Rattle.node.specs.JobView.{job_view, shared_view};
 ghost use Rattle.protocol.specs.Node.Choosing.{node_job};
 ghost use Rattle.protocol.specs.Node.Installing.{IsOut, TakesTurn};
 ghost use Rattle.world.specs.DoneView.{done_view};
@@ -27,8 +27,8 @@ use std::alloc::{AllocError, Global};
 use std::sync::Arc;
 
 // What is answered where a job was granted, or none, which is noted.
-fn note_grant(turns: &mut RoundTurns, granted: Option<Job>, round: u64) -> Reply
-    ensures reply { reply_view result ≡ grant_reply (option_map job_view granted) }
+fn note_grant(turns: &mut RoundTurns, granted: Option<Arc<Job>>, round: u64) -> Reply
+    ensures reply { reply_view result ≡ grant_reply (option_map shared_view granted) }
     ensures turns { turns.new ≡ (if is_some granted then count_grant (turns_of round turns.old) else turns.old) }
 {
     match granted {
@@ -73,8 +73,8 @@ impl<C: SlotCell, O: Outlet> Station<C, O> {
         net: &Net,
         done: &Done,
     ) -> Result<Reply, AllocError>
-        requires { IsOut (job_view done.now.job) (view_of self.old.node).mode
-            → TakesTurn (network_of net.now.program).channels done.now.job.process
+        requires { IsOut (job_view done.now.job.value) (view_of self.old.node).mode
+            → TakesTurn (network_of net.now.program).channels done.now.job.value.process
             done.now.taken.items done.now.sent.items (view_of self.old.node).mode }
         ensures outputs { outlet_views O.taken O.failures self.new.outputs.items
             ≡ outlet_views O.taken O.failures self.old.outputs.items }

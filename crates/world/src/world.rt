@@ -14,7 +14,7 @@ ghost use Rattle.protocol.specs.World.Traffic.{TrafficIsSound};
 ghost use Rattle.wire.specs.Traffic.{traffic_of};
 ghost use Rattle.world.specs.Coming.{HasActed};
 ghost use Rattle.world.specs.RecoveryLine.{StaysInLine, KeepsLine, HasOneLine};
-ghost use Rattle.protocol.specs.World.Replies.{IsDropped, IsTooLarge, LeavesCells, TakesMemory};
+ghost use Rattle.protocol.specs.World.Replies.{IsDropped, IsGrantedAt, IsTooLarge, LeavesCells, TakesMemory};
 ghost use Rattle.world.specs.ReplyView.{answer_view, reply_view};
 ghost use Rattle.protocol.specs.World.ReplyView.{Down};
 ghost use Rattle.protocol.specs.World.Roomy.{HasFullRoom};
@@ -185,6 +185,9 @@ impl<C: SlotCell, O: Outlet> World<C, O> {
             → IfOk result (λ reply. ¬ (IsTooLarge (reply_view reply))) }
         // A packet that comes is never dropped, since each in flight spells one for its node.
         ensures heard { IfOk result (λ reply. ¬ (IsDropped (reply_view reply))) }
+        // A job that is granted is of a process of the event's node.
+        ensures home { IfOk result
+            (λ reply. IsGrantedAt (event_node (event_view event)) (reply_view reply)) }
         // What it doesn't touch stays as it was: the cells where no record was put, and all of it at a refusal.
         ensures unchanged { LeavesCells (event_view event) (answer_view result)
             → AllZip IsCellUnchanged self.old.stations.items self.new.stations.items }

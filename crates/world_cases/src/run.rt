@@ -10,6 +10,7 @@ use crate::stream::Stream;
 use case_table::listed;
 use proc_step::{Done, Job};
 use std::alloc::{AllocError, Global};
+use std::sync::Arc;
 use world::{Event, Reply};
 
 /// The most times that each node goes on in a `run`.
@@ -33,8 +34,8 @@ pub struct Run {
 }
 
 /// What comes of a job.
-fn done_of(alloc: Global, job: Job) -> anyhow::Result<Done> {
-    match job.run(alloc) {
+fn done_of(alloc: Global, job: Arc<Job>) -> anyhow::Result<Done> {
+    match Job::run(job, alloc) {
         Ok(done) => Ok(done),
         Err(_) => anyhow::bail!("no memory"),
     }

@@ -94,6 +94,7 @@ acted_carries event.Lose traffic k place sent carries = gone_holds (SaysWhatWasS
 acted_carries event.Repeat traffic k place sent carries = repeated_holds (SaysWhatWasSent sent) traffic k place carries
 acted_carries (event.Delay rounds) traffic k place sent carries =
     delayed_holds (SaysWhatWasSent sent) traffic k place rounds carries
+acted_carries (event.ArmPacket from nth change) traffic k place sent carries = carries
 
 module _ (net : Network) (stations : List StationView) (k : ℕ) (old : StationView)
     (there : slice_get stations k ≡ Some old) (traffic : Traffic) where

@@ -1,5 +1,5 @@
 -- What is answered, and what an answer and an event tell of memory and cells.
-use Rattle.std.specs.Prelude.{◌≡◌, Bool, true, false, Option, Some, None}
+use Rattle.std.specs.Prelude.{◌≡◌, ℕ, Bool, true, false, Option, Some, None}
 use Rattle.protocol.specs.Node.JobView.{JobView}
 use Rattle.protocol.specs.Node.NodeView.{ModeView, Down, InDoubt, Runs}
 use Rattle.protocol.specs.declared.delivery.Delivery.{Delivery}
@@ -7,7 +7,7 @@ use Rattle.protocol.specs.declared.delivery.Delivery.TheVariants as delivery
 use Rattle.protocol.specs.declared.outcome.Outcome.{Outcome}
 use Rattle.protocol.specs.declared.outcome.Outcome.TheVariants as outcome
 use Rattle.protocol.specs.declared.outcome.Refusal.TheVariants.{TooLarge, Spent}
-use Rattle.protocol.specs.World.EventView.{Deed, NetworkAct, EventView, ByNode, ByNetwork, Install, Release}
+use Rattle.protocol.specs.World.EventView.{Deed, NetworkAct, EventView, ByNode, ByNetwork, Install, Release, node_in}
 use Rattle.protocol.specs.World.EventView as event
 use Rattle.protocol.specs.World.ReplyView.{ReplyView}
 use Rattle.protocol.specs.World.ReplyView as reply
@@ -64,6 +64,10 @@ IsTooLarge answer = answer ≡ reply.Refused TooLarge
 abbrev pub IsDropped : ReplyView → Type 0
 IsDropped answer = answer ≡ reply.Dropped
 
+-- a job that was granted is of a process of this node
+abbrev pub IsGrantedAt : ℕ → ReplyView → Type 0
+IsGrantedAt node answer = (job : JobView) → answer ≡ reply.Granted job → node_in job.code ≡ node
+
 -- no record was put, and none may have been
 abbrev pub AnswerLeaves : Option ReplyView → Type 0
 AnswerLeaves (Some reply.Delivered) = ⊥
@@ -95,6 +99,7 @@ DeedTakesMemory deed = Unit {0}
 
 abbrev pub ActTakesMemory : NetworkAct → Type 0
 ActTakesMemory event.Repeat = Unit {0}
+ActTakesMemory (event.ArmPacket from nth change) = Unit {0}
 ActTakesMemory act = ⊥
 
 abbrev pub TakesMemory : EventView → Type 0

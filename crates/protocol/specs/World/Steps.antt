@@ -16,7 +16,7 @@ use Rattle.record.specs.RecordView.{RecordView}
 use Rattle.datagram.specs.PacketText.{IsPacket, packet_text}
 use Rattle.datagram.specs.declared.packet.Packet.{Packet}
 use Rattle.wire.specs.Queue.{is_due}
-use Rattle.wire.specs.Traffic.{Traffic, all_sent, flights_to, traffic_delayed, traffic_repeated, traffic_without}
+use Rattle.wire.specs.Traffic.{Traffic, all_sent, flights_to, traffic_armed, traffic_delayed, traffic_repeated, traffic_without}
 use Rattle.wire.specs.declared.queue.Flight.{Flight}
 use Rattle.wire.specs.declared.sending.Sending.{Sending}
 use Rattle.protocol.specs.Node.ArmedRestarts.{restart_after, round_later, with_armed}
@@ -270,6 +270,11 @@ IsRelease round (Some place) old answer new = IsReleaseAt round place old answer
 
 -- ---- one station, and all
 
+-- an act on a packet needs one there; for one that is still to be sent nothing is missing
+abbrev pub can_act : NetworkAct → Option Flight → Bool
+can_act (event.ArmPacket from nth change) flight = true
+can_act act flight = is_some flight
+
 -- an event of this station, or of the network at it; a deed comes out in this way
 abbrev pub IsStationStep : Setting → (RecordView → Bool) → EventView → Outcome → StationView → ReplyView → StationView
     → Type 0
@@ -279,7 +284,7 @@ IsStationStep setting fits (Install done) came old answer new = IsInstalled sett
 IsStationStep setting fits (Release k) came old answer new =
     IsRelease setting.round (next_release setting.round old) old answer new
 IsStationStep setting fits (ByNetwork k place act) came old answer new =
-    (answer ≡ act_reply (is_some (flight_at setting k place))) × (new ≡ old)
+    (answer ≡ act_reply (can_act act (flight_at setting k place))) × (new ≡ old)
 
 -- at the station of this place
 pub record IsActAt (setting : Setting) (place : ℕ) (fits : RecordView → Bool) (station : StationView)
@@ -339,6 +344,8 @@ abbrev pub traffic_acted : NetworkAct → Traffic → ℕ → ℕ → Traffic
 traffic_acted event.Lose traffic k place = traffic_without traffic k place
 traffic_acted event.Repeat traffic k place = traffic_repeated traffic k place
 traffic_acted (event.Delay rounds) traffic k place = traffic_delayed traffic k place rounds
+traffic_acted (event.ArmPacket from nth change) traffic k place =
+    traffic_armed traffic (record { from = from; to = k; nth = nth; change = change })
 
 -- what an event that happens sends
 abbrev pub sendings_then : Setting → EventView → Outcome → Option StationView → List Sending

@@ -13,7 +13,7 @@ use Rattle.protocol.specs.World.Replies.{act_reply, answer_by, install_reply, Is
 use Rattle.protocol.specs.World.ReplyView.{ReplyView}
 use Rattle.protocol.specs.World.StationView.{StationView}
 use Rattle.protocol.specs.World.Steps.{IsAct, IsActOf, IsRelease, IsStationStep, Setting, WorldView, deliver_plan}
-use Rattle.protocol.specs.World.Steps.{due_bytes, flight_at}
+use Rattle.protocol.specs.World.Steps.{can_act, due_bytes, flight_at}
 use Rattle.protocol.specs.World.Steps.{next_release, plan_of, setting_of}
 use Rattle.protocol.specs.World.Traffic.{TrafficIsSound}
 use Rattle.protocol.specs.WorldLaws.DeedLaws.{deed_is, is_dropped}
@@ -80,7 +80,7 @@ module _ (setting : Setting) (flying : TrafficIsSound setting.net setting.inputs
   station_hears room (Release k) came old answer new here step =
       not_so answer (release_is setting.round (next_release setting.round old) old answer new step)
   station_hears room (ByNetwork k place act) came old answer new here step =
-      not_so answer (ap is_dropped step.0 ∙ act_is (is_some (flight_at setting k place)))
+      not_so answer (ap is_dropped step.0 ∙ act_is (can_act act (flight_at setting k place)))
 
   -- at the station of this place, where there is one
   place_hears : (place : ℕ) (room : Option (RecordView → Bool)) (station : Option StationView) (e : EventView)

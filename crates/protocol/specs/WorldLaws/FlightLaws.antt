@@ -123,6 +123,7 @@ acted_passes : (test : ℕ → List ℕ → Bool) (act : NetworkAct) (traffic : 
 acted_passes test event.Lose traffic k place all = gone_holds (Passes test) traffic k place all
 acted_passes test event.Repeat traffic k place all = repeated_holds (Passes test) traffic k place all
 acted_passes test (event.Delay rounds) traffic k place all = delayed_holds (Passes test) traffic k place rounds all
+acted_passes test (event.ArmPacket from nth change) traffic k place all = all
 
 then_passes : (test : ℕ → List ℕ → Bool) (setting : Setting) (e : EventView) (station : Option StationView)
     → AllInFlight test setting.traffic → AllInFlight test (traffic_then setting e station)

@@ -34,7 +34,7 @@ use Rattle.protocol.specs.World.ReplyView as reply
 use Rattle.protocol.specs.World.Roomy.{HasFullRoom}
 use Rattle.protocol.specs.World.StationView.{StationView}
 use Rattle.protocol.specs.World.Steps.{IsAct, IsActOf, IsRelease, IsStationStep, Setting, WorldView, deliver_plan}
-use Rattle.protocol.specs.World.Steps.{due_bytes, flight_at}
+use Rattle.protocol.specs.World.Steps.{can_act, due_bytes, flight_at}
 use Rattle.protocol.specs.World.Steps.{next_release, plan_of, setting_of}
 use Rattle.protocol.specs.WorldLaws.DeedLaws.{deed_sound}
 use Rattle.protocol.specs.WorldLaws.PlanLaws.{IsSoundProspect, IsSoundSetting, IsSoundStation}
@@ -177,8 +177,8 @@ module _ (setting : Setting) (sure : IsSoundSetting setting) (capacity : ℕ) (r
   station_fits (Release k) came old answer new sound step =
       release_fits setting.round (next_release setting.round old) old answer new step
   station_fits (ByNetwork k place act) came old answer new sound step =
-      is_not (act_reply (is_some (flight_at setting k place))) answer step.0
-      (acted_fits (is_some (flight_at setting k place)))
+      is_not (act_reply (can_act act (flight_at setting k place))) answer step.0
+      (acted_fits (can_act act (flight_at setting k place)))
 
 module _ (setting : Setting) (sure : IsSoundSetting setting) where
   -- at the station of this place, where there is one

@@ -388,6 +388,7 @@ module _ (net : Network) (inputs : List (List ℤ)) where
   acted_sound event.Lose traffic k place flying = gone_sound net inputs traffic k place flying
   acted_sound event.Repeat traffic k place flying = repeated_sound net inputs traffic k place flying
   acted_sound (event.Delay rounds) traffic k place flying = delayed_sound net inputs traffic k place rounds flying
+  acted_sound (event.ArmPacket from nth change) traffic k place flying = flying
 
 -- whatever happens to it
 module _ (setting : Setting) (sure : IsSoundSetting setting) (place : ℕ) (came : Outcome) (old : List StationView)

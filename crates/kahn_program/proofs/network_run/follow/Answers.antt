@@ -1,5 +1,5 @@
 use Rattle.std.proofs.Common.{refl, sym, subst, ap}
-use Rattle.node.specs.JobView.{job_view}
+use Rattle.node.specs.JobView.{shared_view}
 use Rattle.world.specs.DoneView.{done_view}
 use Rattle.protocol.specs.World.EventView.{Install}
 use Rattle.world.specs.ReplyView.{reply_view}
@@ -15,7 +15,7 @@ returns-in-Ok-apply-clause-follows c =
     let new = c.apply.new.self in
     subst (λ (answer : Reply). Follows (reply_view answer) (world_of old) (world_of new)) (sym c.in-Granted.is) (
       done_view c.in-Ok.done,
-      ap job_view c.in-Ok.ensures,
+      ap shared_view c.in-Ok.ensures,
       reply_view c.in-Ok-apply.field-0,
       in_room (λ taken. taken) (λ outlet. 0) old.stations.items (Install (done_view c.in-Ok.done)) (world_of old)
           (world_of new) (reply_view c.in-Ok-apply.field-0) c.requires refl c.in-Ok-apply.ensures.step,

@@ -9,7 +9,7 @@ use Rattle.node_cases.proofs.taking.image_fits.Goals as goal
 pub loop-saved-preserved : goal.loop-saved-preserved
 loop-saved-preserved c =
     holds_next
-    (EndTakes c.args.channels.now c.args.done.now.job.process c.args.done.now.taken.items
+    (EndTakes c.args.channels.now c.args.done.now.job.value.process c.args.done.now.taken.items
     c.args.done.now.sent.items)
     c.deref-saved-items.result.now c.loop-saved.saved-index c.saved-item.result (search rules) c.saved-item.is
     c.loop-saved.invariant (c.end_fits.ensures c.if-not-end_fits.false)

@@ -7,4 +7,4 @@ use Rattle.node_cases.proofs.taking.image_fits.Given as goal
 abbrev pub invariant-loop-saved : goal.invariant-loop-saved
 invariant-loop-saved l =
     (k : ℕ) (saved : SavedEnd) → slice_get (take l.saved-index l.saved-items) k ≡ Some saved
-    → EndTakes l.channels l.done.job.process l.done.taken.items l.done.sent.items saved
+    → EndTakes l.channels l.done.job.value.process l.done.taken.items l.done.sent.items saved

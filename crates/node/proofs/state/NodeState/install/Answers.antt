@@ -9,5 +9,5 @@ pub install-requires : goal.install-requires
 install-requires c out =
     let done = c.args.done.now in
     let runs = ap mode_view c.in-Running.is in
-    subst (λ (m : ModeView). TakesTurn c.args.channels.now done.job.process done.taken.items done.sent.items m) runs
-    (c.requires (subst (λ (m : ModeView). IsOut (job_view done.job) m) (sym runs) out))
+    subst (λ (m : ModeView). TakesTurn c.args.channels.now done.job.value.process done.taken.items done.sent.items m) runs
+    (c.requires (subst (λ (m : ModeView). IsOut (job_view done.job.value) m) (sym runs) out))

@@ -327,6 +327,20 @@ returns-in-Delay-clause-come g c =
     c.in-Delay.node c.in-Delay.place (view.Delay c.in-Delay.rounds) (ap event_view c.in-Delay.is) refl
     c.delay.ensures.reply c.delay.ensures.traffic
 
+pub returns-in-ArmPacket-clause-come : goal.returns-in-ArmPacket-clause-come
+returns-in-ArmPacket-clause-come g c =
+    let was =
+    station_view {cell = g.C.StableCell} {slots = g.C.SlotCell} g.O.Outlet.taken g.O.Outlet.failures
+    c.args.self.now in
+    let setting =
+    setting_in (network_of c.args.net.now.value.program) c.args.inputs.now.value (traffic_of c.args.wire.now)
+    c.args.round c.args.room in
+    let fits = fits_in (g.C.SlotCell.slot_capacity (cell_in c.args.self.now.node.store)) in
+    let rule = c.in-ArmPacket.rule in
+    acted_came setting fits (event_view c.args.event.now) was was (traffic_of c.arm_packet.new.wire)
+    c.arm_packet.result rule.to 0 (view.ArmPacket rule.from rule.nth rule.change) (ap event_view c.in-ArmPacket.is) refl
+    c.arm_packet.ensures.reply c.arm_packet.ensures.traffic
+
 -- ---- the cell, and what has left
 
 pub returns-in-Deliver-clause-moved : goal.returns-in-Deliver-clause-moved

@@ -7,5 +7,5 @@ use Rattle.world.proofs.station.Station.install.Goals as goal
 pub install-requires : goal.install-requires
 install-requires g c = λ out.
     let done = c.args.done.now in
-    subst (λ (list : List Channel). TakesTurn list done.job.process done.taken.items done.sent.items
+    subst (λ (list : List Channel). TakesTurn list done.job.value.process done.taken.items done.sent.items
     (view_of c.args.self.now.node).mode) (sym c.deref.ensures.value) (c.requires out)

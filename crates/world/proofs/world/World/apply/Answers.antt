@@ -9,6 +9,7 @@ use Rattle.protocol.specs.WorldLaws.CoordinationLaws.{coordinated_still, events_
 use Rattle.protocol.specs.WorldLaws.PrefixLaws.{released_prefix}
 use Rattle.world.specs.ReplyView.{reply_view}
 use Rattle.protocol.specs.WorldLaws.DropLaws.{never_dropped}
+use Rattle.protocol.specs.WorldLaws.HomeLaws.{granted_at_home}
 use Rattle.protocol.specs.WorldLaws.RoomLaws.{never_too_large, rooms_of}
 use Rattle.protocol.specs.World.ReplyView.{NotDue}
 use Rattle.protocol.specs.World.StationView.{StationView}
@@ -203,3 +204,9 @@ returns-in-Ok-clause-heard g c =
     (reply_view c.in-Ok.reply) (map view c.act_at.new.stations.items) was.sound
     (setting_is view (network_of was.net.value.program) was.inputs.value (traffic_of was.wire)
     was.stations.items was.round was.room) (c.from-number.ensures ∙ c.node.ensures) c.in-Ok.ensures.come.act
+
+-- a job that is granted is of a process of the event's node
+pub returns-in-Ok-clause-home : goal.returns-in-Ok-clause-home
+returns-in-Ok-clause-home g c =
+    granted_at_home (rooms c.args.self.now.stations.items) (event_view c.args.event) (world_of c.args.self.now)
+    (reply_view c.in-Ok.reply) _ c.args.self.now.sound (returns-in-Ok-clause-step g c)
