@@ -62,6 +62,7 @@ fn event_word(event: &Event) -> (&'static str, u8) {
         Event::Lose { node, .. } => ("lose", *node),
         Event::Repeat { node, .. } => ("repeat", *node),
         Event::Delay { node, .. } => ("delay", *node),
+        Event::ArmPacket(rule) => ("arm packet", rule.to),
     }
 }
 

@@ -26,6 +26,7 @@
 //! | `grant 0`, `send 0`, `start 0`, `decide 0`, `release 0`, `recover 0`, `idle 0` | an event of the node |
 //! | `crash 0 fill 0 rounds 1`, `arm 0 call 9 fill 0 rounds 1` | a crash of the node, and a failure of its disk |
 //! | `deliver 1 0`, `lose 1 0`, `repeat 1 0`, `delay 1 0 rounds 2` | an event of the packet at a place of those in flight to the node |
+//! | `arm packet 1 from 0 to 1 lose`, `repeat` or `delay 2` in its place | what becomes of the nth packet from one node to another, which is still to be sent |
 //! | `install`, `install 1`, `install of i: 1 2 4` | what came of the job that was granted last comes back, or of the first, the second and so on; or of the first job of another world of the network, on these inputs |
 //! | `run 40` | each node in turn does what `pick` says, with what comes of a job brought back at once, until the world is complete, for so many rounds at most |
 //! | `in turn 7` | so many events, of the nodes in turn from node 0 on, whether the world is complete or not |

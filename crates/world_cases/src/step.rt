@@ -3,6 +3,7 @@
 use case_table::{byte, number, size};
 use sector_disk::ArmedFault;
 use std::alloc::Global;
+use wire::{Change, Rule};
 use world::Event;
 
 /// Which job's outcome is brought back.
@@ -122,6 +123,41 @@ fn packet_event(words: &[&str]) -> anyhow::Result<Option<Event>> {
     Ok(Some(event))
 }
 
+/// A rule for a packet that is still to be sent.
+fn rule_of(nth: &str, from: &str, to: &str, change: Change) -> anyhow::Result<Rule> {
+    Ok(Rule {
+        from: byte(from)?,
+        to: byte(to)?,
+        nth: number(nth)?,
+        change,
+    })
+}
+
+/// An event that arms such a rule.
+fn rule_event(words: &[&str]) -> anyhow::Result<Option<Event>> {
+    let rule = match words {
+        ["arm", "packet", nth, "from", from, "to", to, "lose"] => {
+            rule_of(nth, from, to, Change::Lose)?
+        }
+        ["arm", "packet", nth, "from", from, "to", to, "repeat"] => {
+            rule_of(nth, from, to, Change::Repeat)?
+        }
+        [
+            "arm",
+            "packet",
+            nth,
+            "from",
+            from,
+            "to",
+            to,
+            "delay",
+            rounds,
+        ] => { rule_of(nth, from, to, Change::Delay(number(rounds)?))? }
+        _ => return Ok(None),
+    };
+    Ok(Some(Event::ArmPacket(rule)))
+}
+
 /// A question.
 fn question_of(words: &[&str]) -> anyhow::Result<Option<Question>> {
     let question = match words {
@@ -186,6 +222,9 @@ pub fn step_of(alloc: Global, text: &str) -> anyhow::Result<Step> {
         return Ok(Step::Event(event));
     }
     if let Some(event) = packet_event(&words)? {
+        return Ok(Step::Event(event));
+    }
+    if let Some(event) = rule_event(&words)? {
         return Ok(Step::Event(event));
     }
     if let Some(question) = question_of(&words)? {
