@@ -1,13 +1,13 @@
 //! Running sums in a row, each on a node of its own.
 
-ghost use Rattle.std.specs.Prelude.{◌≡◌, ◌<◌, length, IfOk};
+ghost use Rattle.std.specs.Prelude.{◌≡◌, ◌<◌, ◌≤◌};
 
 use gate_cell::SplitCell;
 use net_check::{bind, check};
 use net_text::{parse, parse_inputs};
 use outlet::ListOutlet;
 use sector_disk::MemDisk;
-use std::alloc::{AllocError, Global};
+use std::alloc::Global;
 use std::sync::Arc;
 use world::{SECTORS, World, list_outputs, node_count};
 
@@ -55,24 +55,17 @@ fn network(alloc: Global, nodes: u8) -> anyhow::Result<String> {
 
 fn inputs(alloc: Global) -> anyhow::Result<String> {
     let mut text = String::from_str(alloc, "c0:")?;
-    for _ in 0..ITEMS {
+    for _item in 0..ITEMS {
         text.push_str(" 3")?;
     }
     text.push_str("\n")?;
     Ok(text)
 }
 
-fn empty_disk(alloc: Global) -> Result<MemDisk, AllocError> {
-    MemDisk::new(alloc, SECTORS)
-}
-
-// So many empty disks.
-fn empty_disks(alloc: Global, count: usize) -> Result<Vec<MemDisk>, AllocError>
-    ensures { IfOk result (λ disks. length disks.items ≡ count) }
-{
+fn empty_disks(alloc: Global, count: usize) -> anyhow::Result<Vec<MemDisk>> {
     let mut disks = Vec::new(alloc);
-    for _ in 0..count {
-        disks.push(empty_disk(alloc)?)?;
+    for _node in 0..count {
+        disks.push(MemDisk::new(alloc, SECTORS)?)?;
     }
     Ok(disks)
 }
@@ -83,6 +76,7 @@ pub fn open(alloc: Global, chain: &Chain) -> anyhow::Result<World<SplitCell<MemD
     let inputs = bind(alloc, &net, parse_inputs(alloc, &chain.inputs)?)?;
     let outputs = list_outputs(alloc, &net)?;
     let disks = empty_disks(alloc, node_count(&net))?;
+    anyhow::ensure!(disks.len() == node_count(&net), "a disk for each node");
     let net = Arc::new(alloc, net)?;
     let inputs = Arc::new(alloc, inputs)?;
     match World::new(alloc, net, inputs, disks, outputs) {

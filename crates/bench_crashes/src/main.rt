@@ -68,7 +68,7 @@ fn step(alloc: Global, world: &mut Sums, node: u8) -> anyhow::Result<()> {
 
 // Goes on, each node in turn, until so many items have left.
 fn run_until(alloc: Global, world: &mut Sums, chain: &Chain, left: usize) -> anyhow::Result<()> {
-    for _ in 0..TURNS {
+    for _turn in 0..TURNS {
         if world.released(chain.output).len() >= left {
             return Ok(());
         }
