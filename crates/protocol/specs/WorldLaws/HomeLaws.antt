@@ -83,7 +83,7 @@ node_grants net inputs room station inv job = at station.node.mode refl
 
 -- ---- answers that grant nothing
 
-is_grant : ReplyView → Bool
+abbrev is_grant : ReplyView → Bool
 is_grant (reply.Granted job) = true
 is_grant answer = false
 
