@@ -1,6 +1,6 @@
 //! Running sums on nodes of their own: in a row, or side by side.
 
-ghost use Rattle.std.specs.Prelude.{◌≡◌, ◌<◌, ◌≤◌};
+ghost use Rattle.std.specs.Prelude.{◌<◌};
 
 use gate_cell::SplitCell;
 use net_check::{bind, check};

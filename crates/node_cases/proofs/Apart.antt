@@ -1,5 +1,5 @@
 -- Who takes part, of so many nodes, is whoever said so of them.
-use Rattle.std.proofs.Common.{◌≡◌, ℕ, ◌+◌, ◌<◌, Bool, true, false, not, IsTrue, List, refl, sym, ap, ◌∙◌, arith}
+use Rattle.std.proofs.Common.{◌≡◌, ℕ, ◌<◌, Bool, true, false, not, IsTrue, List, refl, sym, ap, ◌∙◌, arith}
 use Rattle.recovery_line.specs.Observers.{has_node}
 use Rattle.protocol.specs.JoinLaws.NeedLaws.{has_where}
 use Rattle.protocol.specs.Node.Verdicts.{participants_of}

@@ -5,7 +5,6 @@ ghost use Rattle.std.specs.Option.{ForSome};
 ghost use Rattle.std.specs.List.{AllByRecursion};
 ghost use Rattle.kahn_net.specs.States.{standing_of};
 ghost use Rattle.kahn_net.specs.declared.limits.TheConstants.{MAX_NODES};
-ghost use Rattle.record.specs.DecisionView.{DecisionView};
 ghost use Rattle.record.specs.declared.record.Tentative.{Tentative};
 ghost use Rattle.ckpt_codec.specs.RecordText.{items_of_end, variables_of};
 ghost use Rattle.ckpt_codec.specs.SizeLaws.{IsImageWithin, IsRecordWithin, items_at, left_of};

@@ -1,5 +1,5 @@
 -- What instructions do to a turn.
-use Rattle.std.specs.Prelude.{◌≡◌, ◌+◌, ℕ, ℤ, List, [], Some}
+use Rattle.std.specs.Prelude.{◌≡◌, ◌+◌, ℕ, ℤ, List, Some}
 use Rattle.kahn_net.specs.Statements.{Step, Trace, after_step}
 use Rattle.kahn_net.specs.Puts.{put_by}
 use Rattle.kahn_net.specs.Resuming.{left_by}

@@ -1,6 +1,6 @@
 -- No packet that comes is dropped, where each one in flight is sound.
 use Rattle.std.proofs.Common.{◌≡◌, ⊎_elim, ℕ, Bool, true, false, List, Option, Some, None, refl, ap, subst, ◌∙◌}
-use Rattle.std.specs.Prelude.{slice_get, is_some}
+use Rattle.std.specs.Prelude.{slice_get}
 use Rattle.kahn_net.specs.Syntax.{Network}
 use Rattle.record.specs.RecordView.{RecordView}
 use Rattle.protocol.specs.declared.outcome.Outcome.{Outcome}

@@ -1,7 +1,7 @@
 -- A job that a node grants is of a process of that node.
 use Rattle.std.proofs.Common.{◌≡◌, ⊎_elim, ℕ, Bool, true, false, cond, List, ℤ, length, Option, Some, None, refl, sym, ap, subst}
 use Rattle.std.proofs.Common.{◌∙◌}
-use Rattle.std.specs.Prelude.{slice_get, is_some, IsTrue}
+use Rattle.std.specs.Prelude.{slice_get, IsTrue}
 use Rattle.std.proofs.lemmas.Bool.{eqb-true}
 use Rattle.kahn_net.specs.Syntax.{Code, Network}
 use Rattle.record.specs.ProcessView.{SavedProcessView}

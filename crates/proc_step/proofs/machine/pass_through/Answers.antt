@@ -1,4 +1,4 @@
-use Rattle.std.proofs.Common.{ap, ◌∙◌, arith}
+use Rattle.std.proofs.Common.{◌∙◌, arith}
 use Rattle.proc_step.proofs.Machines.{more_remain, none_remain}
 use Rattle.proc_step.proofs.machine.pass_through.Goals as goal
 

@@ -1,5 +1,4 @@
-use Rattle.std.proofs.Common.{◌≡◌, ◌≤◌, ◌++◌, ℕ, length}
-use Rattle.kahn_net.specs.Streams.{history_of}
+use Rattle.std.proofs.Common.{◌≡◌, ◌++◌, length}
 use Rattle.proc_step.specs.Parts.{taken_of}
 use Rattle.proc_step.proofs.outcome.count_taken.Given as goal
 
