@@ -213,7 +213,8 @@ impl Running {
         ensures err { OnErr result (running_view self.new ≡ running_view self.old) }
         ensures full { ¬ (IsErrOf result LogFault.Full) }
     {
-        if !self.is_out(&done.job) {
+        let job: &Job = &done.job;
+        if !self.is_out(job) {
             return Ok(false);
         }
         install_from(
@@ -222,7 +223,7 @@ impl Running {
             &mut self.inboxes,
             0,
             channels,
-            done.job.process,
+            job.process,
             &done.state,
             &done.taken,
             &done.sent,

@@ -1,0 +1,3 @@
+mod Replays
+mod Turns
+mod Silences

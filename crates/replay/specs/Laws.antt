@@ -1,0 +1,47 @@
+-- What a history says of the world to which it leads, of the turns that come back, and of what may be said again.
+use Rattle.std.specs.Prelude.{◌≡◌, ◌⊎◌, ℕ, Bool, true, false, List, [], ◌∷◌, ◌++◌, Some, slice_get}
+use Rattle.record.specs.RecordView.{RecordView}
+use Rattle.protocol.specs.Node.Installing.{IsOut}
+use Rattle.protocol.specs.World.DoneView.{DoneView}
+use Rattle.protocol.specs.World.EventView.{Install, event_node}
+use Rattle.protocol.specs.World.Invariant.{WorldInvariant}
+use Rattle.protocol.specs.World.ReplyView.{ReplyView, Installed, Discarded}
+use Rattle.protocol.specs.World.StationView.{StationView}
+use Rattle.protocol.specs.World.Steps.{IsStep, WorldView}
+use Rattle.replay.specs.Replay.{Happening, Made, Silent, IsReplay, IsSilence, LeadsTo}
+use Rattle.replay.specs.declared.kept.ScriptedEvent.{ScriptedEvent}
+use Rattle.replay.specs.declared.kept.Silence.{Silence}
+
+-- what is true of a world from its opening on is true of each world to which a history leads
+abbrev pub ReplaysKeep : Type 0
+ReplaysKeep = (fits : List (RecordView → Bool)) (script : List ScriptedEvent) (opening : WorldView)
+    (happened : List Happening) (passed : ℕ) (world : WorldView) → WorldInvariant opening
+    → IsReplay fits script opening happened passed world → WorldInvariant world
+
+-- the network and its inputs stay, and so does the room of a channel
+abbrev pub ReplaysStay : Type 0
+ReplaysStay = (fits : List (RecordView → Bool)) (script : List ScriptedEvent) (opening : WorldView)
+    (happened : List Happening) (world : WorldView) → LeadsTo fits script opening happened world
+    → ∥ (world.net ≡ opening.net) × (world.inputs ≡ opening.inputs) × (world.room ≡ opening.room) ∥₁
+
+-- a turn is taken in exactly where its job is the one that is out at its node, and else gone
+abbrev pub InstallsAreTold : Type 0
+InstallsAreTold = (fits : List (RecordView → Bool)) (fit : RecordView → Bool) (done : DoneView) (old new : WorldView)
+    (answer : ReplyView) (station : StationView) → slice_get fits (event_node (Install done)) ≡ Some fit
+    → slice_get old.stations (event_node (Install done)) ≡ Some station → IsStep fits (Install done) old answer new
+    → ((answer ≡ Installed) × IsOut done.job station.node.mode)
+    ⊎ ((answer ≡ Discarded) × ¬ (IsOut done.job station.node.mode))
+
+-- no event is among these
+abbrev pub no_event : List Happening → Bool
+no_event [] = true
+no_event (Made maker event answer ∷ rest) = false
+no_event (Silent reason ∷ rest) = no_event rest
+
+-- what was said behind the last event holds still
+abbrev pub SilencesStay : Type 0
+SilencesStay = (fits : List (RecordView → Bool)) (script : List ScriptedEvent) (opening : WorldView)
+    (happened : List Happening) (passed : ℕ) (world : WorldView)
+    → IsReplay fits script opening happened passed world
+    → (before rest : List Happening) (reason : Silence) → happened ≡ before ++ Silent reason ∷ rest
+    → no_event rest ≡ true → IsSilence script reason passed world

@@ -1,0 +1,4 @@
+pub mod Plain
+pub mod Replies
+pub mod Replay
+pub mod Laws

@@ -1,0 +1,116 @@
+-- What happened in a run, and to which world it leads.
+use Rattle.std.specs.Prelude.{◌≡◌, ◌⊎◌, ◌≤◌, ◌<◌, ◌+◌, ℕ, Bool, true, false, List, [], ◌∷◌, ◌++◌, length, Option, Some, None}
+use Rattle.std.specs.Prelude.{slice_get}
+use Rattle.record.specs.RecordView.{RecordView}
+use Rattle.protocol.specs.Node.JobView.{JobView}
+use Rattle.protocol.specs.World.Choice.{choice}
+use Rattle.protocol.specs.World.DoneView.{DoneView}
+use Rattle.protocol.specs.World.EventView.{EventView, ByNode, Install, event_node}
+use Rattle.protocol.specs.World.EventView as deed
+use Rattle.protocol.specs.World.ReplyView.{ReplyView}
+use Rattle.protocol.specs.World.StationView.{StationView}
+use Rattle.protocol.specs.World.Steps.{IsStep, WorldView}
+use Rattle.protocol.specs.World.Turns.{turns_of}
+use Rattle.replay.specs.Plain.{plain_view}
+use Rattle.replay.specs.Replies.{kept_reply}
+use Rattle.replay.specs.declared.plain.PlainEvent.{PlainEvent}
+use Rattle.replay.specs.declared.kept.KeptReply.{KeptReply}
+use Rattle.replay.specs.declared.kept.Maker.{Maker}
+use Rattle.replay.specs.declared.kept.Maker.TheVariants.{Node, Driver}
+use Rattle.replay.specs.declared.kept.ScriptedEvent.{ScriptedEvent}
+use Rattle.replay.specs.declared.kept.Silence.{Silence}
+use Rattle.replay.specs.declared.kept.Silence.TheVariants.{Nothing, NotYet, NoMore}
+
+-- ---- what is kept
+
+-- an event as it is kept: of a turn that came back its job, on which it is the process's own
+pub data KeptEvent : Type 0 where
+  Plainly : (event : PlainEvent) → KeptEvent
+  OfJob : (job : JobView) → KeptEvent
+
+-- the event of which that was kept
+abbrev pub IsKeptOf : KeptEvent → EventView → Type 0
+IsKeptOf (Plainly plain) event = event ≡ plain_view plain
+IsKeptOf (OfJob job) event = (done : DoneView) × (event ≡ Install done) × (done.job ≡ job)
+
+-- What happened: an event with its maker and its answer, or that none was made. How often it was said that none was isn't
+-- told here, since it makes no difference to the world.
+pub data Happening : Type 0 where
+  Made : (maker : Maker) → (event : KeptEvent) → (answer : KeptReply) → Happening
+  Silent : (reason : Silence) → Happening
+
+-- ---- whose event may be which
+
+-- the event of a script's line, from its round on
+abbrev pub IsScripted : Option ScriptedEvent → ℕ → EventView → Type 0
+IsScripted None round event = ⊥
+IsScripted (Some line) round event = (line.round ≤ round) × (event ≡ plain_view line.event)
+
+-- a turn comes back to this node
+abbrev pub ComesBackTo : ℕ → EventView → Type 0
+ComesBackTo node event = (done : DoneView) × (event ≡ Install done) × (event_node event ≡ node)
+
+-- A node makes the event that is next for it, or brings back a turn of its own; the driver that of the script's next line,
+-- so many lines having been passed.
+abbrev pub IsEventOf : List ScriptedEvent → Maker → ℕ → WorldView → EventView → Type 0
+IsEventOf script (Node k) passed world event = (event ≡ choice world k) ⊎ ComesBackTo k event
+IsEventOf script Driver passed world event = IsScripted (slice_get script passed) world.round event
+
+-- ---- why none was made
+
+abbrev pub idled_at : ℕ → Option StationView → Bool
+idled_at round None = false
+idled_at round (Some station) = (turns_of round station.turns).idled
+
+-- a node has let its turn pass in this round
+abbrev pub has_idled : WorldView → ℕ → Bool
+has_idled world node = idled_at world.round (slice_get world.stations node)
+
+-- an event in which a turn passes
+abbrev pub IsIdle : EventView → Type 0
+IsIdle event = (node : ℕ) × (event ≡ ByNode node deed.Idle)
+
+abbrev pub IsSilence : List ScriptedEvent → Silence → ℕ → WorldView → Type 0
+IsSilence script (Nothing k) passed world = (has_idled world k ≡ true) × IsIdle (choice world k)
+IsSilence script NotYet passed world =
+    (line : ScriptedEvent) × (slice_get script passed ≡ Some line) × (world.round < line.round)
+IsSilence script NoMore passed world = length script ≤ passed
+
+-- ---- what happened is so
+
+-- An event was made: it is one of its maker, and a step of the world. `fits` is, of each node, what its cell has room for.
+pub record IsMade (fits : List (RecordView → Bool)) (script : List ScriptedEvent) (maker : Maker) (kept : KeptEvent)
+    (said : KeptReply) (passed : ℕ) (old new : WorldView) : Type 0 where
+  pub event : EventView
+  pub answer : ReplyView
+  pub own : IsEventOf script maker passed old event
+  pub is_kept : IsKeptOf kept event
+  pub is_said : said ≡ kept_reply answer
+  pub step : IsStep fits event old answer new
+
+abbrev pub Happens : List (RecordView → Bool) → List ScriptedEvent → Happening → ℕ → WorldView → WorldView → Type 0
+Happens fits script (Made maker kept said) passed old new = IsMade fits script maker kept said passed old new
+Happens fits script (Silent reason) passed old new = IsSilence script reason passed old × (new ≡ old)
+
+-- how many lines of the script are passed then
+abbrev pub passed_by : Maker → ℕ → ℕ
+passed_by (Node k) passed = passed
+passed_by Driver passed = passed + 1
+
+abbrev pub passed_after : Happening → ℕ → ℕ
+passed_after (Made maker kept said) passed = passed_by maker passed
+passed_after (Silent reason) passed = passed
+
+-- What happened, in order, leads from one world to another, and passes so many lines of the script. (The two equations stand
+-- beside, and not in the indices, so that a proof may take the family apart.)
+pub data IsReplay (fits : List (RecordView → Bool)) (script : List ScriptedEvent) (opening : WorldView)
+    : List Happening → ℕ → WorldView → Type 0 where
+  at_first : IsReplay fits script opening [] 0 opening
+  and_then : (before all : List Happening) (next : Happening) (passed after : ℕ) (old new : WorldView)
+      → IsReplay fits script opening before passed old → Happens fits script next passed old new
+      → all ≡ before ++ next ∷ [] → after ≡ passed_after next passed
+      → IsReplay fits script opening all after new
+
+-- the same, however many lines were passed
+abbrev pub LeadsTo : List (RecordView → Bool) → List ScriptedEvent → WorldView → List Happening → WorldView → Type 0
+LeadsTo fits script opening happened world = ∥ ((passed : ℕ) × IsReplay fits script opening happened passed world) ∥₁

@@ -1,0 +1,52 @@
+// What a history keeps, but for jobs.
+
+use crate::plain::PlainEvent;
+use protocol::Refusal;
+
+/// Who makes an event: a node in its turn, or the driver, who goes through the script.
+#[derive(Clone, Copy, Debug, PartialEq, Eq)]
+pub enum Maker {
+    Node(u8),
+    Driver,
+}
+
+/// An answer as it is kept: of a grant without its job, which the world of before fixes, and of a release without its shares.
+#[derive(Clone, Copy, Debug, PartialEq, Eq)]
+pub enum KeptReply {
+    Delivered,
+    Dropped,
+    Granted,
+    Installed,
+    Discarded,
+    Sent,
+    Started,
+    Decided,
+    Refused(Refusal),
+    Released { output: u8, number: u64 },
+    OutletFailed,
+    Crashed,
+    Recovered,
+    InDoubt,
+    Down,
+    Acted,
+    Idled,
+    NotDue,
+}
+
+/// Why no event was made.
+#[derive(Clone, Copy, Debug, PartialEq, Eq)]
+pub enum Silence {
+    /// To let its turn pass is all that the node could do, and it has done so in this round.
+    Nothing(u8),
+    /// The next line of the script isn't due yet.
+    NotYet,
+    /// The script has no line left.
+    NoMore,
+}
+
+/// A line of a script: an event, and the round from which it is due.
+#[derive(Clone, Copy, Debug, PartialEq, Eq)]
+pub struct ScriptedEvent {
+    pub round: u64,
+    pub event: PlainEvent,
+}

@@ -1,0 +1,18 @@
+// Laws of histories.
+ghost use Rattle.replay.specs.Laws.{InstallsAreTold, ReplaysKeep, ReplaysStay, SilencesStay};
+
+/// A history leads on from a sound world to a sound one, and network and inputs stay.
+pub fn replay_law()
+    ensures keeps { ReplaysKeep }
+    ensures stays { ReplaysStay }
+{}
+
+/// What comes back of a job is taken in exactly where the job is the one that is out at its node, and else gone.
+pub fn installs_law()
+    ensures { InstallsAreTold }
+{}
+
+/// What was said where no event was made holds until the next event: it may be said again without another look at the world.
+pub fn silence_law()
+    ensures { SilencesStay }
+{}
