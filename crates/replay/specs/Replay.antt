@@ -24,19 +24,19 @@ use Rattle.replay.specs.declared.kept.Silence.TheVariants.{Nothing, NotYet, NoMo
 -- ---- what is kept
 
 -- an event as it is kept: of a turn that came back its job, on which it is the process's own
-pub data KeptEvent : Type 0 where
-  Plainly : (event : PlainEvent) → KeptEvent
-  OfJob : (job : JobView) → KeptEvent
+pub data KeptEventView : Type 0 where
+  Plainly : (event : PlainEvent) → KeptEventView
+  OfJob : (job : JobView) → KeptEventView
 
 -- the event of which that was kept
-abbrev pub IsKeptOf : KeptEvent → EventView → Type 0
+abbrev pub IsKeptOf : KeptEventView → EventView → Type 0
 IsKeptOf (Plainly plain) event = event ≡ plain_view plain
 IsKeptOf (OfJob job) event = (done : DoneView) × (event ≡ Install done) × (done.job ≡ job)
 
 -- What happened: an event with its maker and its answer, or that none was made. How often it was said that none was isn't
 -- told here, since it makes no difference to the world.
 pub data Happening : Type 0 where
-  Made : (maker : Maker) → (event : KeptEvent) → (answer : KeptReply) → Happening
+  Made : (maker : Maker) → (event : KeptEventView) → (answer : KeptReply) → Happening
   Silent : (reason : Silence) → Happening
 
 -- ---- whose event may be which
@@ -79,7 +79,7 @@ IsSilence script NoMore passed world = length script ≤ passed
 -- ---- what happened is so
 
 -- An event was made: it is one of its maker, and a step of the world. `fits` is, of each node, what its cell has room for.
-pub record IsMade (fits : List (RecordView → Bool)) (script : List ScriptedEvent) (maker : Maker) (kept : KeptEvent)
+pub record IsMade (fits : List (RecordView → Bool)) (script : List ScriptedEvent) (maker : Maker) (kept : KeptEventView)
     (said : KeptReply) (passed : ℕ) (old new : WorldView) : Type 0 where
   pub event : EventView
   pub answer : ReplyView

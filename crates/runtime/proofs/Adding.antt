@@ -1,0 +1,86 @@
+-- A history that goes on.
+use Rattle.std.proofs.Common.{◌≡◌, ◌∙◌, ◌⊎◌, ◌++◌, ◌∷◌, [], ℕ, ◌+◌, Bool, true, List, drop, take, length, slice_get, Some, refl, sym, ap, subst}
+use Rattle.std.proofs.Common.{arith, inl, inr}
+use Rattle.std.proofs.Math.Logic.{∥∥₁_map, ∥∥₁_map₂}
+use Rattle.std.proofs.Math.Seq.{drop-cons}
+use Rattle.std.proofs.lemmas.List.{map-append}
+use Rattle.std.proofs.lemmas.List.Sums.{sum_by-append}
+use Rattle.std.proofs.lemmas.Option.{get_or_from_slice_get, slice_get_within}
+use Rattle.record.specs.RecordView.{RecordView}
+use Rattle.protocol.specs.World.EventView.{EventView}
+use Rattle.protocol.specs.World.ReplyView.{ReplyView}
+use Rattle.protocol.specs.World.Steps.{IsStep, WorldView}
+use Rattle.replay.specs.Replay.{Happening, Made, Silent, Happens, IsEventOf, IsReplay, IsSilence, LeadsTo, at_first, and_then}
+use Rattle.replay.specs.Replay.{passed_after, passed_by}
+use Rattle.replay.specs.declared.kept.Maker.{Maker}
+use Rattle.replay.specs.declared.kept.ScriptedEvent.{ScriptedEvent}
+use Rattle.replay.specs.declared.kept.Silence.{Silence}
+use Rattle.runtime.specs.Counts.{numbers_in, events_in, nothings_in, not_yets_in, no_mores_in}
+use Rattle.runtime.specs.Lines.{IsAdded, happening_of, happenings, kept_view}
+use Rattle.runtime.specs.Numbers.{counted}
+use Rattle.runtime.specs.declared.history.Line.{Line}
+use Rattle.runtime.specs.declared.history.Line.TheVariants as line
+use Rattle.runtime.specs.declared.tally.Counted.TheVariants as kind
+use Rattle.runtime.proofs.Counting.{same_numbers}
+
+abbrev Replays : List (RecordView → Bool) → List ScriptedEvent → WorldView → List Happening → ℕ → WorldView → Type 0
+Replays fits script opening happened passed world = ∥ IsReplay fits script opening happened passed world ∥₁
+
+-- nothing is written yet
+pub begins : (fits : List (RecordView → Bool)) (script : List ScriptedEvent) (opening world : WorldView)
+    (lines : List Line) → lines ≡ [] → world ≡ opening → Replays fits script opening (happenings lines) 0 world
+begins fits script opening world lines none same =
+    subst (λ (ls : List Line). Replays fits script opening (happenings ls) 0 world) (sym none)
+    (subst (λ (w : WorldView). Replays fits script opening [] 0 w) (sym same) ∣ at_first ∣₁)
+
+-- an event
+pub makes : (fits later : List (RecordView → Bool)) (script : List ScriptedEvent) (opening : WorldView)
+    (before now : List Line) (passed after : ℕ) (old new : WorldView) (maker : Maker) (event : EventView)
+    (answer : ReplyView) → Replays fits script opening (happenings before) passed old
+    → IsEventOf script maker passed old event → IsAdded maker event answer before now → IsStep fits event old answer new
+    → after ≡ passed_by maker passed → later ≡ fits → Replays later script opening (happenings now) after new
+makes fits later script opening before now passed after old new maker event answer run own added step count same =
+    let next = Made maker (kept_view added.entry.event) added.entry.reply in
+    let longer : happenings now ≡ happenings before ++ next ∷ [] =
+    ap happenings added.longer
+    ∙ (map-append happening_of before (line.Made added.entry ∷ [])
+    ∙ ap (λ (who : Maker). happenings before ++ Made who (kept_view added.entry.event) added.entry.reply ∷ [])
+    added.of_maker) in
+    let made : Happens fits script next passed old new =
+    record {
+      event = event;
+      answer = answer;
+      own = own;
+      is_kept = added.is_kept;
+      is_said = added.is_said;
+      step = step;
+    } in
+    subst (λ (rooms : List (RecordView → Bool)). Replays rooms script opening (happenings now) after new) (sym same)
+    (∥∥₁_map run (λ r. and_then (happenings before) (happenings now) next passed after old new r made longer count))
+
+-- and its number
+pub numbers_made : (before now : List Line) (stops : ℕ) (maker : Maker) (event : EventView) (answer : ReplyView)
+    → IsAdded maker event answer before now → numbers_in now stops ≡ counted kind.Entry (numbers_in before stops)
+numbers_made before now stops maker event answer added =
+    let one = line.Made added.entry ∷ [] in
+    ap (λ (lines : List Line). numbers_in lines stops) added.longer
+    ∙ same_numbers _ _ _ _ _ _ _ _ _ _ (omega (arith, sum_by-append events_in before one))
+    (omega (arith, sum_by-append nothings_in before one)) (omega (arith, sum_by-append not_yets_in before one))
+    (omega (arith, sum_by-append no_mores_in before one)) refl
+
+-- an answer without one
+pub stays_silent : (fits : List (RecordView → Bool)) (script : List ScriptedEvent) (opening : WorldView)
+    (before now : List Line) (passed : ℕ) (world : WorldView) (reason : Silence)
+    → Replays fits script opening (happenings before) passed world → ∥ IsSilence script reason passed world ∥₁
+    → ((happenings now ≡ happenings before) ⊎ (happenings now ≡ happenings before ++ Silent reason ∷ []))
+    → Replays fits script opening (happenings now) passed world
+stays_silent fits script opening before now passed world reason run silent (inl same) =
+    subst (λ (happened : List Happening). Replays fits script opening happened passed world) (sym same) run
+stays_silent fits script opening before now passed world reason run silent (inr longer) =
+    ∥∥₁_map₂ run silent (λ r said.
+    and_then (happenings before) (happenings now) (Silent reason) passed passed world world r (said, refl) longer refl)
+
+pub leads : (fits : List (RecordView → Bool)) (script : List ScriptedEvent) (opening world : WorldView)
+    (happened : List Happening) (passed : ℕ) → Replays fits script opening happened passed world
+    → LeadsTo fits script opening happened world
+leads fits script opening world happened passed run = ∥∥₁_map run (λ r. (passed, r))

@@ -1,0 +1,20 @@
+use Rattle.std.proofs.Common.{◌∙◌, sym, ap}
+use Rattle.runtime.specs.Counts.{kind_of}
+use Rattle.runtime.specs.Numbers.{Numbers, counted}
+use Rattle.runtime.specs.Tallies.{total_numbers}
+use Rattle.runtime.specs.declared.tally.Counted.{Counted}
+use Rattle.runtime.proofs.Adding.{stays_silent}
+use Rattle.runtime.proofs.book.Book.be_silent.Goals as goal
+
+pub invariant_of-self-2-clause-replays : goal.invariant_of-self-2-clause-replays
+invariant_of-self-2-clause-replays g c =
+    let old = c.args.self.now in
+    stays_silent _ _ _ old.lines.items _ old.passed _ c.args.reason old.replays c.requires.own
+    c.in_ok-add_silence.ensures.lines
+
+pub invariant_of-self-2-clause-numbers : goal.invariant_of-self-2-clause-numbers
+invariant_of-self-2-clause-numbers g c =
+    let old = c.args.self.now in
+    c.in_ok-add_silence.ensures.counts old.stops
+    ∙ (ap (λ (n : Numbers). counted (kind_of c.args.reason) n) old.numbers
+    ∙ (ap (λ (k : Counted). counted k (total_numbers old.totals)) (sym c.counted_as.ensures) ∙ sym c.add.ensures.total))

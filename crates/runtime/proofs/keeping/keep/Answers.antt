@@ -1,0 +1,9 @@
+use Rattle.std.proofs.Common.{ap, sym}
+use Rattle.node.specs.JobView.{job_view}
+use Rattle.world.specs.EventView.{event_view}
+use Rattle.world.specs.DoneView.{done_view}
+use Rattle.runtime.proofs.keeping.keep.Goals as goal
+
+-- of a turn that came back, the share is of its job
+pub returns-in-Install : goal.returns-in-Install
+returns-in-Install c = (done_view c.in-Install.done, ap event_view c.in-Install.is, {!!})

@@ -1,0 +1,50 @@
+// What a seat is answered.
+
+use world::Reply;
+
+/// What a call is answered: the reply of its event, or why it made none.
+#[derive(Drop)]
+pub enum Answer {
+    Reply(Reply),
+    /// To let its turn pass is all that the node could do, and it has done so in this round.
+    Nothing,
+    /// The next line of the script isn't due yet.
+    NotYet,
+    /// The script has no line left.
+    NoMore,
+    /// The hub is stopped: no call makes an event any more.
+    Stopped,
+}
+
+/// How a run stands.
+#[derive(Clone, Copy, Debug, PartialEq, Eq)]
+pub struct Status {
+    pub round: u64,
+    /// Nothing is left to do, and what has left is all that ever will.
+    pub complete: bool,
+    pub stopped: bool,
+}
+
+/// Why a call is refused. It leaves no event and no count.
+#[derive(Clone, Copy, Debug, PartialEq, Eq)]
+pub enum HubFault {
+    /// Want of memory (1).
+    NoMemory,
+    /// A count would pass 2^63 - 1 (44).
+    PastNumber,
+}
+
+impl HubFault {
+    ghost use Rattle.std.specs.Prelude.{◌≡◌};
+    ghost use Rattle.runtime.specs.Answers.{fault_number};
+
+    /// The refusal's number.
+    pub fn number(&self) -> u8
+        ensures { result ≡ fault_number self.now }
+    {
+        match self {
+            HubFault::NoMemory => 1,
+            HubFault::PastNumber => 44,
+        }
+    }
+}

@@ -1,0 +1,320 @@
+// What lies under the hub's lock.
+ghost use Rattle.std.specs.Prelude.{◌≡◌, ◌⊎◌, ◌+◌, ◌<◌, ◌≤◌, ◌^◌, [], ℕ, true, false, length, IfErr, IfOk, IsTrue, OnErr, OnOk};
+ghost use Rattle.protocol.specs.World.EventView.{event_node, Install};
+ghost use Rattle.protocol.specs.World.Replies.{IsGrantedAt};
+ghost use Rattle.replay.specs.Replay.{IsEventOf, IsIdle, IsReplay, IsSilence, LeadsTo, has_idled, passed_by};
+ghost use Rattle.replay.specs.declared.kept.Maker.TheVariants as who;
+ghost use Rattle.runtime.specs.Answers.{answer_kind, IsGrantedIn};
+ghost use Rattle.runtime.specs.Counts.{kind_of, numbers_in};
+ghost use Rattle.runtime.specs.Lines.{happenings};
+ghost use Rattle.runtime.specs.Numbers.{counted, no_numbers};
+ghost use Rattle.runtime.specs.Tallies.{tally_numbers, tally_parts, total_numbers};
+ghost use Rattle.runtime.specs.declared.tally.Counted.TheVariants as kind;
+ghost use Rattle.world.specs.DoneView.{done_view};
+ghost use Rattle.world.specs.EventView.{event_view};
+ghost use Rattle.world.specs.ReplyView.{reply_view};
+ghost use Rattle.world.specs.WholeView.{world_of};
+ghost use Rattle.world.specs.WorldView.{rooms};
+ghost use Rattle.world.specs.declared.event.Event.TheVariants as event;
+
+use crate::answer::{Answer, HubFault, Status};
+use crate::counting::{add_silence, find_silence};
+use crate::history::{History, Line};
+use crate::keeping::scripted;
+use crate::making::make_event;
+use crate::tally::{Counted, Run, Tally, Totals};
+use gate_cell::SlotCell;
+use kahn_net::MAX_COUNT;
+use outlet::Outlet;
+use proc_step::Done;
+use replay::{Maker, ScriptedEvent, Silence};
+use std::alloc::Global;
+use world::{Event, Refused, Reply, World};
+
+/// A world with its script and its history, and how often its seats were answered.
+#[derive(Drop)]
+pub(crate) struct Book<C: SlotCell, O: Outlet, J: Run> {
+    world: World<C, O>,
+    script: Vec<ScriptedEvent>,
+    // How many lines of the script are passed.
+    passed: usize,
+    lines: Vec<Line>,
+    stopped: bool,
+    stops: u64,
+    // Whether the world was found incomplete, and no event came since.
+    incomplete: bool,
+    totals: Totals<J>,
+    pub ghost replays: { ∥ IsReplay (rooms world.stations.items) J.script J.opening
+        (happenings lines.items) passed (world_of world) ∥₁ },
+    pub ghost same_script: { script.items ≡ J.script },
+    pub ghost numbers: { numbers_in lines.items stops ≡ total_numbers totals },
+    pub ghost running: { stopped ≡ false → stops ≡ 0 },
+}
+
+// How many lines of the script are passed after an event of this maker.
+fn passed_by(maker: Maker, passed: usize) -> usize
+    requires { maker ≡ who.Driver → passed < 2 ^ 63 }
+    ensures { result ≡ passed_by maker passed }
+{
+    match maker {
+        Maker::Node(_) => passed,
+        Maker::Driver => passed + 1,
+    }
+}
+
+fn counted_as(reason: Silence) -> Counted
+    ensures { result ≡ kind_of reason }
+{
+    match reason {
+        Silence::Nothing(_) => Counted::Nothing,
+        Silence::NotYet => Counted::NotYet,
+        Silence::NoMore => Counted::NoMore,
+    }
+}
+
+// Whether a turn passes in this event.
+fn is_idle(event: &Event) -> bool
+    ensures { result ≡ true → IsIdle (event_view event.now) }
+{
+    match event {
+        Event::Idle(_) => true,
+        _ => false,
+    }
+}
+
+// Whether a node has let its turn pass in this round.
+fn has_idled<C: SlotCell, O: Outlet>(world: &World<C, O>, node: u8) -> bool
+    ensures { result ≡ has_idled (world_of world.now) node }
+{
+    match world.stations.get(usize::from(node)) {
+        Some(station) => station.turns.of(world.round).idled,
+        None => false,
+    }
+}
+
+impl<C: SlotCell, O: Outlet, J: Run> Book<C, O, J> {
+    /// A book of which nothing is written.
+    pub fn new(
+        alloc: Global,
+        world: World<C, O>,
+        script: Vec<ScriptedEvent>,
+        totals: Totals<J>,
+    ) -> Book<C, O, J>
+        requires opening { world_of world ≡ J.opening }
+        requires script { script.items ≡ J.script }
+        requires totals { total_numbers totals ≡ no_numbers }
+    {
+        Book {
+            world,
+            script,
+            passed: 0,
+            lines: Vec::new(alloc),
+            stopped: false,
+            stops: 0,
+            incomplete: false,
+            totals,
+        }
+    }
+
+    // An event of this maker, with its line and its count.
+    fn make(
+        &mut self,
+        alloc: Global,
+        maker: Maker,
+        event: Event,
+        tally: &mut Tally<J>,
+    ) -> Result<Reply, Refused>
+        requires part { 0 < tally_parts tally.old }
+        requires own { IsEventOf J.script maker self.old.passed (world_of self.old.world)
+            (event_view event) }
+        requires few { maker ≡ who.Driver → self.old.passed < length J.script }
+        ensures parts { tally_parts tally.new ≡ tally_parts tally.old }
+        ensures counted { OnOk result
+            (tally_numbers tally.new ≡ counted kind.Entry (tally_numbers tally.old)) }
+        ensures home { IfOk result
+            (λ reply. IsGrantedAt (event_node (event_view event)) (reply_view reply)) }
+        ensures refused { OnErr result (tally_numbers tally.new ≡ tally_numbers tally.old) }
+        ensures handed_back { IfErr result (λ refused. refused.event ≡ event) }
+    {
+        let Book {
+            world,
+            lines,
+            passed,
+            incomplete,
+            totals,
+            ..
+        } = self;
+        let reply = make_event(alloc, world, lines, maker, event)?;
+        *passed = passed_by(maker, *passed);
+        *incomplete = false;
+        totals.add(tally, Counted::Entry);
+        Ok(reply)
+    }
+
+    // An answer without an event.
+    fn be_silent(&mut self, reason: Silence, tally: &mut Tally<J>) -> Result<(), HubFault>
+        requires part { 0 < tally_parts tally.old }
+        requires own { ∥ IsSilence J.script reason self.old.passed (world_of self.old.world) ∥₁ }
+        ensures parts { tally_parts tally.new ≡ tally_parts tally.old }
+        ensures counted { OnOk result
+            (tally_numbers tally.new ≡ counted (kind_of reason) (tally_numbers tally.old)) }
+        ensures refused { OnErr result (tally_numbers tally.new ≡ tally_numbers tally.old) }
+    {
+        let Book { lines, totals, .. } = self;
+        add_silence(lines, reason)?;
+        totals.add(tally, counted_as(reason));
+        Ok(())
+    }
+
+    // The answer of a hub that is stopped.
+    fn be_stopped(&mut self, tally: &mut Tally<J>) -> Result<(), HubFault>
+        requires part { 0 < tally_parts tally.old }
+        requires stopped { self.old.stopped ≡ true }
+        ensures parts { tally_parts tally.new ≡ tally_parts tally.old }
+        ensures counted { OnOk result
+            (tally_numbers tally.new ≡ counted kind.Stop (tally_numbers tally.old)) }
+        ensures refused { OnErr result (tally_numbers tally.new ≡ tally_numbers tally.old) }
+    {
+        if self.stops >= MAX_COUNT {
+            return Err(HubFault::PastNumber);
+        }
+        let Book { stops, totals, .. } = self;
+        *stops += 1;
+        totals.add(tally, Counted::Stop);
+        Ok(())
+    }
+
+    // Whether this was said since the last event: then it holds still, and the world need not be asked.
+    fn has_said(&self, reason: Silence) -> bool
+        ensures { IsTrue result
+            → ∥ IsSilence J.script reason self.now.passed (world_of self.now.world) ∥₁ }
+    {
+        find_silence(&self.lines, reason).is_some()
+    }
+
+    /// The event that is next for a node; none where all that it could do is to let its turn pass, and it has done so in this
+    /// round.
+    pub fn turn(
+        &mut self,
+        alloc: Global,
+        node: u8,
+        tally: &mut Tally<J>,
+    ) -> Result<Answer, HubFault>
+        requires part { 0 < tally_parts tally.old }
+        ensures parts { tally_parts tally.new ≡ tally_parts tally.old }
+        ensures counted { IfOk result (λ answer. tally_numbers tally.new
+            ≡ counted (answer_kind answer) (tally_numbers tally.old)) }
+        ensures home { IfOk result (IsGrantedIn node) }
+        ensures refused { OnErr result (tally_numbers tally.new ≡ tally_numbers tally.old) }
+    {
+        if self.stopped {
+            self.be_stopped(tally)?;
+            return Ok(Answer::Stopped);
+        }
+        if self.has_said(Silence::Nothing(node)) {
+            self.be_silent(Silence::Nothing(node), tally)?;
+            return Ok(Answer::Nothing);
+        }
+        let event = self.world.pick(node);
+        if is_idle(&event) && has_idled(&self.world, node) {
+            self.be_silent(Silence::Nothing(node), tally)?;
+            return Ok(Answer::Nothing);
+        }
+        match self.make(alloc, Maker::Node(node), event, tally) {
+            Ok(reply) => Ok(Answer::Reply(reply)),
+            Err(_) => Err(HubFault::NoMemory),
+        }
+    }
+
+    /// What came of a job of this node comes back.
+    pub fn install(
+        &mut self,
+        alloc: Global,
+        node: u8,
+        done: Done,
+        tally: &mut Tally<J>,
+    ) -> Result<Reply, Refused>
+        requires part { 0 < tally_parts tally.old }
+        requires home { event_node (Install (done_view done)) ≡ node }
+        ensures parts { tally_parts tally.new ≡ tally_parts tally.old }
+        ensures counted { OnOk result
+            (tally_numbers tally.new ≡ counted kind.Entry (tally_numbers tally.old)) }
+        ensures refused { OnErr result (tally_numbers tally.new ≡ tally_numbers tally.old) }
+        ensures handed_back { IfErr result (λ refused. refused.event ≡ event.Install done) }
+    {
+        self.make(alloc, Maker::Node(node), Event::Install(done), tally)
+    }
+
+    /// The event of the script's next line, if there is one and it is due.
+    pub fn fault(&mut self, alloc: Global, tally: &mut Tally<J>) -> Result<Answer, HubFault>
+        requires part { 0 < tally_parts tally.old }
+        ensures parts { tally_parts tally.new ≡ tally_parts tally.old }
+        ensures counted { IfOk result (λ answer. tally_numbers tally.new
+            ≡ counted (answer_kind answer) (tally_numbers tally.old)) }
+        ensures refused { OnErr result (tally_numbers tally.new ≡ tally_numbers tally.old) }
+    {
+        if self.stopped {
+            self.be_stopped(tally)?;
+            return Ok(Answer::Stopped);
+        }
+        let passed = self.passed;
+        if passed >= self.script.len() {
+            self.be_silent(Silence::NoMore, tally)?;
+            return Ok(Answer::NoMore);
+        }
+        let line = self.script[passed];
+        if line.round > self.world.round() {
+            self.be_silent(Silence::NotYet, tally)?;
+            return Ok(Answer::NotYet);
+        }
+        match self.make(alloc, Maker::Driver, scripted(line.event), tally) {
+            Ok(reply) => Ok(Answer::Reply(reply)),
+            Err(_) => Err(HubFault::NoMemory),
+        }
+    }
+
+    /// From now on no call makes an event.
+    pub fn stop(&mut self) {
+        self.stopped = true;
+    }
+
+    // Whether nothing is left to do. The world is asked once behind each event.
+    fn is_complete(&mut self) -> bool {
+        if self.incomplete {
+            return false;
+        }
+        let complete = self.world.complete();
+        self.incomplete = !complete;
+        complete
+    }
+
+    /// How the run stands. It is stopped where nothing is left to do.
+    pub fn status(&mut self) -> Status {
+        let complete = self.is_complete();
+        if complete {
+            self.stopped = true;
+        }
+        Status {
+            round: self.world.round(),
+            complete,
+            stopped: self.stopped,
+        }
+    }
+
+    /// The world, and the history that leads to it. Whoever has the parts of all seats learns its numbers.
+    pub fn close(mut self, all: &mut Tally<J>) -> (World<C, O>, History)
+        ensures leads { LeadsTo (rooms result.0.stations.items) J.script J.opening
+            (happenings result.1.lines.items) (world_of result.0) }
+        ensures numbers { tally_parts all.old ≡ J.seats
+            → numbers_in result.1.lines.items result.1.stops ≡ tally_numbers all.old }
+    {
+        self.totals.audit(all);
+        let Book {
+            world,
+            lines,
+            stops,
+            ..
+        } = self;
+        (world, History { lines, stops })
+    }
+}

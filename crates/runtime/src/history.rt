@@ -1,0 +1,39 @@
+// The history of a run, line by line.
+
+use proc_step::Job;
+use replay::{KeptReply, Maker, PlainEvent, Silence};
+use std::sync::Arc;
+
+/// An event as it is kept: of a turn that came back a share of its job, since what was taken and sent is the process's own turn
+/// on that.
+#[derive(Drop)]
+pub enum KeptEvent {
+    Plain(PlainEvent),
+    Install(Arc<Job>),
+}
+
+/// An event, with who made it and what was answered.
+#[derive(Drop)]
+pub struct Entry {
+    pub maker: Maker,
+    pub event: KeptEvent,
+    pub reply: KeptReply,
+}
+
+/// A line of a history.
+#[derive(Drop)]
+pub enum Line {
+    Made(Entry),
+    /// So often no event was made for this reason, between two events.
+    Silent {
+        reason: Silence,
+        count: u64,
+    },
+}
+
+/// All that happened in a run, and how often a seat was answered `Stopped`.
+#[derive(Drop)]
+pub struct History {
+    pub lines: Vec<Line>,
+    pub stops: u64,
+}

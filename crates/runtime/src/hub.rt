@@ -1,0 +1,143 @@
+// A world that threads share.
+ghost use Rattle.std.specs.Prelude.{◌≡◌, ◌+◌, vec_len, IfErr, IfOk, OnErr, OnOk};
+ghost use Rattle.protocol.specs.World.EventView.{event_node, Install};
+ghost use Rattle.replay.specs.Replay.{LeadsTo};
+ghost use Rattle.runtime.specs.Answers.{answer_kind, IsGrantedIn};
+ghost use Rattle.runtime.specs.BlankNames.{HaveParts, names_of};
+ghost use Rattle.runtime.specs.Counts.{numbers_in};
+ghost use Rattle.runtime.specs.Lines.{happenings};
+ghost use Rattle.runtime.specs.Numbers.{added, counted};
+ghost use Rattle.runtime.specs.Seats.{numbers_of_seats};
+ghost use Rattle.runtime.specs.Tallies.{tally_numbers};
+ghost use Rattle.runtime.specs.declared.tally.Counted.TheVariants as kind;
+ghost use Rattle.world.specs.DoneView.{done_view};
+ghost use Rattle.world.specs.WholeView.{world_of};
+ghost use Rattle.world.specs.WorldView.{rooms};
+ghost use Rattle.world.specs.declared.event.Event.TheVariants as event;
+
+use crate::answer::{Answer, HubFault, Status};
+use crate::book::Book;
+use crate::history::History;
+use crate::seat::{DriverSeat, NodeSeat, node_seat};
+use crate::tally::{Blanks, Run};
+use gate_cell::SlotCell;
+use outlet::Outlet;
+use proc_step::Done;
+use replay::ScriptedEvent;
+use std::alloc::{AllocError, Global};
+use std::sync::{Mutex, Wait};
+use world::{Refused, Reply, World};
+
+/// A world with its history, under one lock.
+#[derive(Drop)]
+pub struct Hub<C: SlotCell, O: Outlet, J: Run> {
+    book: Mutex<Book<C, O, J>>,
+}
+
+impl<C: SlotCell, O: Outlet, J: Run> Hub<C, O, J> {
+    /// A hub over the world with which its run begins, with a seat for each of so many nodes, by number, and the driver's.
+    /// Refuses for want of memory alone.
+    pub fn new(
+        alloc: Global,
+        world: World<C, O>,
+        script: Vec<ScriptedEvent>,
+        nodes: u8,
+        blanks: Blanks,
+    ) -> Result<(Hub<C, O, J>, Vec<NodeSeat<J>>, DriverSeat<J>), AllocError>
+        requires opening { world_of world ≡ J.opening }
+        requires script { script.items ≡ J.script }
+        requires names { names_of blanks ≡ J.names }
+        requires parts { HaveParts blanks J.seats }
+        requires seats { J.seats ≡ nodes + 1 }
+        ensures seats { IfOk result (λ hub. vec_len hub.1 ≡ nodes) }
+    {
+        let (totals, mut all) = blanks.open::<J>();
+        let mut seats = Vec::with_capacity(alloc, usize::from(nodes))?;
+        for node in 0..nodes {
+            seats.push_reserved(node_seat(node, all.split_off()));
+        }
+        let hub = Hub {
+            book: Mutex::new(Book::<C, O, J>::new(alloc, world, script, totals)),
+        };
+        Ok((hub, seats, DriverSeat { tally: all }))
+    }
+
+    /// The event that is next for the seat's node, `Nothing` or `Stopped`.
+    pub fn turn<R: Wait>(
+        &self,
+        rt: &R,
+        alloc: Global,
+        seat: &mut NodeSeat<J>,
+    ) -> Result<Answer, HubFault>
+        ensures node { seat.new.node ≡ seat.old.node }
+        ensures counted { IfOk result (λ answer. tally_numbers seat.new.tally
+            ≡ counted (answer_kind answer) (tally_numbers seat.old.tally)) }
+        // A job that is granted is of a process of the seat's node.
+        ensures home { IfOk result (IsGrantedIn seat.old.node) }
+        ensures refused { OnErr result
+            (tally_numbers seat.new.tally ≡ tally_numbers seat.old.tally) }
+    {
+        let NodeSeat { node, tally } = seat;
+        self.book.lock(rt).turn(alloc, *node, tally)
+    }
+
+    /// What came of a job of the seat's node comes back. Refuses for want of memory alone, and then hands it back.
+    pub fn install<R: Wait>(
+        &self,
+        rt: &R,
+        alloc: Global,
+        seat: &mut NodeSeat<J>,
+        done: Done,
+    ) -> Result<Reply, Refused>
+        requires home { event_node (Install (done_view done)) ≡ seat.old.node }
+        ensures node { seat.new.node ≡ seat.old.node }
+        ensures counted { OnOk result
+            (tally_numbers seat.new.tally ≡ counted kind.Entry (tally_numbers seat.old.tally)) }
+        ensures refused { OnErr result
+            (tally_numbers seat.new.tally ≡ tally_numbers seat.old.tally) }
+        ensures handed_back { IfErr result (λ refused. refused.event ≡ event.Install done) }
+    {
+        let NodeSeat { node, tally } = seat;
+        self.book.lock(rt).install(alloc, *node, done, tally)
+    }
+
+    /// The event of the script's next line, `NotYet`, `NoMore` or `Stopped`.
+    pub fn fault<R: Wait>(
+        &self,
+        rt: &R,
+        alloc: Global,
+        seat: &mut DriverSeat<J>,
+    ) -> Result<Answer, HubFault>
+        ensures counted { IfOk result (λ answer. tally_numbers seat.new.tally
+            ≡ counted (answer_kind answer) (tally_numbers seat.old.tally)) }
+        ensures refused { OnErr result
+            (tally_numbers seat.new.tally ≡ tally_numbers seat.old.tally) }
+    {
+        let DriverSeat { tally } = seat;
+        self.book.lock(rt).fault(alloc, tally)
+    }
+
+    /// How the run stands. The hub is stopped where nothing is left to do.
+    pub fn status<R: Wait>(&self, rt: &R) -> Status {
+        self.book.lock(rt).status()
+    }
+
+    /// From now on no call makes an event.
+    pub fn stop<R: Wait>(&self, rt: &R) {
+        self.book.lock(rt).stop();
+    }
+
+    /// The world, with the history that leads to it from the one with which the run began. Where these are all seats, the history
+    /// has as many events, and as many answers of each kind, as they got.
+    pub fn close(self, seats: Vec<NodeSeat<J>>, driver: DriverSeat<J>) -> (World<C, O>, History)
+        ensures leads { LeadsTo (rooms result.0.stations.items) J.script J.opening
+            (happenings result.1.lines.items) (world_of result.0) }
+        ensures numbers { vec_len seats + 1 ≡ J.seats
+            → numbers_in result.1.lines.items result.1.stops
+            ≡ added (numbers_of_seats seats.items) (tally_numbers driver.tally) }
+    {
+        let Hub { book } = self;
+        let mut all = driver.with_all(seats);
+        book.into_inner().close(&mut all)
+    }
+}
