@@ -21,7 +21,7 @@ use Rattle.runtime.specs.Numbers.{counted}
 use Rattle.runtime.specs.declared.history.Line.{Line}
 use Rattle.runtime.specs.declared.history.Line.TheVariants as line
 use Rattle.runtime.specs.declared.tally.Counted.TheVariants as kind
-use Rattle.runtime.proofs.Counting.{same_numbers}
+use Rattle.runtime.proofs.Raising.{same_numbers}
 
 abbrev Replays : List (RecordView → Bool) → List ScriptedEvent → WorldView → List Happening → ℕ → WorldView → Type 0
 Replays fits script opening happened passed world = ∥ IsReplay fits script opening happened passed world ∥₁

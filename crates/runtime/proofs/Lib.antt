@@ -1,2 +1,2 @@
-mod Counting
+mod Raising
 mod Adding

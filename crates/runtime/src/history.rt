@@ -25,10 +25,7 @@ pub struct Entry {
 pub enum Line {
     Made(Entry),
     /// So often no event was made for this reason, between two events.
-    Silent {
-        reason: Silence,
-        count: u64,
-    },
+    Silent { reason: Silence, count: u64 },
 }
 
 /// All that happened in a run, and how often a seat was answered `Stopped`.

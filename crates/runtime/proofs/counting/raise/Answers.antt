@@ -1,5 +1,5 @@
 use Rattle.std.proofs.Common.{◌∙◌, Some, ap, refl}
-use Rattle.runtime.proofs.Counting.{found_line, numbers_raised_there, same_happenings}
+use Rattle.runtime.proofs.Raising.{found_line, numbers_raised_there, same_happenings}
 use Rattle.runtime.proofs.counting.raise.Goals as goal
 
 pub returns-else-count-ge-MAX_COUNT-clause-same : goal.returns-else-count-ge-MAX_COUNT-clause-same
