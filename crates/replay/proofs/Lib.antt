@@ -1,3 +1,4 @@
 mod Replays
 mod Turns
-mod Silences
+pub mod Silences
+pub mod Choices

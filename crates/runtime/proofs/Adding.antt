@@ -1,27 +1,28 @@
 -- A history that goes on.
-use Rattle.std.proofs.Common.{◌≡◌, ◌∙◌, ◌⊎◌, ◌++◌, ◌∷◌, [], ℕ, ◌+◌, Bool, true, List, drop, take, length, slice_get, Some, refl, sym, ap, subst}
+use Rattle.std.proofs.Common.{◌≡◌, ◌∙◌, ◌⊎◌, ◌++◌, ◌∷◌, [], ℕ, ◌+◌, ◌≤◌, Bool, true, List, drop, take, slice_get, Option, Some, None, refl, sym, ap, subst}
 use Rattle.std.proofs.Common.{arith, inl, inr}
 use Rattle.std.proofs.Math.Logic.{∥∥₁_map, ∥∥₁_map₂}
-use Rattle.std.proofs.Math.Seq.{drop-cons}
-use Rattle.std.proofs.lemmas.List.{map-append}
+use Rattle.std.specs.Prelude.{is_some, IfSome, IsTrue}
+use Rattle.std.proofs.lemmas.List.{map-append, take-append-drop}
 use Rattle.std.proofs.lemmas.List.Sums.{sum_by-append}
-use Rattle.std.proofs.lemmas.Option.{get_or_from_slice_get, slice_get_within}
 use Rattle.record.specs.RecordView.{RecordView}
 use Rattle.protocol.specs.World.EventView.{EventView}
 use Rattle.protocol.specs.World.ReplyView.{ReplyView}
 use Rattle.protocol.specs.World.Steps.{IsStep, WorldView}
-use Rattle.replay.specs.Replay.{Happening, Made, Silent, Happens, IsEventOf, IsReplay, IsSilence, LeadsTo, at_first, and_then}
-use Rattle.replay.specs.Replay.{passed_after, passed_by}
+use Rattle.replay.specs.Replay.{Happening, Made, Silent, Happens, IsEventOf, IsReplay, IsScripted, IsSilence, LeadsTo}
+use Rattle.replay.specs.Replay.{at_first, and_then, passed_by}
+use Rattle.replay.specs.Plain.{plain_view}
+use Rattle.replay.proofs.Silences.{silences_stay}
 use Rattle.replay.specs.declared.kept.Maker.{Maker}
 use Rattle.replay.specs.declared.kept.ScriptedEvent.{ScriptedEvent}
 use Rattle.replay.specs.declared.kept.Silence.{Silence}
 use Rattle.runtime.specs.Counts.{numbers_in, events_in, nothings_in, not_yets_in, no_mores_in}
-use Rattle.runtime.specs.Lines.{IsAdded, happening_of, happenings, kept_view}
+use Rattle.runtime.specs.Lines.{IsAdded, IsSaidAt, happening_of, happenings, kept_view}
 use Rattle.runtime.specs.Numbers.{counted}
 use Rattle.runtime.specs.declared.history.Line.{Line}
 use Rattle.runtime.specs.declared.history.Line.TheVariants as line
 use Rattle.runtime.specs.declared.tally.Counted.TheVariants as kind
-use Rattle.runtime.proofs.Raising.{same_numbers}
+use Rattle.runtime.proofs.Raising.{from_here, same_numbers}
 
 abbrev Replays : List (RecordView → Bool) → List ScriptedEvent → WorldView → List Happening → ℕ → WorldView → Type 0
 Replays fits script opening happened passed world = ∥ IsReplay fits script opening happened passed world ∥₁
@@ -84,3 +85,32 @@ pub leads : (fits : List (RecordView → Bool)) (script : List ScriptedEvent) (o
     (happened : List Happening) (passed : ℕ) → Replays fits script opening happened passed world
     → LeadsTo fits script opening happened world
 leads fits script opening world happened passed run = ∥∥₁_map run (λ r. (passed, r))
+
+-- what was said since the last event holds
+said_at : (fits : List (RecordView → Bool)) (script : List ScriptedEvent) (opening : WorldView) (lines : List Line)
+    (passed : ℕ) (world : WorldView) (reason : Silence) (place : ℕ) → IsSaidAt lines place reason
+    → Replays fits script opening (happenings lines) passed world → ∥ IsSilence script reason passed world ∥₁
+said_at fits script opening lines passed world reason place said run =
+    let before = happenings (take place lines) in
+    let rest = happenings (drop (place + 1) lines) in
+    let split : happenings lines ≡ before ++ Silent reason ∷ rest =
+    ap happenings (sym (take-append-drop place lines))
+    ∙ (map-append happening_of (take place lines) (drop place lines)
+    ∙ ap (λ (ls : List Line). before ++ happenings ls) (from_here lines place reason said.0 said.1)) in
+    ∥∥₁_map run (λ r.
+    silences_stay fits script opening (happenings lines) passed world r before rest reason split said.2)
+
+pub said_still : (fits : List (RecordView → Bool)) (script : List ScriptedEvent) (opening : WorldView)
+    (lines : List Line) (passed : ℕ) (world : WorldView) (reason : Silence) (place : Option ℕ)
+    → IfSome place (λ p. IsSaidAt lines p reason) → IsTrue (is_some place)
+    → Replays fits script opening (happenings lines) passed world → ∥ IsSilence script reason passed world ∥₁
+said_still fits script opening lines passed world reason None said found run = absurd (cc)
+said_still fits script opening lines passed world reason (Some place) said found run =
+    said_at fits script opening lines passed world reason place said run
+
+-- a line of the script that is due
+pub due_line : (script : List ScriptedEvent) (passed round : ℕ) (line : ScriptedEvent) (event : EventView)
+    → slice_get script passed ≡ Some line → line.round ≤ round → event ≡ plain_view line.event
+    → IsScripted (slice_get script passed) round event
+due_line script passed round line event is due same =
+    subst (λ (found : Option ScriptedEvent). IsScripted found round event) (sym is) (due, same)

@@ -1,5 +1,5 @@
 -- Lines in which it stands how often no event was made.
-use Rattle.std.proofs.Common.{◌≡◌, ◌∙◌, ◌+◌, ◌<◌, ℕ, true, List, ◌∷◌, drop, length, get_or, Option, Some, None, slice_get, slice_set}
+use Rattle.std.proofs.Common.{◌≡◌, ◌∙◌, ◌+◌, ◌<◌, ℕ, suc, true, List, ◌∷◌, drop, length, get_or, Option, Some, None, slice_get, slice_set}
 use Rattle.std.proofs.Common.{sum_by, refl, sym, ap, subst, arith}
 use Rattle.std.proofs.Math.Seq.{drop-cons, map-set_same}
 use Rattle.std.proofs.lemmas.List.Sums.{sum_by-set}
@@ -20,15 +20,24 @@ pub read_there : (lines : List Line) (place : ℕ) (line : Line) → place < len
     → slice_get lines place ≡ Some line
 read_there lines place line within read = slice_get-get_or lines place line within ∙ ap Some (sym read)
 
+-- the rest from such a line on
+pub from_here : (lines : List Line) (place : ℕ) (reason : Silence) (count : ℕ)
+    → slice_get lines place ≡ Some (Silent reason count)
+    → drop place lines ≡ Silent reason count ∷ drop (place + 1) lines
+from_here lines place reason count there =
+    let within = slice_get_within lines place (Silent reason count) there in
+    let here = get_or_from_slice_get lines place (Silent reason count) (Silent reason count) there in
+    let next : suc place ≡ place + 1 = omega arith in
+    drop-cons lines place (Silent reason count) within
+    ∙ (ap (λ (line : Line). line ∷ drop (suc place) lines) here
+    ∙ ap (λ (n : ℕ). Silent reason count ∷ drop n lines) next)
+
 -- behind one more such line no event came either
 pub no_event_from : (lines : List Line) (place : ℕ) (reason : Silence) (count : ℕ)
     → slice_get lines place ≡ Some (Silent reason count) → no_event (happenings (drop (place + 1) lines)) ≡ true
     → no_event (happenings (drop place lines)) ≡ true
 no_event_from lines place reason count there none =
-    let within = slice_get_within lines place (Silent reason count) there in
-    let here = get_or_from_slice_get lines place (Silent reason count) (Silent reason count) there in
-    ap (λ (ls : List Line). no_event (happenings ls)) (drop-cons lines place (Silent reason count) within
-    ∙ ap (λ (line : Line). line ∷ drop (place + 1) lines) here) ∙ none
+    ap (λ (ls : List Line). no_event (happenings ls)) (from_here lines place reason count there) ∙ none
 
 -- ---- a count that rises
 

@@ -6,4 +6,4 @@ use Rattle.runtime.proofs.keeping.keep.Goals as goal
 
 -- of a turn that came back, the share is of its job
 pub returns-in-Install : goal.returns-in-Install
-returns-in-Install c = (done_view c.in-Install.done, ap event_view c.in-Install.is, {! !})
+returns-in-Install c = (done_view c.in-Install.done, ap event_view c.in-Install.is, ap job_view (sym c.in_ok-try_clone-in-Install.ensures))
