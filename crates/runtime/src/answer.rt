@@ -1,6 +1,6 @@
 // What a seat is answered.
 
-use world::Reply;
+use world::{Event, Reply};
 
 /// What a call is answered: the reply of its event, or why it made none.
 #[derive(Drop)]
@@ -32,6 +32,13 @@ pub enum HubFault {
     NoMemory,
     /// A count would pass 2^63 - 1 (44).
     PastNumber,
+}
+
+/// A call that is refused, with the event that it was to make.
+#[derive(Drop)]
+pub struct HeldBack {
+    pub event: Event,
+    pub fault: HubFault,
 }
 
 impl HubFault {

@@ -17,7 +17,7 @@ ghost use Rattle.world.specs.WholeView.{world_of};
 ghost use Rattle.world.specs.WorldView.{rooms};
 ghost use Rattle.world.specs.declared.event.Event.TheVariants as event;
 
-use crate::answer::{Answer, HubFault, Status};
+use crate::answer::{Answer, HeldBack, HubFault, Status};
 use crate::counting::{add_silence, find_silence};
 use crate::history::{History, Line};
 use crate::keeping::scripted;
@@ -123,7 +123,7 @@ impl<C: SlotCell, O: Outlet, J: Run> Book<C, O, J> {
         maker: Maker,
         event: Event,
         tally: &mut Tally<J>,
-    ) -> Result<Reply, Refused>
+    ) -> Result<Reply, HeldBack>
         requires part { 0 < tally_parts tally.old }
         requires own { IsEventOf J.script maker self.old.passed (world_of self.old.world)
             (event_view event) }
@@ -134,8 +134,14 @@ impl<C: SlotCell, O: Outlet, J: Run> Book<C, O, J> {
         ensures home { IfOk result
             (λ reply. IsGrantedAt (event_node (event_view event)) (reply_view reply)) }
         ensures refused { OnErr result (tally_numbers tally.new ≡ tally_numbers tally.old) }
-        ensures handed_back { IfErr result (λ refused. refused.event ≡ event) }
+        ensures handed_back { IfErr result (λ held. held.event ≡ event) }
     {
+        if self.totals.made() >= MAX_COUNT {
+            return Err(HeldBack {
+                event,
+                fault: HubFault::PastNumber,
+            });
+        }
         let Book {
             world,
             lines,
@@ -144,7 +150,15 @@ impl<C: SlotCell, O: Outlet, J: Run> Book<C, O, J> {
             totals,
             ..
         } = self;
-        let reply = make_event(alloc, world, lines, maker, event)?;
+        let reply = match make_event(alloc, world, lines, maker, event) {
+            Ok(reply) => reply,
+            Err(Refused { event }) => {
+                return Err(HeldBack {
+                    event,
+                    fault: HubFault::NoMemory,
+                });
+            }
+        };
         *passed = passed_by(maker, *passed);
         *incomplete = false;
         totals.add(tally, Counted::Entry);
@@ -222,7 +236,7 @@ impl<C: SlotCell, O: Outlet, J: Run> Book<C, O, J> {
         }
         match self.make(alloc, Maker::Node(node), event, tally) {
             Ok(reply) => Ok(Answer::Reply(reply)),
-            Err(_) => Err(HubFault::NoMemory),
+            Err(held) => Err(held.fault),
         }
     }
 
@@ -233,14 +247,14 @@ impl<C: SlotCell, O: Outlet, J: Run> Book<C, O, J> {
         node: u8,
         done: Done,
         tally: &mut Tally<J>,
-    ) -> Result<Reply, Refused>
+    ) -> Result<Reply, HeldBack>
         requires part { 0 < tally_parts tally.old }
         requires home { event_node (Install (done_view done)) ≡ node }
         ensures parts { tally_parts tally.new ≡ tally_parts tally.old }
         ensures counted { OnOk result
             (tally_numbers tally.new ≡ counted kind.Entry (tally_numbers tally.old)) }
         ensures refused { OnErr result (tally_numbers tally.new ≡ tally_numbers tally.old) }
-        ensures handed_back { IfErr result (λ refused. refused.event ≡ event.Install done) }
+        ensures handed_back { IfErr result (λ held. held.event ≡ event.Install done) }
     {
         self.make(alloc, Maker::Node(node), Event::Install(done), tally)
     }
@@ -269,8 +283,15 @@ impl<C: SlotCell, O: Outlet, J: Run> Book<C, O, J> {
         }
         match self.make(alloc, Maker::Driver, scripted(line.event), tally) {
             Ok(reply) => Ok(Answer::Reply(reply)),
-            Err(_) => Err(HubFault::NoMemory),
+            Err(held) => Err(held.fault),
         }
+    }
+
+    /// How many events were made.
+    pub fn made(&self) -> u64
+        ensures { result ≡ (total_numbers self.now.totals).entries }
+    {
+        self.totals.made()
     }
 
     /// From now on no call makes an event.

@@ -15,18 +15,19 @@ ghost use Rattle.world.specs.WholeView.{world_of};
 ghost use Rattle.world.specs.WorldView.{rooms};
 ghost use Rattle.world.specs.declared.event.Event.TheVariants as event;
 
-use crate::answer::{Answer, HubFault, Status};
+use crate::answer::{Answer, HeldBack, HubFault, Status};
 use crate::book::Book;
 use crate::history::History;
-use crate::seat::{DriverSeat, NodeSeat, node_seat};
+use crate::seat::{DriverSeat, NodeSeat, driver_seat, node_seat};
 use crate::tally::{Blanks, Run};
 use gate_cell::SlotCell;
+use kahn_net::MAX_COUNT;
 use outlet::Outlet;
 use proc_step::Done;
 use replay::ScriptedEvent;
 use std::alloc::{AllocError, Global};
 use std::sync::{Mutex, Wait};
-use world::{Refused, Reply, World};
+use world::{Event, Reply, World};
 
 /// A world with its history, under one lock.
 #[derive(Drop)]
@@ -59,7 +60,7 @@ impl<C: SlotCell, O: Outlet, J: Run> Hub<C, O, J> {
         let hub = Hub {
             book: Mutex::new(Book::<C, O, J>::new(alloc, world, script, totals)),
         };
-        Ok((hub, seats, DriverSeat { tally: all }))
+        Ok((hub, seats, driver_seat(all)))
     }
 
     /// The event that is next for the seat's node, `Nothing` or `Stopped`.
@@ -77,28 +78,43 @@ impl<C: SlotCell, O: Outlet, J: Run> Hub<C, O, J> {
         ensures refused { OnErr result
             (tally_numbers seat.new.tally ≡ tally_numbers seat.old.tally) }
     {
-        let NodeSeat { node, tally } = seat;
-        self.book.lock(rt).turn(alloc, *node, tally)
+        let NodeSeat { node, made, tally } = seat;
+        if *made >= MAX_COUNT {
+            return Err(HubFault::PastNumber);
+        }
+        let answer = self.book.lock(rt).turn(alloc, *node, tally)?;
+        if let Answer::Reply(_) = &answer {
+            *made += 1;
+        }
+        Ok(answer)
     }
 
-    /// What came of a job of the seat's node comes back. Refuses for want of memory alone, and then hands it back.
+    /// What came of a job of the seat's node comes back. A refusal hands it back.
     pub fn install<R: Wait>(
         &self,
         rt: &R,
         alloc: Global,
         seat: &mut NodeSeat<J>,
         done: Done,
-    ) -> Result<Reply, Refused>
+    ) -> Result<Reply, HeldBack>
         requires home { event_node (Install (done_view done)) ≡ seat.old.node }
         ensures node { seat.new.node ≡ seat.old.node }
         ensures counted { OnOk result
             (tally_numbers seat.new.tally ≡ counted kind.Entry (tally_numbers seat.old.tally)) }
         ensures refused { OnErr result
             (tally_numbers seat.new.tally ≡ tally_numbers seat.old.tally) }
-        ensures handed_back { IfErr result (λ refused. refused.event ≡ event.Install done) }
+        ensures handed_back { IfErr result (λ held. held.event ≡ event.Install done) }
     {
-        let NodeSeat { node, tally } = seat;
-        self.book.lock(rt).install(alloc, *node, done, tally)
+        let NodeSeat { node, made, tally } = seat;
+        if *made >= MAX_COUNT {
+            return Err(HeldBack {
+                event: Event::Install(done),
+                fault: HubFault::PastNumber,
+            });
+        }
+        let reply = self.book.lock(rt).install(alloc, *node, done, tally)?;
+        *made += 1;
+        Ok(reply)
     }
 
     /// The event of the script's next line, `NotYet`, `NoMore` or `Stopped`.
@@ -113,13 +129,25 @@ impl<C: SlotCell, O: Outlet, J: Run> Hub<C, O, J> {
         ensures refused { OnErr result
             (tally_numbers seat.new.tally ≡ tally_numbers seat.old.tally) }
     {
-        let DriverSeat { tally } = seat;
-        self.book.lock(rt).fault(alloc, tally)
+        let DriverSeat { made, tally } = seat;
+        if *made >= MAX_COUNT {
+            return Err(HubFault::PastNumber);
+        }
+        let answer = self.book.lock(rt).fault(alloc, tally)?;
+        if let Answer::Reply(_) = &answer {
+            *made += 1;
+        }
+        Ok(answer)
     }
 
     /// How the run stands. The hub is stopped where nothing is left to do.
     pub fn status<R: Wait>(&self, rt: &R) -> Status {
         self.book.lock(rt).status()
+    }
+
+    /// How many events were made by all seats together.
+    pub fn entries<R: Wait>(&self, rt: &R) -> u64 {
+        self.book.lock(rt).made()
     }
 
     /// From now on no call makes an event.

@@ -15,7 +15,7 @@ mod making;
 mod seat;
 mod tally;
 
-pub use answer::{Answer, HubFault, Status};
+pub use answer::{Answer, HeldBack, HubFault, Status};
 pub use history::{Entry, History, KeptEvent, Line};
 pub use hub::Hub;
 pub use seat::{DriverSeat, NodeSeat};

@@ -1,5 +1,7 @@
 // How often each seat was answered, in tokens that can't be made up.
 ghost use Rattle.std.specs.Prelude.{◌≡◌, ◌+◌, ◌<◌, ℕ, List, []};
+ghost use Rattle.kahn_net.specs.declared.limits.TheConstants.{MAX_COUNT};
+ghost use Rattle.runtime.specs.declared.tally.Counted.TheVariants as kind;
 ghost use Rattle.runtime.specs.Numbers.{Names, Numbers, added, counted, no_names, no_numbers};
 
 use std::marker::{Brand, PhantomData};
@@ -104,11 +106,13 @@ pub enum Counted {
 /// How often all seats together were answered.
 #[derive(Drop)]
 pub struct Totals<J: Counting> {
+    made: u64,
     entries: Ledgers<Entries<J>>,
     nothings: Ledgers<Nothings<J>>,
     not_yets: Ledgers<NotYets<J>>,
     no_mores: Ledgers<NoMores<J>>,
     stops: Ledgers<Stops<J>>,
+    pub ghost counts: { made ≡ entries.total },
 }
 
 /// How often one seat, or some together, were answered.
@@ -126,15 +130,26 @@ pub struct Tally<J: Counting> {
 impl<J: Counting> Totals<J> {
     ghost use Rattle.runtime.specs.Tallies.{tally_numbers, tally_parts, total_numbers};
 
+    /// How many events were made.
+    pub fn made(&self) -> u64
+        ensures { result ≡ (total_numbers self.now).entries }
+    {
+        self.made
+    }
+
     /// Counts an answer of a seat.
     pub fn add(&mut self, tally: &mut Tally<J>, which: Counted)
-        requires { 0 < tally_parts tally.old }
+        requires part { 0 < tally_parts tally.old }
+        requires number { which ≡ kind.Entry → (total_numbers self.old).entries < MAX_COUNT }
         ensures total { total_numbers self.new ≡ counted which (total_numbers self.old) }
         ensures own { tally_numbers tally.new ≡ counted which (tally_numbers tally.old) }
         ensures parts { tally_parts tally.new ≡ tally_parts tally.old }
     {
         match which {
-            Counted::Entry => self.entries.add(&mut tally.entries, 1),
+            Counted::Entry => {
+                self.entries.add(&mut tally.entries, 1);
+                self.made += 1;
+            }
             Counted::Nothing => self.nothings.add(&mut tally.nothings, 1),
             Counted::NotYet => self.not_yets.add(&mut tally.not_yets, 1),
             Counted::NoMore => self.no_mores.add(&mut tally.no_mores, 1),
@@ -204,6 +219,7 @@ impl Blanks {
         let (no_mores, no_more_share) = no_mores.open::<NoMores<J>>();
         let (stops, stop_share) = stops.open::<Stops<J>>();
         let totals = Totals {
+            made: 0,
             entries,
             nothings,
             not_yets,

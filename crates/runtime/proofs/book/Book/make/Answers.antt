@@ -8,10 +8,10 @@ pub invariant_of-self-2-clause-replays : goal.invariant_of-self-2-clause-replays
 invariant_of-self-2-clause-replays g c =
     let old = c.args.self.now in
     makes _ _ _ _ old.lines.items _ old.passed _ _ _ c.args.maker _ _ old.replays c.requires.own
-    c.in_ok-reply.ensures.added c.in_ok-reply.ensures.step c.passed_by.ensures c.make_event.ensures.rooms
+    c.in-Ok.ensures.added c.in-Ok.ensures.step c.passed_by.ensures c.make_event.ensures.rooms
 
 pub invariant_of-self-2-clause-numbers : goal.invariant_of-self-2-clause-numbers
 invariant_of-self-2-clause-numbers g c =
     let old = c.args.self.now in
-    numbers_made old.lines.items _ old.stops c.args.maker _ _ c.in_ok-reply.ensures.added
+    numbers_made old.lines.items _ old.stops c.args.maker _ _ c.in-Ok.ensures.added
     ∙ (ap (λ (n : Numbers). counted kind.Entry n) old.numbers ∙ sym c.add.ensures.total)
