@@ -4,9 +4,10 @@ ghost use Rattle.protocol.specs.World.EventView.{event_node, Install};
 ghost use Rattle.protocol.specs.World.Replies.{IsGrantedAt};
 ghost use Rattle.replay.specs.Replay.{IsEventOf, IsIdle, IsReplay, IsSilence, LeadsTo, has_idled, passed_by};
 ghost use Rattle.replay.specs.declared.kept.Maker.TheVariants as who;
-ghost use Rattle.runtime.specs.Answers.{answer_kind, IsGrantedIn};
+ghost use Rattle.runtime.specs.Answers.{answer_kind, IsGrantedIn, IsWritten};
 ghost use Rattle.runtime.specs.Counts.{kind_of, numbers_in};
-ghost use Rattle.runtime.specs.Lines.{happenings};
+ghost use Rattle.runtime.specs.Lines.{IsAdded, happenings};
+ghost use Rattle.runtime.specs.declared.answer.Answer.TheVariants as answers;
 ghost use Rattle.runtime.specs.Numbers.{counted, no_numbers};
 ghost use Rattle.runtime.specs.Tallies.{tally_numbers, tally_parts, total_numbers};
 ghost use Rattle.runtime.specs.declared.tally.Counted.TheVariants as kind;
@@ -133,6 +134,8 @@ impl<C: SlotCell, O: Outlet, J: Run> Book<C, O, J> {
             (tally_numbers tally.new ≡ counted kind.Entry (tally_numbers tally.old)) }
         ensures home { IfOk result
             (λ reply. IsGrantedAt (event_node (event_view event)) (reply_view reply)) }
+        ensures added { IfOk result (λ reply. IsAdded maker (event_view event) (reply_view reply)
+            self.old.lines.items self.new.lines.items) }
         ensures refused { OnErr result (tally_numbers tally.new ≡ tally_numbers tally.old) }
         ensures handed_back { IfErr result (λ held. held.event ≡ event) }
     {
@@ -219,6 +222,10 @@ impl<C: SlotCell, O: Outlet, J: Run> Book<C, O, J> {
         ensures counted { IfOk result (λ answer. tally_numbers tally.new
             ≡ counted (answer_kind answer) (tally_numbers tally.old)) }
         ensures home { IfOk result (IsGrantedIn node) }
+        ensures written { IfOk result
+            (IsWritten (who.Node node) self.old.lines.items self.new.lines.items) }
+        ensures stopped { self.old.stopped ≡ true
+            → IfOk result (λ answer. answer ≡ answers.Stopped) }
         ensures refused { OnErr result (tally_numbers tally.new ≡ tally_numbers tally.old) }
     {
         if self.stopped {
@@ -251,6 +258,8 @@ impl<C: SlotCell, O: Outlet, J: Run> Book<C, O, J> {
         requires part { 0 < tally_parts tally.old }
         requires home { event_node (Install (done_view done)) ≡ node }
         ensures parts { tally_parts tally.new ≡ tally_parts tally.old }
+        ensures added { IfOk result (λ reply. IsAdded (who.Node node) (Install (done_view done))
+            (reply_view reply) self.old.lines.items self.new.lines.items) }
         ensures counted { OnOk result
             (tally_numbers tally.new ≡ counted kind.Entry (tally_numbers tally.old)) }
         ensures refused { OnErr result (tally_numbers tally.new ≡ tally_numbers tally.old) }
@@ -265,6 +274,10 @@ impl<C: SlotCell, O: Outlet, J: Run> Book<C, O, J> {
         ensures parts { tally_parts tally.new ≡ tally_parts tally.old }
         ensures counted { IfOk result (λ answer. tally_numbers tally.new
             ≡ counted (answer_kind answer) (tally_numbers tally.old)) }
+        ensures written { IfOk result
+            (IsWritten who.Driver self.old.lines.items self.new.lines.items) }
+        ensures stopped { self.old.stopped ≡ true
+            → IfOk result (λ answer. answer ≡ answers.Stopped) }
         ensures refused { OnErr result (tally_numbers tally.new ≡ tally_numbers tally.old) }
     {
         if self.stopped {

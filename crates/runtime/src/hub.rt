@@ -7,7 +7,7 @@ ghost use Rattle.runtime.specs.BlankNames.{HaveParts, names_of};
 ghost use Rattle.runtime.specs.Counts.{numbers_in};
 ghost use Rattle.runtime.specs.Lines.{happenings};
 ghost use Rattle.runtime.specs.Numbers.{added, counted};
-ghost use Rattle.runtime.specs.Seats.{numbers_of_seats};
+ghost use Rattle.runtime.specs.Seats.{AreOfNodes, numbers_of_seats};
 ghost use Rattle.runtime.specs.Tallies.{tally_numbers};
 ghost use Rattle.runtime.specs.declared.tally.Counted.TheVariants as kind;
 ghost use Rattle.world.specs.DoneView.{done_view};
@@ -51,6 +51,7 @@ impl<C: SlotCell, O: Outlet, J: Run> Hub<C, O, J> {
         requires parts { HaveParts blanks J.seats }
         requires seats { J.seats ≡ nodes + 1 }
         ensures seats { IfOk result (λ hub. vec_len hub.1 ≡ nodes) }
+        ensures numbered { IfOk result (λ hub. AreOfNodes nodes hub.1.items) }
     {
         let (totals, mut all) = blanks.open::<J>();
         let mut seats = Vec::with_capacity(alloc, usize::from(nodes))?;

@@ -14,7 +14,7 @@ use proc_step::Job;
 use replay::{KeptReply, Maker, PlainEvent, ScriptedEvent, Silence};
 use runtime::{Answer, Blanks, DriverSeat, History, Hub, KeptEvent, Line, NodeSeat, Run};
 use sector_disk::MemDisk;
-use std::alloc::{AllocError, Global};
+use std::alloc::Global;
 use std::marker::Brand;
 use std::sync::{Arc, Wait};
 use std::test::Fail;
@@ -56,28 +56,29 @@ fn sum_world(alloc: Global) -> Result<SumWorld, Fail> {
     }
 }
 
-/// The first packet from node 0 is lost, and in round 2 node 1 crashes.
-fn script(alloc: Global) -> Result<Vec<ScriptedEvent>, AllocError> {
+/// The first packet from node 0 is lost, and in round 1 node 1 crashes.
+fn script(alloc: Global) -> Result<Vec<ScriptedEvent>, Fail> {
     let rule = Rule {
         from: 0,
         to: 1,
         nth: 1,
         change: Change::Lose,
     };
-    vec![in alloc;
+    let lines = vec![in alloc;
         ScriptedEvent {
             round: 0,
             event: PlainEvent::ArmPacket(rule),
         },
         ScriptedEvent {
-            round: 2,
+            round: 1,
             event: PlainEvent::Crash {
                 node: 1,
                 fill: 0,
                 rounds: 1,
             },
         },
-    ]
+    ]?;
+    Ok(lines)
 }
 
 // Runs a job of the seat's node, and brings back what came of it.
@@ -271,7 +272,7 @@ fn made_by(history: &History, maker: Maker) -> u64 {
 // What stays so of each run: the whole stream left, and each seat's count is that of its lines.
 fn is_whole(came: &Came) -> bool {
     let history = &came.history;
-    came.world.released(OUTPUT) == [1, 3, 6]
+    came.world.released(OUTPUT) == [1, 3, 6].as_slice()
         && came.world.complete()
         && came.made[0] == made_by(history, Maker::Node(0))
         && came.made[1] == made_by(history, Maker::Node(1))
