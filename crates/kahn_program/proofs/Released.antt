@@ -28,12 +28,16 @@ use Rattle.kahn_program.specs.Report.{one_if_output, output_count, report_text}
 use Rattle.kahn_program.specs.Readings.{IsNetOf, AreInputsOf}
 use Rattle.kahn_program.specs.Statuses.{status_of_run}
 use Rattle.kahn_program.specs.Turning.{cut_at}
-use Rattle.kahn_program.specs.Runs.{released_streams, first_items, is_whole, run_text, IsRun, IsLast, IsReport}
-use Rattle.kahn_program.specs.Runs.{IsReportOf, IsReported, HasWritten}
-use Rattle.kahn_program.specs.Runnable.{IsReportFailure}
+use Rattle.fail_script.specs.declared.act.ScriptLine.{ScriptLine}
+use Rattle.kahn_net.specs.Nodes.{node_count}
+use Rattle.replay.specs.declared.kept.ScriptedEvent.{ScriptedEvent}
+use Rattle.kahn_program.specs.Runs.{released_streams, first_items, is_whole, run_text, IsRun, IsEnd, IsReport}
+use Rattle.kahn_program.specs.Runs.{IsReportOf, IsReported, IsScriptedReport, IsToldOf, HasWritten}
+use Rattle.kahn_program.specs.Scripts.{AreLinesOf, scripted_of}
+use Rattle.kahn_program.specs.declared.asked.Options.{Options}
 use Rattle.kahn_program.specs.declared.failure.Failure.{Failure}
 use Rattle.std.specs.Prelude.{IfErr}
-use Rattle.kahn_program.specs.Readings.{IsRunFailure, of_report}
+use Rattle.kahn_program.specs.Readings.{IsReportFailure, IsRunFailure, of_report}
 
 -- The streams of a world, each of which the station of its producer's node has
 
@@ -141,20 +145,16 @@ twice : (f : ℕ → List ℤ) (g : List ℤ → List ℤ) (numbers : List ℕ)
 twice f g [] = refl
 twice f g (number ∷ numbers) = ap (λ (rest : List (List ℤ)). g (f number) ∷ rest) (twice f g numbers)
 
-pub reported : (net : Net) (inputs : List (List ℤ)) (given : List Channel) (room rounds : ℕ) (items cut : Option ℕ)
+pub reported : (net : Net) (given : List Channel) (items cut : Option ℕ)
     (streams : List (List ℤ)) (now : WorldView) (text : List ℕ) (complete told : Bool)
     → given ≡ net.program.channels.items
     → cut ≡ cut_at items (map (λ (channel : ℕ). released_of channel now.stations) (output_channels 0 given))
     → streams ≡ map (λ (channel : ℕ). first_items cut (released_of channel now.stations)) (output_channels 0 given)
     → told ≡ is_whole cut complete
     → text ≡ report_text net.program.channels.items net.channel_names.items streams told
-    → IsRun (network_of net.program) inputs (released_streams (network_of net.program) now.stations) complete
     → complete ≡ are_quiet now
-    → IsLast (network_of net.program) inputs room rounds items now
-    → IsReport net room rounds items inputs text told
-reported net inputs given room rounds items cut streams now text complete told channels where_cut listed whole printed
-    run
-    quiet last =
+    → IsToldOf net items now text told
+reported net given items cut streams now text complete told channels where_cut listed whole printed quiet =
     let stations = now.stations in
     let released : List (List ℤ) = released_streams (network_of net.program) stations in
     let same : map (λ (channel : ℕ). released_of channel stations) (output_channels 0 given) ≡ released =
@@ -166,15 +166,28 @@ reported net inputs given room rounds items cut streams now text complete told c
     let text_is : text ≡ run_text net cut released complete =
     printed ∙ (ap (λ (l : List (List ℤ)). report_text net.program.channels.items net.channel_names.items l told) all
     ∙ ap (λ (b : Bool). report_text net.program.channels.items net.channel_names.items (map (first_items cut) released)
-    b) whole) in
-    ∣ (
-      now,
-      last,
-      subst (IsRun (network_of net.program) inputs released) quiet run,
+    b) whole) in (
       whole ∙ (ap (λ (c : Option ℕ). is_whole c complete) at ∙ ap (is_whole (cut_at items released)) quiet),
       text_is ∙ (ap (λ (c : Option ℕ). run_text net c released complete) at
           ∙ ap (run_text net (cut_at items released) released) quiet),
-    ) ∣₁
+    )
+
+-- the report of a run's last world
+pub report_is : (options : Options) (net : Net) (inputs : List (List ℤ)) (script : List ScriptedEvent)
+    (first now : WorldView) (text : List ℕ) (told complete : Bool) → first.net ≡ network_of net.program
+    → first.inputs ≡ inputs
+    → ∥ (now.net ≡ first.net) × (now.inputs ≡ first.inputs) ∥₁ → WorldInvariant now
+    → complete ≡ are_quiet now → (IsTrue complete → AreWhole now)
+    → IsEnd options.plain options (network_of net.program) inputs script now
+    → IsToldOf net options.items now text told → IsReport options net inputs script text told
+report_is options net inputs script first now text told complete same_net same_inputs same inv quiet whole end told_of =
+    ∥∥₁_map same (λ s. (
+      now,
+      end,
+      subst (IsRun (network_of net.program) inputs (released_streams (network_of net.program) now.stations)) quiet
+          (run_of now (network_of net.program) inputs complete (s.0 ∙ same_net) (s.1 ∙ same_inputs) inv whole),
+      told_of,
+    ))
 
 -- Whether each output has so many items
 
@@ -206,25 +219,36 @@ module _ (f : ℕ → List ℤ) (test : List ℤ → Bool) where
       (output_channels (suc k) (drop (suc k) channels)) passes is yes_it_is)
       ∙ (sym (here channels k d within) ∙ so_far))
 
--- The report that is asked for, of the texts of two readers
-pub run_of_readers : (approx : Option ℕ) (room rounds : ℕ) (items : Option ℕ) (net_bytes input_bytes : Option (List ℕ))
+-- The report that is asked for, of the texts of three readers
+pub run_of_readers : (options : Options) (net_bytes input_bytes script_bytes : Option (List ℕ))
     (net : Net) (inputs : List (List ℤ)) (result : Result (Vec ℕ Global × Bool) Failure)
     → IfSome net_bytes (λ bytes. IsNetOf bytes net) → IfSome input_bytes (λ bytes. AreInputsOf bytes net inputs)
-    → IfOk result (λ report. IsReportOf approx room rounds items net inputs report.0.items report.1)
-    → IfOk result (λ report. IsReported approx room rounds items net_bytes input_bytes report.0.items report.1)
-run_of_readers approx room rounds items net_bytes input_bytes net inputs (Err e) of_net of_inputs report = tt
-run_of_readers approx room rounds items net_bytes input_bytes net inputs (Ok r) of_net of_inputs report =
+    → IfOk result (λ report. IsReportOf options net inputs script_bytes report.0.items report.1)
+    → IfOk result (λ report. IsReported options net_bytes input_bytes script_bytes report.0.items report.1)
+run_of_readers options net_bytes input_bytes script_bytes net inputs (Err e) of_net of_inputs report = tt
+run_of_readers options net_bytes input_bytes script_bytes net inputs (Ok r) of_net of_inputs report =
     ∣ (net, inputs, of_net, of_inputs, report) ∣₁
 
-pub failed_run : {T : Type 0} (approx : Option ℕ) (room rounds : ℕ) (items : Option ℕ)
-    (net_bytes input_bytes : Option (List ℕ)) (net : Net) (inputs : List (List ℤ)) (result : Result T Failure)
+pub failed_run : {T : Type 0} (options : Options) (net_bytes input_bytes script_bytes : Option (List ℕ)) (net : Net)
+    (inputs : List (List ℤ)) (result : Result T Failure)
     → IfSome net_bytes (λ bytes. IsNetOf bytes net)
     → IfSome input_bytes (λ bytes. AreInputsOf bytes net inputs)
-    → IfErr result (IsReportFailure approx (network_of net.program) inputs room rounds items)
-    → IfErr result (IsRunFailure approx net_bytes input_bytes)
-failed_run approx room rounds items net_bytes input_bytes net inputs (Ok value) of_net of_inputs err = tt
-failed_run approx room rounds items net_bytes input_bytes net inputs (Err failure) of_net of_inputs err =
-    of_report net inputs room rounds items of_net of_inputs err
+    → IfErr result (IsReportFailure options (network_of net.program) inputs script_bytes)
+    → IfErr result (IsRunFailure options net_bytes input_bytes script_bytes)
+failed_run options net_bytes input_bytes script_bytes net inputs (Ok value) of_net of_inputs err = tt
+failed_run options net_bytes input_bytes script_bytes net inputs (Err failure) of_net of_inputs err =
+    of_report net inputs of_net of_inputs err
+
+-- a report by the lines of a script is one by its reader
+pub by_script : (options : Options) (net : Net) (inputs : List (List ℤ)) (script_bytes : Option (List ℕ))
+    (lines : List ScriptLine) (events : List ScriptedEvent) (result : Result (Vec ℕ Global × Bool) Failure)
+    → AreLinesOf options.script (node_count (network_of net.program)) script_bytes lines
+    → events ≡ map scripted_of lines
+    → IfOk result (λ report. IsReport options net inputs events report.0.items report.1)
+    → IfOk result (λ report. IsScriptedReport options net inputs script_bytes report.0.items report.1)
+by_script options net inputs script_bytes lines events (Err e) of_script are report = tt
+by_script options net inputs script_bytes lines events (Ok r) of_script are report =
+    (lines, of_script, subst (λ (list : List ScriptedEvent). IsReport options net inputs list r.0.items r.1) are report)
 
 -- what was written where the status is that of a report
 one_status : (a b : Bool) → status_of_run a ≡ status_of_run b → a ≡ b
@@ -237,18 +261,16 @@ not_failed : (a : Bool) → status_of_run a ≡ 1 → ⊥
 not_failed true e = cc
 not_failed false e = cc
 
-pub written_report : (approx : Option ℕ) (room rounds : ℕ) (items : Option ℕ)
-    (net_bytes input_bytes before after : Option (List ℕ)) (text : List ℕ) (complete : Bool) (status : ℕ)
-    → IsReported approx room rounds items net_bytes input_bytes text complete
+pub written_report : (options : Options)
+    (net_bytes input_bytes script_bytes before after : Option (List ℕ)) (text : List ℕ) (complete : Bool) (status : ℕ)
+    → IsReported options net_bytes input_bytes script_bytes text complete
     → (status ≡ 1) ⊎ (status ≡ status_of_run complete) → (status ≢ 1 → Appends before after text)
     → (whole : Bool) → status ≡ status_of_run whole
-    → HasWritten approx room rounds items net_bytes input_bytes before after whole
-written_report approx room rounds items net_bytes input_bytes before after text complete status of (inl failed) writes
-    whole
+    → HasWritten options net_bytes input_bytes script_bytes before after whole
+written_report options net_bytes input_bytes script_bytes before after text complete status of (inl failed) writes whole
     is = absurd (not_failed whole (sym is ∙ failed))
-written_report approx room rounds items net_bytes input_bytes before after text complete status of (inr came) writes
-    whole
+written_report options net_bytes input_bytes script_bytes before after text complete status of (inr came) writes whole
     is =
     let same : complete ≡ whole = one_status complete whole (sym came ∙ is) in
-    subst (HasWritten approx room rounds items net_bytes input_bytes before after) same
+    subst (HasWritten options net_bytes input_bytes script_bytes before after) same
     ∣ (text, of, writes (λ failed. not_failed complete (sym came ∙ failed))) ∣₁

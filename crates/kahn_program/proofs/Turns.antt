@@ -1,8 +1,10 @@
 -- Turns of a run.
-use Rattle.std.proofs.Common.{◌≡◌, ◌≢◌, ◌++◌, ◌⊎◌, Ok, Err, inl, inr, ◌∙◌, ◌∷◌, [], ◌+◌, ◌≤◌, ℕ, zero, suc, ℤ}
-use Rattle.std.proofs.Common.{Bool, true, false, List, map, Option, refl, sym, ap, subst, arith}
+use Rattle.std.proofs.Common.{◌≡◌, ◌++◌, Ok, Err, inl, inr, ◌∙◌, ◌∷◌, [], ◌+◌, ◌≤◌, ℕ, zero, suc, ℤ}
+use Rattle.std.proofs.Common.{Bool, false, List, map, Option, Some, None, refl, sym, ap, subst, arith}
 use Rattle.std.specs.List.{AllByRecursion}
-use Rattle.std.specs.Prelude.{replicate, IfErr, OnOk, Result}
+use Rattle.std.specs.Prelude.{replicate, IfOk, IsSome, Result}
+use Rattle.std.proofs.Math.Logic.{∥∥₁_map}
+use Rattle.replay.proofs.Replays.{replays_stay}
 use Rattle.kahn_net.specs.Nodes.{node_count}
 use Rattle.kahn_net.specs.Syntax.{Network}
 use Rattle.kahn_net.specs.Valid.{IsValid}
@@ -16,7 +18,6 @@ use Rattle.protocol.specs.Node.Opening.{opening_record}
 use Rattle.protocol.specs.NodeLaws.PlaceLaws.{nodes_few}
 use Rattle.protocol.specs.NodeLaws.SizeLaws.{opening_within}
 use Rattle.protocol.specs.WorldLaws.RoomLaws.{bounded_image}
-use Rattle.kahn_net.specs.declared.program.Channel.{Channel}
 use Rattle.record.specs.RecordView.{RecordView}
 use Rattle.gate_cell.specs.declared.cell.StableCell.{Ghosts as CellWords}
 use Rattle.gate_cell.specs.declared.slot_cell.SlotCell.{Ghosts as SlotWords}
@@ -30,59 +31,36 @@ use Rattle.world.specs.OpeningWorld.{IsUnused}
 use Rattle.protocol.specs.World.Sound.{output_channels}
 use Rattle.protocol.specs.World.StationView.{OutletView}
 use Rattle.world.specs.StationView.{outlet_view, outlet_views}
-use Rattle.protocol.specs.World.Steps.{WorldView, IsStep, with_room}
+use Rattle.protocol.specs.World.Steps.{WorldView, with_room}
 use Rattle.protocol.specs.declared.limits.TheConstants.{DEFAULT_ROOM}
-use Rattle.protocol.specs.World.EventView.{EventView}
+use Rattle.replay.specs.Armed.{ArmedEvent, ArmedView, IsArmedStep}
+use Rattle.replay.specs.Replay.{Happening, LeadsTo}
+use Rattle.replay.specs.declared.kept.ScriptedEvent.{ScriptedEvent}
+use Rattle.replay.specs.declared.plain.PlainEvent.{PlainEvent}
 use Rattle.protocol.specs.World.ReplyView.{ReplyView}
-use Rattle.protocol.specs.World.ReplyView as view
 use Rattle.world.specs.ReplyView.{reply_view}
 use Rattle.world.specs.WorldView.{capacities, rooms, station_view}
 use Rattle.world.specs.OpeningWorld.{opening_length, HasNoRoom, IsOpeningRefusal, IsWorldRefusal}
 use Rattle.gate_cell.specs.declared.TheConstants.{SECTORS}
 use Rattle.world.specs.declared.event.Reply.{Reply}
 use Rattle.world.specs.declared.event.Reply.TheVariants.{Granted}
-use Rattle.world.specs.declared.event.Reply.TheVariants.{Down}
 use Rattle.world.specs.declared.output.Output.{Output}
 use Rattle.world.specs.declared.station.Station.{Station}
-use Rattle.kahn_program.specs.Turning.{turn_node, CameTo, first_world, Follows, HasFailed, IsRunRoom, IsRunStep}
-use Rattle.kahn_program.specs.Turning.{IsWorldTurn, is_over, nearest_room, run_rooms, unused_outlet}
-use Rattle.kahn_program.specs.Runnable.{HasRunFailed, IsStoreFailure, store_failure}
-use Rattle.kahn_program.specs.Runs.{IsLast}
+use Rattle.kahn_program.specs.Turning.{turn_node, CameTo, first_world, Follows, HavePassed, IsDriven, IsNodeTurn}
+use Rattle.kahn_program.specs.Turning.{IsRunRoom, IsRunStep, Progress, line_before, nearest_room}
+use Rattle.kahn_program.specs.Turning.{next_event, progress, run_rooms, unused_outlet}
+use Rattle.runtime.specs.declared.answer.HubFault.{HubFault}
+use Rattle.runtime.specs.declared.answer.HubFault.TheVariants as hub
+use Rattle.kahn_program.specs.Runnable.{HasFailedAtOnce, IsStoreFailure, hub_failure, store_failure}
 use Rattle.kahn_program.specs.declared.failure.Failure.{Failure}
-use Rattle.kahn_program.specs.declared.failure.Failure.TheVariants as failure
-use Rattle.kahn_program.specs.declared.network_run.TheConstants.{MAX_TURNS}
+use Rattle.kahn_program.specs.Runs.{IsEnd, IsReplayed}
+use Rattle.kahn_program.specs.declared.asked.Options.{Options}
 
 -- where no job was granted nothing follows
-pub nothing_follows : (answer : Reply) (now : WorldView) → ((job : Arc Job Global) → answer ≡ Granted job → ⊥)
+pub nothing_follows : (answer : Reply) (now : ArmedView) → ((job : Arc Job Global) → answer ≡ Granted job → ⊥)
     → Follows (reply_view answer) now now
 nothing_follows (Granted job) now other = absurd (other job refl)
 nothing_follows answer now other = refl
-
--- that no device failed is told by the answer
-pub is_not_down : (answer : Reply) → (answer ≡ Down → ⊥) → reply_view answer ≢ view.Down
-is_not_down Down other same = absurd (other refl)
-is_not_down answer other same = absurd (cc)
-
--- a failing device is told for a reason that follows from another
-pub failure_by : {P Q : Type 0} → (P → Q) → (failure : Failure) → IsStoreFailure P failure → IsStoreFailure Q failure
-failure_by go (failure.Line source line number) why = why
-failure_by go (failure.Whole source number) why = why
-failure_by go (failure.NotText source) why = why
-failure_by go (failure.Unreadable source) why = why
-failure_by go (failure.Approximation number) why = why
-failure_by go failure.NoMemory why = why
-failure_by go (failure.Other number) why = (why.0, go why.1)
-
-pub on_err_by : {T P Q : Type 0} (result : Result T Failure) → (P → Q) → IfErr result (IsStoreFailure P)
-    → IfErr result (IsStoreFailure Q)
-on_err_by (Ok value) go why = tt
-on_err_by (Err failure) go why = failure_by go failure why
-
--- what holds of an Ok in two ways
-pub on_ok_both : {A E : Type 0} (P Q : Type 0) (result : Result A E) → OnOk result P → OnOk result Q
-    → OnOk result (P × Q)
-on_ok_both P Q (Ok a) one other = (one, other)
-on_ok_both P Q (Err e) one other = tt
 
 -- one more of which it holds
 pub each_more : {X : Type 0} (P : X → Type 0) (xs : List X) (x : X) → AllByRecursion P xs → P x
@@ -116,13 +94,13 @@ module _ {C O : Type 0} {cell : CellWords C} {slots : SlotWords C} where
       ∙ ap (λ (rest : List (RecordView → Bool)). fits_in (slot_room_on SECTORS) ∷ rest)
       (rooms_are taken failures stations room.1)
 
-  pub in_room : (taken : O → List ℤ) (failures : O → ℕ) (stations : List (Station C O slots cell)) (event : EventView)
-      (old new : WorldView)
+  pub in_room : (taken : O → List ℤ) (failures : O → ℕ) (stations : List (Station C O slots cell)) (event : ArmedEvent)
+      (old new : ArmedView)
       (answer : ReplyView) → AllByRecursion IsRunRoom (capacities stations)
-      → old.stations ≡ map (station_view taken failures) stations
-      → IsStep (rooms stations) event old answer new → IsRunStep event old answer new
+      → old.world.stations ≡ map (station_view taken failures) stations
+      → IsArmedStep (rooms stations) event old answer new → IsRunStep event old answer new
   in_room taken failures stations event old new answer room same step =
-      subst (λ (fits : List (RecordView → Bool)). IsStep fits event old answer new)
+      subst (λ (fits : List (RecordView → Bool)). IsArmedStep fits event old answer new)
       (rooms_are taken failures stations room ∙ ap run_rooms (sym same)) step
 
 -- what the disks of a run have room for
@@ -138,16 +116,16 @@ rooms_given {D} sectors disks rooms are all = subst (AllByRecursion IsRunRoom) (
     at (d ∷ list) all = (ap slot_room_on all.0, at list all.1)
 
 -- Why a run isn't opened: no disk is too small for an opening record
-pub run_refused : {D : Type 0} (Failed : Type 0) (sectors : D → ℕ) (net : Network) (number : ℕ) (disks : List D)
+pub run_refused : {D : Type 0} (plain : Bool) (sectors : D → ℕ) (net : Network) (number : ℕ) (disks : List D)
     (fault : StoreFault) → IsValid net
     → AllByRecursion (λ (disk : D). sectors disk ≡ SECTORS) disks
-    → IsWorldRefusal net number (map (λ (disk : D). sectors disk) disks) fault → (fault ≡ Device → Failed)
-    → IsStoreFailure Failed (store_failure fault)
-run_refused Failed sectors net number [] fault valid all refused failed =
-    subst (λ (f : StoreFault). IsStoreFailure Failed (store_failure f)) (sym refused) tt
-run_refused {D} Failed sectors net number (d ∷ disks) fault valid all (inr refused) failed =
-    run_refused Failed sectors net (suc number) disks fault valid all.1 refused failed
-run_refused {D} Failed sectors net number (d ∷ disks) fault valid all (inl refused) failed = at fault refused failed
+    → IsWorldRefusal net number (map (λ (disk : D). sectors disk) disks) fault → (fault ≡ Device → HasFailedAtOnce)
+    → IsStoreFailure plain (store_failure fault)
+run_refused plain sectors net number [] fault valid all refused failed =
+    subst (λ (f : StoreFault). IsStoreFailure plain (store_failure f)) (sym refused) tt
+run_refused {D} plain sectors net number (d ∷ disks) fault valid all (inr refused) failed =
+    run_refused plain sectors net (suc number) disks fault valid all.1 refused failed
+run_refused {D} plain sectors net number (d ∷ disks) fault valid all (inl refused) failed = at fault refused failed
   where
     short : opening_length net number ≤ MAX_RECORD_BYTES
     short = bounded_image (opening_record net (node_count net) number)
@@ -160,10 +138,10 @@ run_refused {D} Failed sectors net number (d ∷ disks) fault valid all (inl ref
         small (inl few) = omega (arith, few)
         small (inr little) = omega (arith, little, short)
 
-    at : (f : StoreFault) → IsOpeningRefusal (sectors d) (opening_length net number) f → (f ≡ Device → Failed)
-        → IsStoreFailure Failed (store_failure f)
+    at : (f : StoreFault) → IsOpeningRefusal (sectors d) (opening_length net number) f → (f ≡ Device → HasFailedAtOnce)
+        → IsStoreFailure plain (store_failure f)
     at NoMemory why failed = tt
-    at Device why failed = (refl, failed refl)
+    at Device why failed = inl (refl, ∣ failed refl ∣₁)
     at TooLarge why failed = absurd (has_room why)
     at Reopen why failed = absurd why
     at Truncated why failed = absurd why
@@ -175,25 +153,53 @@ run_refused {D} Failed sectors net number (d ∷ disks) fault valid all (inl ref
     at Unsettled why failed = absurd why
     at Spent why failed = absurd why
 
--- Why a run ends early: turns lead to one in which a device fails
-pub run_failed : (net : Network) (inputs : List (List ℤ)) (given : List Channel) (room rounds nodes : ℕ)
-    (items : Option ℕ) (first : WorldView) → given ≡ net.channels → nodes ≡ node_count net
-    → first ≡ first_world net inputs room
-    → HasFailed (is_over (output_channels 0 given) rounds items) nodes first
-    → HasRunFailed net inputs room rounds items
-run_failed net inputs given room rounds nodes items first channels all opened failed =
-    ∣ inr (subst (HasFailed (is_over (output_channels 0 net.channels) rounds items) (node_count net)) opened
-    (subst (λ (n : ℕ). HasFailed (is_over (output_channels 0 net.channels) rounds items) n first) all
-    (subst (λ (cs : List Channel). HasFailed (is_over (output_channels 0 cs) rounds items) nodes first) channels
-    failed))) ∣₁
+-- why the hub refuses
+pub hub_refused : (fault : HubFault) → IsStoreFailure false (hub_failure fault)
+hub_refused hub.NoMemory = tt
+hub_refused hub.PastNumber = inr (refl, refl)
+
+pub hub_refused_so : (failure : Failure) (fault : HubFault) → failure ≡ hub_failure fault
+    → IsStoreFailure false failure
+hub_refused_so failure fault same = subst (IsStoreFailure false) (sym same) (hub_refused fault)
+
+-- one line more
+pub more_lines : (script : List ScriptedEvent) (lines : ℕ) (first before now : Progress) (event : Option PlainEvent)
+    → HavePassed script lines first before → event ≡ next_event script before → IsSome event
+    → IsDriven event before now → HavePassed script (lines + 1) first now
+more_lines script lines first before now None came is some driven = absurd (cc)
+more_lines script lines first before now (Some event) came is some driven =
+    let next : suc lines ≡ lines + 1 = omega arith in
+    subst (λ (n : ℕ). HavePassed script n first now) next (before, came, (event, sym is, driven))
+
+-- the same, where the lines are counted by what is passed
+pub more_passed : (script : List ScriptedEvent) (first : Progress) (old new : ArmedView) (passed now : ℕ)
+    (event : Option PlainEvent) → HavePassed script passed first (progress old passed)
+    → event ≡ next_event script (progress old passed) → IsSome event
+    → IsDriven event (progress old passed) (progress new now) → HavePassed script now first (progress new now)
+more_passed script first old new passed now None came is some driven = absurd (cc)
+more_passed script first old new passed now (Some event) came is some driven =
+    subst (λ (n : ℕ). HavePassed script n first (progress new now)) (sym driven.2)
+    (more_lines script passed first (progress old passed) (progress new now) (Some event) came is some driven)
 
 -- one turn more
-pub more_turns : (over : WorldView → Bool) (nodes turns : ℕ) (first before now : WorldView)
-    → CameTo over nodes turns first before → over before ≡ false → IsWorldTurn (turn_node nodes turns) before now
-    → CameTo over nodes (turns + 1) first now
-more_turns over nodes turns first before now came goes_on turn =
+pub more_turns : (over : WorldView → Bool) (nodes : ℕ) (script : List ScriptedEvent) (turns : ℕ)
+    (first before now : Progress) (after : ArmedView)
+    → CameTo over nodes script turns first before → over before.armed.world ≡ false
+    → IsNodeTurn (turn_node nodes turns) before.armed after
+    → IsDriven (line_before script (turn_node nodes (turns + 1)) (progress after before.passed))
+    (progress after before.passed) now
+    → CameTo over nodes script (turns + 1) first now
+more_turns over nodes script turns first before now after came goes_on turn driven =
     let next : suc turns ≡ turns + 1 = omega arith in
-    subst (λ (n : ℕ). CameTo over nodes n first now) next (before, came, goes_on, turn)
+    subst (λ (n : ℕ). CameTo over nodes script n first now) next (
+      before,
+      after,
+      came,
+      goes_on,
+      turn,
+      subst (λ (n : ℕ). IsDriven (line_before script (turn_node nodes n) (progress after before.passed))
+          (progress after before.passed) now) (sym next) driven,
+    )
 
 -- The first world
 
@@ -245,26 +251,38 @@ module _ {O : Type 0} (taken : O → List ℤ) (failures : O → ℕ) (none : (o
       (unused_outlets outputs unused
       ∙ ap (λ (channels : List ℕ). map opening_outlet (map unused_outlet channels)) listed)))))
 
--- The last one
+-- The last one, of a run by threads
+pub replayed_world : {C O : Type 0} {cell : CellWords C} {slots : SlotWords C} (taken : O → List ℤ) (failures : O → ℕ)
+    (stations : List (Station C O slots cell)) (options : Options) (net : Network) (inputs : List (List ℤ))
+    (script : List ScriptedEvent) (first now : WorldView) → AllByRecursion IsRunRoom (capacities stations)
+    → first.stations ≡ map (station_view taken failures) stations → first ≡ first_world net inputs options.room
+    → (happened : List Happening) × LeadsTo (rooms stations) script first happened now
+    → IsReplayed options net inputs script now
+replayed_world taken failures stations options net inputs script first now room same opened run = (
+  run.0,
+  subst (λ (w : WorldView). LeadsTo (run_rooms w.stations) script w run.0 now) opened
+      (subst (λ (fits : List (RecordView → Bool)). LeadsTo fits script first run.0 now)
+      (rooms_are taken failures stations room ∙ ap run_rooms (sym same)) run.1),
+)
 
-pub last_world : (net : Network) (inputs : List (List ℤ)) (given : List Channel) (room rounds nodes : ℕ)
-    (items : Option ℕ) (first now : WorldView) → given ≡ net.channels → nodes ≡ node_count net
-    → first ≡ first_world net inputs room
-    → (turns : ℕ) × CameTo (is_over (output_channels 0 given) rounds items) nodes turns first now
-    × ((is_over (output_channels 0 given) rounds items now ≡ true) ⊎ (MAX_TURNS ≤ turns))
-    → IsLast net inputs room rounds items now
-last_world net inputs given room rounds nodes items first now channels all opened came =
-    let counted =
-    subst (λ (n : ℕ). CameTo (is_over (output_channels 0 given) rounds items) n came.0 first now) all came.1 in
-    let same =
-    subst (λ (cs : List Channel). CameTo (is_over (output_channels 0 cs) rounds items) (node_count net) came.0
-    first now) channels counted in
-    record {
-      turns = came.0;
-      came = subst
-          (λ (world : WorldView). CameTo (is_over (output_channels 0 net.channels) rounds items) (node_count net)
-          came.0 world now) opened same;
-      over = subst
-          (λ (cs : List Channel). (is_over (output_channels 0 cs) rounds items now ≡ true) ⊎ (MAX_TURNS ≤ came.0))
-          channels came.2;
-    }
+-- the end of a run by threads
+pub by_threads_ends : {T E : Type 0} (view : T → WorldView) (plain : Bool) (options : Options) (net : Network)
+    (inputs : List (List ℤ)) (script : List ScriptedEvent) (result : Result T E) → plain ≡ false
+    → IfOk result (λ now. IsReplayed options net inputs script (view now))
+    → IfOk result (λ now. IsEnd plain options net inputs script (view now))
+by_threads_ends view plain options net inputs script (Err e) threads replayed = tt
+by_threads_ends view plain options net inputs script (Ok now) threads replayed =
+    subst (λ (p : Bool). IsEnd p options net inputs script (view now)) (sym threads) replayed
+
+pub if_ok_then : {T E : Type 0} (P Q : T → Type 0) (result : Result T E) → ((value : T) → P value → Q value)
+    → IfOk result P → IfOk result Q
+if_ok_then P Q (Err e) go holds = tt
+if_ok_then P Q (Ok value) go holds = go value holds
+
+pub by_threads_stays : {T E : Type 0} (view : T → WorldView) (fits : List (RecordView → Bool))
+    (script : List ScriptedEvent) (first : WorldView) (result : Result T E)
+    → IfOk result (λ now. (happened : List Happening) × LeadsTo fits script first happened (view now))
+    → IfOk result (λ now. ∥ ((view now).net ≡ first.net) × ((view now).inputs ≡ first.inputs) ∥₁)
+by_threads_stays view fits script first (Err e) leads = tt
+by_threads_stays view fits script first (Ok now) leads =
+    ∥∥₁_map (replays_stay fits script first leads.0 (view now) leads.1) (λ s. (s.0, s.1))

@@ -1,5 +1,5 @@
 -- The command line as `clap` sees it, and what its matches ask for.
-use Rattle.std.specs.Prelude.{◌≡◌, ℕ, ◌≤◌, true, false, Bool, List, [], ◌∷◌, Option, Some, None, codes, string_bytes}
+use Rattle.std.specs.Prelude.{◌≡◌, ℕ, ◌≤◌, true, false, Bool, List, [], ◌∷◌, Option, Some, None, codes, option_map, string_bytes}
 use Rattle.std.specs.Str.Parse.{IsNumeral, digits_value, without_leading_plus}
 use Rattle.clap.specs.Words.{App, Row, Rule, Text, new_app, new_rule, with_rule, first_of, one_of}
 use Rattle.clap.specs.declared.builder.action.ArgAction.TheVariants.{SetTrue}
@@ -12,6 +12,10 @@ use Rattle.ckpt_codec.specs.declared.lengths.TheConstants.{MAX_RETAINED_ITEMS}
 -- an argument that has to be there
 abbrev pub required : Text → Rule
 required name = record (new_rule name) { required = true }
+
+-- `--NAME FILE`
+abbrev pub file_option : Text → Rule
+file_option name = record (new_rule name) { long = Some name; value_names = 1 }
 
 -- `--NAME N`, of a number within these bounds
 abbrev pub number : Text → ℕ → ℕ → Rule
@@ -26,12 +30,13 @@ by_default text rule = record rule { defaults = text ∷ [] }
 abbrev pub flag : Text → Rule
 flag name = record (new_rule name) { long = Some name; action = Some SetTrue }
 
--- kahnrun [--rounds N] [--items N] [--room N] [--plain] [--approx N] NET INPUTS
+-- kahnrun [--script FILE] [--rounds N] [--items N] [--room N] [--plain] [--approx N] NET INPUTS
 unfoldable pub kahnrun : App
 kahnrun =
     let net = with_rule (new_app (codes "kahnrun")) (required (codes "NET")) in
     let inputs = with_rule net (required (codes "INPUTS")) in
-    let rounds = with_rule inputs (by_default (codes "1000") (number (codes "rounds") 1 MAX_ROUNDS)) in
+    let script = with_rule inputs (file_option (codes "script")) in
+    let rounds = with_rule script (by_default (codes "1000") (number (codes "rounds") 1 MAX_ROUNDS)) in
     let items = with_rule rounds (number (codes "items") 0 MAX_ITEMS) in
     let room =
     with_rule items (by_default (codes "4096") (number (codes "room") MIN_ROOM MAX_RETAINED_ITEMS)) in
@@ -58,6 +63,7 @@ pub record IsFlag (text : Option Text) (is_set : Bool) : Type 0 where
 pub record IsAsked (rows : List Row) (options : Options) : Type 0 where
   pub net : first_of (codes "NET") rows ≡ Some (string_bytes options.net)
   pub inputs : first_of (codes "INPUTS") rows ≡ Some (string_bytes options.inputs)
+  pub script : first_of (codes "script") rows ≡ option_map string_bytes options.script
   pub rounds : IsNumber 1 MAX_ROUNDS (one_of (codes "rounds") rows) (Some options.rounds)
   pub items : IsNumber 0 MAX_ITEMS (one_of (codes "items") rows) options.items
   pub room : IsNumber MIN_ROOM MAX_RETAINED_ITEMS (one_of (codes "room") rows) (Some options.room)

@@ -2,7 +2,7 @@
 use Rattle.std.specs.Prelude.{ℕ, List, [], ◌∷◌, ◌++◌, codes}
 use Rattle.std.specs.Fmt.{decimal}
 use Rattle.kahn_program.specs.declared.failure.Source.{Source}
-use Rattle.kahn_program.specs.declared.failure.Source.TheVariants.{Net, Inputs}
+use Rattle.kahn_program.specs.declared.failure.Source.TheVariants.{Net, Inputs, Script}
 use Rattle.kahn_program.specs.declared.failure.Failure.{Failure}
 use Rattle.kahn_program.specs.declared.failure.Failure.TheVariants.{Line, Whole, NotText, Unreadable, Approximation}
 use Rattle.kahn_program.specs.declared.failure.Failure.TheVariants.{NoMemory, Other}
@@ -10,6 +10,7 @@ use Rattle.kahn_program.specs.declared.failure.Failure.TheVariants.{NoMemory, Ot
 abbrev pub source_text : Source → List ℕ
 source_text Net = codes "net"
 source_text Inputs = codes "inputs"
+source_text Script = codes "script"
 
 abbrev pub failure_text : Failure → List ℕ
 failure_text (Line source line number) =

@@ -6,3 +6,4 @@ pub mod Report
 pub mod Statuses
 pub mod Runs
 pub mod Turning
+pub mod Scripts

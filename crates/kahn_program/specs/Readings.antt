@@ -1,5 +1,5 @@
 -- What the texts that a reader gives stand for, and why one is refused.
-use Rattle.std.specs.Prelude.{◌≡◌, ◌⊎◌, ℕ, ℤ, List, Option, Some, None, IfSome, IsUtf8}
+use Rattle.std.specs.Prelude.{◌≡◌, ◌⊎◌, ℕ, ℤ, List, Option, Some, None, IfSome, IsUtf8, IsTrue, is_some}
 use Rattle.std.specs.Io.KnownBytes.{Appends}
 use Rattle.net_text.specs.Faults as text
 use Rattle.net_text.specs.Grammar.{IsTextOf}
@@ -16,11 +16,16 @@ use Rattle.kahn_net.specs.Valid.{IsValid}
 use Rattle.net_check.specs.declared.fault.NetFault.{NetFault}
 use Rattle.net_check.specs.declared.fault.NetFault.TheVariants as fault
 use Rattle.net_check.specs.declared.net.Net.{Net}
+use Rattle.fail_script.specs.Faults as script
+use Rattle.fail_script.specs.Lines.{IsScriptFault}
+use Rattle.fail_script.specs.declared.fault.ScriptFault.{ScriptFault}
 use Rattle.kahn_program.specs.declared.failure.Failure.{Failure}
 use Rattle.kahn_program.specs.declared.failure.Failure.TheVariants.{Line, Whole, NotText, Unreadable, Approximation}
 use Rattle.kahn_program.specs.declared.failure.Failure.TheVariants.{NoMemory, Other}
 use Rattle.kahn_program.specs.Failures.{failure_line, status_of}
-use Rattle.kahn_program.specs.Runnable.{IsReportFailure}
+use Rattle.kahn_program.specs.Runnable.{IsApproximationFailure, IsStoreFailure}
+use Rattle.kahn_program.specs.declared.asked.Options.{Options}
+use Rattle.kahn_net.specs.Nodes.{node_count}
 use Rattle.kahn_program.specs.declared.failure.Source.{Source}
 use Rattle.kahn_program.specs.declared.failure.Source.TheVariants as source
 
@@ -73,6 +78,9 @@ net_failure_of source (fault.Limit line) = Line source line 15
 net_failure_of source (fault.NoProducer line) = Line source line 16
 net_failure_of source (fault.NoConsumer line) = Line source line 17
 
+abbrev pub script_failure_of : ScriptFault → Failure
+script_failure_of fault = at_line source.Script (script.number_of fault) (script.line_of fault) NoMemory
+
 -- no text came out of a reader with these bytes, where they are known
 abbrev pub IsReadFailure : Source → Option (List ℕ) → Failure → Type 0
 IsReadFailure source known (NotText other) = (other ≡ source) × IfSome known (λ bytes. ¬ (IsUtf8 bytes))
@@ -116,23 +124,54 @@ pub data IsInputsFailure : Net → Option (List ℕ) → Failure → Type 0 wher
   inputs_refused : {net : Net} {known : Option (List ℕ)} {failure : Failure}
       → IfSome known (λ bytes. IsInputsTextFailure net bytes failure) → IsInputsFailure net known failure
 
--- Why the program on readers with these bytes, where they are known, ends without a report, where it is asked for this
--- approximation or for a run: the network's reader, then that of the inputs for the network that it describes, then
--- what is asked for.
-pub data IsRunFailure : Option ℕ → Option (List ℕ) → Option (List ℕ) → Failure → Type 0 where
-  of_net : {approx : Option ℕ} {net_bytes input_bytes : Option (List ℕ)} {failure : Failure}
-      → IsNetFailure net_bytes failure → IsRunFailure approx net_bytes input_bytes failure
-  of_inputs : {approx : Option ℕ} {net_bytes input_bytes : Option (List ℕ)} {failure : Failure} (net : Net)
+-- this text is no script for so many nodes
+pub data IsScriptTextFailure : ℕ → List ℕ → Failure → Type 0 where
+  bad_script : {nodes : ℕ} {bytes : List ℕ} {failure : Failure} (fault : ScriptFault) → IsScriptFault nodes bytes fault
+      → failure ≡ script_failure_of fault → IsScriptTextFailure nodes bytes failure
+
+-- why a reader gives no script for so many nodes
+pub data IsScriptFailure : ℕ → Option (List ℕ) → Failure → Type 0 where
+  script_unread : {nodes : ℕ} {known : Option (List ℕ)} {failure : Failure}
+      → IsReadFailure source.Script known failure → IsScriptFailure nodes known failure
+  script_refused : {nodes : ℕ} {known : Option (List ℕ)} {failure : Failure}
+      → IfSome known (λ bytes. IsScriptTextFailure nodes bytes failure) → IsScriptFailure nodes known failure
+
+-- a script is asked for, and its reader gives none
+abbrev pub IsScriptFailureOf : Options → ℕ → Option (List ℕ) → Failure → Type 0
+IsScriptFailureOf options nodes script_bytes failure =
+    IsTrue (is_some options.script) × IsScriptFailure nodes script_bytes failure
+
+-- why there is no report of this approximation, or of a run: its script is refused, or the run fails
+abbrev pub IsRunOrScriptFailure : Options → Network → Option (List ℕ) → Failure → Type 0
+IsRunOrScriptFailure options net script_bytes failure =
+    IsScriptFailureOf options (node_count net) script_bytes failure ⊎ IsStoreFailure options.plain failure
+
+abbrev pub IsReportFailureOf : Option ℕ → Options → Network → List (List ℤ) → Option (List ℕ) → Failure → Type 0
+IsReportFailureOf (Some n) options net inputs script_bytes failure = IsApproximationFailure net inputs n failure
+IsReportFailureOf None options net inputs script_bytes failure = IsRunOrScriptFailure options net script_bytes failure
+
+abbrev pub IsReportFailure : Options → Network → List (List ℤ) → Option (List ℕ) → Failure → Type 0
+IsReportFailure options net inputs script_bytes failure =
+    IsReportFailureOf options.approx options net inputs script_bytes failure
+
+-- Why the program on readers with these bytes, where they are known, ends without a report: the network's reader, then
+-- that of the inputs for the network that it describes; then, where a run by a script is asked for, that of the script;
+-- then what is asked for.
+pub data IsRunFailure : Options → Option (List ℕ) → Option (List ℕ) → Option (List ℕ) → Failure → Type 0 where
+  of_net : {options : Options} {net_bytes input_bytes script_bytes : Option (List ℕ)} {failure : Failure}
+      → IsNetFailure net_bytes failure → IsRunFailure options net_bytes input_bytes script_bytes failure
+  of_inputs : {options : Options} {net_bytes input_bytes script_bytes : Option (List ℕ)} {failure : Failure} (net : Net)
       → IfSome net_bytes (λ bytes. IsNetOf bytes net) → IsInputsFailure net input_bytes failure
-      → IsRunFailure approx net_bytes input_bytes failure
-  of_report : {approx : Option ℕ} {net_bytes input_bytes : Option (List ℕ)} {failure : Failure} (net : Net)
-      (inputs : List (List ℤ)) (room rounds : ℕ) (items : Option ℕ) → IfSome net_bytes (λ bytes. IsNetOf bytes net)
+      → IsRunFailure options net_bytes input_bytes script_bytes failure
+  of_report : {options : Options} {net_bytes input_bytes script_bytes : Option (List ℕ)} {failure : Failure} (net : Net)
+      (inputs : List (List ℤ)) → IfSome net_bytes (λ bytes. IsNetOf bytes net)
       → IfSome input_bytes (λ bytes. AreInputsOf bytes net inputs)
-      → IsReportFailure approx (network_of net.program) inputs room rounds items failure
-      → IsRunFailure approx net_bytes input_bytes failure
+      → IsReportFailure options (network_of net.program) inputs script_bytes failure
+      → IsRunFailure options net_bytes input_bytes script_bytes failure
 
 -- the line of such a failure was written; its status is this one
-abbrev pub HasTold : Option ℕ → Option (List ℕ) → Option (List ℕ) → Option (List ℕ) → Option (List ℕ) → ℕ → Type 0
-HasTold approx net_bytes input_bytes before after status =
-    ∥ ((failure : Failure) × IsRunFailure approx net_bytes input_bytes failure × (status ≡ status_of failure)
-    × Appends before after (failure_line failure)) ∥₁
+abbrev pub HasTold : Options → Option (List ℕ) → Option (List ℕ) → Option (List ℕ) → Option (List ℕ)
+    → Option (List ℕ) → ℕ → Type 0
+HasTold options net_bytes input_bytes script_bytes before after status =
+    ∥ ((failure : Failure) × IsRunFailure options net_bytes input_bytes script_bytes failure
+    × (status ≡ status_of failure) × Appends before after (failure_line failure)) ∥₁

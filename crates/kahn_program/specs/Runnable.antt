@@ -1,7 +1,6 @@
 -- Why a network on its inputs comes to no report.
-use Rattle.std.specs.Prelude.{◌≡◌, ◌⊎◌, ℕ, ℤ, List, Option, Some, None}
+use Rattle.std.specs.Prelude.{◌≡◌, ◌⊎◌, ℕ, ℤ, Bool, false, List}
 use Rattle.std.specs.List.{AllByRecursion}
-use Rattle.kahn_net.specs.Nodes.{node_count}
 use Rattle.kahn_net.specs.Syntax.{Network}
 use Rattle.sector_disk.specs.MemDisk.{failures_of, sectors_of}
 use Rattle.sector_disk.specs.declared.memory.MemDisk.{MemDisk}
@@ -10,9 +9,9 @@ use Rattle.stream_eq.specs.Limits.{HasLongHistory}
 use Rattle.ckpt_store.specs.StoreFault.{refusal_number}
 use Rattle.ckpt_store.specs.declared.fault.StoreFault.{StoreFault}
 use Rattle.ckpt_store.specs.declared.fault.StoreFault.TheVariants as fault
-use Rattle.protocol.specs.World.Sound.{output_channels}
+use Rattle.runtime.specs.declared.answer.HubFault.{HubFault}
+use Rattle.runtime.specs.declared.answer.HubFault.TheVariants as hub
 use Rattle.world.specs.OpeningWorld.{SomeFailed}
-use Rattle.kahn_program.specs.Turning.{HasFailed, first_world, is_over}
 use Rattle.kahn_program.specs.declared.failure.Failure.{Failure}
 use Rattle.kahn_program.specs.declared.failure.Failure.TheVariants.{Line, Whole, NotText, Unreadable, Approximation}
 use Rattle.kahn_program.specs.declared.failure.Failure.TheVariants.{NoMemory, Other}
@@ -37,15 +36,10 @@ store_failure fault.NotHeld = Other (refusal_number fault.NotHeld)
 store_failure fault.Unsettled = Other (refusal_number fault.Unsettled)
 store_failure fault.Spent = Other (refusal_number fault.Spent)
 
--- memory is missing, or a device failed (20): then this holds
-abbrev pub IsStoreFailure : Type 0 → Failure → Type 0
-IsStoreFailure Failed (Line source line number) = ⊥
-IsStoreFailure Failed (Whole source number) = ⊥
-IsStoreFailure Failed (NotText source) = ⊥
-IsStoreFailure Failed (Unreadable source) = ⊥
-IsStoreFailure Failed (Approximation number) = ⊥
-IsStoreFailure Failed NoMemory = Unit {0}
-IsStoreFailure Failed (Other number) = (number ≡ refusal_number fault.Device) × Failed
+-- a refusal of the hub
+abbrev pub hub_failure : HubFault → Failure
+hub_failure hub.NoMemory = NoMemory
+hub_failure hub.PastNumber = Other 44
 
 -- one of the disks of a run failed while its world was made
 pub record HasFailedAtOnce : Type 0 where
@@ -54,14 +48,15 @@ pub record HasFailedAtOnce : Type 0 where
   pub sectors : AllByRecursion (λ (disk : MemDisk). sectors_of disk ≡ SECTORS) disks
   pub failed : SomeFailed failures_of disks backs
 
--- a device of a run failed: while its world was made, or in a turn to which turns lead
-abbrev pub HasRunFailed : Network → List (List ℤ) → ℕ → ℕ → Option ℕ → Type 0
-HasRunFailed net inputs room rounds items =
-    ∥ HasFailedAtOnce ⊎ HasFailed (is_over (output_channels 0 net.channels) rounds items) (node_count net)
-    (first_world net inputs room) ∥₁
-
--- why there is no report of this approximation, or of a run: by a failing device, as for want of memory
-abbrev pub IsReportFailure : Option ℕ → Network → List (List ℤ) → ℕ → ℕ → Option ℕ → Failure → Type 0
-IsReportFailure (Some n) net inputs room rounds items failure = IsApproximationFailure net inputs n failure
-IsReportFailure None net inputs room rounds items failure =
-    IsStoreFailure (HasRunFailed net inputs room rounds items) failure
+-- Why a run comes to no report: memory is missing, also for a thread; a disk failed while its world was made (20); or, where
+-- each node has a thread, a count of the history would pass 2^63 - 1 (44).
+abbrev pub IsStoreFailure : Bool → Failure → Type 0
+IsStoreFailure plain (Line source line number) = ⊥
+IsStoreFailure plain (Whole source number) = ⊥
+IsStoreFailure plain (NotText source) = ⊥
+IsStoreFailure plain (Unreadable source) = ⊥
+IsStoreFailure plain (Approximation number) = ⊥
+IsStoreFailure plain NoMemory = Unit {0}
+IsStoreFailure plain (Other number) =
+    ((number ≡ refusal_number fault.Device) × ∥ HasFailedAtOnce ∥₁)
+    ⊎ ((number ≡ refusal_number fault.Spent) × (plain ≡ false))

@@ -1,5 +1,5 @@
 -- What a run of a network releases, and its report.
-use Rattle.std.specs.Prelude.{◌≡◌, ◌⊎◌, ◌≤◌, ◌↔◌, ℕ, Bool, true, false, IsTrue, ℤ}
+use Rattle.std.specs.Prelude.{◌≡◌, ◌↔◌, ℕ, Bool, true, false, IsTrue, ℤ}
 use Rattle.std.specs.Prelude.{List, Option, Some, None, IfSome, length, map, take, slice_get}
 use Rattle.std.specs.Io.KnownBytes.{Appends}
 use Rattle.kahn_net.specs.Streams.{history_of, IsPrefix}
@@ -14,8 +14,12 @@ use Rattle.protocol.specs.World.StationView.{StationView}
 use Rattle.kahn_program.specs.Readings.{IsNetOf, AreInputsOf}
 use Rattle.kahn_program.specs.Report.{report_text}
 use Rattle.protocol.specs.World.Steps.{WorldView}
-use Rattle.kahn_program.specs.Turning.{CameTo, cut_at, first_world, is_over}
-use Rattle.kahn_program.specs.declared.network_run.TheConstants.{MAX_TURNS}
+use Rattle.fail_script.specs.declared.act.ScriptLine.{ScriptLine}
+use Rattle.replay.specs.Replay.{Happening, LeadsTo}
+use Rattle.replay.specs.declared.kept.ScriptedEvent.{ScriptedEvent}
+use Rattle.kahn_program.specs.Scripts.{AreLinesOf, scripted_of}
+use Rattle.kahn_program.specs.Turning.{IsRunByTurns, cut_at, first_world, is_over, run_rooms}
+use Rattle.kahn_program.specs.declared.asked.Options.{Options}
 
 -- what the stations' outlets took, for each of a network's outputs in order
 abbrev pub released_streams : Network → List StationView → List (List ℤ)
@@ -58,26 +62,46 @@ run_text net cut released complete =
     report_text net.program.channels.items net.channel_names.items (map (first_items cut) released)
     (is_whole cut complete)
 
--- The world at the end of a run: turn by turn it came from the first one, until the run was over, or so many turns were
--- taken that nobody waits for them.
-pub record IsLast (net : Network) (inputs : List (List ℤ)) (room rounds : ℕ) (items : Option ℕ)
-    (now : WorldView) : Type 0
-  where
-    pub turns : ℕ
-    pub came : CameTo (is_over (output_channels 0 net.channels) rounds items) (node_count net) turns
-        (first_world net inputs room) now
-    pub over : (is_over (output_channels 0 net.channels) rounds items now ≡ true) ⊎ (MAX_TURNS ≤ turns)
+-- the world at the end of a run by turns
+abbrev pub IsLast : Options → Network → List (List ℤ) → List ScriptedEvent → WorldView → Type 0
+IsLast options net inputs script now =
+    IsRunByTurns (is_over (output_channels 0 net.channels) options.rounds options.items) (node_count net) script
+    (first_world net inputs options.room) now
 
--- A text is the report of a run of this network on these inputs, and tells whether it is complete: of what has left in
--- the world at its end. Where so many items of each output were asked for, and each has them, the first ones of each
--- are printed, and the run is partial.
-abbrev pub IsReport : Net → ℕ → ℕ → Option ℕ → List (List ℤ) → List ℕ → Bool → Type 0
-IsReport net room rounds items inputs text told =
-    ∥ ((now : WorldView) × IsLast (network_of net.program) inputs room rounds items now
-    × IsRun (network_of net.program) inputs (released_streams (network_of net.program) now.stations) (are_quiet now)
-    × (told ≡ is_whole (cut_at items (released_streams (network_of net.program) now.stations)) (are_quiet now))
+-- The world at the end of a run by threads: a history leads to it, each event of which is one that was next for its node, a
+-- turn that came back to its node, or the event of the script's next line.
+abbrev pub IsReplayed : Options → Network → List (List ℤ) → List ScriptedEvent → WorldView → Type 0
+IsReplayed options net inputs script now =
+    (happened : List Happening) × LeadsTo (run_rooms (first_world net inputs options.room).stations) script
+    (first_world net inputs options.room) happened now
+
+-- by turns where they are asked for
+abbrev pub IsEnd : Bool → Options → Network → List (List ℤ) → List ScriptedEvent → WorldView → Type 0
+IsEnd true options net inputs script now = IsLast options net inputs script now
+IsEnd false options net inputs script now = IsReplayed options net inputs script now
+
+-- this is told of a world, cut at so many items where each output has them
+abbrev pub IsToldOf : Net → Option ℕ → WorldView → List ℕ → Bool → Type 0
+IsToldOf net items now text told =
+    (told ≡ is_whole (cut_at items (released_streams (network_of net.program) now.stations)) (are_quiet now))
     × (text ≡ run_text net (cut_at items (released_streams (network_of net.program) now.stations))
-    (released_streams (network_of net.program) now.stations) (are_quiet now))) ∥₁
+    (released_streams (network_of net.program) now.stations) (are_quiet now))
+
+-- A text is the report of a run of this network on these inputs, by the events of this script, and tells whether it is
+-- complete: of what has left in the world at its end. Where so many items of each output were asked for, and each has them,
+-- the first ones of each are printed, and the run is partial.
+abbrev pub IsReport : Options → Net → List (List ℤ) → List ScriptedEvent → List ℕ → Bool → Type 0
+IsReport options net inputs script text told =
+    ∥ ((now : WorldView) × IsEnd options.plain options (network_of net.program) inputs script now
+    × IsRun (network_of net.program) inputs (released_streams (network_of net.program) now.stations) (are_quiet now)
+    × IsToldOf net options.items now text told) ∥₁
+
+-- the same by the script of a reader with these bytes, where they are known, if a script is asked for
+abbrev pub IsScriptedReport : Options → Net → List (List ℤ) → Option (List ℕ) → List ℕ → Bool → Type 0
+IsScriptedReport options net inputs script_bytes text told =
+    (lines : List ScriptLine)
+    × AreLinesOf options.script (node_count (network_of net.program)) script_bytes lines
+    × IsReport options net inputs (map scripted_of lines) text told
 
 -- A text is the report of the n-th approximation on these inputs: each output's whole history there. It tells
 -- `complete` exactly where that approximation is a solution.
@@ -88,23 +112,27 @@ pub record IsApproximated (net : Net) (inputs : List (List ℤ)) (n : ℕ) (text
   pub solution : IsTrue told
       ↔ IsSolution (network_of net.program) inputs (approximation (network_of net.program) inputs n)
 
--- a text is the report that is asked for: of an approximation, or of a run, cut at so many items
-abbrev pub IsReportOf : Option ℕ → ℕ → ℕ → Option ℕ → Net → List (List ℤ) → List ℕ → Bool → Type 0
-IsReportOf (Some n) room rounds items net inputs text told = IsApproximated net inputs n text told
-IsReportOf None room rounds items net inputs text told = IsReport net room rounds items inputs text told
+-- a text is the report that is asked for: of an approximation, or of a run
+abbrev pub IsReportBy : Option ℕ → Options → Net → List (List ℤ) → Option (List ℕ) → List ℕ → Bool → Type 0
+IsReportBy (Some n) options net inputs script_bytes text told = IsApproximated net inputs n text told
+IsReportBy None options net inputs script_bytes text told =
+    IsScriptedReport options net inputs script_bytes text told
+
+abbrev pub IsReportOf : Options → Net → List (List ℤ) → Option (List ℕ) → List ℕ → Bool → Type 0
+IsReportOf options net inputs script_bytes text told =
+    IsReportBy options.approx options net inputs script_bytes text told
 
 -- The same of the network that a reader with these bytes describes, on the inputs that another gives, where the bytes
 -- are known.
-abbrev pub IsReported : Option ℕ → ℕ → ℕ → Option ℕ → Option (List ℕ) → Option (List ℕ) → List ℕ → Bool → Type 0
-IsReported approx room rounds items net_bytes input_bytes text told =
+abbrev pub IsReported : Options → Option (List ℕ) → Option (List ℕ) → Option (List ℕ) → List ℕ → Bool → Type 0
+IsReported options net_bytes input_bytes script_bytes text told =
     ∥ ((net : Net) × (inputs : List (List ℤ)) × IfSome net_bytes (λ bytes. IsNetOf bytes net)
     × IfSome input_bytes (λ bytes. AreInputsOf bytes net inputs)
-    × IsReportOf approx room rounds items net inputs text told) ∥₁
+    × IsReportOf options net inputs script_bytes text told) ∥₁
 
 -- and such a text was written
-abbrev pub HasWritten : Option ℕ → ℕ → ℕ → Option ℕ → Option (List ℕ) → Option (List ℕ) → Option (List ℕ)
-    → Option (List ℕ)
-    → Bool → Type 0
-HasWritten approx room rounds items net_bytes input_bytes before after told =
-    ∥ ((text : List ℕ) × IsReported approx room rounds items net_bytes input_bytes text told
+abbrev pub HasWritten : Options → Option (List ℕ) → Option (List ℕ) → Option (List ℕ) → Option (List ℕ)
+    → Option (List ℕ) → Bool → Type 0
+HasWritten options net_bytes input_bytes script_bytes before after told =
+    ∥ ((text : List ℕ) × IsReported options net_bytes input_bytes script_bytes text told
     × Appends before after text) ∥₁

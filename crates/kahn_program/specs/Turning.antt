@@ -1,7 +1,6 @@
 -- A run of a network, turn by turn.
-use Rattle.std.specs.Prelude.{◌≡◌, ◌≢◌, ◌||◌, ℕ, zero, suc, ◌%◌, nat_le, nat_lt, if◌then◌else◌, Bool, false, ℤ, List}
-use Rattle.std.specs.Prelude.{[]}
-use Rattle.std.specs.Prelude.{length, map, min, max, replicate, Option, Some, None, is_some}
+use Rattle.std.specs.Prelude.{◌≡◌, ◌==◌, ◌||◌, ◌⊎◌, ◌≤◌, ℕ, zero, suc, ◌+◌, ◌%◌, nat_le, nat_lt, if◌then◌else◌, Bool, true, false, ℤ, List}
+use Rattle.std.specs.Prelude.{[], length, map, min, max, replicate, Option, Some, None, is_some, slice_get}
 use Rattle.std.specs.List.{list_all}
 use Rattle.kahn_net.specs.Nodes.{node_count}
 use Rattle.kahn_net.specs.Syntax.{Network}
@@ -10,17 +9,22 @@ use Rattle.record.specs.RecordView.{RecordView}
 use Rattle.ckpt_store.specs.Spelling.{fits_in}
 use Rattle.protocol.specs.World.Choice.{choice}
 use Rattle.protocol.specs.World.DoneView.{DoneView}
-use Rattle.protocol.specs.World.EventView.{EventView, Install}
+use Rattle.protocol.specs.World.EventView.{Install}
 use Rattle.protocol.specs.World.OpeningWorld.{opening_world}
 use Rattle.protocol.specs.World.Quiet.{are_quiet}
 use Rattle.protocol.specs.World.Released.{released_of}
-use Rattle.protocol.specs.World.ReplyView.{ReplyView, Granted, Down}
+use Rattle.protocol.specs.World.ReplyView.{ReplyView, Granted}
 use Rattle.protocol.specs.World.Sound.{output_channels}
 use Rattle.protocol.specs.World.StationView.{OutletView, StationView}
-use Rattle.protocol.specs.World.Steps.{WorldView, IsStep, with_room}
+use Rattle.protocol.specs.World.Steps.{WorldView, with_room}
 use Rattle.protocol.specs.declared.limits.TheConstants.{MIN_ROOM}
 use Rattle.ckpt_codec.specs.declared.lengths.TheConstants.{MAX_RETAINED_ITEMS}
 use Rattle.gate_cell.specs.declared.TheConstants.{SECTORS}
+use Rattle.replay.specs.Armed.{ArmedEvent, ArmedView, IsArmedStep, OfWorld, armed_at_first}
+use Rattle.kahn_program.specs.declared.turning.TheConstants.{MAX_TURNS}
+use Rattle.replay.specs.Plain.{plain_view}
+use Rattle.replay.specs.declared.kept.ScriptedEvent.{ScriptedEvent}
+use Rattle.replay.specs.declared.plain.PlainEvent.{PlainEvent}
 
 -- the room of the slots of each cell of a run: that of a disk of so many sectors
 abbrev pub IsRunRoom : ℕ → Type 0
@@ -30,46 +34,97 @@ IsRunRoom room = room ≡ slot_room_on SECTORS
 abbrev pub run_rooms : List StationView → List (RecordView → Bool)
 run_rooms stations = map (λ (station : StationView). fits_in (slot_room_on SECTORS)) stations
 
--- a step of a world of a run
-abbrev pub IsRunStep : EventView → WorldView → ReplyView → WorldView → Type 0
-IsRunStep event old answer new = IsStep (run_rooms old.stations) event old answer new
+-- a step of a world of a run, for which crashes may be armed
+abbrev pub IsRunStep : ArmedEvent → ArmedView → ReplyView → ArmedView → Type 0
+IsRunStep event old answer new = IsArmedStep (run_rooms old.world.stations) event old answer new
 
 -- behind an answer: the turn on a job that was granted is taken in, and nothing else happens
-abbrev pub Follows : ReplyView → WorldView → WorldView → Type 0
+abbrev pub Follows : ReplyView → ArmedView → ArmedView → Type 0
 Follows (Granted job) old new =
-    (done : DoneView) × (done.job ≡ job) × (answer : ReplyView) × IsRunStep (Install done) old answer new
+    (done : DoneView) × (done.job ≡ job) × (answer : ReplyView) × IsRunStep (OfWorld (Install done)) old answer new
 Follows answer old new = new ≡ old
 
--- a turn of a node: the event that is next for it, in which no device fails, and what follows it
-pub record IsWorldTurn (node : ℕ) (old new : WorldView) : Type 0 where
+-- a turn of a node: the event that is next for it, and what follows it
+pub record IsNodeTurn (node : ℕ) (old new : ArmedView) : Type 0 where
   pub answer : ReplyView
-  pub between : WorldView
-  pub step : IsRunStep (choice old node) old answer between
-  pub unfailed : answer ≢ Down
+  pub between : ArmedView
+  pub step : IsRunStep (OfWorld (choice old.world node)) old answer between
   pub follows : Follows answer between new
 
--- a turn of a node in which a device fails
-abbrev pub FailsIn : ℕ → WorldView → Type 0
-FailsIn node old = (after : WorldView) × IsRunStep (choice old node) old Down after
+-- ---- a run by turns
+
+-- how far a run has come: its world, and how many lines of its script are passed
+pub record Progress : Type 0 where
+  pub armed : ArmedView
+  pub passed : ℕ
+
+abbrev pub progress : ArmedView → ℕ → Progress
+progress armed passed = record { armed = armed; passed = passed }
+
+-- the event of a line, if there is one and it is due
+abbrev pub due_event : ℕ → Option ScriptedEvent → Option PlainEvent
+due_event round None = None
+due_event round (Some line) = if nat_le line.round round then Some line.event else None
+
+abbrev pub next_event : List ScriptedEvent → Progress → Option PlainEvent
+next_event script now = due_event now.armed.world.round (slice_get script now.passed)
+
+-- this event of a line happens, if there is one
+abbrev pub IsDriven : Option PlainEvent → Progress → Progress → Type 0
+IsDriven None old new = new ≡ old
+IsDriven (Some event) old new =
+    (answer : ReplyView) × IsRunStep (plain_view event) old.armed answer new.armed × (new.passed ≡ old.passed + 1)
+
+-- so many lines are passed, each of which is due
+abbrev pub HavePassed : List ScriptedEvent → ℕ → Progress → Progress → Type 0
+HavePassed script zero first now = now ≡ first
+HavePassed script (suc lines) first now =
+    (before : Progress) × HavePassed script lines first before
+    × ((event : PlainEvent) × (next_event script before ≡ Some event) × IsDriven (Some event) before now)
+
+-- all that are due at first
+pub record HasBegun (script : List ScriptedEvent) (first now : Progress) : Type 0 where
+  pub lines : ℕ
+  pub came : HavePassed script lines first now
+  pub none_due : next_event script now ≡ None
 
 -- the node of a turn, the first one being 0: the nodes, so many, take their turns one after another
 abbrev pub turn_node : ℕ → ℕ → ℕ
 turn_node nodes turn = if nat_lt 0 nodes then turn % nodes else 0
 
--- so many turns lead from one world of so many nodes to another; none is taken where a run is over
-abbrev pub CameTo : (WorldView → Bool) → ℕ → ℕ → WorldView → WorldView → Type 0
-CameTo over nodes zero first now = now ≡ first
-CameTo over nodes (suc turns) first now =
-    (before : WorldView) × CameTo over nodes turns first before × (over before ≡ false)
-    × IsWorldTurn (turn_node nodes turns) before now
+-- the line that comes before a turn of this node: one before each turn of node 0, if it is due
+abbrev pub line_before : List ScriptedEvent → ℕ → Progress → Option PlainEvent
+line_before script node now = if node == 0 then next_event script now else None
 
--- such turns lead to one in which a device fails
-pub record HasFailed (over : WorldView → Bool) (nodes : ℕ) (first : WorldView) : Type 0 where
-  pub turns : ℕ
-  pub before : WorldView
-  pub came : CameTo over nodes turns first before
-  pub goes_on : over before ≡ false
-  pub fails : FailsIn (turn_node nodes turns) before
+-- So many turns lead from one world of so many nodes to another, and the line before the next turn is passed; none is taken
+-- where a run is over.
+abbrev pub CameTo : (WorldView → Bool) → ℕ → List ScriptedEvent → ℕ → Progress → Progress → Type 0
+CameTo over nodes script zero first now = IsDriven (line_before script (turn_node nodes 0) first) first now
+CameTo over nodes script (suc turns) first now =
+    (before : Progress) × (after : ArmedView) × CameTo over nodes script turns first before
+    × (over before.armed.world ≡ false) × IsNodeTurn (turn_node nodes turns) before.armed after
+    × IsDriven (line_before script (turn_node nodes (suc turns)) (progress after before.passed))
+    (progress after before.passed) now
+
+-- until a run was over, or so many turns were taken that nobody waits for them
+pub record TakesTurns (over : WorldView → Bool) (nodes : ℕ) (script : List ScriptedEvent) (first : Progress)
+    (now : ArmedView) : Type 0
+  where
+    pub turns : ℕ
+    pub last : Progress
+    pub came : CameTo over nodes script turns first last
+    pub ended : (over last.armed.world ≡ true) ⊎ (MAX_TURNS ≤ turns)
+    pub same : now ≡ last.armed
+
+-- A run by turns: all lines that are due at first are passed, and then turns are taken.
+pub record IsRunByTurns (over : WorldView → Bool) (nodes : ℕ) (script : List ScriptedEvent) (first now : WorldView)
+    : Type 0
+  where
+    pub begun : Progress
+    pub armed : ArmedView
+    pub begins : HasBegun script (progress (armed_at_first first) 0) begun
+    pub takes : TakesTurns over nodes script begun armed
+    pub same : now ≡ armed.world
 
 -- Where the streams of a run are cut: at so many items, where that was asked for and each has them.
 abbrev pub cut_at : Option ℕ → List (List ℤ) → Option ℕ

@@ -24,6 +24,8 @@ pub struct Options {
     pub net: String,
     /// The file of the inputs' text.
     pub inputs: String,
+    /// The file of the failure script, if a run has one.
+    pub script: Option<String>,
     /// A run ends after so many rounds, complete or not.
     pub rounds: u64,
     /// A run ends where each output has so many items.
@@ -31,7 +33,7 @@ pub struct Options {
     /// How many items a channel of a run retains at most, from `MIN_ROOM` to `MAX_RETAINED_ITEMS`. Any other number is taken
     /// for the nearest of these.
     pub room: u64,
-    /// Turns are taken plainly, by one thread. They always are so far.
+    /// A run takes turns on one thread. Else each node has a thread of its own.
     pub plain: bool,
     /// The approximation that is printed in place of a run.
     pub approx: Option<u64>,
@@ -43,11 +45,13 @@ impl Options {
         ensures names { (result.net ≡ net) × (result.inputs ≡ inputs) }
         ensures rounds { result.rounds ≡ DEFAULT_ROUNDS }
         ensures room { result.room ≡ DEFAULT_ROOM }
-        ensures others { (result.items ≡ None) × (result.plain ≡ false) × (result.approx ≡ None) }
+        ensures others { (result.script ≡ None) × (result.items ≡ None) × (result.plain ≡ false)
+            × (result.approx ≡ None) }
     {
         Options {
             net,
             inputs,
+            script: None,
             rounds: DEFAULT_ROUNDS,
             items: None,
             room: DEFAULT_ROOM as u64,

@@ -10,6 +10,7 @@ use std::fmt;
 pub enum Source {
     Net,
     Inputs,
+    Script,
 }
 
 /// Why the program ends without a report.
@@ -49,6 +50,7 @@ impl fmt::Display for Source {
         match self {
             Source::Net => f.write_str("net"),
             Source::Inputs => f.write_str("inputs"),
+            Source::Script => f.write_str("script"),
         }
     }
 }

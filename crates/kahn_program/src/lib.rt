@@ -3,18 +3,21 @@
 
 mod approximating;
 mod asked;
+mod ending;
 mod failure;
 mod network_run;
 mod printing;
 mod reading;
 mod reporting;
 mod running;
+mod scripting;
+mod turning;
 mod words;
 
 pub use asked::{DEFAULT_ROUNDS, MAX_APPROXIMATION, MAX_ITEMS, MAX_ROUNDS, Options};
 pub use failure::{Failure, Source};
 pub use printing::{print_failure, print_report};
-pub use reading::{read_inputs, read_net};
+pub use reading::{read_inputs, read_net, read_script};
 pub use reporting::{Stream, count_outputs, report};
 pub use running::run;
 pub use words::{not_text, options};

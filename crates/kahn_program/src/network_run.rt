@@ -1,43 +1,40 @@
 //! A network's run, and its report.
 
-ghost use Rattle.std.specs.Prelude.{◌≡◌, ◌≢◌, ◌⊎◌, ◌*◌, ◌^◌, ◌<◌, ◌≤◌, ◌++◌, ℕ, ◌∷◌, [], if◌then◌else◌, true, nat_le, length, map, replicate, IfErr, IfOk, OnOk};
+ghost use Rattle.std.specs.Prelude.{◌≡◌, ◌*◌, ◌^◌, ◌<◌, ◌≤◌, ◌++◌, ◌∷◌, [], ℤ, Bool, false, if◌then◌else◌, List, length, map, replicate, IfErr, IfOk, IsTrue, OnOk};
 ghost use Rattle.kahn_net.specs.Fits.{Fits};
+ghost use Rattle.kahn_net.specs.Nodes.{node_count};
 ghost use Rattle.kahn_net.specs.Syntax.{network_of};
-ghost use Rattle.std.specs.List.{list_all, AllByRecursion};
+ghost use Rattle.kahn_net.specs.declared.limits.TheConstants.{MAX_CHANNELS, MAX_NODES};
+ghost use Rattle.std.specs.List.{AllByRecursion};
 ghost use Rattle.sector_disk.specs.MemDisk.{failures_of, sectors_of};
 ghost use Rattle.sector_disk.specs.declared.TheConstants.{SECTOR_BYTES};
-ghost use Rattle.protocol.specs.World.Quiet.{are_quiet};
+ghost use Rattle.gate_cell.specs.declared.TheConstants.{SECTORS};
+ghost use Rattle.protocol.specs.World.Quiet.{AreWhole, are_quiet};
 ghost use Rattle.protocol.specs.World.Released.{released_of};
 ghost use Rattle.protocol.specs.World.Sound.{goes_outside, output_channels};
-ghost use Rattle.protocol.specs.World.ReplyView.{Down};
-ghost use Rattle.world.specs.ReplyView.{reply_view};
+ghost use Rattle.replay.specs.Replay.{Happening, LeadsTo};
 ghost use Rattle.world.specs.WholeView.{world_of};
-ghost use Rattle.world.specs.WorldView.{capacities};
-ghost use Rattle.gate_cell.specs.declared.TheConstants.{SECTORS};
-ghost use Rattle.kahn_program.specs.Turning.{CameTo, FailsIn, Follows, HasFailed, IsRunRoom, IsWorldTurn, cut_at, is_over, nearest_room, turn_node};
-ghost use Rattle.kahn_program.specs.Runnable.{HasRunFailed, IsStoreFailure, store_failure};
-ghost use Rattle.kahn_program.specs.Runs.{IsReport, first_items, is_whole};
-ghost use Rattle.kahn_net.specs.declared.limits.TheConstants.{MAX_CHANNELS, MAX_NODES};
+ghost use Rattle.world.specs.WorldView.{capacities, rooms};
+ghost use Rattle.kahn_program.specs.Turning.{IsRunRoom, first_world, nearest_room};
+ghost use Rattle.kahn_program.specs.Runnable.{IsStoreFailure, hub_failure, store_failure};
+ghost use Rattle.kahn_program.specs.Runs.{IsEnd, IsReport, IsToldOf, first_items, is_whole};
 
+use crate::asked::Options;
+use crate::ending::{RunWorld, cut};
 use crate::failure::Failure;
 use crate::reporting::{Stream, report};
+use crate::turning::run_by_turns;
 use ckpt_codec::MAX_RETAINED_ITEMS;
 use ckpt_store::StoreFault;
-use gate_cell::SplitCell;
 use kahn_net::{Channel, Port};
 use net_check::{Inputs, Net};
-use outlet::ListOutlet;
-use proc_step::Job;
+use replay::ScriptedEvent;
+use runtime::{Bounds, HubFault, OpenGate, run_world};
 use sector_disk::MemDisk;
 use std::alloc::{AllocError, Global};
-use std::sync::Arc;
-use world::{Event, MIN_ROOM, Reply, SECTORS, World, list_outputs, node_count};
-
-/// The most turns of a run, so many that nobody waits for them.
-pub(crate) const MAX_TURNS: u64 = u64::MAX;
-
-/// The world of a run: of nodes on disks in memory, with outlets in memory.
-type RunWorld = World<SplitCell<MemDisk>, ListOutlet>;
+use std::sync::{Arc, Wait};
+use std::thread::Threads;
+use world::{MIN_ROOM, SECTORS, World, list_outputs, node_count};
 
 /// A disk in memory of so many sectors, which never failed. (What it holds is left out of the contract: of a given number, a
 /// proof that has it in reach would write out all the zeros.)
@@ -75,170 +72,135 @@ fn store_failure(fault: StoreFault) -> Failure
     }
 }
 
-/// What follows an answer: a job that was granted is run, and comes back at once. A device that failed ends the run.
-fn follow(alloc: Global, world: &mut RunWorld, answer: Reply) -> Result<(), Failure>
-    requires { AllByRecursion IsRunRoom (capacities world.old.stations.items) }
-    ensures same { (world.new.net ≡ world.old.net) × (world.new.inputs ≡ world.old.inputs) }
-    ensures room { AllByRecursion IsRunRoom (capacities world.new.stations.items) }
-    ensures unfailed { OnOk result (reply_view answer ≢ Down) }
-    ensures follows { OnOk result
-        (Follows (reply_view answer) (world_of world.old) (world_of world.new)) }
-    ensures err { IfErr result (IsStoreFailure (reply_view answer ≡ Down)) }
+/// A refusal of the hub.
+fn hub_failure(fault: HubFault) -> Failure
+    ensures { result ≡ hub_failure fault }
 {
-    match answer {
-        Reply::Granted(job) => {
-            let Ok(done) = Job::run(job, alloc) else {
-                return Err(Failure::NoMemory);
-            };
-            match world.apply(alloc, Event::Install(done)) {
-                Ok(_) => Ok(()),
-                Err(_) => Err(Failure::NoMemory),
-            }
-        }
-        Reply::Down => Err(store_failure(StoreFault::Device)),
-        _ => Ok(()),
+    match fault {
+        HubFault::NoMemory => Failure::NoMemory,
+        HubFault::PastNumber => Failure::Other {
+            number: fault.number(),
+        },
     }
 }
 
-/// The node of a turn, the first one being 0: the nodes, so many, take their turns one after another.
-fn turn_node(nodes: usize, turn: u64) -> u8
-    requires { nodes ≤ MAX_NODES }
-    ensures { result ≡ turn_node nodes turn }
+/// The room of a channel that is nearest to the one asked for.
+fn nearest_room(asked: u64) -> usize
+    ensures { result ≡ nearest_room asked }
 {
-    if nodes == 0 {
-        return 0;
-    }
-    (turn % nodes as u64) as u8
+    asked.max(MIN_ROOM as u64).min(MAX_RETAINED_ITEMS as u64) as usize
 }
 
-/// The event that is next for a node. A job that it grants is run and comes back at once.
-fn take_turn(alloc: Global, world: &mut RunWorld, node: u8) -> Result<(), Failure>
-    requires { AllByRecursion IsRunRoom (capacities world.old.stations.items) }
-    ensures same { (world.new.net ≡ world.old.net) × (world.new.inputs ≡ world.old.inputs) }
-    ensures room { AllByRecursion IsRunRoom (capacities world.new.stations.items) }
-    ensures turn { OnOk result (IsWorldTurn node (world_of world.old) (world_of world.new)) }
-    ensures err { IfErr result (IsStoreFailure (FailsIn node (world_of world.old))) }
+/// The world of a run before its first event, with the room that is asked for on its channels.
+fn open_world(
+    alloc: Global,
+    net: &Arc<Net>,
+    inputs: Inputs,
+    nodes: usize,
+    room: u64,
+) -> Result<RunWorld, Failure>
+    requires fitting { Fits (network_of net.now.value.program) inputs }
+    requires nodes { nodes ≡ node_count (network_of net.now.value.program) }
+    ensures first { IfOk result (λ world. world_of world
+        ≡ first_world (network_of net.now.value.program) inputs room) }
+    ensures room { IfOk result
+        (λ world. AllByRecursion IsRunRoom (capacities world.stations.items)) }
+    // A device failed (20), or memory is missing (1).
+    ensures err { (plain : Bool) → IfErr result (IsStoreFailure plain) }
 {
-    let event = world.pick(node);
-    match world.apply(alloc, event) {
-        Ok(answer) => follow(alloc, world, answer),
+    let Ok(outputs) = list_outputs(alloc, net) else {
+        return Err(Failure::NoMemory);
+    };
+    let Ok(inputs) = Arc::new(alloc, inputs) else {
+        return Err(Failure::NoMemory);
+    };
+    let Ok(share) = Arc::try_clone(net) else {
+        return Err(Failure::NoMemory);
+    };
+    let Ok(disks) = empty_disks(alloc, nodes) else {
+        return Err(Failure::NoMemory);
+    };
+    let mut world = match World::new(alloc, share, inputs, disks, outputs) {
+        Ok(world) => world,
+        Err(refused) => return Err(store_failure(refused.fault)),
+    };
+    // (The room is within its bounds, so the error isn't met.)
+    let Ok(()) = world.set_room(nearest_room(room)) else {
+        return Err(Failure::NoMemory);
+    };
+    Ok(world)
+}
+
+/// Runs a world by a thread for each node.
+fn run_by_threads<R: Threads + Wait + Sync>(
+    rt: &R,
+    alloc: Global,
+    net: &Net,
+    world: RunWorld,
+    script: Vec<ScriptedEvent>,
+    nodes: usize,
+    bounds: Bounds,
+) -> Result<RunWorld, Failure>
+    requires few { nodes ≤ MAX_NODES }
+    ensures run { IfOk result (λ now. (happened : List Happening)
+        × LeadsTo (rooms world.stations.items) script.items (world_of world) happened
+        (world_of now)) }
+    ensures err { IfErr result (IsStoreFailure false) }
+{
+    match run_world(
+        rt,
+        alloc,
+        net,
+        world,
+        script,
+        nodes as u8,
+        &OpenGate,
+        bounds,
+    ) {
+        Ok((world, _)) => Ok(world),
+        Err(fault) => Err(hub_failure(fault)),
+    }
+}
+
+/// Runs a world to its end, by turns or by threads as the options say.
+fn run_to_end<R: Threads + Wait + Sync>(
+    rt: &R,
+    alloc: Global,
+    options: &Options,
+    net: &Net,
+    world: RunWorld,
+    script: Vec<ScriptedEvent>,
+    nodes: usize,
+) -> Result<RunWorld, Failure>
+    requires nodes { nodes ≡ node_count (network_of net.now.program) }
+    requires few { nodes ≤ MAX_NODES }
+    requires room { AllByRecursion IsRunRoom (capacities world.stations.items) }
+    ensures end { (inputs : List (List ℤ)) → world_of world ≡ first_world (network_of net.now.program) inputs options.now.room
+        → IfOk result (λ now. IsEnd options.now.plain options.now
+        (network_of net.now.program) inputs script.items (world_of now)) }
+    ensures same { IfOk result (λ now. ∥ ((world_of now).net ≡ (world_of world).net)
+        × ((world_of now).inputs ≡ (world_of world).inputs) ∥₁) }
+    ensures err { IfErr result (IsStoreFailure options.now.plain) }
+{
+    if !options.plain {
+        let bounds = Bounds {
+            rounds: options.rounds,
+            items: options.items,
+        };
+        return run_by_threads(rt, alloc, net, world, script, nodes, bounds);
+    }
+    match run_by_turns(
+        alloc,
+        net.program.channels.as_slice(),
+        world,
+        &script,
+        nodes,
+        options.rounds,
+        options.items,
+    ) {
+        Ok(world) => Ok(world),
         Err(_) => Err(Failure::NoMemory),
     }
-}
-
-/// Whether so many items have left by a channel, if its items go outside.
-fn has_left(number: u8, channel: &Channel, world: &RunWorld, items: u64) -> bool
-    ensures { result ≡ (if goes_outside channel.now.consumer
-        then nat_le items (length (released_of number (world_of world.now).stations))
-        else true) }
-{
-    match channel.consumer {
-        Port::Outside => items <= world.released(number).len() as u64,
-        Port::Process(_) => true,
-    }
-}
-
-/// Whether so many items have left by each output.
-fn have_left(channels: &[Channel], world: &RunWorld, items: u64) -> bool
-    requires { length channels.now ≤ MAX_CHANNELS }
-    ensures { result ≡ list_all (λ stream. nat_le items (length stream))
-        (map (λ channel. released_of channel (world_of world.now).stations)
-        (output_channels 0 channels.now)) }
-{
-    for (number, channel) in channels.iter().enumerate() {
-        if !has_left(number as u8, channel, world, items) {
-            return false;
-        }
-    }
-    true
-}
-
-/// Where what has left is cut: at so many items, where that is asked for and each output has them.
-fn cut(channels: &[Channel], world: &RunWorld, items: Option<u64>) -> Option<u64>
-    requires { length channels.now ≤ MAX_CHANNELS }
-    ensures { result ≡ cut_at items
-        (map (λ channel. released_of channel (world_of world.now).stations)
-        (output_channels 0 channels.now)) }
-{
-    match items {
-        Some(items) => {
-            if have_left(channels, world, items) {
-                Some(items)
-            } else {
-                None
-            }
-        }
-        None => None,
-    }
-}
-
-/// Whether nothing is left to do. A node at which something was left before is asked first: mostly something still is, and then no
-/// other needs to be asked. Where it has nothing left, another takes its place.
-fn is_complete(world: &RunWorld, nodes: usize, busy: &mut u8) -> bool
-    requires { nodes ≤ MAX_NODES }
-    ensures { result ≡ are_quiet (world_of world.now) }
-{
-    if !world.is_quiet(*busy) {
-        return false;
-    }
-    for node in 0..nodes {
-        if !world.is_quiet(node as u8) {
-            *busy = node as u8;
-            return false;
-        }
-    }
-    world.complete()
-}
-
-/// Whether a run is over: nothing is left to do, the rounds are over, or each output has the items that are asked for.
-fn is_over(
-    channels: &[Channel],
-    world: &RunWorld,
-    nodes: usize,
-    busy: &mut u8,
-    rounds: u64,
-    items: Option<u64>,
-) -> bool
-    requires few { length channels.now ≤ MAX_CHANNELS }
-    requires nodes { nodes ≤ MAX_NODES }
-    ensures { result ≡ is_over (output_channels 0 channels.now) rounds items (world_of world.now) }
-{
-    is_complete(world, nodes, busy)
-        || rounds <= world.round()
-        || cut(channels, world, items).is_some()
-}
-
-/// Takes turns until the run is over: of the nodes, so many, one after another.
-fn take_turns(
-    alloc: Global,
-    channels: &[Channel],
-    world: &mut RunWorld,
-    nodes: usize,
-    rounds: u64,
-    items: Option<u64>,
-) -> Result<(), Failure>
-    requires few { length channels.now ≤ MAX_CHANNELS }
-    requires nodes { nodes ≤ MAX_NODES }
-    requires room { AllByRecursion IsRunRoom (capacities world.old.stations.items) }
-    ensures same { (world.new.net ≡ world.old.net) × (world.new.inputs ≡ world.old.inputs) }
-    ensures came { OnOk result ((turns : ℕ)
-        × CameTo (is_over (output_channels 0 channels.now) rounds items) nodes turns
-        (world_of world.old) (world_of world.new)
-        × ((is_over (output_channels 0 channels.now) rounds items (world_of world.new) ≡ true)
-        ⊎ (MAX_TURNS ≤ turns))) }
-    ensures err { IfErr result (IsStoreFailure
-        (HasFailed (is_over (output_channels 0 channels.now) rounds items) nodes
-        (world_of world.old))) }
-{
-    // A node at which something was left to do when it was last asked.
-    let mut busy: u8 = 0;
-    for turn in 0..MAX_TURNS {
-        if is_over(channels, world, nodes, &mut busy, rounds, items) {
-            return Ok(());
-        }
-        take_turn(alloc, world, turn_node(nodes, turn))?;
-    }
-    Ok(())
 }
 
 /// The first items of a stream, or all.
@@ -304,63 +266,50 @@ fn streams<'a>(
     Ok(streams)
 }
 
-/// The room of a channel that is nearest to the one asked for.
-fn nearest_room(asked: u64) -> usize
-    ensures { result ≡ nearest_room asked }
+/// The report of a world at the end of a run, and whether it tells that the run is complete.
+fn report_of_world(
+    alloc: Global,
+    net: &Net,
+    world: &RunWorld,
+    items: Option<u64>,
+) -> Result<(Vec<u8>, bool), AllocError>
+    ensures told { IfOk result
+        (λ report. IsToldOf net.now items (world_of world.now) report.0.items report.1) }
+    ensures whole { OnOk result
+        (IsTrue (are_quiet (world_of world.now)) → AreWhole (world_of world.now)) }
 {
-    asked.max(MIN_ROOM as u64).min(MAX_RETAINED_ITEMS as u64) as usize
+    let channels = net.program.channels.as_slice();
+    let cut = cut(channels, world, items);
+    let complete = is_whole(cut, world.complete());
+    let streams = streams(alloc, channels, world, cut)?;
+    let bytes = report(alloc, net, &streams, complete)?;
+    Ok((bytes, complete))
 }
 
-/// Runs a network on its inputs, with the room that is asked for on its channels, until nothing is left to do, so many
-/// rounds are over, or each output has the items that are asked for. Gives the whole report, and whether the run is
-/// complete.
-pub fn report_of_run(
+/// Runs a network on its inputs by the events of a script, as the options say, until nothing is left to do, the rounds are over,
+/// or each output has the items that are asked for. Gives the whole report, and whether the run is complete.
+pub fn report_of_run<R: Threads + Wait + Sync>(
+    rt: &R,
     alloc: Global,
+    options: &Options,
     net: Net,
     inputs: Inputs,
-    room: u64,
-    rounds: u64,
-    items: Option<u64>,
+    script: Vec<ScriptedEvent>,
 ) -> Result<(Vec<u8>, bool), Failure>
     requires fitting { Fits (network_of net.program) inputs }
-    ensures ok { IfOk result (λ report. IsReport net room rounds items inputs report.0.items report.1) }
-    // A device failed (20), or memory is missing (1).
-    ensures err { IfErr result (IsStoreFailure
-        (HasRunFailed (network_of net.program) inputs room rounds items)) }
+    ensures ok { IfOk result
+        (λ report. IsReport options.now net inputs script.items report.0.items report.1) }
+    // A device failed (20), memory is missing (1), or a count would pass 2^63 - 1 (44).
+    ensures err { IfErr result (IsStoreFailure options.now.plain) }
 {
-    let Ok(outputs) = list_outputs(alloc, &net) else {
-        return Err(Failure::NoMemory);
-    };
     let nodes = node_count(&net);
     let Ok(net) = Arc::new(alloc, net) else {
         return Err(Failure::NoMemory);
     };
-    let Ok(inputs) = Arc::new(alloc, inputs) else {
-        return Err(Failure::NoMemory);
-    };
-    let Ok(share) = Arc::try_clone(&net) else {
-        return Err(Failure::NoMemory);
-    };
-    let Ok(disks) = empty_disks(alloc, nodes) else {
-        return Err(Failure::NoMemory);
-    };
-    let mut world = match World::new(alloc, share, inputs, disks, outputs) {
-        Ok(world) => world,
-        Err(refused) => return Err(store_failure(refused.fault)),
-    };
-    // (The room is within its bounds, so the error isn't met.)
-    let Ok(()) = world.set_room(nearest_room(room)) else {
-        return Err(Failure::NoMemory);
-    };
-    let channels = net.program.channels.as_slice();
-    take_turns(alloc, channels, &mut world, nodes, rounds, items)?;
-    let cut = cut(channels, &world, items);
-    let complete = is_whole(cut, world.complete());
-    let Ok(streams) = streams(alloc, channels, &world, cut) else {
-        return Err(Failure::NoMemory);
-    };
-    match report(alloc, &net, &streams, complete) {
-        Ok(bytes) => Ok((bytes, complete)),
+    let world = open_world(alloc, &net, inputs, nodes, options.room)?;
+    let world = run_to_end(rt, alloc, options, &net, world, script, nodes)?;
+    match report_of_world(alloc, &net, &world, options.items) {
+        Ok(report) => Ok(report),
         Err(_) => Err(Failure::NoMemory),
     }
 }

@@ -1,13 +1,17 @@
 //! The texts that the program reads, from any reader.
 
-ghost use Rattle.std.specs.Prelude.{◌≡◌, ℕ, Err, IfErr, IfOk, IfSome, IsNone, IsOkUnless, IsUtf8, List, Some, option_and_then, string_bytes};
+ghost use Rattle.std.specs.Prelude.{◌≡◌, ℕ, Err, Option, IfErr, IfOk, IfSome, IsNone, IsOkUnless, IsUtf8, List, Some, option_and_then, string_bytes};
 ghost use Rattle.kahn_net.specs.Fits.{Fits};
 ghost use Rattle.kahn_net.specs.Syntax.{network_of};
 ghost use Rattle.kahn_program.specs.Readings.{AreInputsOf, IsInputsFailure, IsInputsTextFailure, IsNetFailure, IsNetOf, IsNetTextFailure, IsOutside, IsReadFailure, IsTextOfInputs, IsTextOfNet, net_failure_of, text_failure_of};
+ghost use Rattle.fail_script.specs.Lines.{IsScript};
+ghost use Rattle.fail_script.specs.declared.act.ScriptLine.{ScriptLine as LineValue};
+ghost use Rattle.kahn_program.specs.Readings.{IsScriptFailure, IsScriptTextFailure, script_failure_of};
 ghost use Rattle.kahn_program.specs.declared.failure.Failure.TheVariants.{Unreadable};
 ghost use Rattle.kahn_program.specs.declared.failure.Source.TheVariants as source;
 
 use crate::failure::{Failure, Source};
+use fail_script::{Script, ScriptFault, parse_script};
 use net_check::{Inputs, Net, NetFault, bind, check};
 use net_text::{TextFault, parse, parse_inputs};
 use std::alloc::Global;
@@ -45,6 +49,20 @@ fn net_failure(source: Source, fault: NetFault) -> Failure
             source,
             number: fault.number(),
         },
+    }
+}
+
+/// What a fault of a script comes to.
+fn script_failure(fault: ScriptFault) -> Failure
+    ensures { result ≡ script_failure_of fault }
+{
+    match fault.line() {
+        Some(line) => Failure::Line {
+            source: Source::Script,
+            line,
+            number: fault.number(),
+        },
+        None => Failure::NoMemory,
     }
 }
 
@@ -149,4 +167,39 @@ pub fn read_inputs<R: Read + Drop>(
 {
     let text = read_text(alloc, Source::Inputs, reader)?;
     inputs_of_text(alloc, &text, net)
+}
+
+/// The script of a text, for so many nodes.
+fn script_of_text(alloc: Global, text: &str, nodes: u8) -> Result<Script, Failure>
+    ensures script { IfOk result (λ script. IsScript nodes text.now script.lines.items) }
+    ensures err { IfErr result (IsScriptTextFailure nodes text.now) }
+    ensures accepted { (lines : List LineValue) → IsScript nodes text.now lines
+        → IsOkUnless result Failure.NoMemory }
+{
+    match parse_script(alloc, text, nodes) {
+        Ok(script) => Ok(script),
+        Err(fault) => Err(script_failure(fault)),
+    }
+}
+
+/// The failure script for so many nodes that a reader's text gives; no reader stands for a file that can't be opened. Refuses by
+/// the first of these: the text can't be read, isn't UTF-8, is refused by `parse_script`; and for want of memory.
+pub fn read_script<R: Read + Drop>(
+    alloc: Global,
+    reader: Option<R>,
+    nodes: u8,
+) -> Result<Script, Failure>
+    // Its lines are those of the reader's bytes.
+    ensures script { IfOk result (λ script. IfSome (option_and_then R.remaining reader)
+        (λ bytes. IsScript nodes bytes script.lines.items)) }
+    ensures absent { IsNone reader → result ≡ Err (Unreadable source.Script) }
+    // What is refused has the fault, on its line.
+    ensures err { IfErr result (IsScriptFailure nodes (option_and_then R.remaining reader)) }
+    // A text that is a script isn't refused.
+    ensures accepted { (bytes : List ℕ) (lines : List LineValue)
+        → option_and_then R.remaining reader ≡ Some bytes
+        → IsUtf8 bytes → IsScript nodes bytes lines → IfErr result (IsOutside source.Script) }
+{
+    let text = read_text(alloc, Source::Script, reader)?;
+    script_of_text(alloc, &text, nodes)
 }

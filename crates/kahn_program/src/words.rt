@@ -1,11 +1,11 @@
 //! What the words of the command line ask for.
 
-ghost use Rattle.std.specs.Prelude.{◌≡◌, ◌∷◌, [], IfErr, IfOk, codes, false, map};
-ghost use Rattle.clap.specs.Words.{HasKind, app_of, fault_of, found_of, matches_of, one_text, rule_of};
+ghost use Rattle.std.specs.Prelude.{◌≡◌, ◌∷◌, [], IfErr, IfOk, codes, false, map, option_map, string_bytes};
+ghost use Rattle.clap.specs.Words.{HasKind, app_of, fault_of, first_value, found_of, matches_of, one_text, rule_of};
 ghost use Rattle.clap.specs.declared.error.kind.ErrorKind.TheVariants as kind;
 ghost use Rattle.ckpt_codec.specs.declared.lengths.TheConstants.{MAX_RETAINED_ITEMS};
 ghost use Rattle.protocol.specs.declared.limits.TheConstants.{MIN_ROOM};
-ghost use Rattle.kahn_program.specs.CommandLine.{IsAsked, IsNumber, by_default, flag, kahnrun, number, required};
+ghost use Rattle.kahn_program.specs.CommandLine.{IsAsked, IsNumber, by_default, file_option, flag, kahnrun, number, required};
 
 use crate::asked::{MAX_APPROXIMATION, MAX_ITEMS, MAX_ROUNDS, Options};
 use ckpt_codec::MAX_RETAINED_ITEMS;
@@ -21,16 +21,33 @@ const LEAST_ROOM: u64 = MIN_ROOM as u64;
 
 const MOST_ROOM: u64 = MAX_RETAINED_ITEMS as u64;
 
-/// The name of a file.
-fn file<'a>(alloc: Global, name: &'a str) -> Arg<'a>
+const ABOUT: &str =
+    "Runs a Kahn process network on its inputs, and prints what each output released: right whatever the script breaks.";
+
+const EXAMPLE: &str =
+    "Example: kahnrun examples/two_nodes.net examples/two_nodes.inputs --script examples/two_nodes.script";
+
+/// The name of a file, and what it is for.
+fn file<'a>(alloc: Global, name: &'a str, help: &'a str) -> Arg<'a>
     ensures rule { rule_of result ≡ required name.entry.now }
     ensures here { result.global ≡ false }
 {
-    Arg::new(alloc, name).required(true)
+    Arg::new(alloc, name).required(true).help(help)
+}
+
+/// An option with the name of a file.
+fn file_option<'a>(alloc: Global, name: &'a str, help: &'a str) -> Arg<'a>
+    ensures rule { rule_of result ≡ file_option name.entry.now }
+    ensures here { result.global ≡ false }
+{
+    Arg::new(alloc, name)
+        .long(name)
+        .value_name("FILE")
+        .help(help)
 }
 
 /// An option with a number within these bounds.
-fn number<'a>(alloc: Global, name: &'a str, least: u64, most: u64) -> Arg<'a>
+fn number<'a>(alloc: Global, name: &'a str, least: u64, most: u64, help: &'a str) -> Arg<'a>
     ensures rule { rule_of result ≡ number name.entry.now least most }
     ensures here { result.global ≡ false }
 {
@@ -38,6 +55,7 @@ fn number<'a>(alloc: Global, name: &'a str, least: u64, most: u64) -> Arg<'a>
         .long(name)
         .value_name("N")
         .value_parser(ValueParser::unsigned(least, most))
+        .help(help)
 }
 
 /// How many rounds a run goes on at most.
@@ -46,7 +64,14 @@ fn rounds<'a>(alloc: Global) -> Arg<'a>
         ≡ by_default (codes "1000") (number (codes "rounds") 1 MAX_ROUNDS) }
     ensures here { result.global ≡ false }
 {
-    number(alloc, "rounds", 1, MAX_ROUNDS).default_value("1000")
+    number(
+        alloc,
+        "rounds",
+        1,
+        MAX_ROUNDS,
+        "Ends the run after so many rounds, complete or not",
+    )
+    .default_value("1000")
 }
 
 /// How many items a channel retains at most.
@@ -55,30 +80,75 @@ fn room<'a>(alloc: Global) -> Arg<'a>
         ≡ by_default (codes "4096") (number (codes "room") MIN_ROOM MAX_RETAINED_ITEMS) }
     ensures here { result.global ≡ false }
 {
-    number(alloc, "room", LEAST_ROOM, MOST_ROOM).default_value("4096")
+    number(
+        alloc,
+        "room",
+        LEAST_ROOM,
+        MOST_ROOM,
+        "Lets each channel retain so many items at most",
+    )
+    .default_value("4096")
 }
 
 /// An option without a value.
-fn flag<'a>(alloc: Global, name: &'a str) -> Arg<'a>
+fn flag<'a>(alloc: Global, name: &'a str, help: &'a str) -> Arg<'a>
     ensures rule { rule_of result ≡ flag name.entry.now }
     ensures here { result.global ≡ false }
 {
-    Arg::new(alloc, name).long(name).action(ArgAction::SetTrue)
+    Arg::new(alloc, name)
+        .long(name)
+        .action(ArgAction::SetTrue)
+        .help(help)
 }
 
-/// The command line: `kahnrun [--rounds N] [--items N] [--room N] [--plain] [--approx N] NET INPUTS`.
+/// The command line:
+/// `kahnrun [--script FILE] [--rounds N] [--items N] [--room N] [--plain] [--approx N] NET INPUTS`.
 fn command<'a>(alloc: Global) -> Result<Command<'a>, AllocError>
     ensures { IfOk result (λ c. app_of c ≡ kahnrun) }
 {
     let command = Command::new(alloc, "kahnrun")
-        .arg(file(alloc, "NET"))?
-        .arg(file(alloc, "INPUTS"))?
+        .about(ABOUT)
+        .after_help(EXAMPLE)
+        .arg(file(alloc, "NET", "The network's text"))?
+        .arg(file(
+            alloc,
+            "INPUTS",
+            "The items of each input, a line for each: i: 1 2 3",
+        ))?
+        .arg(file_option(alloc, "script", "What is to fail, a line for each failure"))?
         .arg(rounds(alloc))?
-        .arg(number(alloc, "items", 0, MAX_ITEMS))?
+        .arg(number(
+            alloc,
+            "items",
+            0,
+            MAX_ITEMS,
+            "Ends the run once so many items of each output have left",
+        ))?
         .arg(room(alloc))?
-        .arg(flag(alloc, "plain"))?
-        .arg(number(alloc, "approx", 0, MAX_APPROXIMATION))?;
+        .arg(flag(
+            alloc,
+            "plain",
+            "Takes the nodes' turns on one thread, one after another",
+        ))?
+        .arg(number(
+            alloc,
+            "approx",
+            0,
+            MAX_APPROXIMATION,
+            "Runs nothing, and prints this approximation of the outputs",
+        ))?;
     Ok(command)
+}
+
+/// The name of the script's file, if one was given.
+fn script_name(alloc: Global, matches: &ArgMatches<'_>) -> Result<Option<String>, AllocError>
+    ensures { IfOk result (λ name. first_value (found_of matches.now) (codes "script")
+        ≡ option_map string_bytes name) }
+{
+    match matches.get_str("script") {
+        Some(name) => Ok(Some(String::from_str(alloc, name)?)),
+        None => Ok(None),
+    }
 }
 
 /// The number that an option was given. (Its parser let no other text through, so the error isn't met.)
@@ -123,6 +193,7 @@ pub fn options<S: AsStr>(alloc: Global, words: &[S]) -> Result<Options, Error>
     Ok(Options {
         net: String::from_str(alloc, net)?,
         inputs: String::from_str(alloc, inputs)?,
+        script: script_name(alloc, &matches)?,
         rounds,
         items: given(&matches, "items", 0, MAX_ITEMS)?,
         room,

@@ -1,6 +1,7 @@
-//! `kahnrun [--rounds N] [--items N] [--room N] [--plain] [--approx N] NET INPUTS` runs the network of one file on the inputs of the
-//! other, and prints what each output released, and whether the run is complete. With `--approx` it runs nothing, and
-//! prints that approximation of each output's history, and whether it is a solution.
+//! `kahnrun [--script FILE] [--rounds N] [--items N] [--room N] [--plain] [--approx N] NET INPUTS` runs the network of one file on
+//! the inputs of the other, each node on a thread of its own (`--plain`: all on one), lets fail what the script says, and prints
+//! what each output released, and whether the run is complete. With `--approx` it runs nothing, and prints that approximation of
+//! each output's history, and whether it is a solution.
 //!
 //! The exit status is 0 where the last line is `complete`, 3 where it is `partial`, 2 where a text or the command line is
 //! refused (or help is asked for), and 1 for any other failure, as where a line can't be written.
@@ -8,7 +9,7 @@
 
 use clap::Error;
 use clap::error::ErrorKind;
-use kahn_program::{Failure, not_text, options, print_failure, run};
+use kahn_program::{Failure, Options, not_text, options, print_failure, run};
 use std::alloc::{AllocError, Global};
 use std::fs::File;
 use std::process::ExitCode;
@@ -45,37 +46,64 @@ fn refused(rt: &HostRuntime, error: &Error) -> u8 {
     2
 }
 
-/// Runs the program, and gives its exit status.
-fn status(rt: &HostRuntime, alloc: Global) -> u8 {
+/// What the command line asks for, or the exit status where it is refused.
+fn asked(rt: &HostRuntime, alloc: Global) -> Result<Options, u8> {
     let words = match words(rt) {
         Ok(words) => words,
         Err(error) => {
-            return match error.kind() {
+            return Err(match error.kind() {
                 io::ErrorKind::OutOfMemory => no_memory(rt),
                 _ => refused(rt, &not_text(alloc)),
-            };
+            });
         }
     };
-    let options = match options(alloc, words.as_slice()) {
+    match options(alloc, words.as_slice()) {
+        Ok(options) => Ok(options),
+        Err(error) => Err(refused(rt, &error)),
+    }
+}
+
+/// The files that a command line names, each where it can be opened.
+#[derive(Drop)]
+struct Files {
+    net: Option<File>,
+    inputs: Option<File>,
+    script: Option<File>,
+}
+
+fn open_all(rt: &HostRuntime, options: &Options) -> Result<Files, AllocError> {
+    Ok(Files {
+        net: open(rt, options.net.as_str())?,
+        inputs: open(rt, options.inputs.as_str())?,
+        script: match &options.script {
+            Some(name) => open(rt, name.as_str())?,
+            None => None,
+        },
+    })
+}
+
+fn main(rt: HostRuntime) -> ExitCode {
+    let alloc = rt.alloc();
+    let options = match asked(&rt, alloc) {
         Ok(options) => options,
-        Err(error) => return refused(rt, &error),
+        Err(status) => return ExitCode::from(status),
     };
-    let Ok(net) = open(rt, options.net.as_str()) else {
-        return no_memory(rt);
+    let Ok(files) = open_all(&rt, &options) else {
+        return ExitCode::from(no_memory(&rt));
     };
-    let Ok(inputs) = open(rt, options.inputs.as_str()) else {
-        return no_memory(rt);
-    };
-    run(
+    let Files {
+        net,
+        inputs,
+        script,
+    } = files;
+    ExitCode::from(run(
+        &rt,
         alloc,
         &options,
         net,
         inputs,
+        script,
         &mut rt.stdout(),
         &mut rt.stderr(),
-    )
-}
-
-fn main(rt: HostRuntime) -> ExitCode {
-    ExitCode::from(status(&rt, rt.alloc()))
+    ))
 }

@@ -1,4 +1,4 @@
-mod Replays
+pub mod Replays
 mod Turns
 pub mod Silences
 pub mod Choices

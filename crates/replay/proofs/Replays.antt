@@ -1,49 +1,100 @@
 -- What a history keeps of the world.
-use Rattle.std.proofs.Common.{◌≡◌, ◌∙◌, ℕ, Bool, List, refl, sym, ap, subst}
+use Rattle.std.proofs.Common.{◌≡◌, ◌∙◌, ℕ, Bool, List, Option, Some, None, sym, ap, subst}
 use mathlib.Core.Logic.{∥∥₁_map}
 use Rattle.record.specs.RecordView.{RecordView}
+use Rattle.protocol.specs.World.EventView.{EventView, ByNode}
+use Rattle.protocol.specs.World.EventView as event
 use Rattle.protocol.specs.World.Invariant.{WorldInvariant}
+use Rattle.protocol.specs.World.ReplyView.{ReplyView}
 use Rattle.protocol.specs.World.Steps.{WorldView}
 use Rattle.protocol.specs.WorldLaws.StepKeeps.{step_keeps}
+use Rattle.replay.specs.Armed.{ArmedEvent, ArmedView, OfWorld, ArmCrash, IsArmedStep, EndsWith}
+use Rattle.replay.specs.Armed.{crash_after, delivered_to}
 use Rattle.replay.specs.Laws.{ReplaysKeep, ReplaysStay}
 use Rattle.replay.specs.Replay.{Happening, Made, Silent, Happens, IsReplay, at_first, and_then}
+use Rattle.replay.specs.declared.kept.ArmedCrash.{ArmedCrash}
 use Rattle.replay.specs.declared.kept.ScriptedEvent.{ScriptedEvent}
 
+-- ---- the invariant
+
+end_keeps : (fits : List (RecordView → Bool)) (crash : Option ArmedCrash) (said answer : ReplyView)
+    (between new : WorldView) → WorldInvariant between → EndsWith fits crash said between answer new
+    → WorldInvariant new
+end_keeps fits None said answer between new inv ends = subst WorldInvariant (sym ends.1) inv
+end_keeps fits (Some crash) said answer between new inv ends =
+    step_keeps fits (ByNode crash.node (event.Crash crash.fill crash.rounds)) between answer new inv ends
+
+armed_keeps : (fits : List (RecordView → Bool)) (event : ArmedEvent) (old : ArmedView) (answer : ReplyView)
+    (new : ArmedView) → WorldInvariant old.world → IsArmedStep fits event old answer new → WorldInvariant new.world
+armed_keeps fits (OfWorld event) old answer new inv step =
+    end_keeps fits (crash_after (delivered_to event) step.said new.deliveries old.crashes) step.said answer step.between
+    new.world (step_keeps fits event old.world step.said step.between inv step.step) step.ends
+armed_keeps fits (ArmCrash crash) old answer new inv step =
+    subst WorldInvariant (sym (ap (λ (a : ArmedView). a.world) step.1)) inv
+
 happens_keeps : (fits : List (RecordView → Bool)) (script : List ScriptedEvent) (next : Happening) (passed : ℕ)
-    (old new : WorldView) → WorldInvariant old → Happens fits script next passed old new → WorldInvariant new
+    (old new : ArmedView) → WorldInvariant old.world → Happens fits script next passed old new
+    → WorldInvariant new.world
 happens_keeps fits script (Made maker kept said) passed old new inv made =
-    step_keeps fits made.event old made.answer new inv made.step
-happens_keeps fits script (Silent reason) passed old new inv silent = subst WorldInvariant (sym silent.1) inv
+    armed_keeps fits made.event old made.answer new inv made.step
+happens_keeps fits script (Silent reason) passed old new inv silent =
+    subst WorldInvariant (sym (ap (λ (a : ArmedView). a.world) silent.1)) inv
 
 pub replays_keep : ReplaysKeep
-replays_keep fits script opening _ _ _ inv at_first = inv
+replays_keep fits script opening _ _ _ inv (at_first armed same) =
+    subst WorldInvariant (sym (ap (λ (a : ArmedView). a.world) same)) inv
 replays_keep fits script opening _ _ _ inv (and_then before all next passed after old new run happens longer count) =
     happens_keeps fits script next passed old new
     (replays_keep fits script opening before passed old inv run) happens
+
+-- ---- what stays
 
 abbrev StaysFrom : WorldView → WorldView → Type 0
 StaysFrom opening world =
     (world.net ≡ opening.net) × (world.inputs ≡ opening.inputs) × (world.room ≡ opening.room)
 
-happens_stays : (fits : List (RecordView → Bool)) (script : List ScriptedEvent) (next : Happening) (passed : ℕ)
-    (old new : WorldView) → Happens fits script next passed old new → StaysFrom old new
-happens_stays fits script (Made maker kept said) passed old new made =
-    (made.step.net, made.step.inputs, made.step.room)
-happens_stays fits script (Silent reason) passed old new silent = (
-  ap (λ (w : WorldView). w.net) silent.1,
-  ap (λ (w : WorldView). w.inputs) silent.1,
-  ap (λ (w : WorldView). w.room) silent.1,
+stays_through : (first next last : WorldView) → StaysFrom first next → StaysFrom next last → StaysFrom first last
+stays_through first next last before then =
+    (then.0 ∙ before.0, then.1 ∙ before.1, then.2 ∙ before.2)
+
+stays_same : (opening world : WorldView) → world ≡ opening → StaysFrom opening world
+stays_same opening world same = (
+  ap (λ (w : WorldView). w.net) same,
+  ap (λ (w : WorldView). w.inputs) same,
+  ap (λ (w : WorldView). w.room) same,
 )
 
+end_stays : (fits : List (RecordView → Bool)) (crash : Option ArmedCrash) (said answer : ReplyView)
+    (between new : WorldView) → EndsWith fits crash said between answer new → StaysFrom between new
+end_stays fits None said answer between new ends = stays_same between new ends.1
+end_stays fits (Some crash) said answer between new ends = (ends.net, ends.inputs, ends.room)
+
+armed_stays : (fits : List (RecordView → Bool)) (event : ArmedEvent) (old : ArmedView) (answer : ReplyView)
+    (new : ArmedView) → IsArmedStep fits event old answer new → StaysFrom old.world new.world
+armed_stays fits (OfWorld event) old answer new step =
+    stays_through old.world step.between new.world (step.step.net, step.step.inputs, step.step.room)
+    (end_stays fits (crash_after (delivered_to event) step.said new.deliveries old.crashes) step.said answer step.between
+    new.world step.ends)
+armed_stays fits (ArmCrash crash) old answer new step =
+    stays_same old.world new.world (ap (λ (a : ArmedView). a.world) step.1)
+
+happens_stays : (fits : List (RecordView → Bool)) (script : List ScriptedEvent) (next : Happening) (passed : ℕ)
+    (old new : ArmedView) → Happens fits script next passed old new → StaysFrom old.world new.world
+happens_stays fits script (Made maker kept said) passed old new made =
+    armed_stays fits made.event old made.answer new made.step
+happens_stays fits script (Silent reason) passed old new silent =
+    stays_same old.world new.world (ap (λ (a : ArmedView). a.world) silent.1)
+
 replay_stays : (fits : List (RecordView → Bool)) (script : List ScriptedEvent) (opening : WorldView)
-    (happened : List Happening) (passed : ℕ) (world : WorldView)
-    → IsReplay fits script opening happened passed world → StaysFrom opening world
-replay_stays fits script opening _ _ _ at_first = (refl, refl, refl)
+    (happened : List Happening) (passed : ℕ) (armed : ArmedView)
+    → IsReplay fits script opening happened passed armed → StaysFrom opening armed.world
+replay_stays fits script opening _ _ _ (at_first armed same) =
+    stays_same opening armed.world (ap (λ (a : ArmedView). a.world) same)
 replay_stays fits script opening _ _ _ (and_then before all next passed after old new run happens longer count) =
-    let earlier = replay_stays fits script opening before passed old run in
-    let now = happens_stays fits script next passed old new happens in
-    (now.0 ∙ earlier.0, now.1 ∙ earlier.1, now.2 ∙ earlier.2)
+    stays_through opening old.world new.world (replay_stays fits script opening before passed old run)
+    (happens_stays fits script next passed old new happens)
 
 pub replays_stay : ReplaysStay
 replays_stay fits script opening happened world leads =
-    ∥∥₁_map leads (λ run. replay_stays fits script opening happened run.0 world run.1)
+    ∥∥₁_map leads (λ run.
+    subst (StaysFrom opening) run.3 (replay_stays fits script opening happened run.0 run.1 run.2))

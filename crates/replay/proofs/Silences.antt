@@ -3,7 +3,7 @@ use Rattle.std.proofs.Common.{◌≡◌, ◌∙◌, ◌⊎◌, ℕ, Bool, true, 
 use Rattle.std.proofs.Common.{⊎_elim, arith}
 use Rattle.std.proofs.lemmas.List.{length-append}
 use Rattle.record.specs.RecordView.{RecordView}
-use Rattle.protocol.specs.World.Steps.{WorldView}
+use Rattle.replay.specs.Armed.{ArmedView}
 use Rattle.replay.specs.Laws.{no_event, SilencesStay}
 use Rattle.replay.specs.Replay.{Happening, Made, Silent, Happens, IsSilence, at_first, and_then, passed_after}
 use Rattle.replay.specs.declared.kept.ScriptedEvent.{ScriptedEvent}
@@ -49,25 +49,25 @@ no_event_apart (Silent reason ∷ front) last none = no_event_apart front last n
 
 -- where no event is made, what holds before holds afterwards
 holds_on : (fits : List (RecordView → Bool)) (script : List ScriptedEvent) (next : Happening) (passed after : ℕ)
-    (old new : WorldView) (reason : Silence) → no_event (next ∷ []) ≡ true → Happens fits script next passed old new
-    → after ≡ passed_after next passed → IsSilence script reason passed old → IsSilence script reason after new
+    (old new : ArmedView) (reason : Silence) → no_event (next ∷ []) ≡ true → Happens fits script next passed old new
+    → after ≡ passed_after next passed → IsSilence script reason passed old.world → IsSilence script reason after new.world
 holds_on fits script (Made maker event answer) passed after old new reason none happens count holds = absurd (cc)
 holds_on fits script (Silent other) passed after old new reason none happens count holds =
-    subst (λ (n : ℕ). IsSilence script reason n new) (sym count)
-    (subst (λ (w : WorldView). IsSilence script reason passed w) (sym happens.1) holds)
+    subst (λ (n : ℕ). IsSilence script reason n new.world) (sym count)
+    (subst (λ (a : ArmedView). IsSilence script reason passed a.world) (sym happens.1) holds)
 
 -- and so does what is said there
-said_holds : (fits : List (RecordView → Bool)) (script : List ScriptedEvent) (passed after : ℕ) (old new : WorldView)
+said_holds : (fits : List (RecordView → Bool)) (script : List ScriptedEvent) (passed after : ℕ) (old new : ArmedView)
     (reason : Silence) → Happens fits script (Silent reason) passed old new → after ≡ passed
-    → IsSilence script reason after new
+    → IsSilence script reason after new.world
 said_holds fits script passed after old new reason happens count =
-    subst (λ (n : ℕ). IsSilence script reason n new) (sym count)
-    (subst (λ (w : WorldView). IsSilence script reason passed w) (sym happens.1) happens.0)
+    subst (λ (n : ℕ). IsSilence script reason n new.world) (sym count)
+    (subst (λ (a : ArmedView). IsSilence script reason passed a.world) (sym happens.1) happens.0)
 
 -- ---- all of them
 
 pub silences_stay : SilencesStay
-silences_stay fits script opening _ _ _ at_first before rest reason is none =
+silences_stay fits script opening _ _ _ (at_first armed same) before rest reason is none =
     (let long = ap (length {A = Happening}) is in absurd (omega (arith, length-append before (Silent reason ∷ rest))))
 silences_stay fits script opening _ _ _ (and_then front all next passed after old new run happens longer count) before
     rest reason is none =

@@ -8,6 +8,7 @@ use Rattle.protocol.specs.World.Invariant.{WorldInvariant}
 use Rattle.protocol.specs.World.ReplyView.{ReplyView, Installed, Discarded}
 use Rattle.protocol.specs.World.StationView.{StationView}
 use Rattle.protocol.specs.World.Steps.{IsStep, WorldView}
+use Rattle.replay.specs.Armed.{ArmedView}
 use Rattle.replay.specs.Replay.{Happening, Made, Silent, IsReplay, IsSilence, LeadsTo}
 use Rattle.replay.specs.declared.kept.ScriptedEvent.{ScriptedEvent}
 use Rattle.replay.specs.declared.kept.Silence.{Silence}
@@ -15,8 +16,8 @@ use Rattle.replay.specs.declared.kept.Silence.{Silence}
 -- what is true of a world from its opening on is true of each world to which a history leads
 abbrev pub ReplaysKeep : Type 0
 ReplaysKeep = (fits : List (RecordView → Bool)) (script : List ScriptedEvent) (opening : WorldView)
-    (happened : List Happening) (passed : ℕ) (world : WorldView) → WorldInvariant opening
-    → IsReplay fits script opening happened passed world → WorldInvariant world
+    (happened : List Happening) (passed : ℕ) (armed : ArmedView) → WorldInvariant opening
+    → IsReplay fits script opening happened passed armed → WorldInvariant armed.world
 
 -- the network and its inputs stay, and so does the room of a channel
 abbrev pub ReplaysStay : Type 0
@@ -41,7 +42,7 @@ no_event (Silent reason ∷ rest) = no_event rest
 -- what was said behind the last event holds still
 abbrev pub SilencesStay : Type 0
 SilencesStay = (fits : List (RecordView → Bool)) (script : List ScriptedEvent) (opening : WorldView)
-    (happened : List Happening) (passed : ℕ) (world : WorldView)
-    → IsReplay fits script opening happened passed world
+    (happened : List Happening) (passed : ℕ) (armed : ArmedView)
+    → IsReplay fits script opening happened passed armed
     → (before rest : List Happening) (reason : Silence) → happened ≡ before ++ Silent reason ∷ rest
-    → no_event rest ≡ true → IsSilence script reason passed world
+    → no_event rest ≡ true → IsSilence script reason passed armed.world

@@ -1,3 +1,4 @@
+pub mod Armed
 pub mod Plain
 pub mod Replies
 pub mod Replay

@@ -9,8 +9,9 @@ use Rattle.protocol.specs.World.EventView.{EventView, ByNode, Install, event_nod
 use Rattle.protocol.specs.World.EventView as deed
 use Rattle.protocol.specs.World.ReplyView.{ReplyView}
 use Rattle.protocol.specs.World.StationView.{StationView}
-use Rattle.protocol.specs.World.Steps.{IsStep, WorldView}
+use Rattle.protocol.specs.World.Steps.{WorldView}
 use Rattle.protocol.specs.World.Turns.{turns_of}
+use Rattle.replay.specs.Armed.{ArmedEvent, OfWorld, ArmedView, IsArmedStep, armed_at_first}
 use Rattle.replay.specs.Plain.{plain_view}
 use Rattle.replay.specs.Replies.{kept_reply}
 use Rattle.replay.specs.declared.plain.PlainEvent.{PlainEvent}
@@ -29,9 +30,9 @@ pub data KeptEventView : Type 0 where
   OfJob : (job : JobView) → KeptEventView
 
 -- the event of which that was kept
-abbrev pub IsKeptOf : KeptEventView → EventView → Type 0
+abbrev pub IsKeptOf : KeptEventView → ArmedEvent → Type 0
 IsKeptOf (Plainly plain) event = event ≡ plain_view plain
-IsKeptOf (OfJob job) event = (done : DoneView) × (event ≡ Install done) × (done.job ≡ job)
+IsKeptOf (OfJob job) event = (done : DoneView) × (event ≡ OfWorld (Install done)) × (done.job ≡ job)
 
 -- What happened: an event with its maker and its answer, or that none was made. How often it was said that none was isn't
 -- told here, since it makes no difference to the world.
@@ -42,18 +43,19 @@ pub data Happening : Type 0 where
 -- ---- whose event may be which
 
 -- the event of a script's line, from its round on
-abbrev pub IsScripted : Option ScriptedEvent → ℕ → EventView → Type 0
+abbrev pub IsScripted : Option ScriptedEvent → ℕ → ArmedEvent → Type 0
 IsScripted None round event = ⊥
 IsScripted (Some line) round event = (line.round ≤ round) × (event ≡ plain_view line.event)
 
 -- a turn comes back to this node
-abbrev pub ComesBackTo : ℕ → EventView → Type 0
-ComesBackTo node event = (done : DoneView) × (event ≡ Install done) × (event_node event ≡ node)
+abbrev pub ComesBackTo : ℕ → ArmedEvent → Type 0
+ComesBackTo node event =
+    (done : DoneView) × (event ≡ OfWorld (Install done)) × (event_node (Install done) ≡ node)
 
 -- A node makes the event that is next for it, or brings back a turn of its own; the driver that of the script's next line,
 -- so many lines having been passed.
-abbrev pub IsEventOf : List ScriptedEvent → Maker → ℕ → WorldView → EventView → Type 0
-IsEventOf script (Node k) passed world event = (event ≡ choice world k) ⊎ ComesBackTo k event
+abbrev pub IsEventOf : List ScriptedEvent → Maker → ℕ → WorldView → ArmedEvent → Type 0
+IsEventOf script (Node k) passed world event = (event ≡ OfWorld (choice world k)) ⊎ ComesBackTo k event
 IsEventOf script Driver passed world event = IsScripted (slice_get script passed) world.round event
 
 -- ---- why none was made
@@ -80,17 +82,17 @@ IsSilence script NoMore passed world = length script ≤ passed
 
 -- An event was made: it is one of its maker, and a step of the world. `fits` is, of each node, what its cell has room for.
 pub record IsMade (fits : List (RecordView → Bool)) (script : List ScriptedEvent) (maker : Maker) (kept : KeptEventView)
-    (said : KeptReply) (passed : ℕ) (old new : WorldView) : Type 0 where
-  pub event : EventView
+    (said : KeptReply) (passed : ℕ) (old new : ArmedView) : Type 0 where
+  pub event : ArmedEvent
   pub answer : ReplyView
-  pub own : IsEventOf script maker passed old event
+  pub own : IsEventOf script maker passed old.world event
   pub is_kept : IsKeptOf kept event
   pub is_said : said ≡ kept_reply answer
-  pub step : IsStep fits event old answer new
+  pub step : IsArmedStep fits event old answer new
 
-abbrev pub Happens : List (RecordView → Bool) → List ScriptedEvent → Happening → ℕ → WorldView → WorldView → Type 0
+abbrev pub Happens : List (RecordView → Bool) → List ScriptedEvent → Happening → ℕ → ArmedView → ArmedView → Type 0
 Happens fits script (Made maker kept said) passed old new = IsMade fits script maker kept said passed old new
-Happens fits script (Silent reason) passed old new = IsSilence script reason passed old × (new ≡ old)
+Happens fits script (Silent reason) passed old new = IsSilence script reason passed old.world × (new ≡ old)
 
 -- how many lines of the script are passed then
 abbrev pub passed_by : Maker → ℕ → ℕ
@@ -101,16 +103,18 @@ abbrev pub passed_after : Happening → ℕ → ℕ
 passed_after (Made maker kept said) passed = passed_by maker passed
 passed_after (Silent reason) passed = passed
 
--- What happened, in order, leads from one world to another, and passes so many lines of the script. (The two equations stand
--- beside, and not in the indices, so that a proof may take the family apart.)
+-- What happened, in order, leads from one world, for which no crash is armed, to another, and passes so many lines of the
+-- script. (The equations stand beside, and not in the indices, so that a proof may take the family apart.)
 pub data IsReplay (fits : List (RecordView → Bool)) (script : List ScriptedEvent) (opening : WorldView)
-    : List Happening → ℕ → WorldView → Type 0 where
-  at_first : IsReplay fits script opening [] 0 opening
-  and_then : (before all : List Happening) (next : Happening) (passed after : ℕ) (old new : WorldView)
+    : List Happening → ℕ → ArmedView → Type 0 where
+  at_first : (armed : ArmedView) → armed ≡ armed_at_first opening → IsReplay fits script opening [] 0 armed
+  and_then : (before all : List Happening) (next : Happening) (passed after : ℕ) (old new : ArmedView)
       → IsReplay fits script opening before passed old → Happens fits script next passed old new
       → all ≡ before ++ next ∷ [] → after ≡ passed_after next passed
       → IsReplay fits script opening all after new
 
--- the same, however many lines were passed
+-- the same, however many lines were passed and whatever is armed
 abbrev pub LeadsTo : List (RecordView → Bool) → List ScriptedEvent → WorldView → List Happening → WorldView → Type 0
-LeadsTo fits script opening happened world = ∥ ((passed : ℕ) × IsReplay fits script opening happened passed world) ∥₁
+LeadsTo fits script opening happened world =
+    ∥ ((passed : ℕ) × (armed : ArmedView) × IsReplay fits script opening happened passed armed
+    × (armed.world ≡ world)) ∥₁

@@ -44,6 +44,19 @@ pub enum Silence {
     NoMore,
 }
 
+/// A crash at the end of a delivery.
+#[derive(Clone, Copy, Debug, PartialEq, Eq)]
+pub struct ArmedCrash {
+    pub node: u8,
+    /// Of the node's deliveries since the world began, from 1, over its crashes: also those of which the packet was dropped or in
+    /// which its device failed.
+    pub delivery: u64,
+    /// The byte by which the node's disk is settled.
+    pub fill: u8,
+    /// It may be recovered so many rounds later.
+    pub rounds: u64,
+}
+
 /// A line of a script: an event, and the round from which it is due.
 #[derive(Clone, Copy, Debug, PartialEq, Eq)]
 pub struct ScriptedEvent {

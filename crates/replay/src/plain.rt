@@ -1,9 +1,11 @@
 // Events that carry no turn.
 
+use crate::kept::ArmedCrash;
 use sector_disk::ArmedFault;
 use wire::Rule;
 
-/// An event of a world, other than that a turn comes back: it can be copied and kept. The variants are those of `world::Event`.
+/// An event of a world, other than that a turn comes back: it can be copied and kept. The variants are those of `world::Event`,
+/// and that a crash is armed, of which a world by itself knows nothing.
 #[derive(Clone, Copy, Debug, PartialEq, Eq)]
 pub enum PlainEvent {
     Deliver {
@@ -41,4 +43,6 @@ pub enum PlainEvent {
         rounds: u64,
     },
     ArmPacket(Rule),
+    /// The node is to crash at the end of a delivery.
+    ArmCrash(ArmedCrash),
 }

@@ -6,9 +6,9 @@ use Rattle.std.specs.Prelude.{is_some, IfSome, IsTrue}
 use Rattle.std.proofs.lemmas.List.{map-append, take-append-drop}
 use Rattle.std.proofs.lemmas.List.Sums.{sum_by-append}
 use Rattle.record.specs.RecordView.{RecordView}
-use Rattle.protocol.specs.World.EventView.{EventView}
 use Rattle.protocol.specs.World.ReplyView.{ReplyView}
-use Rattle.protocol.specs.World.Steps.{IsStep, WorldView}
+use Rattle.protocol.specs.World.Steps.{WorldView}
+use Rattle.replay.specs.Armed.{ArmedEvent, ArmedView, IsArmedStep, armed_at_first}
 use Rattle.replay.specs.Replay.{Happening, Made, Silent, Happens, IsEventOf, IsReplay, IsScripted, IsSilence, LeadsTo}
 use Rattle.replay.specs.Replay.{at_first, and_then, passed_by}
 use Rattle.replay.specs.Plain.{plain_view}
@@ -24,23 +24,24 @@ use Rattle.runtime.specs.declared.history.Line.TheVariants as line
 use Rattle.runtime.specs.declared.tally.Counted.TheVariants as kind
 use Rattle.runtime.proofs.Raising.{from_here, same_numbers}
 
-abbrev Replays : List (RecordView → Bool) → List ScriptedEvent → WorldView → List Happening → ℕ → WorldView → Type 0
-Replays fits script opening happened passed world = ∥ IsReplay fits script opening happened passed world ∥₁
+abbrev Replays : List (RecordView → Bool) → List ScriptedEvent → WorldView → List Happening → ℕ → ArmedView → Type 0
+Replays fits script opening happened passed armed = ∥ IsReplay fits script opening happened passed armed ∥₁
 
 -- nothing is written yet
-pub begins : (fits : List (RecordView → Bool)) (script : List ScriptedEvent) (opening world : WorldView)
-    (lines : List Line) → lines ≡ [] → world ≡ opening → Replays fits script opening (happenings lines) 0 world
-begins fits script opening world lines none same =
-    subst (λ (ls : List Line). Replays fits script opening (happenings ls) 0 world) (sym none)
-    (subst (λ (w : WorldView). Replays fits script opening [] 0 w) (sym same) ∣ at_first ∣₁)
+pub begins : (fits : List (RecordView → Bool)) (script : List ScriptedEvent) (opening : WorldView) (armed : ArmedView)
+    (lines : List Line) → lines ≡ [] → armed ≡ armed_at_first opening
+    → Replays fits script opening (happenings lines) 0 armed
+begins fits script opening armed lines none same =
+    subst (λ (ls : List Line). Replays fits script opening (happenings ls) 0 armed) (sym none) ∣ at_first armed same ∣₁
 
 -- an event
-pub makes : (fits later : List (RecordView → Bool)) (script : List ScriptedEvent) (opening : WorldView)
-    (before now : List Line) (passed after : ℕ) (old new : WorldView) (maker : Maker) (event : EventView)
+pub makes : (fits here : List (RecordView → Bool)) (script : List ScriptedEvent) (opening : WorldView)
+    (before now : List Line) (passed after : ℕ) (old new : ArmedView) (maker : Maker) (event : ArmedEvent)
     (answer : ReplyView) → Replays fits script opening (happenings before) passed old
-    → IsEventOf script maker passed old event → IsAdded maker event answer before now → IsStep fits event old answer new
-    → after ≡ passed_by maker passed → later ≡ fits → Replays later script opening (happenings now) after new
-makes fits later script opening before now passed after old new maker event answer run own added step count same =
+    → IsEventOf script maker passed old.world event → IsAdded maker event answer before now
+    → IsArmedStep here event old answer new
+    → after ≡ passed_by maker passed → here ≡ fits → Replays fits script opening (happenings now) after new
+makes fits here script opening before now passed after old new maker event answer run own added step count same =
     let next = Made maker (kept_view added.entry.event) added.entry.reply in
     let longer : happenings now ≡ happenings before ++ next ∷ [] =
     ap happenings added.longer
@@ -54,13 +55,12 @@ makes fits later script opening before now passed after old new maker event answ
       own = own;
       is_kept = added.is_kept;
       is_said = added.is_said;
-      step = step;
+      step = subst (λ (rooms : List (RecordView → Bool)). IsArmedStep rooms event old answer new) same step;
     } in
-    subst (λ (rooms : List (RecordView → Bool)). Replays rooms script opening (happenings now) after new) (sym same)
-    (∥∥₁_map run (λ r. and_then (happenings before) (happenings now) next passed after old new r made longer count))
+    ∥∥₁_map run (λ r. and_then (happenings before) (happenings now) next passed after old new r made longer count)
 
 -- and its number
-pub numbers_made : (before now : List Line) (stops : ℕ) (maker : Maker) (event : EventView) (answer : ReplyView)
+pub numbers_made : (before now : List Line) (stops : ℕ) (maker : Maker) (event : ArmedEvent) (answer : ReplyView)
     → IsAdded maker event answer before now → numbers_in now stops ≡ counted kind.Entry (numbers_in before stops)
 numbers_made before now stops maker event answer added =
     let one = line.Made added.entry ∷ [] in
@@ -71,8 +71,8 @@ numbers_made before now stops maker event answer added =
 
 -- an answer without one
 pub stays_silent : (fits : List (RecordView → Bool)) (script : List ScriptedEvent) (opening : WorldView)
-    (before now : List Line) (passed : ℕ) (world : WorldView) (reason : Silence)
-    → Replays fits script opening (happenings before) passed world → ∥ IsSilence script reason passed world ∥₁
+    (before now : List Line) (passed : ℕ) (world : ArmedView) (reason : Silence)
+    → Replays fits script opening (happenings before) passed world → ∥ IsSilence script reason passed world.world ∥₁
     → ((happenings now ≡ happenings before) ⊎ (happenings now ≡ happenings before ++ Silent reason ∷ []))
     → Replays fits script opening (happenings now) passed world
 stays_silent fits script opening before now passed world reason run silent (inl same) =
@@ -81,15 +81,15 @@ stays_silent fits script opening before now passed world reason run silent (inr 
     ∥∥₁_map₂ run silent (λ r said.
     and_then (happenings before) (happenings now) (Silent reason) passed passed world world r (said, refl) longer refl)
 
-pub leads : (fits : List (RecordView → Bool)) (script : List ScriptedEvent) (opening world : WorldView)
-    (happened : List Happening) (passed : ℕ) → Replays fits script opening happened passed world
-    → LeadsTo fits script opening happened world
-leads fits script opening world happened passed run = ∥∥₁_map run (λ r. (passed, r))
+pub leads : (fits : List (RecordView → Bool)) (script : List ScriptedEvent) (opening : WorldView) (armed : ArmedView)
+    (happened : List Happening) (passed : ℕ) → Replays fits script opening happened passed armed
+    → LeadsTo fits script opening happened armed.world
+leads fits script opening armed happened passed run = ∥∥₁_map run (λ r. (passed, armed, r, refl))
 
 -- what was said since the last event holds
 said_at : (fits : List (RecordView → Bool)) (script : List ScriptedEvent) (opening : WorldView) (lines : List Line)
-    (passed : ℕ) (world : WorldView) (reason : Silence) (place : ℕ) → IsSaidAt lines place reason
-    → Replays fits script opening (happenings lines) passed world → ∥ IsSilence script reason passed world ∥₁
+    (passed : ℕ) (world : ArmedView) (reason : Silence) (place : ℕ) → IsSaidAt lines place reason
+    → Replays fits script opening (happenings lines) passed world → ∥ IsSilence script reason passed world.world ∥₁
 said_at fits script opening lines passed world reason place said run =
     let before = happenings (take place lines) in
     let rest = happenings (drop (place + 1) lines) in
@@ -101,15 +101,15 @@ said_at fits script opening lines passed world reason place said run =
     silences_stay fits script opening (happenings lines) passed world r before rest reason split said.2)
 
 pub said_still : (fits : List (RecordView → Bool)) (script : List ScriptedEvent) (opening : WorldView)
-    (lines : List Line) (passed : ℕ) (world : WorldView) (reason : Silence) (place : Option ℕ)
+    (lines : List Line) (passed : ℕ) (world : ArmedView) (reason : Silence) (place : Option ℕ)
     → IfSome place (λ p. IsSaidAt lines p reason) → IsTrue (is_some place)
-    → Replays fits script opening (happenings lines) passed world → ∥ IsSilence script reason passed world ∥₁
+    → Replays fits script opening (happenings lines) passed world → ∥ IsSilence script reason passed world.world ∥₁
 said_still fits script opening lines passed world reason None said found run = absurd (cc)
 said_still fits script opening lines passed world reason (Some place) said found run =
     said_at fits script opening lines passed world reason place said run
 
 -- a line of the script that is due
-pub due_line : (script : List ScriptedEvent) (passed round : ℕ) (line : ScriptedEvent) (event : EventView)
+pub due_line : (script : List ScriptedEvent) (passed round : ℕ) (line : ScriptedEvent) (event : ArmedEvent)
     → slice_get script passed ≡ Some line → line.round ≤ round → event ≡ plain_view line.event
     → IsScripted (slice_get script passed) round event
 due_line script passed round line event is due same =

@@ -1,2 +1,4 @@
 mod Raising
 mod Adding
+mod Arming
+pub mod Sends

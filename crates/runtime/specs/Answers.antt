@@ -1,7 +1,7 @@
 -- What a seat is answered.
 use Rattle.std.specs.Prelude.{ℕ, List}
-use Rattle.protocol.specs.World.EventView.{EventView}
 use Rattle.protocol.specs.World.Replies.{IsGrantedAt}
+use Rattle.replay.specs.Armed.{ArmedEvent}
 use Rattle.replay.specs.declared.kept.Maker.{Maker}
 use Rattle.runtime.specs.Lines.{IsAdded}
 use Rattle.runtime.specs.declared.history.Line.{Line}
@@ -28,7 +28,7 @@ IsGrantedIn node other = Unit {0}
 
 -- the event of an answer stands behind all other lines, with its maker and with this very answer
 abbrev pub IsWritten : Maker → List Line → List Line → Answer → Type 0
-IsWritten maker before now (answer.Reply reply) = (event : EventView) × IsAdded maker event (reply_view reply) before now
+IsWritten maker before now (answer.Reply reply) = (event : ArmedEvent) × IsAdded maker event (reply_view reply) before now
 IsWritten maker before now other = Unit {0}
 
 abbrev pub fault_number : HubFault → ℕ

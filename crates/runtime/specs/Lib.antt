@@ -6,3 +6,5 @@ pub mod Lines
 pub mod Counts
 pub mod Answers
 pub mod Seats
+pub mod ArmedWorlds
+pub mod Scripts

@@ -1,8 +1,8 @@
 -- A history as data.
 use Rattle.std.specs.Prelude.{◌≡◌, ℕ, ◌+◌, true, List, [], ◌∷◌, ◌++◌, drop, map, Some, slice_get}
 use Rattle.node.specs.JobView.{shared_view}
-use Rattle.protocol.specs.World.EventView.{EventView}
 use Rattle.protocol.specs.World.ReplyView.{ReplyView}
+use Rattle.replay.specs.Armed.{ArmedEvent}
 use Rattle.replay.specs.Laws.{no_event}
 use Rattle.replay.specs.Replay.{Happening, IsKeptOf, KeptEventView, Made, OfJob, Plainly, Silent}
 use Rattle.replay.specs.Replies.{kept_reply}
@@ -26,7 +26,7 @@ abbrev pub happenings : List Line → List Happening
 happenings lines = map happening_of lines
 
 -- an event of this maker was put behind all other lines, with this answer
-pub record IsAdded (maker : Maker) (event : EventView) (answer : ReplyView) (before now : List Line) : Type 0 where
+pub record IsAdded (maker : Maker) (event : ArmedEvent) (answer : ReplyView) (before now : List Line) : Type 0 where
   pub entry : Entry
   pub longer : now ≡ before ++ line.Made entry ∷ []
   pub of_maker : entry.maker ≡ maker

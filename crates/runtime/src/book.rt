@@ -1,9 +1,13 @@
 // What lies under the hub's lock.
-ghost use Rattle.std.specs.Prelude.{◌≡◌, ◌+◌, ◌<◌, ◌^◌, true, false, length, IfErr, IfOk, IsTrue, OnErr, OnOk};
+ghost use Rattle.std.specs.Prelude.{◌≡◌, ◌||◌, ◌<◌, true, false, length, IfErr, IfOk, IsTrue, OnErr, OnOk};
 ghost use Rattle.protocol.specs.World.EventView.{event_node, Install};
+ghost use Rattle.protocol.specs.World.Quiet.{are_quiet};
 ghost use Rattle.protocol.specs.World.Replies.{IsGrantedAt};
-ghost use Rattle.replay.specs.Replay.{IsEventOf, IsIdle, IsReplay, IsSilence, LeadsTo, has_idled, passed_by};
+ghost use Rattle.replay.specs.Armed.{OfWorld, armed_at_first};
+ghost use Rattle.replay.specs.Plain.{plain_view};
+ghost use Rattle.replay.specs.Replay.{IsEventOf, IsIdle, IsReplay, IsSilence, LeadsTo, has_idled};
 ghost use Rattle.replay.specs.declared.kept.Maker.TheVariants as who;
+ghost use Rattle.runtime.specs.ArmedWorlds.{armed_view};
 ghost use Rattle.runtime.specs.Answers.{answer_kind, IsGrantedIn, IsWritten};
 ghost use Rattle.runtime.specs.Counts.{kind_of, numbers_in};
 ghost use Rattle.runtime.specs.Lines.{IsAdded, happenings};
@@ -19,23 +23,23 @@ ghost use Rattle.world.specs.WorldView.{rooms};
 ghost use Rattle.world.specs.declared.event.Event.TheVariants as event;
 
 use crate::answer::{Answer, HeldBack, HubFault, Status};
+use crate::armed::ArmedWorld;
 use crate::counting::{add_silence, find_silence};
 use crate::history::{History, Line};
-use crate::keeping::scripted;
-use crate::making::make_event;
+use crate::making::{make_event, make_scripted};
 use crate::tally::{Counted, Run, Tally, Totals};
 use gate_cell::SlotCell;
 use kahn_net::MAX_COUNT;
 use outlet::Outlet;
 use proc_step::Done;
-use replay::{Maker, ScriptedEvent, Silence};
+use replay::{PlainEvent, ScriptedEvent, Silence};
 use std::alloc::Global;
 use world::{Event, Refused, Reply, World};
 
 /// A world with its script and its history, and how often its seats were answered.
 #[derive(Drop)]
 pub(crate) struct Book<C: SlotCell, O: Outlet, J: Run> {
-    world: World<C, O>,
+    armed: ArmedWorld<C, O>,
     script: Vec<ScriptedEvent>,
     // How many lines of the script are passed.
     passed: usize,
@@ -45,22 +49,13 @@ pub(crate) struct Book<C: SlotCell, O: Outlet, J: Run> {
     // Whether the world was found incomplete, and no event came since.
     incomplete: bool,
     totals: Totals<J>,
-    pub ghost replays: { ∥ IsReplay (rooms world.stations.items) J.script J.opening
-        (happenings lines.items) passed (world_of world) ∥₁ },
+    pub ghost replays: { ∥ IsReplay J.rooms J.script J.opening (happenings lines.items) passed
+        (armed_view armed) ∥₁ },
+    pub ghost same_rooms: { rooms armed.world.stations.items ≡ J.rooms },
     pub ghost same_script: { script.items ≡ J.script },
     pub ghost numbers: { numbers_in lines.items stops ≡ total_numbers totals },
     pub ghost running: { stopped ≡ false → stops ≡ 0 },
-}
-
-// How many lines of the script are passed after an event of this maker.
-fn passed_by(maker: Maker, passed: usize) -> usize
-    requires { maker ≡ who.Driver → passed < 2 ^ 63 }
-    ensures { result ≡ passed_by maker passed }
-{
-    match maker {
-        Maker::Node(_) => passed,
-        Maker::Driver => passed + 1,
-    }
+    pub ghost still: { incomplete ≡ true → are_quiet (world_of armed.world) ≡ false },
 }
 
 fn counted_as(reason: Silence) -> Counted
@@ -97,16 +92,17 @@ impl<C: SlotCell, O: Outlet, J: Run> Book<C, O, J> {
     /// A book of which nothing is written.
     pub fn new(
         alloc: Global,
-        world: World<C, O>,
+        armed: ArmedWorld<C, O>,
         script: Vec<ScriptedEvent>,
         totals: Totals<J>,
     ) -> Book<C, O, J>
-        requires opening { world_of world ≡ J.opening }
+        requires opening { armed_view armed ≡ armed_at_first J.opening }
+        requires rooms { rooms armed.world.stations.items ≡ J.rooms }
         requires script { script.items ≡ J.script }
         requires totals { total_numbers totals ≡ no_numbers }
     {
         Book {
-            world,
+            armed,
             script,
             passed: 0,
             lines: Vec::new(alloc),
@@ -117,25 +113,24 @@ impl<C: SlotCell, O: Outlet, J: Run> Book<C, O, J> {
         }
     }
 
-    // An event of this maker, with its line and its count.
+    // An event of this node, with its line and its count.
     fn make(
         &mut self,
         alloc: Global,
-        maker: Maker,
+        node: u8,
         event: Event,
         tally: &mut Tally<J>,
     ) -> Result<Reply, HeldBack>
         requires part { 0 < tally_parts tally.old }
-        requires own { IsEventOf J.script maker self.old.passed (world_of self.old.world)
-            (event_view event) }
-        requires few { maker ≡ who.Driver → self.old.passed < length J.script }
+        requires own { IsEventOf J.script (who.Node node) self.old.passed
+            (world_of self.old.armed.world) (OfWorld (event_view event)) }
         ensures parts { tally_parts tally.new ≡ tally_parts tally.old }
         ensures counted { OnOk result
             (tally_numbers tally.new ≡ counted kind.Entry (tally_numbers tally.old)) }
         ensures home { IfOk result
             (λ reply. IsGrantedAt (event_node (event_view event)) (reply_view reply)) }
-        ensures added { IfOk result (λ reply. IsAdded maker (event_view event) (reply_view reply)
-            self.old.lines.items self.new.lines.items) }
+        ensures added { IfOk result (λ reply. IsAdded (who.Node node) (OfWorld (event_view event))
+            (reply_view reply) self.old.lines.items self.new.lines.items) }
         ensures refused { OnErr result (tally_numbers tally.new ≡ tally_numbers tally.old) }
         ensures handed_back { IfErr result (λ held. held.event ≡ event) }
     {
@@ -146,14 +141,13 @@ impl<C: SlotCell, O: Outlet, J: Run> Book<C, O, J> {
             });
         }
         let Book {
-            world,
+            armed,
             lines,
-            passed,
             incomplete,
             totals,
             ..
         } = self;
-        let reply = match make_event(alloc, world, lines, maker, event) {
+        let reply = match make_event(alloc, armed, lines, node, event) {
             Ok(reply) => reply,
             Err(Refused { event }) => {
                 return Err(HeldBack {
@@ -162,7 +156,44 @@ impl<C: SlotCell, O: Outlet, J: Run> Book<C, O, J> {
                 });
             }
         };
-        *passed = passed_by(maker, *passed);
+        *incomplete = false;
+        totals.add(tally, Counted::Entry);
+        Ok(reply)
+    }
+
+    // The event of the script's next line, with its line and its count.
+    fn play(
+        &mut self,
+        alloc: Global,
+        event: PlainEvent,
+        tally: &mut Tally<J>,
+    ) -> Result<Reply, HubFault>
+        requires part { 0 < tally_parts tally.old }
+        requires own { IsEventOf J.script who.Driver self.old.passed
+            (world_of self.old.armed.world) (plain_view event) }
+        requires few { self.old.passed < length J.script }
+        ensures parts { tally_parts tally.new ≡ tally_parts tally.old }
+        ensures counted { OnOk result
+            (tally_numbers tally.new ≡ counted kind.Entry (tally_numbers tally.old)) }
+        ensures added { IfOk result (λ reply. IsAdded who.Driver (plain_view event)
+            (reply_view reply) self.old.lines.items self.new.lines.items) }
+        ensures refused { OnErr result (tally_numbers tally.new ≡ tally_numbers tally.old) }
+    {
+        if self.totals.made() >= MAX_COUNT {
+            return Err(HubFault::PastNumber);
+        }
+        let Book {
+            armed,
+            lines,
+            passed,
+            incomplete,
+            totals,
+            ..
+        } = self;
+        let Ok(reply) = make_scripted(alloc, armed, lines, event) else {
+            return Err(HubFault::NoMemory);
+        };
+        *passed += 1;
         *incomplete = false;
         totals.add(tally, Counted::Entry);
         Ok(reply)
@@ -171,7 +202,8 @@ impl<C: SlotCell, O: Outlet, J: Run> Book<C, O, J> {
     // An answer without an event.
     fn be_silent(&mut self, reason: Silence, tally: &mut Tally<J>) -> Result<(), HubFault>
         requires part { 0 < tally_parts tally.old }
-        requires own { ∥ IsSilence J.script reason self.old.passed (world_of self.old.world) ∥₁ }
+        requires own { ∥ IsSilence J.script reason self.old.passed
+            (world_of self.old.armed.world) ∥₁ }
         ensures parts { tally_parts tally.new ≡ tally_parts tally.old }
         ensures counted { OnOk result
             (tally_numbers tally.new ≡ counted (kind_of reason) (tally_numbers tally.old)) }
@@ -204,7 +236,7 @@ impl<C: SlotCell, O: Outlet, J: Run> Book<C, O, J> {
     // Whether this was said since the last event: then it holds still, and the world need not be asked.
     fn has_said(&self, reason: Silence) -> bool
         ensures { IsTrue result
-            → ∥ IsSilence J.script reason self.now.passed (world_of self.now.world) ∥₁ }
+            → ∥ IsSilence J.script reason self.now.passed (world_of self.now.armed.world) ∥₁ }
     {
         find_silence(&self.lines, reason).is_some()
     }
@@ -236,12 +268,12 @@ impl<C: SlotCell, O: Outlet, J: Run> Book<C, O, J> {
             self.be_silent(Silence::Nothing(node), tally)?;
             return Ok(Answer::Nothing);
         }
-        let event = self.world.pick(node);
-        if is_idle(&event) && has_idled(&self.world, node) {
+        let event = self.armed.world.pick(node);
+        if is_idle(&event) && has_idled(&self.armed.world, node) {
             self.be_silent(Silence::Nothing(node), tally)?;
             return Ok(Answer::Nothing);
         }
-        match self.make(alloc, Maker::Node(node), event, tally) {
+        match self.make(alloc, node, event, tally) {
             Ok(reply) => Ok(Answer::Reply(reply)),
             Err(held) => Err(held.fault),
         }
@@ -258,14 +290,14 @@ impl<C: SlotCell, O: Outlet, J: Run> Book<C, O, J> {
         requires part { 0 < tally_parts tally.old }
         requires home { event_node (Install (done_view done)) ≡ node }
         ensures parts { tally_parts tally.new ≡ tally_parts tally.old }
-        ensures added { IfOk result (λ reply. IsAdded (who.Node node) (Install (done_view done))
-            (reply_view reply) self.old.lines.items self.new.lines.items) }
+        ensures added { IfOk result (λ reply. IsAdded (who.Node node)
+            (OfWorld (Install (done_view done))) (reply_view reply) self.old.lines.items self.new.lines.items) }
         ensures counted { OnOk result
             (tally_numbers tally.new ≡ counted kind.Entry (tally_numbers tally.old)) }
         ensures refused { OnErr result (tally_numbers tally.new ≡ tally_numbers tally.old) }
         ensures handed_back { IfErr result (λ held. held.event ≡ event.Install done) }
     {
-        self.make(alloc, Maker::Node(node), Event::Install(done), tally)
+        self.make(alloc, node, Event::Install(done), tally)
     }
 
     /// The event of the script's next line, if there is one and it is due.
@@ -290,13 +322,13 @@ impl<C: SlotCell, O: Outlet, J: Run> Book<C, O, J> {
             return Ok(Answer::NoMore);
         }
         let line = self.script[passed];
-        if line.round > self.world.round() {
+        if line.round > self.armed.world.round() {
             self.be_silent(Silence::NotYet, tally)?;
             return Ok(Answer::NotYet);
         }
-        match self.make(alloc, Maker::Driver, scripted(line.event), tally) {
+        match self.play(alloc, line.event, tally) {
             Ok(reply) => Ok(Answer::Reply(reply)),
-            Err(held) => Err(held.fault),
+            Err(fault) => Err(fault),
         }
     }
 
@@ -308,28 +340,36 @@ impl<C: SlotCell, O: Outlet, J: Run> Book<C, O, J> {
     }
 
     /// From now on no call makes an event.
-    pub fn stop(&mut self) {
+    pub fn stop(&mut self)
+        ensures { self.new.stopped ≡ true }
+    {
         self.stopped = true;
     }
 
     // Whether nothing is left to do. The world is asked once behind each event.
-    fn is_complete(&mut self) -> bool {
+    fn is_complete(&mut self) -> bool
+        ensures quiet { result ≡ are_quiet (world_of self.old.armed.world) }
+        ensures same { (self.new.armed ≡ self.old.armed) × (self.new.stopped ≡ self.old.stopped) }
+    {
         if self.incomplete {
             return false;
         }
-        let complete = self.world.complete();
+        let complete = self.armed.world.complete();
         self.incomplete = !complete;
         complete
     }
 
     /// How the run stands. It is stopped where nothing is left to do.
-    pub fn status(&mut self) -> Status {
+    pub fn status(&mut self) -> Status
+        ensures round { result.round ≡ self.old.armed.world.round }
+        ensures complete { result.complete ≡ are_quiet (world_of self.old.armed.world) }
+        ensures stopped { (result.stopped ≡ self.new.stopped)
+            × (self.new.stopped ≡ self.old.stopped || result.complete) }
+    {
         let complete = self.is_complete();
-        if complete {
-            self.stopped = true;
-        }
+        self.stopped = self.stopped || complete;
         Status {
-            round: self.world.round(),
+            round: self.armed.world.round(),
             complete,
             stopped: self.stopped,
         }
@@ -337,18 +377,19 @@ impl<C: SlotCell, O: Outlet, J: Run> Book<C, O, J> {
 
     /// The world, and the history that leads to it. Whoever has the parts of all seats learns its numbers.
     pub fn close(mut self, all: &mut Tally<J>) -> (World<C, O>, History)
-        ensures leads { LeadsTo (rooms result.0.stations.items) J.script J.opening
-            (happenings result.1.lines.items) (world_of result.0) }
+        ensures leads { LeadsTo J.rooms J.script J.opening (happenings result.1.lines.items)
+            (world_of result.0) }
         ensures numbers { tally_parts all.old ≡ J.seats
             → numbers_in result.1.lines.items result.1.stops ≡ tally_numbers all.old }
     {
         self.totals.audit(all);
         let Book {
-            world,
+            armed,
             lines,
             stops,
             ..
         } = self;
+        let ArmedWorld { world, .. } = armed;
         (world, History { lines, stops })
     }
 }

@@ -16,6 +16,7 @@ ghost use Rattle.world.specs.WorldView.{rooms};
 ghost use Rattle.world.specs.declared.event.Event.TheVariants as event;
 
 use crate::answer::{Answer, HeldBack, HubFault, Status};
+use crate::armed::ArmedWorld;
 use crate::book::Book;
 use crate::history::History;
 use crate::seat::{DriverSeat, NodeSeat, driver_seat, node_seat};
@@ -46,6 +47,7 @@ impl<C: SlotCell, O: Outlet, J: Run> Hub<C, O, J> {
         blanks: Blanks,
     ) -> Result<(Hub<C, O, J>, Vec<NodeSeat<J>>, DriverSeat<J>), AllocError>
         requires opening { world_of world ≡ J.opening }
+        requires rooms { rooms world.stations.items ≡ J.rooms }
         requires script { script.items ≡ J.script }
         requires names { names_of blanks ≡ J.names }
         requires parts { HaveParts blanks J.seats }
@@ -53,13 +55,14 @@ impl<C: SlotCell, O: Outlet, J: Run> Hub<C, O, J> {
         ensures seats { IfOk result (λ hub. vec_len hub.1 ≡ nodes) }
         ensures numbered { IfOk result (λ hub. AreOfNodes nodes hub.1.items) }
     {
+        let armed = ArmedWorld::new(alloc, world)?;
         let (totals, mut all) = blanks.open::<J>();
         let mut seats = Vec::with_capacity(alloc, usize::from(nodes))?;
         for node in 0..nodes {
             seats.push_reserved(node_seat(node, all.split_off()));
         }
         let hub = Hub {
-            book: Mutex::new(Book::<C, O, J>::new(alloc, world, script, totals)),
+            book: Mutex::new(Book::<C, O, J>::new(alloc, armed, script, totals)),
         };
         Ok((hub, seats, driver_seat(all)))
     }
@@ -159,8 +162,8 @@ impl<C: SlotCell, O: Outlet, J: Run> Hub<C, O, J> {
     /// The world, with the history that leads to it from the one with which the run began. Where these are all seats, the history
     /// has as many events, and as many answers of each kind, as they got.
     pub fn close(self, seats: Vec<NodeSeat<J>>, driver: DriverSeat<J>) -> (World<C, O>, History)
-        ensures leads { LeadsTo (rooms result.0.stations.items) J.script J.opening
-            (happenings result.1.lines.items) (world_of result.0) }
+        ensures leads { LeadsTo J.rooms J.script J.opening (happenings result.1.lines.items)
+            (world_of result.0) }
         ensures numbers { vec_len seats + 1 ≡ J.seats
             → numbers_in result.1.lines.items result.1.stops
             ≡ added (numbers_of_seats seats.items) (tally_numbers driver.tally) }

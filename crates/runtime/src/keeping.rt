@@ -1,21 +1,23 @@
 // Events and answers as they are kept.
 ghost use Rattle.std.specs.Prelude.{◌≡◌, IfOk};
+ghost use Rattle.replay.specs.Armed.{OfWorld};
 ghost use Rattle.replay.specs.Plain.{plain_view};
 ghost use Rattle.replay.specs.Replay.{IsKeptOf};
 ghost use Rattle.replay.specs.Replies.{kept_reply};
 ghost use Rattle.runtime.specs.Lines.{kept_view};
+ghost use Rattle.runtime.specs.Scripts.{scripted_view};
 ghost use Rattle.world.specs.EventView.{event_view};
 ghost use Rattle.world.specs.ReplyView.{reply_view};
 
 use crate::history::KeptEvent;
-use replay::{KeptReply, PlainEvent};
+use replay::{ArmedCrash, KeptReply, PlainEvent};
 use std::alloc::AllocError;
 use std::sync::Arc;
 use world::{Event, Reply};
 
 /// An event as it is kept. Refuses for want of memory alone.
 pub(crate) fn keep(event: &Event) -> Result<KeptEvent, AllocError>
-    ensures { IfOk result (λ kept. IsKeptOf (kept_view kept) (event_view event.now)) }
+    ensures { IfOk result (λ kept. IsKeptOf (kept_view kept) (OfWorld (event_view event.now))) }
 {
     let plain = match event {
         Event::Install(done) => return Ok(KeptEvent::Install(Arc::try_clone(&done.job)?)),
@@ -66,11 +68,19 @@ pub(crate) fn keep(event: &Event) -> Result<KeptEvent, AllocError>
     Ok(KeptEvent::Plain(plain))
 }
 
+/// What a line of a script makes: an event of the world, or that a crash is armed.
+#[derive(Drop)]
+pub(crate) enum Scripted {
+    Event(Event),
+    ArmCrash(ArmedCrash),
+}
+
 /// The event of a line of a script.
-pub(crate) fn scripted(plain: PlainEvent) -> Event
-    ensures { event_view result ≡ plain_view plain }
+pub(crate) fn act_of(plain: PlainEvent) -> Scripted
+    ensures { scripted_view result ≡ plain_view plain }
 {
-    match plain {
+    let event = match plain {
+        PlainEvent::ArmCrash(crash) => return Scripted::ArmCrash(crash),
         PlainEvent::Deliver { node, place } => Event::Deliver { node, place },
         PlainEvent::Grant(node) => Event::Grant(node),
         PlainEvent::Send(node) => Event::Send(node),
@@ -101,7 +111,8 @@ pub(crate) fn scripted(plain: PlainEvent) -> Event
             rounds,
         },
         PlainEvent::ArmPacket(rule) => Event::ArmPacket(rule),
-    }
+    };
+    Scripted::Event(event)
 }
 
 /// An answer as it is kept.

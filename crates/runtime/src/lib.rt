@@ -6,19 +6,31 @@
 #![tactic(auto)]
 
 mod answer;
+mod armed;
 mod book;
 mod counting;
+mod driving;
+mod gate;
 mod history;
 mod hub;
 mod keeping;
 mod making;
+mod playing;
 mod seat;
 mod tally;
+mod threads;
+mod working;
 
 pub use answer::{Answer, HeldBack, HubFault, Status};
+pub use armed::ArmedWorld;
+pub use driving::{Bounds, drive};
+pub use gate::{Gate, OpenGate};
 pub use history::{Entry, History, KeptEvent, Line};
 pub use hub::Hub;
+pub use playing::run_world;
 pub use seat::{DriverSeat, NodeSeat};
 pub use tally::{
     Blanks, Counted, Counting, Entries, NoMores, NotYets, Nothings, Run, Stops, Tally, Totals,
 };
+pub use threads::{DriverPost, Floor, Post, run_threads};
+pub use working::work;

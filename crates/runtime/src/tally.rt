@@ -1,5 +1,5 @@
 // How often each seat was answered, in tokens that can't be made up.
-ghost use Rattle.std.specs.Prelude.{◌≡◌, ◌+◌, ◌<◌, ℕ, List, []};
+ghost use Rattle.std.specs.Prelude.{◌≡◌, ◌+◌, ◌<◌, ℕ, Bool, List, []};
 ghost use Rattle.kahn_net.specs.declared.limits.TheConstants.{MAX_COUNT};
 ghost use Rattle.runtime.specs.declared.tally.Counted.TheVariants as kind;
 ghost use Rattle.runtime.specs.Numbers.{Names, added, counted, no_names, no_numbers};
@@ -20,12 +20,15 @@ impl Counting for Brand {
     ghost seats = { 0 };
 }
 
-/// Which run it is: the world that it begins with, and its script.
+/// Which run it is: the world that it begins with, which records its nodes' cells have room for, and its script.
 pub trait Run: Counting {
     ghost use Rattle.protocol.specs.World.Steps.{WorldView};
+    ghost use Rattle.record.specs.RecordView.{RecordView};
     ghost use Rattle.replay.specs.declared.kept.ScriptedEvent.{ScriptedEvent};
 
     ghost opening: { WorldView };
+
+    ghost rooms: { List (RecordView → Bool) };
 
     ghost script: { List ScriptedEvent };
 }
@@ -34,6 +37,8 @@ impl Run for Brand {
     ghost use Rattle.runtime.specs.NoWorld.{no_world};
 
     ghost opening = { no_world };
+
+    ghost rooms = { [] };
 
     ghost script = { [] };
 }

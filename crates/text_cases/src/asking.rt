@@ -7,6 +7,8 @@ use fail_script::{Script, parse_script};
 use kahn_program::{Options, options, run};
 use net_text::{Token, tokens};
 use std::alloc::{AllocError, Global};
+use std::sync::Wait;
+use std::thread::Threads;
 
 /// What is only told, on standard output.
 fn told(alloc: Global, text: String) -> Result<Outcome, AllocError> {
@@ -18,21 +20,25 @@ fn told(alloc: Global, text: String) -> Result<Outcome, AllocError> {
 }
 
 /// What the program does by these options.
-fn run_by(
+fn run_by<R: Threads + Wait + Sync>(
+    rt: &R,
     alloc: Global,
     options: &Options,
     net: &Given,
     inputs: &Given,
+    script: &Given,
     out: Writer,
     err: Writer,
 ) -> Outcome {
     let mut out = out;
     let mut err = err;
     let status = run(
+        rt,
         alloc,
         options,
         net.reader(),
         inputs.reader(),
+        script.reader(),
         &mut out,
         &mut err,
     );
@@ -121,21 +127,26 @@ fn script_text(alloc: Global, bytes: &[u8], nodes: u8) -> anyhow::Result<String>
 }
 
 /// What a case wants, and what comes of it.
-pub fn outcomes(alloc: Global, plan: Plan) -> anyhow::Result<(Outcome, Outcome)> {
+pub fn outcomes<R: Threads + Wait + Sync>(
+    rt: &R,
+    alloc: Global,
+    plan: Plan,
+) -> anyhow::Result<(Outcome, Outcome)> {
     let Plan {
         asked,
         net,
         inputs,
+        script,
         wanted,
         out,
         err,
         part: _,
     } = plan;
     let came = match asked {
-        Asked::Run(options) => run_by(alloc, &options, &net, &inputs, out, err),
+        Asked::Run(options) => run_by(rt, alloc, &options, &net, &inputs, &script, out, err),
         Asked::Words(words) => {
             let options = options_of(alloc, &words)?;
-            run_by(alloc, &options, &net, &inputs, out, err)
+            run_by(rt, alloc, &options, &net, &inputs, &script, out, err)
         }
         Asked::Options(words) => told(alloc, options_text(alloc, &words)?)?,
         Asked::Tokens => told(alloc, tokens_text(alloc, &net.bytes)?)?,

@@ -9,6 +9,7 @@
 //! | Line | Meaning |
 //! |---|---|
 //! | `-- net`, `-- inputs`, `-- out`, `-- err` | the text that follows: the network, the inputs, what has to come on standard output and on standard error |
+//! | `-- script` | the same of the run's failure script; with no such line the run has none |
 //! | `-- part TEXT` | a text without an end of line |
 //! | `-- bytes ff0a` | bytes, in hexadecimal |
 //! | `-- times 1025 TEXT` | a text so many times |
@@ -16,13 +17,14 @@
 //! | `-- from running_sum.net` | what stands in a file |
 //! | `-- status 3` | the exit status; 0 where it isn't said |
 //! | `-- approx 2`, `-- items 4`, `-- rounds 1`, `-- room 64` | an option of the run |
+//! | `-- threads` | the run has a thread for each node; else it takes turns on one |
 //! | `-- words kahnrun --items 4 NET INPUTS` | the whole command line, whose options the run has; its files are the texts |
-//! | `-- net absent`, `-- inputs absent` | a file that can't be opened |
+//! | `-- net absent`, `-- inputs absent`, `-- script absent` | a file that can't be opened |
 //! | `-- net slow` | a reader that gives a byte at a time, and is interrupted before each |
 //! | `-- net fails other` | a reader that fails behind its bytes: `other`, `invalid data`, `unexpected end`, `out of memory` |
 //! | `-- out fails behind 3`, `-- err fails at the flush` | a writer that fails behind so many bytes, or at its flush |
 //! | `-- options kahnrun a.net b` | nothing runs: on standard output comes what this command line asks for, or `refused KIND` |
-//! | `-- script 2` | nothing runs: the network's text is a failure script for so many nodes, and on standard output comes a line for each of its lines, or `refused NUMBER LINE` |
+//! | `-- read_script 2` | nothing runs: the network's text is a failure script for so many nodes, and on standard output comes a line for each of its lines, or `refused NUMBER LINE` |
 //! | `-- tokens` | nothing runs: on standard output comes a line for each token of the network's text, or `refused NUMBER LINE` |
 #![tactic(auto)]
 
@@ -33,16 +35,46 @@ mod plan;
 mod texts;
 
 use crate::asking::outcomes;
-use crate::judging::differing;
+use crate::judging::{Outcome, differing};
 use crate::plan::plan_of;
 use case_table::{
     Case, Difference, Table, Trial, read, run_cases, run_wrong_cases, table_of_texts,
 };
 use std::alloc::Global;
+use std::sync::Wait;
+use std::thread::Threads;
 
-/// Each case is of texts.
-#[derive(Clone, Copy, Debug)]
-struct TextCases;
+/// What came of a case, and what was wanted.
+#[derive(Drop)]
+struct Ran {
+    line: usize,
+    wanted: Outcome,
+    came: Outcome,
+}
+
+/// The cases of a table, each of which was run. (A method of `Trial` is handed nothing by which threads are made.)
+#[derive(Drop)]
+struct TextCases {
+    ran: Vec<Ran>,
+}
+
+impl TextCases {
+    /// Runs these cases.
+    fn run<R: Threads + Wait + Sync>(
+        threads: &R,
+        rt: &HostRuntime,
+        cases: &[Case],
+    ) -> anyhow::Result<TextCases> {
+        let alloc = rt.alloc();
+        let mut ran = Vec::new(alloc);
+        for case in cases {
+            let (wanted, came) = outcomes(threads, alloc, plan_of(rt, case)?)?;
+            let line = case.line;
+            ran.push(Ran { line, wanted, came })?;
+        }
+        Ok(TextCases { ran })
+    }
+}
 
 impl Trial for TextCases {
     fn found(
@@ -51,9 +83,12 @@ impl Trial for TextCases {
         case: &Case,
         _choice: &[u64],
     ) -> anyhow::Result<Option<Difference>> {
-        let alloc = rt.alloc();
-        let (wanted, came) = outcomes(alloc, plan_of(rt, case)?)?;
-        Ok(differing(alloc, case.line, &wanted, &came)?)
+        for ran in &self.ran {
+            if ran.line == case.line {
+                return Ok(differing(rt.alloc(), ran.line, &ran.wanted, &ran.came)?);
+            }
+        }
+        anyhow::bail!("a case that wasn't run")
     }
 }
 
@@ -70,6 +105,8 @@ fn main(rt: HostRuntime) -> anyhow::Result<()> {
     let alloc = rt.alloc();
     let text = read(&rt, "cases")?;
     let wrong = read(&rt, "wrong_cases")?;
-    run_cases(&rt, &cases_of(alloc, &text)?.cases, &TextCases)?;
-    run_wrong_cases(&rt, &cases_of(alloc, &wrong)?.cases, &TextCases)
+    let cases = cases_of(alloc, &text)?.cases;
+    let wrong = cases_of(alloc, &wrong)?.cases;
+    run_cases(&rt, &cases, &TextCases::run(&rt, &rt, &cases)?)?;
+    run_wrong_cases(&rt, &wrong, &TextCases::run(&rt, &rt, &wrong)?)
 }

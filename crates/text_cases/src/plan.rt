@@ -14,6 +14,7 @@ use std::io::ErrorKind;
 pub enum Part {
     Net,
     Inputs,
+    Script,
     Out,
     Err,
 }
@@ -39,6 +40,7 @@ pub struct Plan {
     pub asked: Asked,
     pub net: Given,
     pub inputs: Given,
+    pub script: Given,
     pub wanted: Outcome,
     pub out: Writer,
     pub err: Writer,
@@ -102,12 +104,20 @@ fn set_taking(writer: &mut Writer, how: &str) -> anyhow::Result<()> {
     Ok(())
 }
 
+/// A run without a script, by turns.
+fn plain_run(alloc: Global) -> Options {
+    let mut options = Options::new(String::new(alloc), String::new(alloc));
+    options.plain = true;
+    options
+}
+
 impl Plan {
     fn new(alloc: Global) -> Plan {
         Plan {
-            asked: Asked::Run(Options::new(String::new(alloc), String::new(alloc))),
+            asked: Asked::Run(plain_run(alloc)),
             net: nothing_given(alloc),
             inputs: nothing_given(alloc),
+            script: nothing_given(alloc),
             wanted: Outcome {
                 out: Vec::new(alloc),
                 err: Vec::new(alloc),
@@ -124,8 +134,23 @@ impl Plan {
         match self.part {
             Part::Net => &mut self.net.bytes,
             Part::Inputs => &mut self.inputs.bytes,
+            Part::Script => &mut self.script.bytes,
             Part::Out => &mut self.wanted.out,
             Part::Err => &mut self.wanted.err,
+        }
+    }
+
+    /// The run has a script.
+    fn ask_for_script(&mut self, alloc: Global) {
+        if let Asked::Run(options) = &mut self.asked {
+            options.script = Some(String::new(alloc));
+        }
+    }
+
+    /// The run has a thread for each node.
+    fn use_threads(&mut self) {
+        if let Asked::Run(options) = &mut self.asked {
+            options.plain = false;
         }
     }
 
@@ -149,13 +174,17 @@ impl Plan {
         match word {
             "net" => set_given(&mut self.net, rest),
             "inputs" => set_given(&mut self.inputs, rest),
+            "script" => {
+                self.ask_for_script(alloc);
+                set_given(&mut self.script, rest)
+            }
             "out" => set_taking(&mut self.out, rest),
             "err" => set_taking(&mut self.err, rest),
             "status" => {
                 self.wanted.status = byte(rest)?;
                 Ok(())
             }
-            "script" => {
+            "read_script" => {
                 self.asked = Asked::Script(byte(rest)?);
                 Ok(())
             }
@@ -172,10 +201,15 @@ impl Plan {
     }
 
     /// Takes a directive that is one word.
-    fn turn_to(&mut self, word: &str) -> anyhow::Result<()> {
+    fn turn_to(&mut self, alloc: Global, word: &str) -> anyhow::Result<()> {
         match word {
             "net" => self.part = Part::Net,
             "inputs" => self.part = Part::Inputs,
+            "script" => {
+                self.ask_for_script(alloc);
+                self.part = Part::Script;
+            }
+            "threads" => self.use_threads(),
             "out" => self.part = Part::Out,
             "err" => self.part = Part::Err,
             "tokens" => self.asked = Asked::Tokens,
@@ -189,7 +223,7 @@ impl Plan {
             return add_line(self.text(), line);
         };
         match directive.split_once(" ") {
-            None => self.turn_to(directive),
+            None => self.turn_to(rt.alloc(), directive),
             Some((word, rest)) => {
                 if add_spelled(rt, self.text(), word, rest)? {
                     return Ok(());

@@ -1,15 +1,22 @@
-use Rattle.std.proofs.Common.{◌∙◌, ap₂}
-use Rattle.clap.specs.Words.{with_rule}
+use Rattle.std.proofs.Common.{◌≡◌, ◌∙◌, ap, ap₂}
+use Rattle.clap.specs.Simple.{app_of_fields}
+use Rattle.clap.specs.Words.{app_of, with_rule}
 use Rattle.kahn_program.specs.CommandLine.{kahnrun}
 use Rattle.kahn_program.proofs.words.command.Goals as goal
 
 pub returns : goal.returns
 unfolding kahnrun
 returns c =
-    let net = c.in_ok-arg.ensures.shape c.file.ensures.here ∙ ap₂ with_rule c.new.ensures.app c.file.ensures.rule in
+    let app : app_of c.after_help.result ≡ app_of c.new.result =
+    ap app_of_fields c.after_help.ensures ∙ ap app_of_fields c.about.ensures in
+    let net =
+    c.in_ok-arg.ensures.shape c.file.ensures.here
+    ∙ ap₂ with_rule (app ∙ c.new.ensures.app) c.file.ensures.rule in
     let inputs = c.in_ok-arg-2.ensures.shape c.file-2.ensures.here ∙ ap₂ with_rule net c.file-2.ensures.rule in
-    let rounds = c.in_ok-arg-3.ensures.shape c.rounds.ensures.here ∙ ap₂ with_rule inputs c.rounds.ensures.rule in
-    let items = c.in_ok-arg-4.ensures.shape c.number.ensures.here ∙ ap₂ with_rule rounds c.number.ensures.rule in
-    let room = c.in_ok-arg-5.ensures.shape c.room.ensures.here ∙ ap₂ with_rule items c.room.ensures.rule in
-    let plain = c.in_ok-arg-6.ensures.shape c.flag.ensures.here ∙ ap₂ with_rule room c.flag.ensures.rule in
+    let script =
+    c.in_ok-arg-3.ensures.shape c.file_option.ensures.here ∙ ap₂ with_rule inputs c.file_option.ensures.rule in
+    let rounds = c.in_ok-arg-4.ensures.shape c.rounds.ensures.here ∙ ap₂ with_rule script c.rounds.ensures.rule in
+    let items = c.in_ok-arg-5.ensures.shape c.number.ensures.here ∙ ap₂ with_rule rounds c.number.ensures.rule in
+    let room = c.in_ok-arg-6.ensures.shape c.room.ensures.here ∙ ap₂ with_rule items c.room.ensures.rule in
+    let plain = c.in_ok-arg-7.ensures.shape c.flag.ensures.here ∙ ap₂ with_rule room c.flag.ensures.rule in
     c.in_ok-command.ensures.shape c.number-2.ensures.here ∙ ap₂ with_rule plain c.number-2.ensures.rule

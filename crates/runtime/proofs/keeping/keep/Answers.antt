@@ -1,9 +1,10 @@
 use Rattle.std.proofs.Common.{ap, sym}
 use Rattle.node.specs.JobView.{job_view}
+use Rattle.replay.specs.Armed.{OfWorld}
 use Rattle.world.specs.EventView.{event_view}
 use Rattle.world.specs.DoneView.{done_view}
 use Rattle.runtime.proofs.keeping.keep.Goals as goal
 
 -- of a turn that came back, the share is of its job
 pub returns-in-Install : goal.returns-in-Install
-returns-in-Install c = (done_view c.in-Install.done, ap event_view c.in-Install.is, ap job_view (sym c.in_ok-try_clone-in-Install.ensures))
+returns-in-Install c = (done_view c.in-Install.done, ap (λ event. OfWorld (event_view event)) c.in-Install.is, ap job_view (sym c.in_ok-try_clone-in-Install.ensures))

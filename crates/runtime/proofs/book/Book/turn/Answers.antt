@@ -9,4 +9,4 @@ pub returns-in-Ok-clause-home : goal.returns-in-Ok-clause-home
 returns-in-Ok-clause-home g c = λ job granted.
     c.in-Ok.ensures.home job granted
     ∙ (ap event_node c.pick-event.ensures
-    ∙ choice_at_home (world_of c.args.self.now.world) c.args.self.now.world.sound c.args.node)
+    ∙ choice_at_home (world_of c.args.self.now.armed.world) c.args.self.now.armed.world.sound c.args.node)

@@ -1,0 +1,13 @@
+use Rattle.std.proofs.Common.{ℕ, ℤ, List, length}
+use Rattle.std.specs.Prelude.{nat_le}
+use Rattle.protocol.specs.World.Released.{released_of}
+use Rattle.world.specs.WholeView.{world_of}
+use Rattle.kahn_program.proofs.Released.{all_next}
+use Rattle.kahn_program.proofs.ending.have_left.Goals as goal
+
+pub loop-number-preserved : goal.loop-number-preserved
+loop-number-preserved c =
+    all_next (λ (channel : ℕ). released_of channel (world_of c.args.world.now).stations)
+    (λ (stream : List ℤ). nat_le c.args.items (length stream))
+    c.args.channels.now c.loop-number.number _ c.has_left.result _ c.loop-number-test.true c.loop-number.invariant
+    c.has_left.ensures c.if-not-has_left.false

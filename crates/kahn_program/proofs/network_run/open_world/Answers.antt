@@ -1,0 +1,45 @@
+use Rattle.std.proofs.Common.{◌∙◌, ℕ, ap, refl, subst, sym}
+use Rattle.std.specs.Prelude.{replicate}
+use Rattle.kahn_net.specs.Syntax.{network_of}
+use Rattle.net_check.specs.declared.net.Net.{Net}
+use Rattle.protocol.specs.World.Sound.{output_channels}
+use Rattle.protocol.specs.World.Steps.{with_room}
+use Rattle.sector_disk.specs.MemDisk.{sectors_of}
+use Rattle.world.specs.WholeView.{world_of}
+use Rattle.world.specs.WorldView.{capacities}
+use Rattle.kahn_program.specs.Runnable.{IsStoreFailure}
+use Rattle.kahn_program.proofs.Turns.{opens_first, rooms_given, run_refused}
+use Rattle.kahn_program.proofs.network_run.open_world.Goals as goal
+
+pub returns-in-Err-clause-err : goal.returns-in-Err-clause-err
+returns-in-Err-clause-err c = λ plain.
+    let share = c.in-Ok-try_clone.share in
+    let disks = c.in-Ok-empty_disks.disks.items in
+    subst (IsStoreFailure plain) (sym c.store_failure.ensures)
+    (run_refused plain sectors_of (network_of share.value.program) 0 disks c.in-Err.refused.fault share.value.valid
+    c.in-Ok-empty_disks.ensures.sectors c.in-Err.ensures.refused
+    (λ is. record {
+      disks = disks;
+      backs = c.in-Err.refused.disks.items;
+      sectors = c.in-Ok-empty_disks.ensures.sectors;
+      failed = c.in-Err.ensures.handed_back.failed is;
+    }))
+
+pub returns-clause-first : goal.returns-clause-first
+returns-clause-first c =
+    let net = network_of c.args.net.now.value.program in
+    let opened = world_of c.in-Ok-new-2.world in
+    opens_first _ _ (λ outlet. refl) net _ c.args.inputs _ c.args.room c.in-Ok.outputs.items
+    (world_of c.set_room.new.self) opened (ap (λ (n : Net). network_of n.program) c.in-Ok-try_clone.ensures)
+    c.in-Ok-new.ensures.ok _
+    (c.in-Ok-empty_disks.ensures.unfailed ∙ ap (λ (n : ℕ). replicate n 0) c.requires.nodes)
+    (c.in-Ok-set_room.ensures.set ∙ ap (λ (n : ℕ). with_room n opened) c.nearest_room.ensures)
+    c.in-Ok-new-2.ensures.opening
+    (c.in-Ok.ensures.listed ∙ ap (λ (n : Net). output_channels 0 n.program.channels.items) c.deref.ensures)
+    c.in-Ok.ensures.empty
+
+pub returns-clause-room : goal.returns-clause-room
+returns-clause-room c =
+    rooms_given sectors_of c.in-Ok-empty_disks.disks.items _
+    (ap (λ stations. capacities stations.items) c.set_room.ensures.same.2 ∙ c.in-Ok-new-2.ensures.room)
+    c.in-Ok-empty_disks.ensures.sectors

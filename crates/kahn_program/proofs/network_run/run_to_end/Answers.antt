@@ -1,0 +1,21 @@
+use Rattle.std.proofs.Common.{refl}
+use Rattle.kahn_net.specs.Syntax.{network_of}
+use Rattle.world.specs.WholeView.{world_of}
+use Rattle.kahn_program.proofs.Turns.{by_threads_ends, by_threads_stays, if_ok_then, replayed_world}
+use Rattle.kahn_program.proofs.network_run.run_to_end.Goals as goal
+
+pub returns-then-not-options-clause-end : goal.returns-then-not-options-clause-end
+returns-then-not-options-clause-end g c = λ inputs opened.
+    let options = c.args.options.now in
+    let net = network_of c.args.net.now.program in
+    by_threads_ends (λ now. world_of now) options.plain options net inputs c.args.script.items c.run_by_threads.result
+    c.if-not-options.true
+    (if_ok_then _ _ c.run_by_threads.result
+    (λ now run. replayed_world (λ taken. taken) (λ outlet. 0) c.args.world.stations.items options net inputs
+    c.args.script.items (world_of c.args.world) (world_of now) c.requires.room refl opened run)
+    c.run_by_threads.ensures.run)
+
+pub returns-then-not-options-clause-same : goal.returns-then-not-options-clause-same
+returns-then-not-options-clause-same g c =
+    by_threads_stays (λ now. world_of now) _ c.args.script.items (world_of c.args.world) c.run_by_threads.result
+    c.run_by_threads.ensures.run

@@ -1,0 +1,37 @@
+use Rattle.std.proofs.Common.{sym, subst, ◌∙◌, ℕ}
+use Rattle.runtime.specs.ArmedWorlds.{armed_view}
+use Rattle.kahn_program.specs.Turning.{IsDriven, IsNodeTurn, line_before, progress}
+use Rattle.kahn_program.proofs.Turns.{more_turns}
+use Rattle.kahn_program.proofs.turning.take_turns.Goals as goal
+
+pub loop-turn-init : goal.loop-turn-init
+loop-turn-init c =
+    let first = progress (armed_view c.args.armed.now) c.args.begun in
+    let now = progress (armed_view c.drive_before.new.armed) c.in_ok-passed.passed in
+    record {
+      same = c.drive_before.ensures.same;
+      room = c.drive_before.ensures.room;
+      came = subst (λ (n : ℕ). IsDriven (line_before c.args.script.now n first) first now) c.turn_node.ensures
+          c.in_ok-passed.ensures.driven;
+    }
+
+pub loop-turn-preserved : goal.loop-turn-preserved
+loop-turn-preserved c =
+    let before = progress (armed_view c.loop-turn.armed) c.loop-turn.passed in
+    let after = armed_view c.take_turn.new.armed in
+    let between = progress after c.loop-turn.passed in
+    let now = progress (armed_view c.drive_before-in-loop-turn.new.armed) c.in_ok-passed-2.passed in
+    record {
+      same = (
+        c.drive_before-in-loop-turn.ensures.same.0 ∙ (c.take_turn.ensures.same.0 ∙ c.loop-turn.invariant.same.0),
+        c.drive_before-in-loop-turn.ensures.same.1
+            ∙ (c.take_turn.ensures.same.1 ∙ c.loop-turn.invariant.same.1),
+      );
+      room = c.drive_before-in-loop-turn.ensures.room;
+      came = more_turns _ c.args.nodes c.args.script.now c.loop-turn.turn _ before now after
+          c.loop-turn.invariant.came (sym c.is_over.ensures ∙ c.if-is_over.false)
+          (subst (λ (n : ℕ). IsNodeTurn n (armed_view c.loop-turn.armed) after) c.turn_node-in-loop-turn.ensures
+          c.in_ok-take_turn.ensures.turn)
+          (subst (λ (n : ℕ). IsDriven (line_before c.args.script.now n between) between now) c.turn_node-next.ensures
+          c.in_ok-passed-2.ensures.driven);
+    }

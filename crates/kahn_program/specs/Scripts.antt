@@ -1,0 +1,42 @@
+-- What a script's lines do, as events, and the script of a run.
+use Rattle.std.specs.Prelude.{◌≡◌, ℕ, List, [], Option, Some, None, IfSome}
+use Rattle.fail_script.specs.Lines.{IsScript}
+use Rattle.fail_script.specs.declared.act.Act.{Act}
+use Rattle.fail_script.specs.declared.act.Act.TheVariants.{Lose, Repeat, Delay, Crash, CrashAtDelivery, StopAtCall}
+use Rattle.fail_script.specs.declared.act.Act.TheVariants.{FailCall, Start}
+use Rattle.fail_script.specs.declared.act.ScriptLine.{ScriptLine}
+use Rattle.replay.specs.declared.kept.ScriptedEvent.{ScriptedEvent}
+use Rattle.replay.specs.declared.plain.PlainEvent.{PlainEvent}
+use Rattle.replay.specs.declared.plain.PlainEvent.TheVariants as event
+use Rattle.wire.specs.declared.rule.Change.{Change}
+use Rattle.wire.specs.declared.rule.Change.TheVariants as change
+
+-- a packet of this number is changed so
+abbrev pub armed_packet : (from to count : ℕ) → Change → PlainEvent
+armed_packet from to count what =
+    event.ArmPacket (record { from = from; to = to; nth = count; change = what })
+
+-- a device call of this number fails, a crash then settles by this byte, and the node may be recovered so many rounds later
+abbrev pub armed_call : (node count fill rounds : ℕ) → PlainEvent
+armed_call node count fill rounds = event.Arm node (record { call = count; fill = fill }) rounds
+
+-- The event of what a line does. A mere failure of a device is one by which a crash would fill with 0, and the node may be
+-- recovered in the next round.
+abbrev pub event_of : Act → PlainEvent
+event_of (Lose from to count) = armed_packet from to count change.Lose
+event_of (Repeat from to count) = armed_packet from to count change.Repeat
+event_of (Delay from to count rounds) = armed_packet from to count (change.Delay rounds)
+event_of (Crash node fill rounds) = event.Crash node fill rounds
+event_of (CrashAtDelivery node count fill rounds) =
+    event.ArmCrash (record { node = node; delivery = count; fill = fill; rounds = rounds })
+event_of (StopAtCall node count fill rounds) = armed_call node count fill rounds
+event_of (FailCall node count) = armed_call node count 0 1
+event_of (Start node) = event.Start node
+
+abbrev pub scripted_of : ScriptLine → ScriptedEvent
+scripted_of line = record { round = line.round; event = event_of line.act }
+
+-- the lines of a run's script: of a reader with these bytes, where they are known, if a script is asked for, and else none
+abbrev pub AreLinesOf : {S : Type 0} → Option S → ℕ → Option (List ℕ) → List ScriptLine → Type 0
+AreLinesOf {S} None nodes known lines = lines ≡ []
+AreLinesOf {S} (Some name) nodes known lines = IfSome known (λ bytes. IsScript nodes bytes lines)

@@ -1,0 +1,101 @@
+//! Where a run ends.
+
+ghost use Rattle.std.specs.Prelude.{◌≡◌, ◌≤◌, if◌then◌else◌, true, nat_le, length, map};
+ghost use Rattle.std.specs.List.{list_all};
+ghost use Rattle.kahn_net.specs.declared.limits.TheConstants.{MAX_CHANNELS, MAX_NODES};
+ghost use Rattle.protocol.specs.World.Quiet.{are_quiet};
+ghost use Rattle.protocol.specs.World.Released.{released_of};
+ghost use Rattle.protocol.specs.World.Sound.{goes_outside, output_channels};
+ghost use Rattle.world.specs.WholeView.{world_of};
+ghost use Rattle.kahn_program.specs.Turning.{cut_at, is_over};
+
+use gate_cell::SplitCell;
+use kahn_net::{Channel, Port};
+use outlet::ListOutlet;
+use sector_disk::MemDisk;
+use world::World;
+
+/// The world of a run: of nodes on disks in memory, with outlets in memory.
+pub(crate) type RunWorld = World<SplitCell<MemDisk>, ListOutlet>;
+
+/// Whether so many items have left by a channel, if its items go outside.
+fn has_left(number: u8, channel: &Channel, world: &RunWorld, items: u64) -> bool
+    ensures { result ≡ (if goes_outside channel.now.consumer
+        then nat_le items (length (released_of number (world_of world.now).stations))
+        else true) }
+{
+    match channel.consumer {
+        Port::Outside => items <= world.released(number).len() as u64,
+        Port::Process(_) => true,
+    }
+}
+
+/// Whether so many items have left by each output.
+fn have_left(channels: &[Channel], world: &RunWorld, items: u64) -> bool
+    requires { length channels.now ≤ MAX_CHANNELS }
+    ensures { result ≡ list_all (λ stream. nat_le items (length stream))
+        (map (λ channel. released_of channel (world_of world.now).stations)
+        (output_channels 0 channels.now)) }
+{
+    for (number, channel) in channels.iter().enumerate() {
+        if !has_left(number as u8, channel, world, items) {
+            return false;
+        }
+    }
+    true
+}
+
+/// Where what has left is cut: at so many items, where that is asked for and each output has them.
+pub(crate) fn cut(channels: &[Channel], world: &RunWorld, items: Option<u64>) -> Option<u64>
+    requires { length channels.now ≤ MAX_CHANNELS }
+    ensures { result ≡ cut_at items
+        (map (λ channel. released_of channel (world_of world.now).stations)
+        (output_channels 0 channels.now)) }
+{
+    match items {
+        Some(items) => {
+            if have_left(channels, world, items) {
+                Some(items)
+            } else {
+                None
+            }
+        }
+        None => None,
+    }
+}
+
+/// Whether nothing is left to do. A node at which something was left before is asked first: mostly something still is, and then no
+/// other needs to be asked. Where it has nothing left, another takes its place.
+fn is_complete(world: &RunWorld, nodes: usize, busy: &mut u8) -> bool
+    requires { nodes ≤ MAX_NODES }
+    ensures { result ≡ are_quiet (world_of world.now) }
+{
+    if !world.is_quiet(*busy) {
+        return false;
+    }
+    for node in 0..nodes {
+        if !world.is_quiet(node as u8) {
+            *busy = node as u8;
+            return false;
+        }
+    }
+    world.complete()
+}
+
+/// Whether a run is over: nothing is left to do, the rounds are over, or each output has the items that are asked for.
+pub(crate) fn is_over(
+    channels: &[Channel],
+    world: &RunWorld,
+    nodes: usize,
+    busy: &mut u8,
+    rounds: u64,
+    items: Option<u64>,
+) -> bool
+    requires few { length channels.now ≤ MAX_CHANNELS }
+    requires nodes { nodes ≤ MAX_NODES }
+    ensures { result ≡ is_over (output_channels 0 channels.now) rounds items (world_of world.now) }
+{
+    is_complete(world, nodes, busy)
+        || rounds <= world.round()
+        || cut(channels, world, items).is_some()
+}

@@ -1,0 +1,220 @@
+//! A run by turns, on one thread.
+
+ghost use Rattle.std.specs.Prelude.{◌≡◌, ◌<◌, ◌≤◌, length, IfOk, IsSome, OnOk, slice_get};
+ghost use Rattle.std.specs.List.{AllByRecursion};
+ghost use Rattle.kahn_net.specs.declared.limits.TheConstants.{MAX_CHANNELS, MAX_NODES};
+ghost use Rattle.protocol.specs.World.Sound.{output_channels};
+ghost use Rattle.runtime.specs.ArmedWorlds.{armed_view};
+ghost use Rattle.world.specs.ReplyView.{reply_view};
+ghost use Rattle.world.specs.WholeView.{world_of};
+ghost use Rattle.world.specs.WorldView.{capacities};
+ghost use Rattle.kahn_program.specs.Turning.{Follows, HasBegun, IsDriven, IsNodeTurn, IsRunByTurns, IsRunRoom, TakesTurns, due_event, is_over, line_before, progress, turn_node};
+
+use crate::ending::{RunWorld, is_over};
+use gate_cell::SplitCell;
+use kahn_net::Channel;
+use outlet::ListOutlet;
+use proc_step::Job;
+use replay::{PlainEvent, ScriptedEvent};
+use runtime::ArmedWorld;
+use sector_disk::MemDisk;
+use std::alloc::{AllocError, Global};
+use world::{Event, Reply};
+
+/// The most turns of a run, so many that nobody waits for them.
+pub(crate) const MAX_TURNS: u64 = u64::MAX;
+
+type RunArmed = ArmedWorld<SplitCell<MemDisk>, ListOutlet>;
+
+/// What follows an answer: a job that was granted is run, and comes back at once.
+fn follow(alloc: Global, armed: &mut RunArmed, answer: Reply) -> Result<(), AllocError>
+    requires { AllByRecursion IsRunRoom (capacities armed.old.world.stations.items) }
+    ensures same { (armed.new.world.net ≡ armed.old.world.net)
+        × (armed.new.world.inputs ≡ armed.old.world.inputs) }
+    ensures room { AllByRecursion IsRunRoom (capacities armed.new.world.stations.items) }
+    ensures follows { OnOk result
+        (Follows (reply_view answer) (armed_view armed.old) (armed_view armed.new)) }
+{
+    match answer {
+        Reply::Granted(job) => {
+            let Ok(done) = Job::run(job, alloc) else {
+                return Err(AllocError);
+            };
+            match armed.apply(alloc, Event::Install(done)) {
+                Ok(_) => Ok(()),
+                Err(_) => Err(AllocError),
+            }
+        }
+        _ => Ok(()),
+    }
+}
+
+/// The node of a turn, the first one being 0: the nodes, so many, take their turns one after another.
+fn turn_node(nodes: usize, turn: u64) -> u8
+    requires { nodes ≤ MAX_NODES }
+    ensures { result ≡ turn_node nodes turn }
+{
+    if nodes == 0 {
+        return 0;
+    }
+    (turn % nodes as u64) as u8
+}
+
+/// The event that is next for a node. A job that it grants is run and comes back at once.
+fn take_turn(alloc: Global, armed: &mut RunArmed, node: u8) -> Result<(), AllocError>
+    requires { AllByRecursion IsRunRoom (capacities armed.old.world.stations.items) }
+    ensures same { (armed.new.world.net ≡ armed.old.world.net)
+        × (armed.new.world.inputs ≡ armed.old.world.inputs) }
+    ensures room { AllByRecursion IsRunRoom (capacities armed.new.world.stations.items) }
+    ensures turn { OnOk result (IsNodeTurn node (armed_view armed.old) (armed_view armed.new)) }
+{
+    let event = armed.world.pick(node);
+    match armed.apply(alloc, event) {
+        Ok(answer) => follow(alloc, armed, answer),
+        Err(_) => Err(AllocError),
+    }
+}
+
+/// The event of the script's next line, if there is one and it is due.
+fn next_event(script: &[ScriptedEvent], passed: usize, round: u64) -> Option<PlainEvent>
+    ensures event { result ≡ due_event round (slice_get script.now passed) }
+    ensures few { IsSome result → passed < length script.now }
+{
+    match script.get(passed) {
+        Some(line) => {
+            if line.round <= round {
+                Some(line.event)
+            } else {
+                None
+            }
+        }
+        None => None,
+    }
+}
+
+/// This event of a line, if there is one. Gives how many lines are passed then.
+fn drive(
+    alloc: Global,
+    armed: &mut RunArmed,
+    script: &[ScriptedEvent],
+    passed: usize,
+    event: Option<PlainEvent>,
+) -> Result<usize, AllocError>
+    requires room { AllByRecursion IsRunRoom (capacities armed.old.world.stations.items) }
+    requires few { IsSome event → passed < length script.now }
+    ensures same { (armed.new.world.net ≡ armed.old.world.net)
+        × (armed.new.world.inputs ≡ armed.old.world.inputs) }
+    ensures room { AllByRecursion IsRunRoom (capacities armed.new.world.stations.items) }
+    ensures driven { IfOk result (λ now. IsDriven event (progress (armed_view armed.old) passed)
+        (progress (armed_view armed.new) now)) }
+{
+    match event {
+        Some(event) => {
+            armed.play(alloc, event)?;
+            Ok(passed + 1)
+        }
+        None => Ok(passed),
+    }
+}
+
+/// The events of all lines that are due at first. Gives how many lines are passed then.
+fn begin(alloc: Global, armed: &mut RunArmed, script: &[ScriptedEvent]) -> Result<usize, AllocError>
+    requires room { AllByRecursion IsRunRoom (capacities armed.old.world.stations.items) }
+    ensures same { (armed.new.world.net ≡ armed.old.world.net)
+        × (armed.new.world.inputs ≡ armed.old.world.inputs) }
+    ensures room { AllByRecursion IsRunRoom (capacities armed.new.world.stations.items) }
+    ensures begun { IfOk result (λ passed. HasBegun script.now
+        (progress (armed_view armed.old) 0) (progress (armed_view armed.new) passed)) }
+{
+    let mut passed = 0;
+    loop {
+        let event = next_event(script, passed, armed.world.round());
+        if event.is_none() {
+            return Ok(passed);
+        }
+        passed = drive(alloc, armed, script, passed, event)?;
+    }
+}
+
+/// The line that comes before a turn of this node, if one does. Gives how many lines are passed then.
+fn drive_before(
+    alloc: Global,
+    armed: &mut RunArmed,
+    script: &[ScriptedEvent],
+    passed: usize,
+    node: u8,
+) -> Result<usize, AllocError>
+    requires room { AllByRecursion IsRunRoom (capacities armed.old.world.stations.items) }
+    ensures same { (armed.new.world.net ≡ armed.old.world.net)
+        × (armed.new.world.inputs ≡ armed.old.world.inputs) }
+    ensures room { AllByRecursion IsRunRoom (capacities armed.new.world.stations.items) }
+    ensures driven { IfOk result (λ now. IsDriven
+        (line_before script.now node (progress (armed_view armed.old) passed))
+        (progress (armed_view armed.old) passed) (progress (armed_view armed.new) now)) }
+{
+    if node == 0 {
+        let event = next_event(script, passed, armed.world.round());
+        drive(alloc, armed, script, passed, event)
+    } else {
+        Ok(passed)
+    }
+}
+
+/// Takes turns until the run is over: of the nodes, so many, one after another.
+fn take_turns(
+    alloc: Global,
+    channels: &[Channel],
+    armed: &mut RunArmed,
+    script: &[ScriptedEvent],
+    begun: usize,
+    nodes: usize,
+    rounds: u64,
+    items: Option<u64>,
+) -> Result<(), AllocError>
+    requires few { length channels.now ≤ MAX_CHANNELS }
+    requires nodes { nodes ≤ MAX_NODES }
+    requires room { AllByRecursion IsRunRoom (capacities armed.old.world.stations.items) }
+    ensures same { (armed.new.world.net ≡ armed.old.world.net)
+        × (armed.new.world.inputs ≡ armed.old.world.inputs) }
+    ensures came { OnOk result (TakesTurns (is_over (output_channels 0 channels.now) rounds items)
+        nodes script.now (progress (armed_view armed.old) begun) (armed_view armed.new)) }
+{
+    // A node at which something was left to do when it was last asked.
+    let mut busy: u8 = 0;
+    let mut passed = drive_before(alloc, armed, script, begun, turn_node(nodes, 0))?;
+    for turn in 0..MAX_TURNS {
+        if is_over(channels, &armed.world, nodes, &mut busy, rounds, items) {
+            return Ok(());
+        }
+        take_turn(alloc, armed, turn_node(nodes, turn))?;
+        let next = turn_node(nodes, turn + 1);
+        passed = drive_before(alloc, armed, script, passed, next)?;
+    }
+    Ok(())
+}
+
+/// Runs a world by turns, until nothing is left to do, the rounds are over, or all streams have the items that are asked for.
+/// Refuses for want of memory alone.
+pub(crate) fn run_by_turns(
+    alloc: Global,
+    channels: &[Channel],
+    world: RunWorld,
+    script: &[ScriptedEvent],
+    nodes: usize,
+    rounds: u64,
+    items: Option<u64>,
+) -> Result<RunWorld, AllocError>
+    requires few { length channels.now ≤ MAX_CHANNELS }
+    requires nodes { nodes ≤ MAX_NODES }
+    requires room { AllByRecursion IsRunRoom (capacities world.stations.items) }
+    ensures same { IfOk result (λ now. (now.net ≡ world.net) × (now.inputs ≡ world.inputs)) }
+    ensures run { IfOk result (λ now. IsRunByTurns (is_over (output_channels 0 channels.now) rounds items)
+        nodes script.now (world_of world) (world_of now)) }
+{
+    let mut armed = ArmedWorld::new(alloc, world)?;
+    let begun = begin(alloc, &mut armed, script)?;
+    take_turns(
+        alloc, channels, &mut armed, script, begun, nodes, rounds, items,
+    )?;
+    Ok(armed.world)
+}

@@ -1,0 +1,52 @@
+-- That a node's state, a network, a job and a line of a history may cross threads. (A network has recursive types in it, and so no proof of its own on which
+-- others could stand: each type above it would be searched from the ground, and a search ends after 1,000 lemmas.)
+use denote.Param.Send.{IsSend, IsSync, sendable}
+use Rattle.std.proofs.Crossing.{crosses}
+use Rattle.kahn_net.proofs.history.History.TheSendSync.{the_send as history_s, the_sync as history_y}
+use Rattle.kahn_net.proofs.program.Channel.TheSendSync.{the_send as channel_s, the_sync as channel_y}
+use Rattle.kahn_net.proofs.program.Operator.TheSendSync.{the_field_send as operator_t, the_field_sync as operator_z}
+use Rattle.kahn_net.proofs.state.ProcState.TheSendSync.{the_field_send as pstate_t, the_field_sync as pstate_z}
+use Rattle.net_text.proofs.name.Name.TheSendSync.{the_send as name_s, the_sync as name_y}
+use Rattle.protocol.proofs.links.Inbox.TheSendSync.{the_send as inbox_s}
+use Rattle.protocol.proofs.links.Outbox.TheSendSync.{the_send as outbox_s}
+use Rattle.protocol.proofs.armed_restart.ArmedRestart.TheSendSync.{the_send as armed_s}
+use Rattle.record.proofs.image.Image.TheSendSync.{the_send as image_s}
+use Rattle.kahn_net.proofs.program.Expr.TheLaws.TheKnot.{send-Expr, sync-Expr}
+use Rattle.kahn_net.proofs.program.Statement.TheLaws.TheKnot.{send-Statement, sync-Statement}
+use Rattle.decide_core.proofs.initiator.Initiator.TheSendSync.{the_send as initiator_s}
+use Rattle.proc_step.specs.contracts.job.Job.{the_row as job_row}
+use Rattle.node.specs.contracts.running.Running.{the_field as running_field}
+use Rattle.node.specs.contracts.mode.Mode.{the_field as mode_field}
+use Rattle.node.specs.contracts.state.NodeState.{the_field as state_field}
+use Rattle.net_check.specs.contracts.net.Net.{the_row as net_row}
+use Rattle.replay.proofs.plain.PlainEvent.TheSendSync.{the_send as plain_s}
+use Rattle.runtime.specs.contracts.history.Entry.{the_field as entry_field}
+use Rattle.runtime.specs.contracts.history.Line.{the_row as line_row}
+
+pub net_send : IsSend net_row
+net_send = search (sendable, crosses, channel_s, operator_t, name_s, send-Expr, send-Statement) depth 60 fits 100000
+
+pub net_sync : IsSync net_row
+net_sync = search (sendable, crosses, channel_y, operator_z, name_y, sync-Expr, sync-Statement) depth 60 fits 100000
+
+job_send : IsSend job_row
+job_send = search (sendable, crosses, net_send, net_sync, history_s, pstate_t) depth 60 fits 100000
+
+job_sync : IsSync job_row
+job_sync = search (sendable, crosses, net_send, net_sync, history_y, pstate_z) depth 60 fits 100000
+
+running_field_send : IsSend (running_field.row)
+running_field_send =
+    search (sendable, crosses, job_send, job_sync, image_s, inbox_s, outbox_s, initiator_s) depth 60 fits 100000
+
+mode_field_send : IsSend (mode_field.row)
+mode_field_send = search (sendable, crosses, running_field_send) depth 60 fits 100000
+
+pub state_field_send : IsSend (state_field.row)
+state_field_send = search (sendable, crosses, armed_s, mode_field_send) depth 60 fits 100000
+
+entry_field_send : IsSend (entry_field.row)
+entry_field_send = search (sendable, crosses, job_send, job_sync, plain_s) depth 60 fits 100000
+
+pub line_send : IsSend line_row
+line_send = search (sendable, crosses, entry_field_send) depth 60 fits 100000

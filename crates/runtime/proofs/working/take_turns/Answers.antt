@@ -1,0 +1,20 @@
+use Rattle.std.proofs.Common.{◌∙◌, refl, sym, subst}
+use Rattle.node.specs.JobView.{shared_view}
+use Rattle.protocol.specs.World.Replies.{IsGrantedAt}
+use Rattle.runtime.specs.Answers.{IsGrantedIn}
+use Rattle.runtime.specs.declared.answer.Answer.{Answer}
+use Rattle.world.specs.ReplyView.{reply_view}
+use Rattle.world.specs.declared.event.Reply.{Reply}
+use Rattle.runtime.proofs.working.take_turns.Goals as goal
+
+-- a job that the seat is granted is of a process of its node
+pub run_job-requires : goal.run_job-requires
+run_job-requires g c =
+    let node = c.loop.seat.node in
+    let granted = c.in-Reply-Granted in
+    record {
+      home = subst (λ (reply : Reply). IsGrantedAt node (reply_view reply)) granted.field-0-is
+          (subst (λ (answer : Answer). IsGrantedIn node answer) granted.is c.in_ok-turn.ensures.home)
+          (shared_view granted.job) refl
+          ∙ sym c.in_ok-turn.ensures.node;
+    }

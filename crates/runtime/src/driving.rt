@@ -1,0 +1,103 @@
+// What the driver's thread does at the hub.
+
+use crate::answer::{Answer, HubFault};
+use crate::hub::Hub;
+use crate::seat::DriverSeat;
+use crate::tally::Run;
+use gate_cell::SlotCell;
+use kahn_net::{Channel, Port};
+use marks::{Marks, MarksName, Seat};
+use outlet::Outlet;
+use std::alloc::Global;
+use std::sync::Wait;
+use std::thread;
+
+/// Where a run ends: after so many rounds, or once so many items of each output have left.
+#[derive(Clone, Copy, Debug, PartialEq, Eq)]
+pub struct Bounds {
+    pub rounds: u64,
+    pub items: Option<u64>,
+}
+
+// Whether the marks tell that so many items have left by each output.
+fn have_left<N: MarksName>(
+    channels: &[Channel],
+    marks: &Marks<N>,
+    seat: &mut Seat<N>,
+    items: Option<u64>,
+) -> bool {
+    let Some(items) = items else {
+        return false;
+    };
+    for (number, channel) in channels.iter().enumerate() {
+        let Ok(number) = u8::try_from(number) else {
+            return false;
+        };
+        if let Port::Outside = channel.consumer {
+            if marks.read(seat, number) < items {
+                return false;
+            }
+        }
+    }
+    true
+}
+
+/// The events of the lines that are due before the nodes begin.
+pub(crate) fn begin<C: SlotCell, O: Outlet, J: Run, R: Wait>(
+    rt: &R,
+    alloc: Global,
+    hub: &Hub<C, O, J>,
+    seat: &mut DriverSeat<J>,
+) -> Result<(), HubFault> {
+    for _ in rt.forever() {
+        match hub.fault(rt, alloc, seat)? {
+            Answer::Reply(_) => {}
+            _ => return Ok(()),
+        }
+    }
+    unreachable!()
+}
+
+// Goes through the script, until nothing is left to do or the run has come to its bounds.
+fn go_through<C: SlotCell, O: Outlet, J: Run, N: MarksName, R: Wait>(
+    rt: &R,
+    alloc: Global,
+    hub: &Hub<C, O, J>,
+    seat: &mut DriverSeat<J>,
+    channels: &[Channel],
+    marks: &Marks<N>,
+    marks_seat: &mut Seat<N>,
+    bounds: Bounds,
+) -> Result<(), HubFault> {
+    for _ in rt.forever() {
+        let status = hub.status(rt);
+        if status.stopped
+            || status.round >= bounds.rounds
+            || have_left(channels, marks, marks_seat, bounds.items)
+        {
+            return Ok(());
+        }
+        match hub.fault(rt, alloc, seat)? {
+            Answer::Reply(_) => {}
+            _ => thread::yield_now(),
+        }
+    }
+    unreachable!()
+}
+
+/// The driver's work: the script's lines, each once its round has come, until nothing is left to do, the rounds are over or each
+/// output has the items that are asked for. It ends with the hub stopped.
+pub fn drive<C: SlotCell, O: Outlet, J: Run, N: MarksName, R: Wait>(
+    rt: &R,
+    alloc: Global,
+    hub: &Hub<C, O, J>,
+    seat: &mut DriverSeat<J>,
+    channels: &[Channel],
+    marks: &Marks<N>,
+    marks_seat: &mut Seat<N>,
+    bounds: Bounds,
+) -> Result<(), HubFault> {
+    let end = go_through(rt, alloc, hub, seat, channels, marks, marks_seat, bounds);
+    hub.stop(rt);
+    end
+}

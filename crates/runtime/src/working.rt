@@ -1,0 +1,102 @@
+// What a node's thread does at the hub.
+ghost use Rattle.std.specs.Prelude.{◌≡◌};
+ghost use Rattle.node.specs.JobView.{shared_view};
+ghost use Rattle.protocol.specs.World.EventView.{node_in};
+
+use crate::answer::{Answer, HubFault};
+use crate::gate::Gate;
+use crate::hub::Hub;
+use crate::seat::NodeSeat;
+use crate::tally::Run;
+use gate_cell::SlotCell;
+use marks::{Marks, MarksName, Seat};
+use outlet::Outlet;
+use proc_step::Job;
+use std::alloc::Global;
+use std::sync::{Arc, Wait};
+use std::thread;
+use stream_eq::Freed;
+use world::Reply;
+
+// An item has left: its output's mark is raised, where it is one of the seat's node.
+fn raise<N: MarksName>(marks: &Marks<N>, seat: &mut Seat<N>, freed: Freed) {
+    if marks.fits(seat, &freed) {
+        marks.raise(seat, freed);
+    }
+}
+
+// Runs a job outside the lock, and brings back what came of it.
+fn run_job<C: SlotCell, O: Outlet, J: Run, G: Gate, R: Wait>(
+    rt: &R,
+    alloc: Global,
+    hub: &Hub<C, O, J>,
+    seat: &mut NodeSeat<J>,
+    gate: &G,
+    nth: u64,
+    job: Arc<Job>,
+) -> Result<(), HubFault>
+    requires home { node_in (shared_view job).code ≡ seat.old.node }
+    ensures node { seat.new.node ≡ seat.old.node }
+{
+    let node = seat.node();
+    gate.before_run(node, nth);
+    let Ok(done) = Job::run(job, alloc) else {
+        return Err(HubFault::NoMemory);
+    };
+    match hub.install(rt, alloc, seat, done) {
+        Ok(_) => {
+            gate.after_install(node, nth);
+            Ok(())
+        }
+        Err(held) => Err(held.fault),
+    }
+}
+
+// Takes turns until the hub is stopped, or a call is refused.
+fn take_turns<C: SlotCell, O: Outlet, J: Run, N: MarksName, G: Gate, R: Wait>(
+    rt: &R,
+    alloc: Global,
+    hub: &Hub<C, O, J>,
+    seat: &mut NodeSeat<J>,
+    marks: &Marks<N>,
+    marks_seat: &mut Seat<N>,
+    gate: &G,
+) -> Result<(), HubFault>
+    ensures node { seat.new.node ≡ seat.old.node }
+{
+    let mut nth: u64 = 0;
+    for _ in rt.forever() {
+        match hub.turn(rt, alloc, seat)? {
+            Answer::Stopped => return Ok(()),
+            Answer::Reply(Reply::Granted(job)) => {
+                run_job(rt, alloc, hub, seat, gate, nth, job)?;
+                nth = nth.wrapping_add(1);
+            }
+            Answer::Reply(Reply::Released(freed)) => raise(marks, marks_seat, freed),
+            Answer::Reply(_) => {}
+            // Nothing is to be done: somebody else may go first.
+            Answer::Nothing | Answer::NotYet | Answer::NoMore => thread::yield_now(),
+        }
+    }
+    unreachable!()
+}
+
+/// Works for a node until the hub is stopped: takes its turns, runs its jobs outside the lock, and raises the marks of what leaves.
+/// Where a call is refused, it stops the hub, and answers why.
+pub fn work<C: SlotCell, O: Outlet, J: Run, N: MarksName, G: Gate, R: Wait>(
+    rt: &R,
+    alloc: Global,
+    hub: &Hub<C, O, J>,
+    seat: &mut NodeSeat<J>,
+    marks: &Marks<N>,
+    marks_seat: &mut Seat<N>,
+    gate: &G,
+) -> Result<(), HubFault>
+    ensures node { seat.new.node ≡ seat.old.node }
+{
+    let end = take_turns(rt, alloc, hub, seat, marks, marks_seat, gate);
+    if end.is_err() {
+        hub.stop(rt);
+    }
+    end
+}
