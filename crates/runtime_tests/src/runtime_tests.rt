@@ -1,26 +1,30 @@
 //! A running sum on two nodes, over a hub: on one thread, and with a thread for each node.
 
-ghost use Rattle.std.specs.Prelude.{◌≡◌, ◌+◌, ◌<◌};
+ghost use Rattle.std.specs.Prelude.{◌≡◌, ◌+◌, ◌*◌, ◌^◌, ◌<◌, vec_len, IfOk};
+ghost use Rattle.kahn_net.specs.Fits.{Fits};
+ghost use Rattle.kahn_net.specs.Syntax.{network_of};
 ghost use Rattle.marks.specs.Seats.{table_of};
 ghost use Rattle.node.specs.JobView.{shared_view};
 ghost use Rattle.protocol.specs.World.EventView.{node_in};
 ghost use Rattle.runtime.specs.BlankNames.{HaveParts, names_of};
+ghost use Rattle.sector_disk.specs.declared.TheConstants.{SECTOR_BYTES};
 ghost use Rattle.world.specs.WholeView.{world_of};
 ghost use Rattle.world.specs.WorldView.{rooms};
 
 use gate_cell::SplitCell;
-use marks::{MarksName, Opened};
-use net_check::{Net, bind, check};
+use kahn_net::Channel;
+use marks::{MarksName, Opened, Seat};
+use net_check::{Inputs, Net, bind, check};
 use net_text::{parse, parse_inputs};
 use outlet::ListOutlet;
 use proc_step::Job;
 use replay::{KeptReply, Maker, PlainEvent, ScriptedEvent, Silence};
 use runtime::{
-    Answer, ArmedWorld, Blanks, Bounds, DriverPost, Floor, Gate, History, Hub, KeptEvent, Line,
-    NodeSeat, OpenGate, Post, Run, run_threads, run_world,
+    Answer, ArmedWorld, Blanks, Bounds, DriverPost, DriverSeat, Floor, Gate, History, Hub,
+    KeptEvent, Line, NodeSeat, OpenGate, Post, Run, run_threads, run_world,
 };
 use sector_disk::{ArmedFault, MemDisk};
-use std::alloc::Global;
+use std::alloc::{AllocError, Global};
 use std::marker::Brand;
 use std::sync::atomic::AtomicBool;
 use std::sync::atomic::Ordering::SeqCst;
@@ -38,7 +42,7 @@ const NODES: u8 = 2;
 
 const OUTPUT: u8 = 2;
 
-// No run here takes so many calls of a seat.
+// No run here takes so many rounds of the seats.
 const CALLS: u32 = 100_000;
 
 type SumWorld = World<SplitCell<MemDisk>, ListOutlet>;
@@ -51,17 +55,38 @@ fn sum_net(alloc: Global) -> Result<Net, Fail> {
     Ok(check(alloc, parse(alloc, SUM_ON_TWO_NODES)?)?)
 }
 
+fn sum_inputs(alloc: Global, net: &Net) -> Result<Inputs, Fail>
+    ensures { IfOk result (λ inputs. Fits (network_of net.now.program) inputs) }
+{
+    Ok(bind(alloc, net, parse_inputs(alloc, "i: 1 2 3")?)?)
+}
+
+// A disk in memory of so many sectors. (Of a given number, a proof that has its content in reach would write out all the zeros.)
+fn empty_disk(alloc: Global, sectors: usize) -> Result<MemDisk, AllocError>
+    requires { SECTOR_BYTES * sectors < 2 ^ 64 }
+{
+    MemDisk::new(alloc, sectors)
+}
+
+fn disks(alloc: Global, nodes: usize) -> Result<Vec<MemDisk>, Fail>
+    ensures { IfOk result (λ disks. vec_len disks ≡ nodes) }
+{
+    let mut disks = Vec::with_capacity(alloc, nodes)?;
+    for _node in 0..nodes {
+        disks.push(empty_disk(alloc, SECTORS)?)?;
+    }
+    if disks.len() == nodes {
+        Ok(disks)
+    } else {
+        Err(Fail::new("a disk for each node"))
+    }
+}
+
 fn sum_world(alloc: Global) -> Result<SumWorld, Fail> {
     let net = sum_net(alloc)?;
-    let inputs = bind(alloc, &net, parse_inputs(alloc, "i: 1 2 3")?)?;
+    let inputs = sum_inputs(alloc, &net)?;
     let outputs = list_outputs(alloc, &net)?;
-    let mut disks = Vec::new(alloc);
-    for _node in 0..node_count(&net) {
-        disks.push(MemDisk::new(alloc, SECTORS)?)?;
-    }
-    if disks.len() != node_count(&net) {
-        return Err(Fail::new("a disk for each node"));
-    }
+    let disks = disks(alloc, node_count(&net))?;
     let net = Arc::new(alloc, net)?;
     let inputs = Arc::new(alloc, inputs)?;
     match World::new(alloc, net, inputs, disks, outputs) {
@@ -112,190 +137,44 @@ fn run_job<J: Run, R: Wait>(
     }
 }
 
-/// How a call of a seat went on.
-#[derive(Clone, Copy, Debug, PartialEq, Eq)]
-enum Went {
-    On,
-    Nowhere,
-    Stopped,
-    Refused,
-}
-
-// One call of a node's seat. A job is run outside the lock, and brought back.
-fn go<J: Run, R: Wait>(rt: &R, alloc: Global, hub: &SumHub<J>, seat: &mut NodeSeat<J>) -> Went
-    ensures { seat.new.node ≡ seat.old.node }
-{
+// One call of a node's seat. A job is run outside the lock, and brought back. Whether no call was refused.
+fn go<J: Run, R: Wait>(rt: &R, alloc: Global, hub: &SumHub<J>, seat: &mut NodeSeat<J>) -> bool {
     match hub.turn(rt, alloc, seat) {
-        Ok(Answer::Reply(Reply::Granted(job))) => {
-            if run_job(rt, alloc, hub, seat, job) {
-                Went::On
-            } else {
-                Went::Refused
-            }
-        }
-        Ok(Answer::Reply(_)) => Went::On,
-        Ok(Answer::Stopped) => Went::Stopped,
-        Ok(_) => Went::Nowhere,
-        Err(_) => Went::Refused,
+        Ok(Answer::Reply(Reply::Granted(job))) => run_job(rt, alloc, hub, seat, job),
+        Ok(_) => true,
+        Err(_) => false,
     }
 }
 
-/// What a run came to.
-#[derive(Drop)]
+/// What a test asks of a run that has ended.
+#[derive(Clone, Copy, Debug, PartialEq, Eq)]
 struct Came {
-    // How many seats were told that the hub is stopped.
-    told: u64,
+    // Whether the whole stream left, and nothing is left to do.
+    whole: bool,
+    // How many events each seat made, the driver's last, as the seats tell it, and as the history does.
     made: [u64; 3],
+    listed: [u64; 3],
+    // How many the hub counted.
     all: u64,
-    world: SumWorld,
-    history: History,
+    // How often a seat was told that the hub is stopped.
+    stops: u64,
 }
 
-// A run on one thread, in turns.
-fn play_in_turns<J: Run, R: Wait>(
-    rt: &R,
-    alloc: Global,
-    world: SumWorld,
-    script: Vec<ScriptedEvent>,
-    blanks: Blanks,
-) -> Result<Came, Fail>
-    requires opening { world_of world ≡ J.opening }
-    requires rooms { rooms world.stations.items ≡ J.rooms }
-    requires script { script.items ≡ J.script }
-    requires names { names_of blanks ≡ J.names }
-    requires parts { HaveParts blanks J.seats }
-    requires seats { J.seats ≡ NODES + 1 }
-{
-    let (hub, mut seats, mut driver) = SumHub::<J>::new(alloc, world, script, NODES, blanks)?;
-    let (Some(mut one), Some(mut zero)) = (seats.pop(), seats.pop()) else {
-        return Err(Fail::new("two seats"));
-    };
-    for _round in 0..CALLS {
-        if hub.status(rt).stopped {
-            break;
-        }
-        let third = hub.fault(rt, alloc, &mut driver).is_ok();
-        let first = go(rt, alloc, &hub, &mut zero);
-        let second = go(rt, alloc, &hub, &mut one);
-        if !third || first == Went::Refused || second == Went::Refused {
-            return Err(Fail::new("refused"));
-        }
-    }
-    let mut told = 0;
-    if let Went::Stopped = go(rt, alloc, &hub, &mut zero) {
-        told += 1;
-    }
-    if let Went::Stopped = go(rt, alloc, &hub, &mut one) {
-        told += 1;
-    }
-    if let Ok(Answer::Stopped) = hub.fault(rt, alloc, &mut driver) {
-        told += 1;
-    }
-    let made = [zero.entries(), one.entries(), driver.entries()];
-    let all = hub.entries(rt);
-    let mut back = Vec::new(alloc);
-    back.push(zero)?;
-    back.push(one)?;
-    let (world, history) = hub.close(back, driver);
-    Ok(Came {
-        told,
-        made,
-        all,
-        world,
-        history,
-    })
-}
-
-// A run with a thread for each node; the thread that calls is the driver's.
-fn play_by_threads<J: Run + Send + Sync, N: MarksName + Send + Sync, R: Threads + Wait + Sync>(
-    rt: &R,
-    alloc: Global,
-    net: &Net,
-    world: SumWorld,
-    script: Vec<ScriptedEvent>,
-    blanks: Blanks,
-    opened: Opened,
-) -> Result<Came, Fail>
-    requires opening { world_of world ≡ J.opening }
-    requires rooms { rooms world.stations.items ≡ J.rooms }
-    requires script { script.items ≡ J.script }
-    requires names { names_of blanks ≡ J.names }
-    requires parts { HaveParts blanks J.seats }
-    requires seats { J.seats ≡ NODES + 1 }
-    requires table { table_of opened ≡ N.table }
-{
-    let (hub, seats, seat) = SumHub::<J>::new(alloc, world, script, NODES, blanks)?;
-    let (marks, mut marks_seats) = opened.named::<N>(alloc)?;
-    let Some(driver_marks) = marks_seats.pop() else {
-        return Err(Fail::new("the driver's seat"));
-    };
-    let mut posts = Vec::new(alloc);
-    for (seat, marks) in seats.into_iter().zip(marks_seats) {
-        posts.push(Post { seat, marks })?;
-    }
-    let floor = Floor { hub, marks };
-    let mut driver = DriverPost {
-        seat,
-        marks: driver_marks,
-    };
-    let channels = net.program.channels.as_slice();
-    let Ok(back) = run_threads(
-        rt,
-        alloc,
-        &floor,
-        posts,
-        &mut driver,
-        channels,
-        &OpenGate,
-        BOUNDS,
-    ) else {
-        return Err(Fail::new("refused"));
-    };
-    let Floor { hub, .. } = floor;
-    let DriverPost { seat, .. } = driver;
-    let mut made = [0, 0, seat.entries()];
-    for worker in &back {
-        if worker.node() == 0 {
-            made[0] = worker.entries();
+// How many events each seat made, the driver's last.
+fn made_by_seats<J: Run>(seats: &[NodeSeat<J>], driver: &DriverSeat<J>) -> [u64; 3] {
+    let mut made = [0, 0, driver.entries()];
+    for seat in seats {
+        if seat.node() == 0 {
+            made[0] = seat.entries();
         } else {
-            made[1] = worker.entries();
+            made[1] = seat.entries();
         }
     }
-    let all = hub.entries(rt);
-    let (world, history) = hub.close(back, seat);
-    Ok(Came {
-        told: 3,
-        made,
-        all,
-        world,
-        history,
-    })
-}
-
-fn play_sum<R: Threads + Wait + Sync>(
-    rt: &R,
-    alloc: Global,
-    script: Vec<ScriptedEvent>,
-) -> Result<Came, Fail> {
-    let world = sum_world(alloc)?;
-    let blanks = Blanks::new(u64::from(NODES) + 1);
-    play_in_turns::<Brand, R>(rt, alloc, world, script, blanks)
-}
-
-fn play_sum_by_threads<R: Threads + Wait + Sync>(
-    rt: &R,
-    alloc: Global,
-    script: Vec<ScriptedEvent>,
-) -> Result<Came, Fail> {
-    let net = sum_net(alloc)?;
-    let world = sum_world(alloc)?;
-    let opened = Opened::new(alloc, &net)?;
-    let blanks = Blanks::new(u64::from(NODES) + 1);
-    play_by_threads::<Brand, Brand, R>(rt, alloc, &net, world, script, blanks, opened)
+    made
 }
 
 // How many events a maker made, by the history.
-fn made_by(history: &History, maker: Maker) -> u64 {
+fn listed_by(history: &History, maker: Maker) -> u64 {
     let mut made: u64 = 0;
     for line in &history.lines {
         if let Line::Made(entry) = line {
@@ -307,91 +186,278 @@ fn made_by(history: &History, maker: Maker) -> u64 {
     made
 }
 
+fn look_back(world: &SumWorld, history: &History, made: [u64; 3], all: u64) -> Came {
+    Came {
+        whole: world.released(OUTPUT) == [1, 3, 6].as_slice() && world.complete(),
+        made,
+        listed: [
+            listed_by(history, Maker::Node(0)),
+            listed_by(history, Maker::Node(1)),
+            listed_by(history, Maker::Driver),
+        ],
+        all,
+        stops: history.stops,
+    }
+}
+
 // What stays so of each run: the whole stream left, and each seat's count is that of its lines.
 fn is_whole(came: &Came) -> bool {
-    let history = &came.history;
-    came.world.released(OUTPUT) == [1, 3, 6].as_slice()
-        && came.world.complete()
-        && came.made[0] == made_by(history, Maker::Node(0))
-        && came.made[1] == made_by(history, Maker::Node(1))
-        && came.made[2] == made_by(history, Maker::Driver)
-        && came.all
-            == came.made[0]
-                .saturating_add(came.made[1])
-                .saturating_add(came.made[2])
-        && came.told == 3
+    let [zero, one, driver] = came.made;
+    came.whole
+        && came.made == came.listed
+        && came.all == zero.saturating_add(one).saturating_add(driver)
+}
+
+/// A world at the end of its run, and how it came there.
+#[derive(Drop)]
+struct Ended {
+    world: SumWorld,
+    history: History,
+    made: [u64; 3],
+    all: u64,
+}
+
+impl Ended {
+    fn came(&self) -> Came {
+        look_back(&self.world, &self.history, self.made, self.all)
+    }
+}
+
+// The script's next line, and a turn of each node. Whether no call was refused.
+fn take_round<J: Run, R: Wait>(
+    rt: &R,
+    alloc: Global,
+    hub: &SumHub<J>,
+    seats: &mut [NodeSeat<J>],
+    driver: &mut DriverSeat<J>,
+) -> bool {
+    if hub.fault(rt, alloc, driver).is_err() {
+        return false;
+    }
+    for seat in seats.iter_mut() {
+        if !go(rt, alloc, hub, seat) {
+            return false;
+        }
+    }
+    true
+}
+
+// Rounds, up to one in which each seat is told that the hub is stopped. Whether no call was refused.
+fn take_rounds<J: Run, R: Wait>(
+    rt: &R,
+    alloc: Global,
+    hub: &SumHub<J>,
+    seats: &mut [NodeSeat<J>],
+    driver: &mut DriverSeat<J>,
+) -> bool {
+    for _round in 0..CALLS {
+        let is_last = hub.status(rt).stopped;
+        if !take_round(rt, alloc, hub, seats, driver) {
+            return false;
+        }
+        if is_last {
+            return true;
+        }
+    }
+    false
+}
+
+// A run on one thread, in turns.
+fn play_in_turns<J: Run, R: Wait>(
+    rt: &R,
+    alloc: Global,
+    world: SumWorld,
+    script: Vec<ScriptedEvent>,
+    blanks: Blanks,
+) -> Result<Ended, Fail>
+    requires opening { world_of world ≡ J.opening }
+    requires rooms { rooms world.stations.items ≡ J.rooms }
+    requires script { script.items ≡ J.script }
+    requires names { names_of blanks ≡ J.names }
+    requires parts { HaveParts blanks J.seats }
+    requires seats { J.seats ≡ NODES + 1 }
+{
+    let (hub, mut seats, mut driver) = SumHub::<J>::new(alloc, world, script, NODES, blanks)?;
+    if !take_rounds(rt, alloc, &hub, seats.as_mut_slice(), &mut driver) {
+        return Err(Fail::new("refused"));
+    }
+    let made = made_by_seats(seats.as_slice(), &driver);
+    let all = hub.entries(rt);
+    let (world, history) = hub.close(seats, driver);
+    Ok(Ended {
+        world,
+        history,
+        made,
+        all,
+    })
+}
+
+type Posts<J, N> = (Vec<Post<J, N>>, DriverPost<J, N>);
+
+// The seats of each node, and of the driver, side by side.
+fn list_posts<J: Run, N: MarksName>(
+    alloc: Global,
+    seats: Vec<NodeSeat<J>>,
+    seat: DriverSeat<J>,
+    mut marks_seats: Vec<Seat<N>>,
+) -> Option<Posts<J, N>> {
+    let marks = marks_seats.pop()?;
+    let mut posts = Vec::with_capacity(alloc, seats.len()).ok()?;
+    for (seat, marks) in seats.into_iter().zip(marks_seats) {
+        posts.push(Post { seat, marks }).ok()?;
+    }
+    Some((posts, DriverPost { seat, marks }))
+}
+
+// A run with a thread for each node; the thread that calls is the driver's.
+fn play_by_threads<J: Run + Send + Sync, N: MarksName + Send + Sync, R: Threads + Wait + Sync>(
+    rt: &R,
+    alloc: Global,
+    channels: &[Channel],
+    world: SumWorld,
+    script: Vec<ScriptedEvent>,
+    blanks: Blanks,
+    opened: Opened,
+) -> Result<Ended, Fail>
+    requires opening { world_of world ≡ J.opening }
+    requires rooms { rooms world.stations.items ≡ J.rooms }
+    requires script { script.items ≡ J.script }
+    requires names { names_of blanks ≡ J.names }
+    requires parts { HaveParts blanks J.seats }
+    requires seats { J.seats ≡ NODES + 1 }
+    requires table { table_of opened ≡ N.table }
+{
+    let (marks, marks_seats) = opened.named::<N>(alloc)?;
+    let (hub, seats, seat) = SumHub::<J>::new(alloc, world, script, NODES, blanks)?;
+    let floor = Floor { hub, marks };
+    let Some((posts, mut post)) = list_posts(alloc, seats, seat, marks_seats) else {
+        return Err(Fail::new("no posts"));
+    };
+    let ran = run_threads(
+        rt, alloc, &floor, posts, &mut post, channels, &OpenGate, BOUNDS,
+    );
+    let Ok(back) = ran else {
+        return Err(Fail::new("refused"));
+    };
+    let DriverPost { seat, .. } = post;
+    let Floor { hub, .. } = floor;
+    let made = made_by_seats(back.as_slice(), &seat);
+    let all = hub.entries(rt);
+    let (world, history) = hub.close(back, seat);
+    Ok(Ended {
+        world,
+        history,
+        made,
+        all,
+    })
+}
+
+fn play_sum<R: Threads + Wait + Sync>(
+    rt: &R,
+    alloc: Global,
+    script: Vec<ScriptedEvent>,
+) -> Result<Ended, Fail> {
+    let world = sum_world(alloc)?;
+    let blanks = Blanks::new(u64::from(NODES) + 1);
+    play_in_turns::<Brand, R>(rt, alloc, world, script, blanks)
+}
+
+fn play_sum_by_threads<R: Threads + Wait + Sync>(
+    rt: &R,
+    alloc: Global,
+    script: Vec<ScriptedEvent>,
+) -> Result<Ended, Fail> {
+    let net = sum_net(alloc)?;
+    let opened = Opened::new(alloc, &net)?;
+    let world = sum_world(alloc)?;
+    let blanks = Blanks::new(u64::from(NODES) + 1);
+    let channels = net.program.channels.as_slice();
+    play_by_threads::<Brand, Brand, R>(rt, alloc, channels, world, script, blanks, opened)
+}
+
+// Whether a line says that no event came for this reason.
+fn has_silence(history: &History, wanted: Silence) -> bool {
+    for line in &history.lines {
+        if let Line::Silent { reason, .. } = line {
+            if *reason == wanted {
+                return true;
+            }
+        }
+    }
+    false
+}
+
+// Whether the driver made an event that was answered so.
+fn has_driven(history: &History, reply: KeptReply) -> bool {
+    for line in &history.lines {
+        if let Line::Made(entry) = line {
+            if entry.maker == Maker::Driver && entry.reply == reply {
+                return true;
+            }
+        }
+    }
+    false
+}
+
+// Whether a job of this process came back and was taken in.
+fn has_installed(history: &History, process: usize) -> bool {
+    for line in &history.lines {
+        if let Line::Made(entry) = line {
+            if let KeptEvent::Install(job) = &entry.event {
+                if job.process == process && entry.reply == KeptReply::Installed {
+                    return true;
+                }
+            }
+        }
+    }
+    false
 }
 
 #[test]
 fn a_run_on_one_thread(rt: HostRuntime) -> Result<(), Fail> {
     let alloc = rt.alloc();
-    let came = play_sum(&rt, alloc, Vec::new(alloc))?;
+    let ended = play_sum(&rt, alloc, Vec::new(alloc))?;
+    let came = ended.came();
+    let no_more = has_silence(&ended.history, Silence::NoMore);
+    drop(ended);
     assert!(rt; is_whole(&came));
-    assert_eq!(rt; came.made[2], 0);
-    // The driver had nothing to do, and each seat was told once that all is over.
-    assert_eq!(rt; came.history.stops, 3);
-    let no_more = came.history.lines.iter().any(|line| match line {
-        Line::Silent {
-            reason: Silence::NoMore,
-            ..
-        } => true,
-        _ => false,
-    });
     assert!(rt; no_more);
+    // The driver had nothing to do, and each seat was told once that all is over.
+    assert_eq!(rt; came.made[2], 0);
+    assert_eq!(rt; came.stops, 3);
     Ok(())
 }
 
 #[test]
 fn a_script_on_one_thread(rt: HostRuntime) -> Result<(), Fail> {
     let alloc = rt.alloc();
-    let came = play_sum(&rt, alloc, script(alloc)?)?;
+    let ended = play_sum(&rt, alloc, script(alloc)?)?;
+    let came = ended.came();
+    let crashed = has_driven(&ended.history, KeptReply::Crashed);
+    let not_yet = has_silence(&ended.history, Silence::NotYet);
+    let installed = has_installed(&ended.history, 1);
+    drop(ended);
     assert!(rt; is_whole(&came));
-    assert_eq!(rt; came.made[2], 2);
-    let crashed = came.history.lines.iter().any(|line| match line {
-        Line::Made(entry) => entry.reply == KeptReply::Crashed && entry.maker == Maker::Driver,
-        Line::Silent { .. } => false,
-    });
     assert!(rt; crashed);
-    let not_yet = came.history.lines.iter().any(|line| match line {
-        Line::Silent {
-            reason: Silence::NotYet,
-            ..
-        } => true,
-        _ => false,
-    });
     assert!(rt; not_yet);
-    let installed = came.history.lines.iter().any(|line| match line {
-        Line::Made(entry) => match &entry.event {
-            KeptEvent::Install(job) => job.process == 1 && entry.reply == KeptReply::Installed,
-            KeptEvent::Plain(_) => false,
-        },
-        Line::Silent { .. } => false,
-    });
     assert!(rt; installed);
-    Ok(())
-}
-
-#[test]
-fn a_script_with_a_thread_for_each_node(rt: HostRuntime) -> Result<(), Fail> {
-    let alloc = rt.alloc();
-    let came = play_sum_by_threads(&rt, alloc, script(alloc)?)?;
-    assert!(rt; is_whole(&came));
-    assert!(rt; came.made[2] >= 1);
+    assert_eq!(rt; came.made[2], 2);
+    assert_eq!(rt; came.stops, 3);
     Ok(())
 }
 
 // Makes the events of a history once more, on a world that is new, and tells how many were made.
-fn replay(alloc: Global, armed: &mut SumArmed, history: &History) -> Result<u64, Fail> {
+fn replay(alloc: Global, armed: &mut SumArmed, history: &History) -> Option<u64> {
     let mut made: u64 = 0;
     for line in &history.lines {
         if let Line::Made(entry) = line {
             if !make_again(alloc, armed, &entry.event) {
-                return Err(Fail::new("an event that isn't made again"));
+                return None;
             }
             made = made.saturating_add(1);
         }
     }
-    Ok(made)
+    Some(made)
 }
 
 fn make_again(alloc: Global, armed: &mut SumArmed, event: &KeptEvent) -> bool {
@@ -411,16 +477,28 @@ fn install_again(alloc: Global, armed: &mut SumArmed, job: &Arc<Job>) -> bool {
     }
 }
 
-#[test]
-fn a_history_is_replayed(rt: HostRuntime) -> Result<(), Fail> {
-    let alloc = rt.alloc();
-    let came = play_sum_by_threads(&rt, alloc, script(alloc)?)?;
+// Whether the history leads a new world to one that is like the run's.
+fn is_replayed(alloc: Global, ended: &Ended) -> Result<bool, Fail> {
     let mut armed = SumArmed::new(alloc, sum_world(alloc)?)?;
-    let made = replay(alloc, &mut armed, &came.history)?;
-    assert_eq!(rt; made, came.all);
-    assert!(rt; armed.world.released(OUTPUT) == came.world.released(OUTPUT));
-    assert_eq!(rt; armed.world.round(), came.world.round());
-    assert!(rt; armed.world.complete());
+    let made = replay(alloc, &mut armed, &ended.history);
+    Ok(
+        made == Some(ended.all)
+            && armed.world.released(OUTPUT) == ended.world.released(OUTPUT)
+            && armed.world.round() == ended.world.round()
+            && armed.world.complete(),
+    )
+}
+
+#[test]
+fn a_script_with_a_thread_for_each_node(rt: HostRuntime) -> Result<(), Fail> {
+    let alloc = rt.alloc();
+    let ended = play_sum_by_threads(&rt, alloc, script(alloc)?)?;
+    let came = ended.came();
+    let replayed = is_replayed(alloc, &ended);
+    drop(ended);
+    assert!(rt; is_whole(&came));
+    assert!(rt; came.made[2] >= 1);
+    assert!(rt; replayed?);
     Ok(())
 }
 

@@ -1,6 +1,6 @@
 use Rattle.std.proofs.Common.{◌≤◌, ℤ, List, length, rules, subst, arith}
 use Rattle.kahn_net.specs.Streams.{history_of}
-use Rattle.marks_tests.proofs.marks_tests.reaches.Goals as goal
+use Rattle.runtime_tests.proofs.marks_tests.reaches.Goals as goal
 
 pub returns : goal.returns
 returns c = λ yes.

@@ -122,11 +122,16 @@ fn four_of<N: MarksName>(mut seats: Vec<Seat<N>>) -> Option<Four<N>> {
     })
 }
 
+// Whether a seat is of this node, or of none.
+fn is_at<N: MarksName>(seat: &Seat<N>, node: Option<u8>) -> bool {
+    seat.node() == node
+}
+
 fn nodes<N: MarksName>(rt: &impl Abort, seats: &Four<N>) {
-    assert_eq!(rt; seats.zero.node(), Some(0));
-    assert_eq!(rt; seats.one.node(), Some(1));
-    assert_eq!(rt; seats.two.node(), Some(2));
-    assert_eq!(rt; seats.driver.node(), None);
+    assert!(rt; is_at(&seats.zero, Some(0)));
+    assert!(rt; is_at(&seats.one, Some(1)));
+    assert!(rt; is_at(&seats.two, Some(2)));
+    assert!(rt; is_at(&seats.driver, None));
 }
 
 // Asserts which of the outputs 0 to 5 and 255 fit a seat: the one that is given alone.

@@ -2,7 +2,7 @@ use Rattle.std.proofs.Common.{◌≡◌, ℤ, List, rules, subst}
 use Rattle.kahn_net.specs.Syntax.{network_of}
 use Rattle.net_check.specs.declared.net.Net.{Net}
 use Rattle.stream_eq.specs.Reached.{HistoryReaches}
-use Rattle.marks_tests.proofs.marks_tests.freed_of.Goals as goal
+use Rattle.runtime_tests.proofs.marks_tests.freed_of.Goals as goal
 
 -- what the approximation was asked of is what is handed on
 pub invariant_of-result : goal.invariant_of-result
