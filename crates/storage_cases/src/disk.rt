@@ -104,8 +104,42 @@ fn sector_behind<'a>(text: &'a str, word: &str) -> Option<(&'a str, &'a str)> {
     text.strip_prefix(word)?.split_once(" ")
 }
 
-/// What is asked of one sector, whose bytes stand there.
-fn ask_sector(alloc: Global, disk: &mut MemDisk, text: &str) -> anyhow::Result<Option<Answer>> {
+/// What a disk says of itself.
+fn count(disk: &MemDisk, words: &[&str]) -> Option<Answer> {
+    match words {
+        ["calls"] => Some(Answer::Number(disk.calls())),
+        ["failures"] => Some(Answer::Number(disk.failures())),
+        ["sectors"] => Some(Answer::Number(disk.sectors() as u64)),
+        _ => None,
+    }
+}
+
+/// What becomes of a disk from without.
+fn disturb(disk: &mut MemDisk, words: &[&str]) -> anyhow::Result<Option<Answer>> {
+    match words {
+        ["arm", ..] => disk.arm(fault_of(words)?)?,
+        ["crash", ..] => disk.crash(fill_of(words)?),
+        ["recount"] => disk.recount(),
+        _ => return Ok(count(disk, words)),
+    }
+    Ok(Some(Answer::Done))
+}
+
+/// What a disk does.
+fn act(alloc: Global, disk: &mut MemDisk, words: &[&str]) -> anyhow::Result<Option<Answer>> {
+    let answer = match words {
+        ["read", first, count] => read(alloc, disk, size(first)?, size(count)?)?,
+        ["write", first, bytes, length] => {
+            write(alloc, disk, size(first)?, byte(bytes)?, size(length)?)?
+        }
+        ["sync"] => answer_of(disk.sync()),
+        _ => return disturb(disk, words),
+    };
+    Ok(Some(answer))
+}
+
+/// What a disk answers, where it is asked for something that it knows.
+pub fn ask(alloc: Global, disk: &mut MemDisk, text: &str) -> anyhow::Result<Option<Answer>> {
     if let Some((number, spelling)) = sector_behind(text, "sector ") {
         let sector = sector_of(alloc, spelling)?;
         return Ok(Some(answer_of(disk.write(size(number)?, &sector))));
@@ -114,34 +148,6 @@ fn ask_sector(alloc: Global, disk: &mut MemDisk, text: &str) -> anyhow::Result<O
         let sector = sector_of(alloc, spelling)?;
         return Ok(Some(holds(disk, size(number)?, &sector)));
     }
-    Ok(None)
-}
-
-/// What a disk answers, where it is asked for something that it knows.
-pub fn ask(alloc: Global, disk: &mut MemDisk, text: &str) -> anyhow::Result<Option<Answer>> {
     let words: Vec<&str> = text.split_whitespace().collect(alloc)?;
-    let answer = match words.as_slice() {
-        ["read", first, count] => read(alloc, disk, size(first)?, size(count)?)?,
-        ["write", first, bytes, length] => {
-            write(alloc, disk, size(first)?, byte(bytes)?, size(length)?)?
-        }
-        ["sync"] => answer_of(disk.sync()),
-        ["arm", ..] => {
-            disk.arm(fault_of(&words)?)?;
-            Answer::Done
-        }
-        ["crash", ..] => {
-            disk.crash(fill_of(&words)?);
-            Answer::Done
-        }
-        ["recount"] => {
-            disk.recount();
-            Answer::Done
-        }
-        ["calls"] => Answer::Number(disk.calls()),
-        ["failures"] => Answer::Number(disk.failures()),
-        ["sectors"] => Answer::Number(disk.sectors() as u64),
-        _ => return ask_sector(alloc, disk, text),
-    };
-    Ok(Some(answer))
+    act(alloc, disk, &words)
 }

@@ -1,13 +1,14 @@
-//! Runs disks, cells, stores, logs and outlets by the table `cases`: what happens to them, and what has to be answered. Prints each case
-//! that comes out otherwise, and how many came out as written. The cases of `wrong_cases` are wrong on purpose: each has to come out
-//! otherwise. The status is 1 where a case of `cases` comes out otherwise, where one of `wrong_cases` doesn't, and where a line isn't
-//! understood.
+//! Runs disks, cells, stores, logs, outlets and records as bytes by the table `cases`: what happens to them, and what has to be
+//! answered. Prints each case that comes out otherwise, and how many came out as written. The cases of `wrong_cases` are wrong on
+//! purpose: each has to come out otherwise. The status is 1 where a case of `cases` comes out otherwise, where one of `wrong_cases`
+//! doesn't, and where a line isn't understood.
 //!
 //! A line `== TITLE` begins a case. Empty lines, and those that begin with `#`, say nothing. Numbers are decimal; bytes stand in
 //! hexadecimal, in groups with spaces between them as one likes; `00*16` is a group so many times. `for CALL 1..4 FILL 0 255` runs the
 //! case for each choice of these numbers. Behind an arrow stands what has to be answered: `done`, `refused NUMBER`, or what is asked for.
 //!
-//! A case begins with nothing but a log without items and an outlet that took none.
+//! A case begins with nothing but a log without items and an outlet that took none. A line `bytes NAME 00*16 ..` before the first case
+//! gives bytes a name, by which a line `spelling` may call them.
 //!
 //! | Line | Meaning |
 //! |---|---|
@@ -34,6 +35,10 @@
 //! | `fails before 1`, `fails behind 3`, `lacks memory 2` | the outlet fails once, before or when it has taken an item, where it holds so many; lacks memory once |
 //! | `numbers of no memory -> 1 1` | the numbers of a cell's and of a log's refusal for want of memory |
 //! | `can release 3 -> yes`, `release 3` | whether what the log has up to a position may be released, and that |
+//! | `spelling opening 00` | bytes that may spell a record, in place of those there were |
+//! | `spells -> yes`, `-> refused 32`, `spells with 9 1`, `spells first 12`, `spells from before` | whether they are read as a record that is spelled by them again; with byte 9, counted from 0, another one; the first twelve alone; read with version 1, and spelled by them |
+//! | `stands turned 9 128 -> yes` | whether, with these bits of byte 9 turned, they spell a record or are refused by 30 to 32 |
+//! | `image counts 5 -> 0 5 2`, `image retained 5 4 -> 15`, `-> none`, `image copy -> 00` | of the permanent image of their record: of a channel how many items were received, put, and put before those retained; the item at a position; the bytes of a copy |
 #![tactic(auto)]
 
 mod answer;
@@ -42,97 +47,139 @@ mod cell;
 mod disk;
 mod medium;
 mod slots;
+mod spelling;
 mod store;
 mod stream;
 mod words;
 
 use crate::medium::{Medium, step};
+use crate::spelling::Spelling;
 use crate::stream::Streams;
 use crate::words::numbers_of_no_memory;
 use anyhow::Context;
 use case_table::{
-    Case, Difference, Line, Table, Trial, filled, is_wanted, listed, parts_of, read, run_cases,
-    run_wrong_cases, table_of,
+    Case, Difference, Line, NamedBytes, Table, Trial, filled, is_wanted, listed, named_in,
+    parts_of, read, run_cases, run_wrong_cases, table_of,
 };
-use std::alloc::Global;
+use std::alloc::{AllocError, Global};
 
-/// Each case is of storage.
-#[derive(Clone, Copy, Debug)]
-struct Storage;
+/// Each case is of storage, and may use these bytes by their names.
+#[derive(Drop)]
+struct Storage<'a> {
+    named: Vec<NamedBytes<'a>>,
+}
 
-/// What a case stores on, and its log and outlet. They stand together, and are lent to all that works on them: each way out of a
-/// function that owns them would be one more place at which they are let go, and that is proved for each.
+/// What a case stores on, its log and outlet, and bytes that may spell a record. They stand together, and are lent to all that works on
+/// them: each way out of a function that owns them would be one more place at which they are let go, and that is proved for each.
 #[derive(Drop)]
 struct Stage {
     medium: Medium,
     streams: Streams,
+    spelling: Spelling,
 }
 
 /// What a line answers.
-fn answered(alloc: Global, stage: &mut Stage, text: &str) -> anyhow::Result<String> {
+fn answered(
+    alloc: Global,
+    named: &[NamedBytes],
+    stage: &mut Stage,
+    text: &str,
+) -> anyhow::Result<String> {
     if text == "numbers of no memory" {
         return Ok(listed(alloc, numbers_of_no_memory().as_slice())?);
     }
     if let Some(answer) = step(alloc, &mut stage.medium, text)? {
         return Ok(answer.into_text(alloc)?);
     }
-    match stage.streams.ask(alloc, text)? {
+    if let Some(answer) = stage.streams.ask(alloc, text)? {
+        return Ok(answer.into_text(alloc)?);
+    }
+    match stage.spelling.ask(alloc, named, text)? {
         Some(answer) => Ok(answer.into_text(alloc)?),
         None => anyhow::bail!("{text} asks for nothing that is known"),
     }
 }
 
-/// The first line whose answer isn't the one that is wanted.
+/// What a line asks and wants, and what came in its place.
 fn difference(
     alloc: Global,
+    line: usize,
+    asked: &str,
+    wanted: &str,
+    came: String,
+) -> Result<Difference, AllocError> {
+    Ok(Difference {
+        line,
+        asked: String::from_str(alloc, asked)?,
+        wanted: String::from_str(alloc, wanted)?,
+        came,
+    })
+}
+
+/// How the answer to a line differs from the one that is wanted, if it does.
+fn difference_at(
+    alloc: Global,
+    named: &[NamedBytes],
+    stage: &mut Stage,
+    number: usize,
+    line: &str,
+) -> anyhow::Result<Option<Difference>> {
+    let (asked, wanted) = parts_of(line);
+    let came = answered(alloc, named, stage, asked).context(format_args!("line {number}"))?;
+    if is_wanted(wanted, &came) {
+        return Ok(None);
+    }
+    Ok(Some(difference(alloc, number, asked, wanted, came)?))
+}
+
+/// The first line whose answer isn't the one that is wanted.
+fn first_difference(
+    alloc: Global,
+    named: &[NamedBytes],
     stage: &mut Stage,
     case: &Case,
     choice: &[u64],
 ) -> anyhow::Result<Option<Difference>> {
     for Line { number, text } in &case.lines {
         let line = filled(alloc, text, &case.names, choice)?;
-        let (asked, wanted) = parts_of(&line);
-        let came = answered(alloc, stage, asked).context(format_args!("line {number}"))?;
-        if !is_wanted(wanted, &came) {
-            return Ok(Some(Difference {
-                line: *number,
-                asked: String::from_str(alloc, asked)?,
-                wanted: String::from_str(alloc, wanted)?,
-                came,
-            }));
+        let found = difference_at(alloc, named, stage, *number, &line)?;
+        if found.is_some() {
+            return Ok(found);
         }
     }
     Ok(None)
 }
 
-impl Trial for Storage {
+impl<'a> Trial for Storage<'a> {
     fn found(
         &self,
         rt: &HostRuntime,
         case: &Case,
         choice: &[u64],
     ) -> anyhow::Result<Option<Difference>> {
+        let alloc = rt.alloc();
         let mut stage = Stage {
             medium: Medium::Nothing,
-            streams: Streams::new(rt.alloc()),
+            streams: Streams::new(alloc),
+            spelling: Spelling::new(alloc),
         };
-        difference(rt.alloc(), &mut stage, case, choice)
+        first_difference(alloc, self.named.as_slice(), &mut stage, case, choice)
     }
 }
 
-/// The cases of a text.
-fn cases_of<'a>(alloc: Global, text: &'a str) -> anyhow::Result<Table<'a>> {
-    let table = table_of(alloc, text)?;
-    if let Some(line) = table.head.first() {
-        anyhow::bail!("line {}: it stands before the first case", line.number);
-    }
-    Ok(table)
+/// What the cases of a table may use.
+fn storage_of<'a>(alloc: Global, table: &Table<'a>) -> anyhow::Result<Storage<'a>> {
+    Ok(Storage {
+        named: named_in(alloc, &table.head)?,
+    })
 }
 
 fn main(rt: HostRuntime) -> anyhow::Result<()> {
     let alloc = rt.alloc();
     let text = read(&rt, "cases")?;
     let wrong = read(&rt, "wrong_cases")?;
-    run_cases(&rt, &cases_of(alloc, &text)?.cases, &Storage)?;
-    run_wrong_cases(&rt, &cases_of(alloc, &wrong)?.cases, &Storage)
+    let table = table_of(alloc, &text)?;
+    run_cases(&rt, &table.cases, &storage_of(alloc, &table)?)?;
+    let table = table_of(alloc, &wrong)?;
+    run_wrong_cases(&rt, &table.cases, &storage_of(alloc, &table)?)
 }

@@ -88,16 +88,9 @@ fn record(alloc: Global, store: &CaseStore) -> Result<Answer, AllocError> {
     }
 }
 
-/// What a store answers to an event of its record.
-fn change(alloc: Global, store: &mut CaseStore, words: &[&str]) -> anyhow::Result<Option<Answer>> {
+/// What a store answers to what becomes of its decisions.
+fn settle(alloc: Global, store: &mut CaseStore, words: &[&str]) -> anyhow::Result<Option<Answer>> {
     let answer = match words {
-        ["take", initiator, instance] => take(alloc, store, byte(initiator)?, number(instance)?)?,
-        ["make", "permanent", initiator, instance] => {
-            answer_of(store.make_permanent(alloc, byte(initiator)?, number(instance)?))
-        }
-        ["drop", initiator, instance] => {
-            answer_of(store.drop_tentative(alloc, byte(initiator)?, number(instance)?))
-        }
         ["decide", instance] => decide(alloc, store, number(instance)?),
         ["confirm", instance, node] => {
             answer_of(store.confirm(alloc, number(instance)?, byte(node)?))
@@ -108,25 +101,40 @@ fn change(alloc: Global, store: &mut CaseStore, words: &[&str]) -> anyhow::Resul
     Ok(Some(answer))
 }
 
-/// What a store answers, where it is asked for something that it knows.
-pub fn ask(alloc: Global, store: &mut CaseStore, text: &str) -> anyhow::Result<Option<Answer>> {
-    let words: Vec<&str> = text.split_whitespace().collect(alloc)?;
-    let answer = match words.as_slice() {
-        ["record"] => record(alloc, store)?,
-        ["reopen"] => answer_of(store.reopen(alloc)),
-        ["crash", ..] => {
-            store.crash(fill_of(&words)?);
-            Answer::Done
+/// What a store answers to an event of its record.
+fn change(alloc: Global, store: &mut CaseStore, words: &[&str]) -> anyhow::Result<Option<Answer>> {
+    let answer = match words {
+        ["take", initiator, instance] => take(alloc, store, byte(initiator)?, number(instance)?)?,
+        ["make", "permanent", initiator, instance] => {
+            answer_of(store.make_permanent(alloc, byte(initiator)?, number(instance)?))
         }
-        ["arm", ..] => {
-            store.arm(fault_of(&words)?)?;
-            Answer::Done
+        ["drop", initiator, instance] => {
+            answer_of(store.drop_tentative(alloc, byte(initiator)?, number(instance)?))
         }
-        ["recount"] => {
-            store.recount();
-            Answer::Done
-        }
-        _ => return change(alloc, store, &words),
+        _ => return settle(alloc, store, words),
     };
     Ok(Some(answer))
+}
+
+/// What becomes of a store from without.
+fn disturb(alloc: Global, store: &mut CaseStore, words: &[&str]) -> anyhow::Result<Option<Answer>> {
+    match words {
+        ["crash", ..] => store.crash(fill_of(words)?),
+        ["arm", ..] => store.arm(fault_of(words)?)?,
+        ["recount"] => store.recount(),
+        _ => return change(alloc, store, words),
+    }
+    Ok(Some(Answer::Done))
+}
+
+/// What a store answers, where it is asked for something that it knows.
+pub fn ask(alloc: Global, store: &mut CaseStore, text: &str) -> anyhow::Result<Option<Answer>> {
+    if text == "record" {
+        return Ok(Some(record(alloc, store)?));
+    }
+    if text == "reopen" {
+        return Ok(Some(answer_of(store.reopen(alloc))));
+    }
+    let words: Vec<&str> = text.split_whitespace().collect(alloc)?;
+    disturb(alloc, store, &words)
 }

@@ -66,7 +66,8 @@ fn items_of(alloc: Global, words: &[&str]) -> anyhow::Result<Vec<i64>> {
     Ok(items)
 }
 
-fn item_at(alloc: Global, log: &Log, position: u64) -> Result<Answer, AllocError> {
+/// The item at a position of a log.
+pub fn item_at(alloc: Global, log: &Log, position: u64) -> Result<Answer, AllocError> {
     match log.get(position) {
         Some(item) => Ok(Answer::Text(format!(in alloc; "{item}")?)),
         None => Ok(Answer::Nothing),
@@ -102,28 +103,23 @@ impl Streams {
         Ok(answer_of_outlet(release(&mut self.outlet, &self.log, covered)))
     }
 
-    fn ask_outlet(&mut self, alloc: Global, words: &[&str]) -> anyhow::Result<Option<Answer>> {
+    /// Makes the outlet fail where it holds so many items.
+    fn spoil(&mut self, words: &[&str]) -> anyhow::Result<Option<Answer>> {
+        match words {
+            ["fails", "before", count] => self.outlet.fails_before = number(count)?,
+            ["fails", "behind", count] => self.outlet.fails_behind = number(count)?,
+            ["lacks", "memory", count] => self.outlet.lacks_memory = number(count)?,
+            _ => return Ok(None),
+        }
+        Ok(Some(Answer::Done))
+    }
+
+    /// What the outlet says of itself.
+    fn say_outlet(&self, alloc: Global, words: &[&str]) -> anyhow::Result<Option<Answer>> {
         let answer = match words {
-            ["fails", "before", count] => {
-                self.outlet.fails_before = number(count)?;
-                Answer::Done
-            }
-            ["fails", "behind", count] => {
-                self.outlet.fails_behind = number(count)?;
-                Answer::Done
-            }
-            ["lacks", "memory", count] => {
-                self.outlet.lacks_memory = number(count)?;
-                Answer::Done
-            }
-            ["append", items @ ..] => {
-                let items = items_of(alloc, items)?;
-                append_all(&mut self.outlet, &items)
-            }
             ["can", "release", covered] => {
                 Answer::Yes(can_release(&self.outlet, &self.log, number(covered)?))
             }
-            ["release", covered] => self.release(number(covered)?)?,
             ["taken"] => Answer::Text(listed(alloc, self.outlet.items())?),
             ["how", "many"] => Answer::Number(self.outlet.len()),
             _ => return Ok(None),
@@ -131,40 +127,74 @@ impl Streams {
         Ok(Some(answer))
     }
 
-    /// What a log or an outlet answers, where it is asked for something that it knows.
-    pub fn ask(&mut self, alloc: Global, text: &str) -> anyhow::Result<Option<Answer>> {
-        let words: Vec<&str> = text.split_whitespace().collect(alloc)?;
-        let answer = match words.as_slice() {
-            ["log", "at", base] => {
-                self.log = log_at(alloc, number(base)?)?;
-                Answer::Done
+    /// What the outlet takes.
+    fn ask_outlet(&mut self, alloc: Global, words: &[&str]) -> anyhow::Result<Option<Answer>> {
+        let answer = match words {
+            ["append", items @ ..] => {
+                let items = items_of(alloc, items)?;
+                append_all(&mut self.outlet, &items)
             }
-            ["push", "each", count, "from", first] => {
-                push_each(&mut self.log, size(count)?, item(first)?)?
-            }
-            ["push", "many", count, "of", many] => {
+            ["release", covered] => self.release(number(covered)?)?,
+            ["fails", ..] | ["lacks", ..] => return self.spoil(words),
+            _ => return self.say_outlet(alloc, words),
+        };
+        Ok(Some(answer))
+    }
+
+    /// Pushes what such words say.
+    fn push(&mut self, alloc: Global, words: &[&str]) -> anyhow::Result<Option<Answer>> {
+        let answer = match words {
+            ["each", count, "from", first] => push_each(&mut self.log, size(count)?, item(first)?)?,
+            ["many", count, "of", many] => {
                 push_many(alloc, &mut self.log, size(count)?, item(many)?)?
             }
-            ["push", "all", items @ ..] => {
+            ["all", items @ ..] => {
                 let items = items_of(alloc, items)?;
                 answer_of(self.log.push_all(&items))
             }
-            ["push", one] => answer_of(self.log.push(item(one)?)),
-            ["trim", position] => {
-                self.log.trim(number(position)?);
-                Answer::Done
-            }
-            ["cut", position] => {
-                self.log.cut(number(position)?);
-                Answer::Done
-            }
-            ["base"] => Answer::Number(self.log.base()),
-            ["end"] => Answer::Number(self.log.end()),
-            ["length"] => Answer::Number(self.log.len() as u64),
-            ["empty"] => Answer::Yes(self.log.is_empty()),
-            ["item", position] => item_at(alloc, &self.log, number(position)?)?,
-            _ => return self.ask_outlet(alloc, &words),
+            [one] => answer_of(self.log.push(item(one)?)),
+            _ => return Ok(None),
         };
         Ok(Some(answer))
+    }
+
+    /// Changes the log otherwise.
+    fn change(&mut self, alloc: Global, words: &[&str]) -> anyhow::Result<Option<Answer>> {
+        match words {
+            ["log", "at", base] => self.log = log_at(alloc, number(base)?)?,
+            ["trim", position] => self.log.trim(number(position)?),
+            ["cut", position] => self.log.cut(number(position)?),
+            _ => return self.ask_outlet(alloc, words),
+        }
+        Ok(Some(Answer::Done))
+    }
+
+    /// What the log says of itself in one word.
+    fn say(&self, word: &str) -> Option<Answer> {
+        match word {
+            "base" => Some(Answer::Number(self.log.base())),
+            "end" => Some(Answer::Number(self.log.end())),
+            "length" => Some(Answer::Number(self.log.len() as u64)),
+            "empty" => Some(Answer::Yes(self.log.is_empty())),
+            _ => None,
+        }
+    }
+
+    fn ask_words(&mut self, alloc: Global, words: &[&str]) -> anyhow::Result<Option<Answer>> {
+        match words {
+            ["push", pushed @ ..] => self.push(alloc, pushed),
+            ["item", position] => Ok(Some(item_at(alloc, &self.log, number(position)?)?)),
+            _ => self.change(alloc, words),
+        }
+    }
+
+    /// What a log or an outlet answers, where it is asked for something that it knows.
+    pub fn ask(&mut self, alloc: Global, text: &str) -> anyhow::Result<Option<Answer>> {
+        let said = self.say(text);
+        if said.is_some() {
+            return Ok(said);
+        }
+        let words: Vec<&str> = text.split_whitespace().collect(alloc)?;
+        self.ask_words(alloc, &words)
     }
 }
