@@ -1,10 +1,11 @@
 //! What comes of a case.
 
-use crate::devices::{Given, Writer};
 use crate::judging::Outcome;
 use crate::plan::{Asked, Plan};
+use crate::questions::answers;
+use crate::texts::text_of;
 use fail_script::{Script, parse_script};
-use kahn_program::{Options, options, run};
+use kahn_program::{Failure, Options, not_text, options, print_failure, run};
 use net_text::{Token, tokens};
 use std::alloc::{AllocError, Global};
 use std::sync::Wait;
@@ -24,21 +25,17 @@ fn run_by<R: Threads + Wait + Sync>(
     rt: &R,
     alloc: Global,
     options: &Options,
-    net: &Given,
-    inputs: &Given,
-    script: &Given,
-    out: Writer,
-    err: Writer,
+    plan: &Plan,
 ) -> Outcome {
-    let mut out = out;
-    let mut err = err;
+    let mut out = plan.out.writer(alloc);
+    let mut err = plan.err.writer(alloc);
     let status = run(
         rt,
         alloc,
         options,
-        net.reader(),
-        inputs.reader(),
-        script.reader(),
+        plan.net.reader(),
+        plan.inputs.reader(),
+        plan.script.reader(),
         &mut out,
         &mut err,
     );
@@ -83,10 +80,7 @@ fn token_lines(alloc: Global, tokens: &[Token<'_>]) -> Result<String, AllocError
 
 /// The tokens of a text, or why it has none.
 fn tokens_text(alloc: Global, bytes: &[u8]) -> anyhow::Result<String> {
-    let Ok(text) = str::from_utf8(bytes) else {
-        anyhow::bail!("it is no text");
-    };
-    let lines = match tokens(alloc, text) {
+    let lines = match tokens(alloc, text_of(bytes)?) {
         Ok(found) => token_lines(alloc, found.as_slice())?,
         Err(fault) => {
             format!(in alloc;
@@ -110,10 +104,7 @@ fn script_lines(alloc: Global, script: &Script) -> Result<String, AllocError> {
 
 /// The lines of a failure script for so many nodes, or why it has none.
 fn script_text(alloc: Global, bytes: &[u8], nodes: u8) -> anyhow::Result<String> {
-    let Ok(text) = str::from_utf8(bytes) else {
-        anyhow::bail!("it is no text");
-    };
-    let lines = match parse_script(alloc, text, nodes) {
+    let lines = match parse_script(alloc, text_of(bytes)?, nodes) {
         Ok(script) => script_lines(alloc, &script)?,
         Err(fault) => {
             format!(in alloc;
@@ -126,31 +117,51 @@ fn script_text(alloc: Global, bytes: &[u8], nodes: u8) -> anyhow::Result<String>
     Ok(lines)
 }
 
-/// What a case wants, and what comes of it.
-pub fn outcomes<R: Threads + Wait + Sync>(
+/// What is printed of a refusal that is no text's.
+fn refusal(alloc: Global, number: u8, plan: &Plan) -> Outcome {
+    let mut err = plan.err.writer(alloc);
+    let status = print_failure(Failure::Other { number }, &mut err);
+    Outcome {
+        out: Vec::new(alloc),
+        err: err.taken,
+        status,
+    }
+}
+
+/// The first line of why a command line is refused that is no text.
+fn not_text_line(alloc: Global) -> anyhow::Result<String> {
+    let text = not_text(alloc).to_string(alloc)?;
+    let first = text.lines().next().unwrap_or("");
+    Ok(format!(in alloc; "{first}\n")?)
+}
+
+/// What is told of texts, where nothing runs.
+fn answer(alloc: Global, plan: &Plan) -> anyhow::Result<String> {
+    match &plan.asked {
+        Asked::Options(words) => options_text(alloc, words),
+        Asked::Tokens => tokens_text(alloc, &plan.net.bytes),
+        Asked::Script(nodes) => script_text(alloc, &plan.net.bytes, *nodes),
+        Asked::Lines(question) => answers(
+            alloc,
+            *question,
+            &plan.net.bytes,
+            &plan.inputs.bytes,
+            &plan.script.bytes,
+        ),
+        _ => not_text_line(alloc),
+    }
+}
+
+/// What comes of a case.
+pub fn outcome<R: Threads + Wait + Sync>(
     rt: &R,
     alloc: Global,
-    plan: Plan,
-) -> anyhow::Result<(Outcome, Outcome)> {
-    let Plan {
-        asked,
-        net,
-        inputs,
-        script,
-        wanted,
-        out,
-        err,
-        part: _,
-    } = plan;
-    let came = match asked {
-        Asked::Run(options) => run_by(rt, alloc, &options, &net, &inputs, &script, out, err),
-        Asked::Words(words) => {
-            let options = options_of(alloc, &words)?;
-            run_by(rt, alloc, &options, &net, &inputs, &script, out, err)
-        }
-        Asked::Options(words) => told(alloc, options_text(alloc, &words)?)?,
-        Asked::Tokens => told(alloc, tokens_text(alloc, &net.bytes)?)?,
-        Asked::Script(nodes) => told(alloc, script_text(alloc, &net.bytes, nodes)?)?,
-    };
-    Ok((wanted, came))
+    plan: &Plan,
+) -> anyhow::Result<Outcome> {
+    match &plan.asked {
+        Asked::Run(options) => Ok(run_by(rt, alloc, options, plan)),
+        Asked::Words(words) => Ok(run_by(rt, alloc, &options_of(alloc, words)?, plan)),
+        Asked::Refusal(number) => Ok(refusal(alloc, *number, plan)),
+        _ => Ok(told(alloc, answer(alloc, plan)?)?),
+    }
 }

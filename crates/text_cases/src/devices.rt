@@ -1,5 +1,6 @@
 //! Readers and writers that are slow, or fail.
 
+use std::alloc::Global;
 use std::io;
 use std::io::{ErrorKind, Read, Write};
 
@@ -61,11 +62,29 @@ impl Read for Reader<'_> {
 }
 
 /// What a writer takes: everything, or so many bytes before it fails.
+#[derive(Clone, Copy, Debug, PartialEq, Eq)]
+pub struct Taking {
+    pub room: Option<usize>,
+    pub fails_at_flush: bool,
+}
+
+impl Taking {
+    /// A writer that took nothing yet.
+    pub fn writer(self, alloc: Global) -> Writer {
+        Writer {
+            taken: Vec::new(alloc),
+            room: self.room,
+            fails_at_flush: self.fails_at_flush,
+        }
+    }
+}
+
+/// A writer, and what it took.
 #[derive(Drop)]
 pub struct Writer {
     pub taken: Vec<u8>,
-    pub room: Option<usize>,
-    pub fails_at_flush: bool,
+    room: Option<usize>,
+    fails_at_flush: bool,
 }
 
 impl Write for Writer {

@@ -25,18 +25,30 @@
 //! | `-- out fails behind 3`, `-- err fails at the flush` | a writer that fails behind so many bytes, or at its flush |
 //! | `-- options kahnrun a.net b` | nothing runs: on standard output comes what this command line asks for, or `refused KIND` |
 //! | `-- read_script 2` | nothing runs: the network's text is a failure script for so many nodes, and on standard output comes a line for each of its lines, or `refused NUMBER LINE` |
+//! | `-- ask turn` | nothing runs: each line that follows asks the same of the network's first process, and on standard output comes a line for each. A turn's is its place, variables, items at hand on channel 0, room on channel 1 and version: `1 left 2; 5 6; 7 8; 64; 3`. A place is `not begun`, `finished` or a site, with the passes that remain of repetitions |
+//! | `-- ask run` | of such lines as `0 0; 1 2 3; 2; 1`: what a hundred turns put in all, from these variables on, with these items, of which so many at most are at hand, and so much room |
+//! | `-- ask next` | of places: what comes next |
+//! | `-- ask same job` | of two jobs with `=` between them: whether they are the same; the second one of the network that the inputs' text is, where there is one |
+//! | `-- ask same process` | of networks: whether their process is the same |
+//! | `-- ask fits` | of networks: whether the first one's inputs are theirs |
+//! | `-- ask solves` | of histories as `1 2 3; 1 3 6`, one for each channel, or `no channel`: whether they are a solution |
+//! | `-- refusal 44`, `-- not_text` | nothing runs: what comes where this number is refused and no text is, and on standard output the first line of why a command line isn't text |
 //! | `-- tokens` | nothing runs: on standard output comes a line for each token of the network's text, or `refused NUMBER LINE` |
 #![tactic(auto)]
 
 mod asking;
 mod devices;
+mod jobs;
 mod judging;
+mod likeness;
 mod plan;
+mod questions;
 mod texts;
+mod words;
 
-use crate::asking::outcomes;
+use crate::asking::outcome;
 use crate::judging::{Outcome, differing};
-use crate::plan::plan_of;
+use crate::plan::{Plan, plan_of};
 use case_table::{
     Case, Difference, Table, Trial, read, run_cases, run_wrong_cases, table_of_texts,
 };
@@ -50,6 +62,21 @@ struct Ran {
     line: usize,
     wanted: Outcome,
     came: Outcome,
+}
+
+/// Runs what the case of this line says.
+fn ran_by<R: Threads + Wait + Sync>(
+    threads: &R,
+    alloc: Global,
+    line: usize,
+    plan: Plan,
+) -> anyhow::Result<Ran> {
+    let came = outcome(threads, alloc, &plan)?;
+    Ok(Ran {
+        line,
+        wanted: plan.wanted,
+        came,
+    })
 }
 
 /// The cases of a table, each of which was run. (A method of `Trial` is handed nothing by which threads are made.)
@@ -68,9 +95,7 @@ impl TextCases {
         let alloc = rt.alloc();
         let mut ran = Vec::new(alloc);
         for case in cases {
-            let (wanted, came) = outcomes(threads, alloc, plan_of(rt, case)?)?;
-            let line = case.line;
-            ran.push(Ran { line, wanted, came })?;
+            ran.push(ran_by(threads, alloc, case.line, plan_of(rt, case)?)?)?;
         }
         Ok(TextCases { ran })
     }

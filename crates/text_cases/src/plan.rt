@@ -1,7 +1,8 @@
 //! A case: what the program is given, and what has to come of it.
 
-use crate::devices::{Given, Writer};
+use crate::devices::{Given, Taking};
 use crate::judging::Outcome;
+use crate::questions::{Question, question_of};
 use crate::texts::{add_line, add_spelled};
 use anyhow::Context;
 use case_table::{Case, Line, byte, number, size};
@@ -32,6 +33,12 @@ pub enum Asked {
     Tokens,
     /// The lines of a failure script for so many nodes, which stands in the place of the network's text.
     Script(u8),
+    /// This of the network, on each line of the text that stands in the place of a script.
+    Lines(Question),
+    /// What is printed of a refusal that is no text's.
+    Refusal(u8),
+    /// Why a command line is refused that is no text.
+    NotText,
 }
 
 /// A case.
@@ -42,8 +49,8 @@ pub struct Plan {
     pub inputs: Given,
     pub script: Given,
     pub wanted: Outcome,
-    pub out: Writer,
-    pub err: Writer,
+    pub out: Taking,
+    pub err: Taking,
     /// The text that is read.
     pub part: Part,
 }
@@ -57,9 +64,8 @@ fn nothing_given(alloc: Global) -> Given {
     }
 }
 
-fn open_writer(alloc: Global) -> Writer {
-    Writer {
-        taken: Vec::new(alloc),
+fn takes_all() -> Taking {
+    Taking {
         room: None,
         fails_at_flush: false,
     }
@@ -91,7 +97,7 @@ fn set_given(given: &mut Given, how: &str) -> anyhow::Result<()> {
 }
 
 /// How a writer takes what it is given.
-fn set_taking(writer: &mut Writer, how: &str) -> anyhow::Result<()> {
+fn set_taking(writer: &mut Taking, how: &str) -> anyhow::Result<()> {
     if let Some(room) = how.strip_prefix("fails behind ") {
         writer.room = Some(size(room)?);
         return Ok(());
@@ -123,8 +129,8 @@ impl Plan {
                 err: Vec::new(alloc),
                 status: 0,
             },
-            out: open_writer(alloc),
-            err: open_writer(alloc),
+            out: takes_all(),
+            err: takes_all(),
             part: Part::Net,
         }
     }
@@ -188,6 +194,15 @@ impl Plan {
                 self.asked = Asked::Script(byte(rest)?);
                 Ok(())
             }
+            "ask" => {
+                self.asked = Asked::Lines(question_of(rest)?);
+                self.part = Part::Script;
+                Ok(())
+            }
+            "refusal" => {
+                self.asked = Asked::Refusal(byte(rest)?);
+                Ok(())
+            }
             "words" => {
                 self.asked = Asked::Words(String::from_str(alloc, rest)?);
                 Ok(())
@@ -213,6 +228,7 @@ impl Plan {
             "out" => self.part = Part::Out,
             "err" => self.part = Part::Err,
             "tokens" => self.asked = Asked::Tokens,
+            "not_text" => self.asked = Asked::NotText,
             _ => anyhow::bail!("{word} is no directive"),
         }
         Ok(())

@@ -6,6 +6,14 @@ use std::alloc::Global;
 /// The most bytes of a text: a few more than a program reads.
 const MAX_BYTES: usize = 1 << 23;
 
+/// Bytes as text.
+pub fn text_of(bytes: &[u8]) -> anyhow::Result<&str> {
+    match str::from_utf8(bytes) {
+        Ok(text) => Ok(text),
+        Err(_) => anyhow::bail!("it is no text"),
+    }
+}
+
 /// Adds bytes, unless they become too many.
 fn add_bytes(text: &mut Vec<u8>, bytes: &[u8]) -> anyhow::Result<()> {
     anyhow::ensure!(

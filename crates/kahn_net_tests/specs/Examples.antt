@@ -1,4 +1,4 @@
--- Small networks, on which the tests compute the definitions.
+-- Small networks, on which the definitions are computed.
 use Rattle.std.specs.Prelude.{ℕ, ℤ, pos, List, [], ◌∷◌, replicate, Some}
 use Rattle.kahn_net.specs.declared.program.Operator.TheVariants.{Add}
 use Rattle.kahn_net.specs.Syntax.{Number, Name, Chain, NoLinks, LinkThen, Nothing, GetThen, AssignThen, PutThen, Code}
