@@ -43,7 +43,7 @@ const NODES: u8 = 2;
 const OUTPUT: u8 = 2;
 
 // No run here takes so many rounds of the seats.
-const CALLS: u32 = 100_000;
+const ROUNDS: u32 = 100_000;
 
 type SumWorld = World<SplitCell<MemDisk>, ListOutlet>;
 
@@ -186,20 +186,6 @@ fn listed_by(history: &History, maker: Maker) -> u64 {
     made
 }
 
-fn look_back(world: &SumWorld, history: &History, made: [u64; 3], all: u64) -> Came {
-    Came {
-        whole: world.released(OUTPUT) == [1, 3, 6].as_slice() && world.complete(),
-        made,
-        listed: [
-            listed_by(history, Maker::Node(0)),
-            listed_by(history, Maker::Node(1)),
-            listed_by(history, Maker::Driver),
-        ],
-        all,
-        stops: history.stops,
-    }
-}
-
 // What stays so of each run: the whole stream left, and each seat's count is that of its lines.
 fn is_whole(came: &Came) -> bool {
     let [zero, one, driver] = came.made;
@@ -219,7 +205,18 @@ struct Ended {
 
 impl Ended {
     fn came(&self) -> Came {
-        look_back(&self.world, &self.history, self.made, self.all)
+        let history = &self.history;
+        Came {
+            whole: self.world.released(OUTPUT) == [1, 3, 6].as_slice() && self.world.complete(),
+            made: self.made,
+            listed: [
+                listed_by(history, Maker::Node(0)),
+                listed_by(history, Maker::Node(1)),
+                listed_by(history, Maker::Driver),
+            ],
+            all: self.all,
+            stops: history.stops,
+        }
     }
 }
 
@@ -250,7 +247,7 @@ fn take_rounds<J: Run, R: Wait>(
     seats: &mut [NodeSeat<J>],
     driver: &mut DriverSeat<J>,
 ) -> bool {
-    for _round in 0..CALLS {
+    for _round in 0..ROUNDS {
         let is_last = hub.status(rt).stopped;
         if !take_round(rt, alloc, hub, seats, driver) {
             return false;
