@@ -11,8 +11,8 @@ use Rattle.kahn_net.specs.declared.program.Port.TheVariants.{Outside, Process}
 abbrev pub channel_from : Port → Port → Channel
 channel_from producer consumer = record { producer = producer; consumer = consumer }
 
--- The running sum: input 0, output 1, and `process sum on 0 { var a; var v; loop { v = get i; a = a + v; put a to o; }
--- }`.
+-- A running sum from one channel to another, on node 0: each item goes into the second variable and is added to the first,
+-- which is put.
 abbrev pub summing_code : ℕ → ℕ → Code
 summing_code from to =
     record {
