@@ -25,30 +25,55 @@ fn push_copy(text: &mut String, number: u64, from: &str, to: &str) -> anyhow::Re
     Ok(())
 }
 
-// A chain of so many processes that copy: from i over c1, c2 and so on to o.
-fn chain(alloc: Global, processes: u64) -> anyhow::Result<String> {
-    let mut text = String::from_str(alloc, "kahn 1;\ninput i;\noutput o;\n")?;
+// The channel of a chain behind so many processes: i, c1, c2 and so on, o.
+fn channel(alloc: Global, behind: u64, processes: u64) -> anyhow::Result<String> {
+    if behind == 0 {
+        return Ok(String::from_str(alloc, "i")?);
+    }
+    if behind == processes {
+        return Ok(String::from_str(alloc, "o")?);
+    }
+    Ok(format!(in alloc; "c{behind}")?)
+}
+
+// The process of a chain with this number, from 0 on.
+fn push_link(text: &mut String, alloc: Global, number: u64, processes: u64) -> anyhow::Result<()> {
+    let from = channel(alloc, number, processes)?;
+    let to = channel(alloc, number.saturating_add(1), processes)?;
+    push_copy(text, number, &from, &to)
+}
+
+fn push_chain(text: &mut String, alloc: Global, processes: u64) -> anyhow::Result<()> {
+    text.push_str("kahn 1;\ninput i;\noutput o;\n")?;
     for number in 1..processes {
         write!(text, "chan c{number};\n")?;
     }
-    let mut from = String::from_str(alloc, "i")?;
-    for number in 1..processes {
-        let to = format!(in alloc; "c{number}")?;
-        push_copy(&mut text, number, &from, &to)?;
-        from = to;
+    for number in 0..processes {
+        push_link(text, alloc, number, processes)?;
     }
-    push_copy(&mut text, 0, &from, "o")?;
+    Ok(())
+}
+
+// A chain of so many processes that copy: from i over c1, c2 and so on to o.
+fn chain(alloc: Global, processes: u64) -> anyhow::Result<String> {
+    let mut text = String::new(alloc);
+    push_chain(&mut text, alloc, processes)?;
     Ok(text)
+}
+
+// The process with this number of those side by side.
+fn push_beside(text: &mut String, alloc: Global, number: u64) -> anyhow::Result<()> {
+    write!(text, "input i{number};\noutput o{number};\n")?;
+    let from = format!(in alloc; "i{number}")?;
+    let to = format!(in alloc; "o{number}")?;
+    push_copy(text, number, &from, &to)
 }
 
 // So many processes side by side.
 fn wide(alloc: Global, processes: u64) -> anyhow::Result<String> {
     let mut text = String::from_str(alloc, "kahn 1;\n")?;
     for number in 0..processes {
-        write!(text, "input i{number};\noutput o{number};\n")?;
-        let from = format!(in alloc; "i{number}")?;
-        let to = format!(in alloc; "o{number}")?;
-        push_copy(&mut text, number, &from, &to)?;
+        push_beside(&mut text, alloc, number)?;
     }
     Ok(text)
 }
@@ -63,11 +88,15 @@ fn push_items(text: &mut String, input: &str) -> anyhow::Result<()> {
     Ok(())
 }
 
+fn push_items_of(text: &mut String, alloc: Global, number: u64) -> anyhow::Result<()> {
+    let input = format!(in alloc; "i{number}")?;
+    push_items(text, &input)
+}
+
 fn wide_items(alloc: Global, processes: u64) -> anyhow::Result<String> {
     let mut text = String::new(alloc);
     for number in 0..processes {
-        let input = format!(in alloc; "i{number}")?;
-        push_items(&mut text, &input)?;
+        push_items_of(&mut text, alloc, number)?;
     }
     Ok(text)
 }
@@ -82,8 +111,8 @@ fn net_of(alloc: Global, text: &str) -> anyhow::Result<Net> {
     Ok(check(alloc, parse(alloc, text)?)?)
 }
 
-// The shortest time in which this approximation was made.
-fn shortest(
+// The time in which this approximation is made.
+fn micros_of(
     rt: &impl CpuClock,
     alloc: Global,
     net: &Net,
@@ -94,18 +123,39 @@ fn shortest(
         net_check::fits(net, inputs),
         "these inputs are of another network"
     );
+    let start = processor_micros(rt)?;
+    let histories = approx(alloc, net, inputs, n)?;
+    let took = processor_micros(rt)?.saturating_sub(start);
+    anyhow::ensure!(!histories.as_slice().is_empty(), "no history");
+    Ok(took)
+}
+
+// The shortest time in which this approximation was made.
+fn shortest(
+    rt: &impl CpuClock,
+    alloc: Global,
+    net: &Net,
+    inputs: &Inputs,
+    n: u64,
+) -> anyhow::Result<u64> {
     let mut least = u64::MAX;
     for _ in 0..TIMINGS {
-        let start = processor_micros(rt)?;
-        let histories = approx(alloc, net, inputs, n)?;
-        let end = processor_micros(rt)?;
-        anyhow::ensure!(!histories.as_slice().is_empty(), "no history");
-        let took = end.saturating_sub(start);
-        if took < least {
-            least = took;
-        }
+        least = least.min(micros_of(rt, alloc, net, inputs, n)?);
     }
     Ok(least)
+}
+
+// The same for a network and its inputs as texts.
+fn shortest_of(
+    rt: &impl CpuClock,
+    alloc: Global,
+    text: &str,
+    lines: &str,
+    n: u64,
+) -> anyhow::Result<u64> {
+    let net = net_of(alloc, text)?;
+    let inputs = bind(alloc, &net, parse_inputs(alloc, lines)?)?;
+    shortest(rt, alloc, &net, &inputs, n)
 }
 
 // Prints what an approximation took for each item put by those up to it.
@@ -127,30 +177,38 @@ fn print_row(
     Ok(())
 }
 
+fn measure_chain(
+    rt: &(impl Print + CpuClock),
+    alloc: Global,
+    processes: u64,
+) -> anyhow::Result<()> {
+    let text = chain(alloc, processes)?;
+    let lines = chain_items(alloc)?;
+    let micros = shortest_of(rt, alloc, &text, &lines, processes)?;
+    // The n-th approximation has n channels full.
+    let put = ITEMS.saturating_mul(processes.saturating_mul(processes.saturating_add(1)) / 2);
+    print_row(rt, "chain", processes, put, micros)
+}
+
+fn measure_wide(rt: &(impl Print + CpuClock), alloc: Global, processes: u64) -> anyhow::Result<()> {
+    let text = wide(alloc, processes)?;
+    let lines = wide_items(alloc, processes)?;
+    let micros = shortest_of(rt, alloc, &text, &lines, 1)?;
+    print_row(
+        rt,
+        "wide ",
+        processes,
+        ITEMS.saturating_mul(processes),
+        micros,
+    )
+}
+
 pub fn measure(rt: &(impl Print + CpuClock), alloc: Global) -> anyhow::Result<()> {
     for processes in [8_u64, 16, 32, 64] {
-        let net = net_of(alloc, &chain(alloc, processes)?)?;
-        let inputs = bind(alloc, &net, parse_inputs(alloc, &chain_items(alloc)?)?)?;
-        let micros = shortest(rt, alloc, &net, &inputs, processes)?;
-        // The n-th approximation has n channels full.
-        let put = ITEMS.saturating_mul(processes.saturating_mul(processes.saturating_add(1)) / 2);
-        print_row(rt, "chain", processes, put, micros)?;
+        measure_chain(rt, alloc, processes)?;
     }
     for processes in [8_u64, 16, 32, 64] {
-        let net = net_of(alloc, &wide(alloc, processes)?)?;
-        let inputs = bind(
-            alloc,
-            &net,
-            parse_inputs(alloc, &wide_items(alloc, processes)?)?,
-        )?;
-        let micros = shortest(rt, alloc, &net, &inputs, 1)?;
-        print_row(
-            rt,
-            "wide ",
-            processes,
-            ITEMS.saturating_mul(processes),
-            micros,
-        )?;
+        measure_wide(rt, alloc, processes)?;
     }
     Ok(())
 }

@@ -102,24 +102,65 @@ fn written_bytes(store: MemStore) -> anyhow::Result<(usize, usize)> {
     Ok((header, image))
 }
 
+// Takes an image and makes it permanent: the nanoseconds of each.
+fn time_image(
+    rt: &impl CpuClock,
+    alloc: Global,
+    store: &mut MemStore,
+    bytes: &[u8],
+    number: u64,
+) -> anyhow::Result<(u64, u64)> {
+    let image = image_of(alloc, bytes)?;
+    let starting = start(rt, alloc, store, image, number)?;
+    let deciding = decide(rt, alloc, store, number)?;
+    Ok((starting, deciding))
+}
+
+// The nanoseconds of so many images taken and made permanent: of taking each, and of making it permanent.
+fn time_images(
+    rt: &impl CpuClock,
+    alloc: Global,
+    store: &mut MemStore,
+    bytes: &[u8],
+    times: u64,
+) -> anyhow::Result<(u64, u64)> {
+    let mut starting = 0u64;
+    let mut deciding = 0u64;
+    for number in 1..=times {
+        let (taken, decided) = time_image(rt, alloc, store, bytes, number)?;
+        starting = starting.saturating_add(taken);
+        deciding = deciding.saturating_add(decided);
+    }
+    Ok((starting / times.max(1), deciding / times.max(1)))
+}
+
+// The same, and the bytes of the header at the end.
+fn decided(
+    rt: &impl CpuClock,
+    alloc: Global,
+    bytes: &[u8],
+    times: u64,
+) -> anyhow::Result<(u64, u64, usize)> {
+    let mut store = store_of(alloc, bytes)?;
+    let (starting, deciding) = time_images(rt, alloc, &mut store, bytes, times)?;
+    let (header, _) = written_bytes(store)?;
+    Ok((starting, deciding, header))
+}
+
+// The bytes that are written where one image is taken.
+fn started_bytes(rt: &impl CpuClock, alloc: Global, bytes: &[u8]) -> anyhow::Result<usize> {
+    let image = image_of(alloc, bytes)?;
+    let mut store = store_of(alloc, bytes)?;
+    start(rt, alloc, &mut store, image, 1)?;
+    let (header, image) = written_bytes(store)?;
+    Ok(header.saturating_add(image))
+}
+
 fn measure_size(rt: &(impl Print + CpuClock), alloc: Global, items: u32) -> anyhow::Result<()> {
     let times = 200_000 / (u64::from(items) + 100) + 20;
     let bytes = spelling(alloc, items)?;
-    let mut store = store_of(alloc, &bytes)?;
-    let mut starting = 0u64;
-    let mut deciding = 0u64;
-    for number in 1..times + 1 {
-        let image = image_of(alloc, &bytes)?;
-        starting = starting.saturating_add(start(rt, alloc, &mut store, image, number)?);
-        deciding = deciding.saturating_add(decide(rt, alloc, &mut store, number)?);
-    }
-    let (decided, _) = written_bytes(store)?;
-    let mut store = store_of(alloc, &bytes)?;
-    start(rt, alloc, &mut store, image_of(alloc, &bytes)?, 1)?;
-    let (header, image) = written_bytes(store)?;
-    let started = header.saturating_add(image);
-    let starting = starting / times.max(1);
-    let deciding = deciding / times.max(1);
+    let (starting, deciding, decided) = decided(rt, alloc, &bytes, times)?;
+    let started = started_bytes(rt, alloc, &bytes)?;
     println!(rt; "{items} {starting} {started} {deciding} {decided}")?;
     Ok(())
 }

@@ -14,7 +14,7 @@ const MAX_ROUNDS: u64 = 1_000_000;
 const SEED: u64 = 20_251_125;
 
 // What becomes of a packet.
-#[derive(Clone, Copy, Debug, PartialEq, Eq)]
+#[derive(Clone, Copy)]
 enum Fate {
     Comes,
     Lost,

@@ -164,15 +164,26 @@ fn time_items(
     nanos_each(rt, start, 256_000)
 }
 
+// Prints what an item takes where so many packets are in flight to another node.
+fn measure_wire(
+    rt: &(impl Print + CpuClock),
+    alloc: Global,
+    wire: &mut Wire,
+    others: usize,
+) -> anyhow::Result<()> {
+    fill(alloc, wire, others)?;
+    let alone = time_items(rt, alloc, wire, 1)?;
+    println!(rt; "alone {others} {alone}")?;
+    let together = time_items(rt, alloc, wire, 64)?;
+    println!(rt; "together {others} {together}")?;
+    Ok(())
+}
+
 // What is in flight to another node grows: the times should stay.
 fn others_in_flight(rt: &(impl Print + CpuClock), alloc: Global) -> anyhow::Result<()> {
     for others in [10, 1_000, 100_000usize] {
         let mut wire = Wire::new(alloc)?;
-        fill(alloc, &mut wire, others)?;
-        let alone = time_items(rt, alloc, &mut wire, 1)?;
-        println!(rt; "alone {others} {alone}")?;
-        let together = time_items(rt, alloc, &mut wire, 64)?;
-        println!(rt; "together {others} {together}")?;
+        measure_wire(rt, alloc, &mut wire, others)?;
     }
     Ok(())
 }

@@ -13,23 +13,33 @@ fn put_item(out: &mut Vec<u8>, item: i64) -> anyhow::Result<()> {
     Ok(())
 }
 
-/// The bytes of a record of one process, which retains so many items of one output.
-pub fn spelling(alloc: Global, items: u32) -> anyhow::Result<Vec<u8>> {
-    let mut out = Vec::new(alloc);
+fn put_count(out: &mut Vec<u8>, count: u32) -> anyhow::Result<()> {
+    let mut bytes = [0; 4];
+    BigEndian::write_u32(&mut bytes, count);
+    out.extend_from_slice(&bytes)?;
+    Ok(())
+}
+
+fn put_record(out: &mut Vec<u8>, items: u32) -> anyhow::Result<()> {
     // Version, node 0, epoch 0, one node, its entry, no decision.
     out.extend_from_slice(&[1, 0, 0, 0, 0, 0, 0, 0, 0, 0, 1, 0, 0, 0, 0, 0, 0, 0, 0, 0])?;
     // One process, which hasn't begun, and has a variable.
     out.extend_from_slice(&[1, 0, 0, 1, 0, 0, 0, 0, 0, 0, 0, 0])?;
     // One end: channel 0, which is sent to, from base 0.
     out.extend_from_slice(&[0, 1, 0, 0, 1, 0, 0, 0, 0, 0, 0, 0, 0])?;
-    let mut count = [0; 4];
-    BigEndian::write_u32(&mut count, items);
-    out.extend_from_slice(&count)?;
+    put_count(out, items)?;
     for item in 0..items {
-        put_item(&mut out, i64::from(item))?;
+        put_item(out, i64::from(item))?;
     }
     // No tentative image.
     out.push(0)?;
+    Ok(())
+}
+
+/// The bytes of a record of one process, which retains so many items of one output.
+pub fn spelling(alloc: Global, items: u32) -> anyhow::Result<Vec<u8>> {
+    let mut out = Vec::new(alloc);
+    put_record(&mut out, items)?;
     Ok(out)
 }
 

@@ -2,7 +2,7 @@
 
 use crate::clock::processor_micros;
 use net_check::check;
-use net_text::{parse, parse_inputs, tokens};
+use net_text::{NetText, parse, parse_inputs, tokens};
 use std::alloc::Global;
 use std::time::CpuClock;
 
@@ -40,22 +40,37 @@ fn push_nested(text: &mut String) -> anyhow::Result<()> {
     Ok(())
 }
 
+fn push_statements(text: &mut String, statements: usize, nested: bool) -> anyhow::Result<()> {
+    for _ in 0..statements {
+        if nested {
+            push_nested(text)?;
+        } else {
+            push_plain(text)?;
+        }
+    }
+    Ok(())
+}
+
+fn push_process(
+    text: &mut String,
+    number: usize,
+    statements: usize,
+    nested: bool,
+) -> anyhow::Result<()> {
+    write!(
+        text,
+        "input i{number};\noutput o{number};\nprocess p{number} on 0 {{\n  var accumulator;\n  accumulator = get i{number};\n"
+    )?;
+    push_statements(text, statements, nested)?;
+    write!(text, "  put accumulator to o{number};\n}}\n")?;
+    Ok(())
+}
+
 // A network of processes that each have so many statements, and an input and an output of their own.
 fn network(alloc: Global, statements: usize, nested: bool) -> anyhow::Result<String> {
     let mut text = String::from_str(alloc, "kahn 1;\n")?;
     for number in 0..PROCESSES {
-        write!(
-            text,
-            "input i{number};\noutput o{number};\nprocess p{number} on 0 {{\n  var accumulator;\n  accumulator = get i{number};\n"
-        )?;
-        for _ in 0..statements {
-            if nested {
-                push_nested(&mut text)?;
-            } else {
-                push_plain(&mut text)?;
-            }
-        }
-        write!(text, "  put accumulator to o{number};\n}}\n")?;
+        push_process(&mut text, number, statements, nested)?;
     }
     Ok(text)
 }
@@ -86,12 +101,100 @@ fn print_row(
     Ok(())
 }
 
-// The shortest time in which this reading was made.
-fn shortest(before: Option<u64>, now: u64) -> u64 {
-    match before {
-        None => now,
-        Some(before) => if now < before { now } else { before },
+// What the readings of one text took.
+#[derive(Clone, Copy, Debug)]
+struct Micros {
+    tokens: u64,
+    parse: u64,
+    check: u64,
+}
+
+impl Micros {
+    // The shorter of each two.
+    fn min_of(self, other: Micros) -> Micros {
+        Micros {
+            tokens: self.tokens.min(other.tokens),
+            parse: self.parse.min(other.parse),
+            check: self.check.min(other.check),
+        }
     }
+}
+
+fn micros_of_tokens(
+    rt: &impl CpuClock,
+    alloc: Global,
+    text: &str,
+    statements: usize,
+) -> anyhow::Result<u64> {
+    let start = processor_micros(rt)?;
+    let cut = tokens(alloc, text)?;
+    let took = processor_micros(rt)?.saturating_sub(start);
+    anyhow::ensure!(cut.len() > statements, "tokens are missing");
+    Ok(took)
+}
+
+fn micros_of_check(rt: &impl CpuClock, alloc: Global, tree: NetText) -> anyhow::Result<u64> {
+    let start = processor_micros(rt)?;
+    let net = check(alloc, tree)?;
+    let took = processor_micros(rt)?.saturating_sub(start);
+    anyhow::ensure!(
+        net.program.processes.len() == PROCESSES,
+        "processes are missing"
+    );
+    Ok(took)
+}
+
+// What one reading of a network's text took.
+fn reading(
+    rt: &impl CpuClock,
+    alloc: Global,
+    text: &str,
+    statements: usize,
+) -> anyhow::Result<Micros> {
+    let tokens = micros_of_tokens(rt, alloc, text, statements)?;
+    let start = processor_micros(rt)?;
+    let tree = parse(alloc, text)?;
+    let parse = processor_micros(rt)?.saturating_sub(start);
+    let check = micros_of_check(rt, alloc, tree)?;
+    Ok(Micros {
+        tokens,
+        parse,
+        check,
+    })
+}
+
+// The shortest times in which a network's text was read.
+fn shortest(
+    rt: &impl CpuClock,
+    alloc: Global,
+    text: &str,
+    statements: usize,
+) -> anyhow::Result<Micros> {
+    let mut least = reading(rt, alloc, text, statements)?;
+    for _ in 1..READINGS {
+        least = least.min_of(reading(rt, alloc, text, statements)?);
+    }
+    Ok(least)
+}
+
+fn print_rows(rt: &impl Print, len: usize, now: Micros, before: Micros) -> anyhow::Result<()> {
+    print_row(rt, "tokens      ", len, now.tokens, before.tokens)?;
+    print_row(rt, "parse       ", len, now.parse, before.parse)?;
+    print_row(rt, "check       ", len, now.check, before.check)
+}
+
+// Prints what the text of so many statements took. Gives that.
+fn measure_network(
+    rt: &(impl Print + CpuClock),
+    alloc: Global,
+    statements: usize,
+    nested: bool,
+    before: Micros,
+) -> anyhow::Result<Micros> {
+    let text = network(alloc, statements, nested)?;
+    let now = shortest(rt, alloc, &text, statements)?;
+    print_rows(rt, text.len(), now, before)?;
+    Ok(now)
 }
 
 fn networks(
@@ -102,58 +205,50 @@ fn networks(
     nested: bool,
 ) -> anyhow::Result<()> {
     println!(rt; "{what}")?;
-    let mut tokens_before = 0;
-    let mut parse_before = 0;
-    let mut check_before = 0;
+    let mut before = Micros {
+        tokens: 0,
+        parse: 0,
+        check: 0,
+    };
     for times in [1, 2, 4_usize] {
-        let text = network(alloc, statements.saturating_mul(times), nested)?;
-        let mut tokens_now = None;
-        let mut parse_now = None;
-        let mut check_now = None;
-        for _ in 0..READINGS {
-            let start = processor_micros(rt)?;
-            let cut = tokens(alloc, &text)?;
-            let cut_end = processor_micros(rt)?;
-            let tree = parse(alloc, &text)?;
-            let parse_end = processor_micros(rt)?;
-            let net = check(alloc, tree)?;
-            let check_end = processor_micros(rt)?;
-            anyhow::ensure!(cut.len() > statements, "tokens are missing");
-            anyhow::ensure!(
-                net.program.processes.len() == PROCESSES,
-                "processes are missing"
-            );
-            tokens_now = Some(shortest(tokens_now, cut_end.saturating_sub(start)));
-            parse_now = Some(shortest(parse_now, parse_end.saturating_sub(cut_end)));
-            check_now = Some(shortest(check_now, check_end.saturating_sub(parse_end)));
-        }
-        let (tokens_now, parse_now) = (tokens_now.unwrap_or(0), parse_now.unwrap_or(0));
-        let check_now = check_now.unwrap_or(0);
-        print_row(rt, "tokens      ", text.len(), tokens_now, tokens_before)?;
-        print_row(rt, "parse       ", text.len(), parse_now, parse_before)?;
-        print_row(rt, "check       ", text.len(), check_now, check_before)?;
-        tokens_before = tokens_now;
-        parse_before = parse_now;
-        check_before = check_now;
+        before = measure_network(rt, alloc, statements.saturating_mul(times), nested, before)?;
     }
     Ok(())
+}
+
+fn micros_of_inputs(rt: &impl CpuClock, alloc: Global, text: &str) -> anyhow::Result<u64> {
+    let start = processor_micros(rt)?;
+    let lines = parse_inputs(alloc, text)?;
+    let took = processor_micros(rt)?.saturating_sub(start);
+    anyhow::ensure!(lines.lines.len() == 1, "lines are missing");
+    Ok(took)
+}
+
+fn shortest_of_inputs(rt: &impl CpuClock, alloc: Global, text: &str) -> anyhow::Result<u64> {
+    let mut least = u64::MAX;
+    for _ in 0..READINGS {
+        least = least.min(micros_of_inputs(rt, alloc, text)?);
+    }
+    Ok(least)
+}
+
+// Prints what a line of so many items took. Gives that.
+fn measure_inputs(
+    rt: &(impl Print + CpuClock),
+    alloc: Global,
+    items: usize,
+    before: u64,
+) -> anyhow::Result<u64> {
+    let text = inputs(alloc, items)?;
+    let now = shortest_of_inputs(rt, alloc, &text)?;
+    print_row(rt, "parse_inputs", text.len(), now, before)?;
+    Ok(now)
 }
 
 fn input_lines(rt: &(impl Print + CpuClock), alloc: Global) -> anyhow::Result<()> {
     let mut before = 0;
     for items in [ITEMS, 2 * ITEMS, 4 * ITEMS] {
-        let text = inputs(alloc, items)?;
-        let mut now = None;
-        for _ in 0..READINGS {
-            let start = processor_micros(rt)?;
-            let lines = parse_inputs(alloc, &text)?;
-            let end = processor_micros(rt)?;
-            anyhow::ensure!(lines.lines.len() == 1, "lines are missing");
-            now = Some(shortest(now, end.saturating_sub(start)));
-        }
-        let now = now.unwrap_or(0);
-        print_row(rt, "parse_inputs", text.len(), now, before)?;
-        before = now;
+        before = measure_inputs(rt, alloc, items, before)?;
     }
     Ok(())
 }

@@ -5,7 +5,7 @@ use anyhow::Context;
 use std::alloc::Global;
 
 /// A line of the table, counted from 1.
-#[derive(Clone, Copy, Debug)]
+#[derive(Clone, Copy)]
 pub struct Line<'a> {
     pub number: usize,
     pub text: &'a str,

@@ -9,7 +9,7 @@ ghost use Rattle.fail_script.specs.Reading.{has_form};
 use std::alloc::{AllocError, Global};
 
 /// What a line's words are, behind its round.
-#[derive(Clone, Copy, Debug, PartialEq, Eq)]
+#[derive(Clone, Copy)]
 pub enum Form {
     Lose,
     Repeat,

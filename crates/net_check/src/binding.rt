@@ -33,7 +33,7 @@ fn find_input(net: &Net, name: &Name) -> Option<usize>
 }
 
 /// The lists so far, and which channels have been named.
-#[derive(Debug, Drop)]
+#[derive(Drop)]
 struct Binding {
     lists: Vec<History>,
     named: Vec<bool>,

@@ -13,7 +13,7 @@ use net_text::{ChannelText, Declaration, NetText, ProcessText, VariableText};
 use std::alloc::Global;
 
 /// The channels and processes of a text.
-#[derive(Debug, Drop)]
+#[derive(Drop)]
 pub(crate) struct Declared {
     pub channels: Vec<ChannelText>,
     pub processes: Vec<ProcessText>,

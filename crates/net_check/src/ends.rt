@@ -16,7 +16,7 @@ use std::alloc::{AllocError, Global};
 use std::marker::Model;
 
 /// What stands at one end of each channel: its producer, or its consumer.
-#[derive(Debug, Drop)]
+#[derive(Drop)]
 pub(crate) struct Ports {
     ports: Vec<Port>,
 }
@@ -66,7 +66,7 @@ impl Ports {
 }
 
 /// What the names in a process may mean, and the process's number.
-#[derive(Clone, Copy, Debug)]
+#[derive(Clone, Copy)]
 pub(crate) struct Scope<'a> {
     pub channels: &'a [ChannelText],
     pub variables: &'a [VariableText],
@@ -89,7 +89,7 @@ impl Scope<'_> {
 }
 
 /// What stands at both ends of each channel.
-#[derive(Debug, Drop)]
+#[derive(Drop)]
 pub(crate) struct Ends {
     pub producers: Ports,
     pub consumers: Ports,

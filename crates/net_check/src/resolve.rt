@@ -225,7 +225,7 @@ fn resolve_process(
 }
 
 /// The processes of a text by number, and what stands at the ends of its channels.
-#[derive(Debug, Drop)]
+#[derive(Drop)]
 pub(crate) struct Resolved {
     pub processes: Vec<Process>,
     pub ends: Ends,

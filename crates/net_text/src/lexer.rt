@@ -16,7 +16,7 @@ use crate::token::{Keyword, Symbol, Token, TokenKind};
 use std::alloc::{AllocError, Global};
 
 /// How the reading of a text's tokens ends.
-#[derive(Clone, Copy, Debug)]
+#[derive(Clone, Copy)]
 pub(crate) enum End {
     /// At the end of the text, which stands on this line.
     Text { line: usize },
@@ -25,14 +25,14 @@ pub(crate) enum End {
 }
 
 /// The tokens of a text up to its end, or up to the first that is bad.
-#[derive(Debug, Drop)]
+#[derive(Drop)]
 pub(crate) struct Reading<'a> {
     pub tokens: Vec<Token<'a>>,
     pub end: End,
 }
 
 // The longest token at a place may be one of these, with names and numbers past their limits among them.
-#[derive(Clone, Copy, Debug)]
+#[derive(Clone, Copy)]
 enum Shape {
     Word,
     Numeral,

@@ -24,7 +24,7 @@ use std::alloc::{AllocError, AllocFailed, Global};
 use std::marker::Model;
 
 /// Where the tokens can't go on.
-#[derive(Clone, Copy, Debug, PartialEq, Eq)]
+#[derive(Clone, Copy)]
 pub(crate) enum Stuck {
     /// At a token on this line.
     At { line: usize },
@@ -37,14 +37,14 @@ pub(crate) enum Stuck {
 }
 
 /// Why nothing is read.
-#[derive(Clone, Copy, Debug)]
+#[derive(Clone, Copy)]
 pub(crate) enum ParseError {
     NoMemory,
     Stuck(Stuck),
 }
 
 /// How tightly an operator binds.
-#[derive(Clone, Copy, Debug, PartialEq, Eq)]
+#[derive(Clone, Copy)]
 pub(crate) enum Level {
     Product,
     Sum,

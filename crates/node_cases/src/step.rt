@@ -16,7 +16,7 @@ pub enum Brought {
 }
 
 /// An event of the node by itself.
-#[derive(Clone, Copy, Debug)]
+#[derive(Clone, Copy)]
 pub enum Event {
     Grant,
     Start(u64),
@@ -27,7 +27,7 @@ pub enum Event {
 }
 
 /// What is asked of a node. It changes nothing.
-#[derive(Clone, Copy, Debug)]
+#[derive(Clone, Copy)]
 pub enum Question {
     HasJob,
     Packets,

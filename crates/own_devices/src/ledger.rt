@@ -6,7 +6,7 @@ use outlet::{Outlet, OutletFault};
 use std::alloc::Global;
 
 /// When a ledger fails: once, at the item that comes next when it has so many.
-#[derive(Clone, Copy, Debug, PartialEq, Eq)]
+#[derive(Clone, Copy, PartialEq, Eq)]
 pub enum Weakness {
     /// It never fails.
     None,

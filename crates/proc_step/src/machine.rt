@@ -12,7 +12,7 @@ use std::alloc::AllocError;
 use stream_eq::{Unread, operate, set_variable, take_item};
 
 /// How a process stopped.
-#[derive(Clone, Copy, Debug, PartialEq, Eq)]
+#[derive(Clone, Copy)]
 pub enum Flow {
     /// Past its last statement.
     RanOut,
@@ -23,7 +23,7 @@ pub enum Flow {
 }
 
 /// What comes behind an instruction.
-#[derive(Clone, Copy, Debug, PartialEq, Eq)]
+#[derive(Clone, Copy)]
 pub enum Next {
     /// The instruction at this place.
     Goes(usize),

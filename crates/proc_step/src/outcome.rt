@@ -19,7 +19,7 @@ use std::alloc::{AllocError, Global};
 use stream_eq::{Unread, all_unread};
 
 /// What a turn came to.
-#[derive(Debug, Drop)]
+#[derive(Drop)]
 pub struct Outcome {
     pub state: ProcState,
     /// How many items were taken from each channel.
@@ -67,7 +67,7 @@ fn passes_of(alloc: Global, mode: &Mode, nesting: usize) -> Result<Vec<u16>, All
 }
 
 /// How a process stopped in a turn, and how many items it took from each channel.
-#[derive(Debug, Drop)]
+#[derive(Drop)]
 struct Stop {
     flow: Flow,
     taken: Vec<usize>,

@@ -62,7 +62,7 @@ impl Read for Reader<'_> {
 }
 
 /// What a writer takes: everything, or so many bytes before it fails.
-#[derive(Clone, Copy, Debug, PartialEq, Eq)]
+#[derive(Clone, Copy)]
 pub struct Taking {
     pub room: Option<usize>,
     pub fails_at_flush: bool,

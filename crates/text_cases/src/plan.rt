@@ -11,7 +11,7 @@ use std::alloc::Global;
 use std::io::ErrorKind;
 
 /// The text of a case to which the next lines belong.
-#[derive(Clone, Copy, Debug, PartialEq, Eq)]
+#[derive(Clone, Copy)]
 pub enum Part {
     Net,
     Inputs,

@@ -9,7 +9,7 @@ use std::alloc::Global;
 use std::sync::Arc;
 
 /// What each line asks.
-#[derive(Clone, Copy, Debug, PartialEq, Eq)]
+#[derive(Clone, Copy)]
 pub enum Question {
     /// What a turn of the first process comes to.
     Turn,

@@ -15,7 +15,7 @@ pub struct Closed {
 }
 
 /// What is asked of it.
-#[derive(Clone, Copy, Debug)]
+#[derive(Clone, Copy)]
 pub enum ClosedQuestion {
     /// The device calls of a node's disk since it was formatted.
     Calls(usize),

@@ -77,7 +77,7 @@ use case_table::{Case, Difference, Table, Trial, read, run_cases, run_wrong_case
 use std::alloc::Global;
 
 /// Each case is of a world.
-#[derive(Clone, Copy, Debug)]
+#[derive(Clone, Copy)]
 struct Worlds;
 
 impl Trial for Worlds {

@@ -12,7 +12,7 @@ use std::alloc::{AllocError, Global};
 const MAX_ITEMS: usize = 100_000;
 
 /// A failure that is prepared on a node's disk before the world is made.
-#[derive(Clone, Copy, Debug)]
+#[derive(Clone, Copy)]
 pub struct EarlyFault {
     pub node: usize,
     pub fault: ArmedFault,

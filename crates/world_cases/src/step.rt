@@ -18,7 +18,7 @@ pub enum Brought {
 }
 
 /// What is asked of a world. It changes nothing.
-#[derive(Clone, Copy, Debug)]
+#[derive(Clone, Copy)]
 pub enum Question {
     Pick(u8),
     Released(u8),

@@ -1,3 +1,4 @@
+use Rattle.std.proofs.lemmas.Grind.{pieces}
 use Rattle.std.proofs.Common.{◌≤◌, inl, sym, ◌∙◌, ap, subst, arith}
 use Rattle.std.proofs.lemmas.Bool.{false≢true}
 use Rattle.gate_cell.specs.Whole.{LeftByFill}
@@ -147,3 +148,9 @@ returns-clause-any_moment g c =
     (fill_run _ _ _ _ _ _ s D.moment D.left_since (D.may_leave old) old new stays
     c.write_through.ensures.any_moment) in
     record { later = up.later; each = up.each; before = up.before; keeps = up.keeps }
+
+pub returns-in_err-write_through-clause-same_setup : goal.returns-in_err-write_through-clause-same_setup
+returns-in_err-write_through-clause-same_setup g c = search (pieces, arith) depth 5 fits 300
+
+pub returns-clause-same_setup : goal.returns-clause-same_setup
+returns-clause-same_setup g c = search (pieces, arith) depth 5 fits 300

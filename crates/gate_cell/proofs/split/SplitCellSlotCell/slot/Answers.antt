@@ -101,3 +101,46 @@ returns-clause-same_setup g c =
       same_faults = c.look-2.ensures.setup.same_faults ∙ c.look.ensures.setup.same_faults;
       counts_on = omega (arith, c.look-2.ensures.calls, c.look.ensures.calls, g.met.D.Disk.is_countable old);
     }
+
+pub returns-in_err-look-clause-beside : goal.returns-in_err-look-clause-beside
+returns-in_err-look-clause-beside g c =
+    let D = g.D.Disk in
+    let old = c.args.self.now.disk in
+    let new = c.look.new.disk in
+    let looks = c.look.ensures.looks in
+    let same = c.look.ensures.setup.same_sectors in
+    let up = lifted_quiet whole_on D.moment D.left_since D.sector_count old new same D.may_leave looks.any_moment in
+    record {
+      same = ap (λ n. whole_on n (D.content new)) same ∙ ap (whole_on (D.sector_count old)) looks.quiet.same;
+      same_slot_room = ap slot_room_on same;
+      any_moment = record { later = up.later; each = up.each; before = up.before; keeps = up.keeps };
+    }
+
+pub returns-then-len-slot_room_of-clause-same_setup : goal.returns-then-len-slot_room_of-clause-same_setup
+returns-then-len-slot_room_of-clause-same_setup g c =
+    record {
+      same_room = refl;
+      same_faults = c.look.ensures.setup.same_faults;
+      counts_on = omega (arith, c.look.ensures.calls, g.met.D.Disk.is_countable c.args.self.now.disk);
+    }
+
+pub returns-in_err-frame-clause-same_setup : goal.returns-in_err-frame-clause-same_setup
+returns-in_err-frame-clause-same_setup g c =
+    record {
+      same_room = refl;
+      same_faults = c.look.ensures.setup.same_faults;
+      counts_on = omega (arith, c.look.ensures.calls, g.met.D.Disk.is_countable c.args.self.now.disk);
+    }
+
+pub returns-in_err-look-2-clause-same_setup : goal.returns-in_err-look-2-clause-same_setup
+returns-in_err-look-2-clause-same_setup g c =
+    record {
+      same_room = refl;
+      same_faults = c.look-2.ensures.setup.same_faults ∙ c.look.ensures.setup.same_faults;
+      counts_on = omega (
+        arith,
+        c.look-2.ensures.calls,
+        c.look.ensures.calls,
+        g.met.D.Disk.is_countable c.args.self.now.disk,
+      );
+    }

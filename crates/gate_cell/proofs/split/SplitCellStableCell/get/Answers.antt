@@ -1,3 +1,4 @@
+use Rattle.std.proofs.lemmas.Grind.{pieces}
 use Rattle.std.proofs.Common.{◌∙◌, ap, arith}
 use Rattle.std.proofs.lemmas.List.{with_items_is}
 use Rattle.gate_cell.specs.SplitLayout.{slot_room_on, header_on, whole_on}
@@ -56,3 +57,9 @@ returns-clause-value g c =
     (with_items_is c.in_ok-frame.frame c.look.new.into (c.look.auto.into ∙ c.deref_mut.ensures.len))
     c.in_ok-look.ensures.bytes
     c.unframed.ensures
+
+pub returns-in_err-frame-clause-any_moment : goal.returns-in_err-frame-clause-any_moment
+returns-in_err-frame-clause-any_moment g c = search (pieces, arith) depth 5 fits 300
+
+pub returns-clause-same_setup : goal.returns-clause-same_setup
+returns-clause-same_setup g c = search (pieces, arith) depth 5 fits 300
