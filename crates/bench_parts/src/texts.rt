@@ -102,7 +102,7 @@ fn print_row(
 }
 
 // What the readings of one text took.
-#[derive(Clone, Copy, Debug)]
+#[derive(Clone, Copy)]
 struct Micros {
     tokens: u64,
     parse: u64,
