@@ -13,6 +13,7 @@ pub mod Headers
 pub mod Exactness
 mod Spelled
 mod Walking
+mod Bulk
 pub mod Sizes
 mod Fitting
 mod Testing

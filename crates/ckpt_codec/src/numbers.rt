@@ -1,7 +1,6 @@
 // Numbers and items, put behind bytes.
-ghost use Rattle.std.specs.Prelude.{◌≡◌, ◌++◌, OnOk, FitsSigned};
+ghost use Rattle.std.specs.Prelude.{◌≡◌, ◌+◌, ◌*◌, ◌++◌, OnOk, FitsSigned, length, take};
 ghost use Rattle.std.specs.Int.{w64};
-ghost use Rattle.std.specs.Option.{option_to_list};
 ghost use Rattle.ckpt_codec.specs.Fields.{number_text};
 ghost use Rattle.ckpt_codec.specs.Spelling.{item_text, items_text, AreItems, highest_text, participants_text, passes_text};
 
@@ -47,35 +46,40 @@ pub(crate) fn put_u64(out: &mut Vec<u8>, number: u64) -> Result<(), AllocError>
     Ok(())
 }
 
-#[tactic(auto, unfolding(crate::specs::Fields::number_text, crate::specs::Spelling::item_text))]
-fn put_item(out: &mut Vec<u8>, item: &i64) -> Result<(), AllocError>
-    ensures put { OnOk result (out.new.items ≡ out.old.items ++ item_text item.now) }
-    ensures fits { FitsSigned w64 item.now }
+// An item is a number of 64 bits, as its type says.
+fn note_item(item: &i64)
+    ensures { FitsSigned w64 item.now }
 {
-    let mut bytes = [0; 8];
-    BigEndian::write_i64(&mut bytes, *item);
-    out.extend_from_slice(&bytes)?;
-    Ok(())
+    let _item = *item;
+}
+
+// So is each of these. (The compiler leaves nothing of the loop.)
+fn note_items(items: &[i64])
+    ensures { AreItems items.now }
+{
+    for item in items {
+        note_item(item);
+    }
+}
+
+// Writes all these items behind the first bytes.
+fn write_items(bytes: &mut [u8], start: usize, items: &[i64])
+    requires fit { AreItems items.now }
+    requires room { length bytes.old ≡ start + 8 * length items.now }
+    ensures { bytes.new ≡ take start bytes.old ++ items_text items.now }
+{
+    BigEndian::write_i64_into(items, &mut bytes[start..]);
 }
 
 pub(crate) fn put_items(out: &mut Vec<u8>, items: &[i64]) -> Result<(), AllocError>
     ensures put { OnOk result (out.new.items ≡ out.old.items ++ items_text items.now) }
     ensures fit { OnOk result (AreItems items.now) }
 {
-    for item in items {
-        put_item(out, item)?;
-    }
+    note_items(items);
+    let start = out.len();
+    out.resize(start + 8 * items.len(), 0)?;
+    write_items(out.as_mut_slice(), start, items);
     Ok(())
-}
-
-fn put_some(out: &mut Vec<u8>, item: Option<i64>) -> Result<(), AllocError>
-    ensures put { OnOk result (out.new.items ≡ out.old.items ++ items_text (option_to_list item)) }
-    ensures fit { OnOk result (AreItems (option_to_list item)) }
-{
-    match item {
-        Some(item) => put_item(out, &item),
-        None => Ok(()),
-    }
 }
 
 // The items of a log, from its base to its end.
@@ -83,10 +87,9 @@ pub(crate) fn put_log_items(out: &mut Vec<u8>, log: &Log) -> Result<(), AllocErr
     ensures put { OnOk result (out.new.items ≡ out.old.items ++ items_text log.now.items) }
     ensures fit { OnOk result (AreItems log.now.items) }
 {
-    for position in log.base()..log.end() {
-        put_some(out, log.get(position))?;
-    }
-    Ok(())
+    let (first, last) = log.as_slices();
+    put_items(out, first)?;
+    put_items(out, last)
 }
 
 pub(crate) fn put_highest(out: &mut Vec<u8>, highest: &[u64]) -> Result<(), AllocError>

@@ -203,11 +203,18 @@ impl Log {
         self.items.is_empty()
     }
 
+    /// The items, oldest first: those of the first slice, and then those of the second.
+    pub fn as_slices(&self) -> (&[i64], &[i64])
+        ensures { result.0.now ++ result.1.now ≡ self.now.items }
+    {
+        self.items.as_slices()
+    }
+
     /// The same log once more, in memory of its own.
     pub fn copy(&self, alloc: Global) -> Result<Log, AllocError>
         ensures { IfOk result (λ copy. copy ≡ self.now) }
     {
-        let (first, last) = self.items.as_slices();
+        let (first, last) = self.as_slices();
         let mut items = Vec::from_slice(alloc, first)?;
         items.extend_from_slice(last)?;
         Ok(Log {
