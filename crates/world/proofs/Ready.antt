@@ -1,5 +1,5 @@
 -- What is ready to be sent, and what of it is.
-use Rattle.std.proofs.Common.{◌≡◌, ℕ, ◌<◌, Bool, true, false, List, [], map, refl, sym, ap, subst, ◌∙◌, All, length}
+use Rattle.std.proofs.Common.{◌≡◌, ℕ, ◌<◌, Bool, true, false, List, [], Option, Some, None, map, refl, sym, ap, subst, ◌∙◌, All, length}
 use Rattle.std.specs.Prelude.{nat_lt}
 use Rattle.std.specs.List.{AllZip}
 use Rattle.datagram.specs.PacketText.{IsPacket}
@@ -32,10 +32,12 @@ pub all_writable : (packets : List Packet) → All IsPacket packets → All IsWr
 all_writable packets all k d within fits = all k d within
 
 -- what is ready stays so, where the same is in flight and there is no less room
-pub still_ready : (old new : WireState) (round : ℕ) (sendings : List Sending) (batch : List QueueState)
+pub still_ready : (old new : WireState) (round : ℕ) (sendings : List Sending) (batch : Option (List QueueState))
     → traffic_of new ≡ traffic_of old → AllZip HasNoLessRoom old.queues new.queues
     → IsReadyFor old round sendings batch → IsReadyFor new round sendings batch
-still_ready old new round sendings batch same more ready = record {
+still_ready old new round sendings None same more ready =
+    record { nodes = ready.nodes; staged = ready.staged; room = tt }
+still_ready old new round sendings (Some batch) same more ready = record {
   nodes = ready.nodes;
   staged = subst (λ (t : Traffic). IsStaged t round sendings batch) (sym same) ready.staged;
   room = still_room old.queues new.queues batch more ready.room;

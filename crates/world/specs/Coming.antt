@@ -1,5 +1,5 @@
 -- How an event at a station came out, with what is in flight before it and behind it.
-use Rattle.std.specs.Prelude.{◌≡◌, ℕ, Bool, if◌then◌else◌, List, [], map, Some, All, slice_get}
+use Rattle.std.specs.Prelude.{◌≡◌, ℕ, Bool, if◌then◌else◌, List, [], map, Option, Some, None, All, slice_get}
 use Rattle.std.specs.List.{AllZip}
 use Rattle.datagram.specs.PacketText.{IsPacket}
 use Rattle.record.specs.RecordView.{RecordView}
@@ -23,11 +23,22 @@ use Rattle.protocol.specs.declared.outcome.Refusal.TheVariants.{TooLarge, Spent}
 
 -- ---- what is ready to be sent
 
+-- these were made ready to be sent; no batch is made of none
+abbrev pub IsStagedIn : Traffic → ℕ → List Sending → Option (List QueueState) → Type 0
+IsStagedIn traffic round sendings None = sendings ≡ []
+IsStagedIn traffic round sendings (Some batch) = IsStaged traffic round sendings batch
+
+-- there is memory for a batch, if there is one
+abbrev pub HasRoomIn : List QueueState → Option (List QueueState) → Type 0
+HasRoomIn queues None = Unit {0}
+HasRoomIn queues (Some batch) = AllZip HasRoom queues batch
+
 -- these are ready to be sent in a round, and there is room for them
-pub record IsReadyFor (wire : WireState) (round : ℕ) (sendings : List Sending) (batch : List QueueState) : Type 0 where
+pub record IsReadyFor (wire : WireState) (round : ℕ) (sendings : List Sending)
+    (batch : Option (List QueueState)) : Type 0 where
   pub nodes : All AreNodes sendings
-  pub staged : IsStaged (traffic_of wire) round sendings batch
-  pub room : AllZip HasRoom wire.queues batch
+  pub staged : IsStagedIn (traffic_of wire) round sendings batch
+  pub room : HasRoomIn wire.queues batch
 
 -- what is sent where an event came out so: this where it is made, and that where its record is too large
 abbrev pub sent_then : {A : Type 0} → Outcome → List A → List A → List A

@@ -6,10 +6,10 @@ ghost use Rattle.datagram.specs.PacketText.{IsPacket};
 ghost use Rattle.protocol.specs.Node.Sending.{FitsItem, IsWritable};
 ghost use Rattle.protocol.specs.World.Replies.{act_reply, has_happened};
 ghost use Rattle.protocol.specs.World.Steps.{due_bytes, sending_of};
-ghost use Rattle.world.specs.Coming.{IsReadyFor, sent_then, taken_by};
+ghost use Rattle.world.specs.Coming.{HasRoomIn, IsReadyFor, IsStagedIn, sent_then, taken_by};
 ghost use Rattle.world.specs.ReplyView.{reply_view};
 ghost use Rattle.wire.specs.Queue.{is_due};
-ghost use Rattle.wire.specs.Staging.{HasNoLessRoom, HasRoom, IsStaged};
+ghost use Rattle.wire.specs.Staging.{HasNoLessRoom};
 ghost use Rattle.wire.specs.Traffic.{AreNodes, all_sent, flights_to, traffic_armed, traffic_of, traffic_delayed, traffic_repeated, traffic_without};
 ghost use Rattle.wire.specs.declared.sending.Sending.{Sending as SendingValue};
 ghost use Rattle.wire.specs.Wire.{in_flight};
@@ -170,30 +170,33 @@ pub(crate) fn spell_all(alloc: Global, packets: &[Packet]) -> Result<Vec<Sending
     Ok(sendings)
 }
 
-// These packets are made ready to be sent in this round, with room for them. The same is in flight as before, and room that
-// there was is there.
+// These packets are made ready to be sent in this round, with room for them; nothing is made of none. The same is in flight as
+// before, and room that there was is there.
 fn make_ready(
     alloc: Global,
     wire: &mut Wire,
     packets: &[Packet],
     round: u64,
-) -> Result<Batch, AllocError>
+) -> Result<Option<Batch>, AllocError>
     requires { All IsWritable packets.now }
     ensures same { traffic_of wire.new ≡ traffic_of wire.old }
     ensures more { OnOk result (AllZip HasNoLessRoom wire.old.queues wire.new.queues) }
     ensures ready { IfOk result (λ batch. IsReadyFor wire.new round (map sending_of packets.now) batch) }
 {
+    if packets.is_empty() {
+        return Ok(None);
+    }
     let sendings = spell_all(alloc, packets)?;
     let batch = wire.stage(alloc, sendings, round)?;
     wire.make_room(&batch)?;
-    Ok(batch)
+    Ok(Some(batch))
 }
 
 /// What an event sends where it is made, and where its record is too large: made ready, with room for each.
 #[derive(Drop)]
 pub(crate) struct Ready {
-    made: Batch,
-    declined: Batch,
+    made: Option<Batch>,
+    declined: Option<Batch>,
 }
 
 /// What is said is made ready to be sent in this round. The same is in flight as before. Refuses for want of memory alone: so an
@@ -217,18 +220,46 @@ pub(crate) fn prepare(
     Ok(Ready { made, declined })
 }
 
+// Sends a batch, if there is one.
+fn send(wire: &mut Wire, batch: Option<Batch>)
+    requires { HasRoomIn wire.old.queues batch }
+    ensures { (round : ℕ) (packets : List SendingValue) → All AreNodes packets
+        → IsStagedIn (traffic_of wire.old) round packets batch
+        → traffic_of wire.new ≡ all_sent round packets (traffic_of wire.old) }
+{
+    if let Some(batch) = batch {
+        wire.send_batch(batch);
+    }
+}
+
+// The packet at a place is gone, and a batch is sent, if there is one.
+fn lose_and_send(wire: &mut Wire, to: u8, place: usize, batch: Option<Batch>)
+    requires node { to < NODES }
+    requires there { place < length (in_flight wire.old to) }
+    requires room { HasRoomIn wire.old.queues batch }
+    ensures { (round : ℕ) (packets : List SendingValue) → All AreNodes packets
+        → IsStagedIn (traffic_of wire.old) round packets batch
+        → traffic_of wire.new
+        ≡ all_sent round packets (traffic_without (traffic_of wire.old) to place) }
+{
+    match batch {
+        Some(batch) => wire.lose_and_send(to, place, batch),
+        None => wire.lose(to, place),
+    }
+}
+
 /// Sends what is ready, by what came of the event.
 pub(crate) fn send_by(wire: &mut Wire, ready: Ready, outcome: Outcome)
-    requires made { AllZip HasRoom wire.old.queues ready.made }
-    requires declined { AllZip HasRoom wire.old.queues ready.declined }
+    requires made { HasRoomIn wire.old.queues ready.made }
+    requires declined { HasRoomIn wire.old.queues ready.declined }
     ensures { (round : ℕ) (made declined : List SendingValue) → All AreNodes made
-        → All AreNodes declined → IsStaged (traffic_of wire.old) round made ready.made
-        → IsStaged (traffic_of wire.old) round declined ready.declined
+        → All AreNodes declined → IsStagedIn (traffic_of wire.old) round made ready.made
+        → IsStagedIn (traffic_of wire.old) round declined ready.declined
         → traffic_of wire.new ≡ all_sent round (sent_then outcome made declined) (traffic_of wire.old) }
 {
     match outcome {
-        Outcome::Made => wire.send_batch(ready.made),
-        Outcome::Refused(Refusal::TooLarge) => wire.send_batch(ready.declined),
+        Outcome::Made => send(wire, ready.made),
+        Outcome::Refused(Refusal::TooLarge) => send(wire, ready.declined),
         Outcome::NotDue | Outcome::Refused(Refusal::Spent) | Outcome::Failed => {}
     }
 }
@@ -237,17 +268,17 @@ pub(crate) fn send_by(wire: &mut Wire, ready: Ready, outcome: Outcome)
 pub(crate) fn take_by(wire: &mut Wire, to: u8, place: usize, ready: Ready, outcome: Outcome)
     requires node { to < NODES }
     requires there { place < length (in_flight wire.old to) }
-    requires made { AllZip HasRoom wire.old.queues ready.made }
-    requires declined { AllZip HasRoom wire.old.queues ready.declined }
+    requires made { HasRoomIn wire.old.queues ready.made }
+    requires declined { HasRoomIn wire.old.queues ready.declined }
     ensures { (round : ℕ) (made declined : List SendingValue) → All AreNodes made
-        → All AreNodes declined → IsStaged (traffic_of wire.old) round made ready.made
-        → IsStaged (traffic_of wire.old) round declined ready.declined
+        → All AreNodes declined → IsStagedIn (traffic_of wire.old) round made ready.made
+        → IsStagedIn (traffic_of wire.old) round declined ready.declined
         → traffic_of wire.new ≡ all_sent round (sent_then outcome made declined)
         (taken_by outcome (traffic_of wire.old) to place) }
 {
     match outcome {
-        Outcome::Made => wire.lose_and_send(to, place, ready.made),
-        Outcome::Refused(Refusal::TooLarge) => wire.lose_and_send(to, place, ready.declined),
+        Outcome::Made => lose_and_send(wire, to, place, ready.made),
+        Outcome::Refused(Refusal::TooLarge) => lose_and_send(wire, to, place, ready.declined),
         Outcome::Refused(Refusal::Spent) | Outcome::Failed => wire.lose(to, place),
         Outcome::NotDue => {}
     }

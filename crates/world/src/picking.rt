@@ -151,18 +151,21 @@ impl<C: SlotCell, O: Outlet> Station<C, O> {
     {
         let number = self.node.number;
         if self.next_release(round).is_some() {
-            Event::Release(number)
-        } else if self.has_grant(net, inputs, room, round) {
-            Event::Grant(number)
-        } else if self.may_decide() {
-            Event::Decide(number)
-        } else if self.wants_checkpoint(nodes, round) {
-            Event::Start(number)
-        } else if self.may_send(round) {
-            Event::Send(number)
-        } else {
-            Event::Idle(number)
+            return Event::Release(number);
         }
+        if self.has_grant(net, inputs, room, round) {
+            return Event::Grant(number);
+        }
+        if self.may_decide() {
+            return Event::Decide(number);
+        }
+        if self.wants_checkpoint(nodes, round) {
+            return Event::Start(number);
+        }
+        if self.may_send(round) {
+            return Event::Send(number);
+        }
+        Event::Idle(number)
     }
 
     // The event that is next for its node.

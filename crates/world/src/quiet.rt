@@ -188,8 +188,8 @@ fn have_all_left<O: Outlet>(image: &Image, outputs: &[Output<O>]) -> bool
 }
 
 impl<C: SlotCell, O: Outlet> Station<C, O> {
-    // Whether nothing is left to do here, beside these stations: the node runs, no job is out, no process can do more than
-    // it did, nothing was received that wasn't put, and all that was put has left.
+    // Whether nothing is left to do here, beside these stations: the node runs, no job is out, all that was put has left, no
+    // process can do more than it did, and nothing was received that wasn't put. What is known soonest comes first.
     fn is_complete(&self, net: &Net, inputs: &[History], stations: &[Station<C, O>]) -> bool
         ensures { result ≡ is_quiet_at (network_of net.now.program) inputs.now
             (map (station_view O.taken O.failures) stations.now)
@@ -199,9 +199,9 @@ impl<C: SlotCell, O: Outlet> Station<C, O> {
         match &self.node.state.mode {
             Mode::Running(running) => {
                 running.out.is_none()
+                    && have_all_left(&running.current, &self.outputs)
                     && are_at_rest(net, inputs, stations, &running.current)
                     && have_been_put(net, stations, &running.current)
-                    && have_all_left(&running.current, &self.outputs)
             }
             Mode::Down | Mode::InDoubt => false,
         }

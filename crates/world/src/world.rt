@@ -149,6 +149,14 @@ impl<C: SlotCell, O: Outlet> World<C, O> {
         self.round
     }
 
+    /// Whether the round need wait for no node: each has let its turn pass in it, or is down and isn't to be recovered yet. The
+    /// next turn that passes ends it then. Takes no memory.
+    pub fn is_round_over(&self) -> bool
+        ensures { result ≡ are_done_with self.now.round (world_of self.now).stations }
+    {
+        are_done_with(&self.stations, self.round)
+    }
+
     /// One event. An event that can't happen now, or whose node isn't of this world, is answered by `NotDue`. Refuses
     /// for want of memory alone (1), with the event, and then nothing is changed.
     pub fn apply(&mut self, alloc: Global, event: Event) -> Result<Reply, Refused>

@@ -84,14 +84,15 @@ have_all_left image [] = true
 have_all_left image (output ∷ outputs) =
     (length output.taken == sent_of image output.channel) && have_all_left image outputs
 
--- Nothing is left to do at a node that runs beside these: no job is out, its processes are at rest, it has received
--- nothing that wasn't put by now, and all that its processes put has left. (A node that goes back behind what another
--- has of it puts that again.)
+-- Nothing is left to do at a node that runs beside these: no job is out, all that its processes put has left, they are at
+-- rest, and it has received nothing that wasn't put by now. (A node that goes back behind what another has of it puts that
+-- again.)
 abbrev pub is_quiet : Network → List (List ℤ) → List StationView → RunningNode → List OutputView → Bool
 is_quiet net inputs stations node outputs =
     is_none node.out &&
+    (have_all_left node.current outputs &&
     (are_at_rest net inputs stations node.current node.current.processes &&
-    (have_been_put net stations node.current node.current.ends && have_all_left node.current outputs))
+    have_been_put net stations node.current node.current.ends))
 
 abbrev pub is_quiet_at : Network → List (List ℤ) → List StationView → Option RunningNode → List OutputView → Bool
 is_quiet_at net inputs stations None outputs = false

@@ -118,10 +118,10 @@ end_of_quiet net inputs stations node outputs quiet =
     let rest = are_at_rest net inputs stations node.current node.current.processes in
     let put = have_been_put net stations node.current node.current.ends in
     let left = have_all_left node.current outputs in
-    let all = and_parts (is_none node.out) (rest && (put && left)) quiet in
-    let first = and_parts rest (put && left) all.1 in
-    let last = and_parts put left first.1 in
-    record { rest = first.0; put = last.0; left = last.1 }
+    let all = and_parts (is_none node.out) (left && (rest && put)) quiet in
+    let first = and_parts left (rest && put) all.1 in
+    let last = and_parts rest put first.1 in
+    record { rest = last.0; put = last.1; left = first.0 }
 
 -- and it runs
 runs_there : (net : Network) (inputs : List (List ℤ)) (stations : List StationView) (o : Option RunningNode)

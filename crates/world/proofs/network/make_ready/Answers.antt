@@ -3,6 +3,7 @@ use Rattle.std.specs.Prelude.{All}
 use Rattle.wire.specs.Staging.{IsStaged}
 use Rattle.wire.specs.Traffic.{AreNodes, Traffic, traffic_of}
 use Rattle.wire.specs.declared.sending.Sending.{Sending}
+use Rattle.wire.proofs.Ready.{same_room}
 use Rattle.world.proofs.Packets.{are_nodes}
 use Rattle.world.proofs.network.make_ready.Goals as goal
 
@@ -10,6 +11,9 @@ pub stage-requires : goal.stage-requires
 stage-requires c =
     are_nodes c.args.packets.now c.in_ok-sendings.sendings.items c.in_ok-sendings.ensures.sendings
     c.in_ok-sendings.ensures.allowed
+
+pub returns-then-is_empty-clause-more : goal.returns-then-is_empty-clause-more
+returns-then-is_empty-clause-more c = same_room c.args.wire.now.queues
 
 pub returns-clause-ready : goal.returns-clause-ready
 returns-clause-ready c =
