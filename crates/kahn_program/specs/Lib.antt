@@ -6,4 +6,5 @@ pub mod Report
 pub mod Statuses
 pub mod Runs
 pub mod Turning
+pub mod Resting
 pub mod Scripts

@@ -9,6 +9,7 @@ mod network_run;
 mod printing;
 mod reading;
 mod reporting;
+mod resting;
 mod running;
 mod scripting;
 mod turning;

@@ -1,6 +1,6 @@
 //! A run by turns, on one thread.
 
-ghost use Rattle.std.specs.Prelude.{◌≡◌, ◌<◌, ◌≤◌, length, IfOk, IsSome, OnOk, slice_get};
+ghost use Rattle.std.specs.Prelude.{◌≡◌, ◌<◌, ◌≤◌, ◌+◌, ℕ, length, IfOk, IsSome, OnOk, slice_get};
 ghost use Rattle.std.specs.List.{AllByRecursion};
 ghost use Rattle.kahn_net.specs.declared.limits.TheConstants.{MAX_CHANNELS, MAX_NODES};
 ghost use Rattle.protocol.specs.World.Sound.{output_channels};
@@ -8,11 +8,13 @@ ghost use Rattle.runtime.specs.ArmedWorlds.{armed_view};
 ghost use Rattle.world.specs.ReplyView.{reply_view};
 ghost use Rattle.world.specs.WholeView.{world_of};
 ghost use Rattle.world.specs.WorldView.{capacities};
+ghost use Rattle.kahn_program.specs.Resting.{AllRest};
 ghost use Rattle.kahn_program.specs.Turning.{Follows, HasBegun, IsDriven, IsNodeTurn, IsRunByTurns, IsRunRoom, TakesTurns, due_event, is_over, line_before, progress, turn_node};
 
 use crate::ending::{RunWorld, is_over};
+use crate::resting::{Resting, is_alone, is_idle, note_line, note_turn, passes_again};
 use gate_cell::SplitCell;
-use kahn_net::Channel;
+use kahn_net::{Channel, MAX_NODES};
 use outlet::ListOutlet;
 use proc_step::Job;
 use replay::{PlainEvent, ScriptedEvent};
@@ -24,7 +26,7 @@ use world::{Event, Reply};
 /// The most turns of a run, so many that nobody waits for them.
 pub(crate) const MAX_TURNS: u64 = u64::MAX;
 
-type RunArmed = ArmedWorld<SplitCell<MemDisk>, ListOutlet>;
+pub(crate) type RunArmed = ArmedWorld<SplitCell<MemDisk>, ListOutlet>;
 
 /// What follows an answer: a job that was granted is run, and comes back at once.
 fn follow(alloc: Global, armed: &mut RunArmed, answer: Reply) -> Result<(), AllocError>
@@ -49,30 +51,62 @@ fn follow(alloc: Global, armed: &mut RunArmed, answer: Reply) -> Result<(), Allo
     }
 }
 
-/// The node of a turn, the first one being 0: the nodes, so many, take their turns one after another.
-fn turn_node(nodes: usize, turn: u64) -> u8
+/// The node whose turn comes behind one of this node: the nodes, so many, take their turns one after another.
+fn node_after(nodes: usize, node: u8) -> u8
     requires { nodes ≤ MAX_NODES }
-    ensures { result ≡ turn_node nodes turn }
+    ensures { (turn : ℕ) → node ≡ turn_node nodes turn → result ≡ turn_node nodes (turn + 1) }
 {
-    if nodes == 0 {
-        return 0;
-    }
-    (turn % nodes as u64) as u8
+    let next = usize::from(node) + 1;
+    if next < nodes { next as u8 } else { 0 }
 }
 
-/// The event that is next for a node. A job that it grants is run and comes back at once.
-fn take_turn(alloc: Global, armed: &mut RunArmed, node: u8) -> Result<(), AllocError>
-    requires { AllByRecursion IsRunRoom (capacities armed.old.world.stations.items) }
+/// The event that is next for a node. A job that it grants is run and comes back at once. Notes which nodes rest then.
+fn take_event(
+    alloc: Global,
+    armed: &mut RunArmed,
+    resting: &mut Resting,
+    node: u8,
+) -> Result<(), AllocError>
+    requires room { AllByRecursion IsRunRoom (capacities armed.old.world.stations.items) }
+    requires rest { AllRest resting.old (world_of armed.old.world) }
     ensures same { (armed.new.world.net ≡ armed.old.world.net)
         × (armed.new.world.inputs ≡ armed.old.world.inputs) }
     ensures room { AllByRecursion IsRunRoom (capacities armed.new.world.stations.items) }
     ensures turn { OnOk result (IsNodeTurn node (armed_view armed.old) (armed_view armed.new)) }
+    ensures rest { OnOk result (AllRest resting.new (world_of armed.new.world)) }
 {
+    let round = armed.world.round();
     let event = armed.world.pick(node);
+    let passed = is_idle(&event);
     match armed.apply(alloc, event) {
-        Ok(answer) => follow(alloc, armed, answer),
+        Ok(answer) => {
+            let alone = is_alone(armed, round, &answer);
+            note_turn(resting, alone, node, passed);
+            follow(alloc, armed, answer)
+        }
         Err(_) => Err(AllocError),
     }
+}
+
+/// A turn of a node: the event that is next for it, or nothing, where that event would be to let the turn pass once more.
+fn take_turn(
+    alloc: Global,
+    armed: &mut RunArmed,
+    resting: &mut Resting,
+    node: u8,
+) -> Result<(), AllocError>
+    requires room { AllByRecursion IsRunRoom (capacities armed.old.world.stations.items) }
+    requires rest { AllRest resting.old (world_of armed.old.world) }
+    ensures same { (armed.new.world.net ≡ armed.old.world.net)
+        × (armed.new.world.inputs ≡ armed.old.world.inputs) }
+    ensures room { AllByRecursion IsRunRoom (capacities armed.new.world.stations.items) }
+    ensures turn { OnOk result (IsNodeTurn node (armed_view armed.old) (armed_view armed.new)) }
+    ensures rest { OnOk result (AllRest resting.new (world_of armed.new.world)) }
+{
+    if passes_again(armed, resting, node) {
+        return Ok(());
+    }
+    take_event(alloc, armed, resting, node)
 }
 
 /// The event of the script's next line, if there is one and it is due.
@@ -181,14 +215,18 @@ fn take_turns(
 {
     // A node at which something was left to do when it was last asked.
     let mut busy: u8 = 0;
-    let mut passed = drive_before(alloc, armed, script, begun, turn_node(nodes, 0))?;
-    for turn in 0..MAX_TURNS {
+    let mut resting: Resting = [false; MAX_NODES as usize];
+    let mut node = 0;
+    let mut passed = drive_before(alloc, armed, script, begun, node)?;
+    for _turn in 0..MAX_TURNS {
         if is_over(channels, &armed.world, nodes, &mut busy, rounds, items) {
             return Ok(());
         }
-        take_turn(alloc, armed, turn_node(nodes, turn))?;
-        let next = turn_node(nodes, turn + 1);
-        passed = drive_before(alloc, armed, script, passed, next)?;
+        take_turn(alloc, armed, &mut resting, node)?;
+        node = node_after(nodes, node);
+        let now = drive_before(alloc, armed, script, passed, node)?;
+        note_line(&mut resting, now == passed);
+        passed = now;
     }
     Ok(())
 }
