@@ -1,7 +1,7 @@
 -- What a crash and a recovery leave of a node.
 use Rattle.std.proofs.Common.{◌≡◌, ◌⊎◌, inl, inr, ⊎_elim, ℕ, ◌<◌, ◌≤◌, Bool, true, false, length}
 use Rattle.std.proofs.Common.{Result, Ok, Err, refl, sym, ◌∙◌, ap, subst, arith}
-use Rattle.std.specs.Prelude.{IsErrOf, IsTrue, nat_lt}
+use Rattle.std.specs.Prelude.{IsErrOf, IsTrue, OnErr, nat_lt}
 use Rattle.std.proofs.lemmas.Bool.{lt-ltb, ltb-true}
 use Rattle.std.specs.Option.{ForSome}
 use Rattle.sector_disk.specs.Clock.{Only}
@@ -223,6 +223,7 @@ module _ {C : Type 0} (words : CellWords C) (slots : SlotWords C)
       → node_view kept after
       ≡ crashed (restart_after before.armed.items (words.failed_call (cell_in new)) round) (node_view kept before)))
       → HasRecord number (mode_view after.mode) new × IsPutEvent (recover_prospect net number was) round was now old new answer
+      × OnErr answer (LeavesAsBefore old new)
 
   not_device : (e : StoreFault) → has_failed (Err e) ≡ false → ¬ (IsErrOf {T = Recovery} (Err e) fault.Device)
   not_device e other is =
@@ -273,6 +274,8 @@ module _ {C : Type 0} (words : CellWords C) (slots : SlotWords C)
             (same_count fault.NoMemory refl raised same)
             (nothing_then fault.NoMemory refl raised same.0 (next_record (recover_prospect net number was) was.kept))
             (same_device fault.NoMemory raised same.0),
+        subst (λ (s : Store C slots words). LeavesAsBefore old s) (sym same.0)
+            (raised.nothing_put (not_device fault.NoMemory refl)),
       )
 
   no_epoch : MAX_COUNT ≤ (record_in old).epoch → (answer : Result Outcome AllocError) → Known fault.Spent answer
@@ -285,6 +288,7 @@ module _ {C : Type 0} (words : CellWords C) (slots : SlotWords C)
             (last_event net number round was now old new refl (back_spent net number was down more) (same_now fault.Spent refl raised same)
             (same_count fault.Spent refl raised same) (nothing_then fault.Spent refl raised same.0 was.kept)
             (same_device fault.Spent raised same.0)),
+        tt,
       )
 
   no_device : (answer : Result Outcome AllocError) → Known fault.Device answer
@@ -294,6 +298,7 @@ module _ {C : Type 0} (words : CellWords C) (slots : SlotWords C)
         restart lost.1,
     subst (λ (o : Outcome). IsPutEvent (recover_prospect net number was) round was now old new {E = AllocError} (Ok o)) (sym is)
         (at (nat_lt (record_in old).epoch MAX_COUNT) refl),
+    tt,
   )
     where
       lost : IsCrashed mid new

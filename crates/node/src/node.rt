@@ -312,6 +312,8 @@ impl<C: SlotCell> Node<C> {
             (view_of self.old) (view_of self.new) self.old.store self.new.store result }
         ensures unchanged { IfOk result
             (λ outcome. outcome ≡ Outcome.NotDue → self.new.store ≡ self.old.store) }
+        // Without memory nothing was put: a crash leaves what it might have left before.
+        ensures held { OnErr result (LeavesAsBefore self.old.store self.new.store) }
         ensures same_number { self.new.number ≡ self.old.number }
     {
         come_back(

@@ -118,6 +118,7 @@ pub(crate) fn come_back<C: SlotCell>(
         round (node_view (record_in store.old) state.old) (node_view (record_in store.new) state.new)
         store.old store.new result }
     ensures unchanged { IfOk result (λ outcome. outcome ≡ Outcome.NotDue → store.new ≡ store.old) }
+    ensures held { OnErr result (LeavesAsBefore store.old store.new) }
 {
     if !state.is_down() {
         return Ok(Outcome::NotDue);

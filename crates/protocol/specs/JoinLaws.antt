@@ -21,6 +21,7 @@ pub mod Returns
 pub mod Turns
 pub mod Leaves
 pub mod Opens
+pub mod Flown
 pub mod Deeds
 pub mod Events
 pub mod Whole

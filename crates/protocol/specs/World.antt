@@ -17,9 +17,11 @@ pub mod Turns
 pub mod Traffic
 pub mod Steps
 pub mod InFlight
+pub mod Agreeing
 pub mod Choice
 pub mod Quiet
 pub mod RecoveryLine
+pub mod InLine
 pub mod Coordination
 pub mod Released
 pub mod OpeningWorld

@@ -34,3 +34,4 @@ pub mod FlightLaws
 pub mod TrafficLaws
 pub mod HearLaws
 pub mod SendLaws
+pub mod AgreeLaws

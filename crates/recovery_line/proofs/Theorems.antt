@@ -10,7 +10,7 @@ use Rattle.recovery_line.specs.Worlds.{World, node_of, IsLive, InFlight, opening
 use Rattle.recovery_line.specs.Worlds.{Reachable}
 use Rattle.recovery_line.specs.Line.{Sound, Covers, NotBehind, Over, AtMoment, line_with, NoOrphan}
 use Rattle.recovery_line.specs.Invariant.{IsImageOf, Permanent, Held, Current, NeedOf, LiveOk, Says, Consistent}
-use Rattle.recovery_line.specs.Laws.{AtMostOneMove, Wanted, WantedBefore, Needed}
+use Rattle.recovery_line.specs.Laws.{AtMostOneMove, IsReceived, NamesTheNeeded, Needed, Wanted, WantedBefore}
 use Rattle.recovery_line.proofs.Basics.{not_in_doubt, false_true, either, same_or_other, at_most_itself, at_most_next}
 use Rattle.recovery_line.proofs.Basics.{some_not_none, one_inside, effective_free, effective_committed, effective_open}
 use Rattle.recovery_line.proofs.OneNode.{node_step_grows}
@@ -313,6 +313,21 @@ no_smaller_decision net w v x n p part reachable step never now named initiator 
       | inr was ↦ no_smaller_set net w x p was.live part reachable was.is initiator (was.takers p named) left sound
     ]
 
+pub decides_for_the_needed : (net : Net) (w v : World) (x n : ℕ) → Reachable net w → Step net w v
+    → (w.records x).decided n ≡ false → (v.records x).decided n ≡ true → NamesTheNeeded net w v.records x n
+decides_for_the_needed net w v x n reachable step never now =
+    elim ((advances net w v (is_consistent net w reachable) step).grows.committed x n now) [
+      | inl before ↦ absurd (false_true (sym never ∙ before))
+      | inr was ↦ record {
+        live = was.live;
+        is = was.is;
+        number = was.number;
+        takers = was.takers;
+        needed =
+            λ p named. takers_are_needed net w x p was.live reachable was.is (was.takers p named);
+      }
+    ]
+
 -- an Ask that may be sent is for a need
 asks_for_need : (net : Net) (w : World) (x n c m : ℕ) → Consistent net w → MaySend net w (Ask x n c m)
     → Wanted net w x n c m
@@ -336,6 +351,27 @@ in_flight_before : (net : Net) (w v : World) (packet : Packet) → Step net w v 
 in_flight_before net w v packet (Acts k at s) flight = inl (at.flight packet flight)
 in_flight_before net w v packet (Comes k other here at s) flight = inl (at.flight packet flight)
 in_flight_before net w v packet (Send s) flight = s.flight packet flight
+
+-- what is wanted was received
+received_where_wanted : (net : Net) (w : World) (x n c m : ℕ) → Wanted net w x n c m → IsReceived net w.records x n c m
+received_where_wanted net w x n c m wanted = record {
+  by = wanted.by;
+  to = wanted.to;
+  image = wanted.image;
+  held = wanted.held;
+  received = wanted.received;
+}
+
+pub asks_as_received : (net : Net) (w v : World) (x n c m : ℕ) → Reachable net w → Step net w v
+    → InFlight v (Ask x n c m) → InFlight w (Ask x n c m) ⊎ IsReceived net v.records x n c m
+asks_as_received net w v x n c m reachable (Acts k at s) flight = inl (at.flight (Ask x n c m) flight)
+asks_as_received net w v x n c m reachable (Comes k other here at s) flight = inl (at.flight (Ask x n c m) flight)
+asks_as_received net w v x n c m reachable (Send s) flight = elim (s.flight (Ask x n c m) flight) [
+  | inl was ↦ inl was
+  | inr sends ↦ inr
+      (subst (λ (r : ℕ → Record). IsReceived net r x n c m) (sym s.records)
+      (received_where_wanted net w x n c m (asks_for_need net w x n c m (is_consistent net w reachable) sends)))
+]
 
 -- one step more
 

@@ -152,6 +152,19 @@ abbrev pub NoSmallerSet : Type 0
 NoSmallerSet = (net : Net) (w : World) (x p : ℕ) (live : Live) (part : ℕ → Bool) → Reachable net w → IsLive w x live
     → part x ≡ true → live.takes p ≡ true → part p ≡ false → NoOrphan net (line_with w.records part) → ⊥
 
+-- Whom a decision names had to take part: the instance was live before, and each of them a taker that was needed, as
+-- takers are, in the order in which they first said so.
+pub record NamesTheNeeded (net : Net) (w : World) (records : ℕ → Record) (x n : ℕ) : Type 0 where
+  pub live : Live
+  pub is : IsLive w x live
+  pub number : live.number ≡ n
+  pub takers : (p : ℕ) → (records x).named n p ≡ true → live.takes p ≡ true
+  pub needed : (p : ℕ) → (records x).named n p ≡ true → NeedOf net w.records x live p
+
+abbrev pub DecidesForTheNeeded : Type 0
+DecidesForTheNeeded = (net : Net) (w v : World) (x n : ℕ) → Reachable net w → Step net w v
+    → (w.records x).decided n ≡ false → (v.records x).decided n ≡ true → NamesTheNeeded net w v.records x n
+
 -- So it is when it decides, with those whom its decision names.
 abbrev pub NoSmallerDecision : Type 0
 NoSmallerDecision = (net : Net) (w v : World) (x n p : ℕ) (part : ℕ → Bool) → Reachable net w → Step net w v
@@ -171,6 +184,14 @@ pub record Wanted (net : Net) (w : World) (x n c m : ℕ) : Type 0 where
   pub one_of : (by ≡ x) ⊎ (live.takes by ≡ true)
   pub received : m ≡ image.received c
 
+-- An image of x's instance n that a node holds has received this many items of the channel.
+pub record IsReceived (net : Net) (records : ℕ → Record) (x n c m : ℕ) : Type 0 where
+  pub by : ℕ
+  pub to : net.consumer c ≡ Some by
+  pub image : Image
+  pub held : Holds (records by) x n image
+  pub received : m ≡ image.received c
+
 -- so it was at some world on the way
 pub record WantedBefore (net : Net) (w : World) (x n c m : ℕ) : Type 0 where
   pub world : World
@@ -183,6 +204,12 @@ pub record WantedBefore (net : Net) (w : World) (x n c m : ℕ) : Type 0 where
 abbrev pub AsksForNeeds : Type 0
 AsksForNeeds =
     (net : Net) (w : World) (x n c m : ℕ) → Reachable net w → InFlight w (Ask x n c m) → WantedBefore net w x n c m
+
+-- an Ask that is in flight behind a step was so before it, or its count was received by an image of its instance that is
+-- held then
+abbrev pub AsksAsReceived : Type 0
+AsksAsReceived = (net : Net) (w v : World) (x n c m : ℕ) → Reachable net w → Step net w v → InFlight v (Ask x n c m)
+    → InFlight w (Ask x n c m) ⊎ IsReceived net v.records x n c m
 
 -- the Ask that made node p take an image of another's instance: p's permanent image hadn't put so many, and its new one
 -- has

@@ -4,6 +4,7 @@ ghost use Rattle.recovery_line.specs.Laws.{LineIsSound, LineCovers, LineNeverFal
 ghost use Rattle.recovery_line.specs.Laws.{CommitsWhileHeld, StaysCommitted, HoldersAreNamed};
 ghost use Rattle.recovery_line.specs.Laws.{EndedIsOver, StaysOver, OverStaysOut};
 ghost use Rattle.recovery_line.specs.Laws.{TakersAreNeeded, NoSmallerSet, NoSmallerDecision};
+ghost use Rattle.recovery_line.specs.Laws.{AsksAsReceived, DecidesForTheNeeded};
 ghost use Rattle.recovery_line.specs.Laws.{AsksForNeeds, TakesWhereNeeded, ReachesADecision};
 
 /// After every run of steps, at every moment of the step after it:
@@ -18,9 +19,9 @@ ghost use Rattle.recovery_line.specs.Laws.{AsksForNeeds, TakesWhereNeeded, Reach
 /// - Ended is answered only for an instance that is over, what is over stays over, and no image
 ///   becomes permanent whose instance was over.
 /// - No smaller set of takers would do: each is needed by the initiator or by an earlier one, and
-///   without one of them the line would have an orphan. What is asked for was received by an image
-///   of the instance, and a node takes an image only for such an Ask, which its permanent image
-///   doesn't meet.
+///   without one of them the line would have an orphan; so it is of those whom a decision names.
+///   What is asked for was received by an image of the instance, one that is held as the Ask is
+///   sent. A node takes an image only for such an Ask, which its permanent image doesn't meet.
 pub fn every_run_law()
     ensures line_is_sound { LineIsSound }
     ensures line_covers { LineCovers }
@@ -34,6 +35,8 @@ pub fn every_run_law()
     ensures takers_are_needed { TakersAreNeeded }
     ensures no_smaller_set { NoSmallerSet }
     ensures no_smaller_decision { NoSmallerDecision }
+    ensures decides_for_the_needed { DecidesForTheNeeded }
+    ensures asks_as_received { AsksAsReceived }
     ensures asks_for_needs { AsksForNeeds }
     ensures takes_where_needed { TakesWhereNeeded }
 {}

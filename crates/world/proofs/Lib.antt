@@ -17,3 +17,4 @@ mod Crashes
 mod Sends
 mod Arriving
 mod Restarts
+mod Held

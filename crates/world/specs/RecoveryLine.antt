@@ -12,7 +12,8 @@ use Rattle.ckpt_store.specs.StoreView.{cell_in}
 use Rattle.recovery_line.specs.Line.{NotBehind}
 use Rattle.protocol.specs.World.Covered.{LeavesEither}
 use Rattle.protocol.specs.World.EventView.{EventView}
-use Rattle.protocol.specs.World.RecoveryLine.{next_for, records_seen, records_of, AreInLine}
+use Rattle.protocol.specs.World.InLine.{AreInLine}
+use Rattle.protocol.specs.World.RecoveryLine.{next_for, records_seen, records_of}
 use Rattle.protocol.specs.World.Steps.{Setting}
 use Rattle.world.specs.WorldView.{station_view}
 use Rattle.world.specs.declared.station.Station.{Station}

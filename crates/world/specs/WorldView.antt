@@ -8,6 +8,7 @@ use Rattle.gate_cell.specs.declared.slot_cell.SlotCell.{Ghosts as SlotWords}
 use Rattle.ckpt_store.specs.Spelling.{fits_in}
 use Rattle.ckpt_store.specs.StoreView.{cell_in}
 use Rattle.node.specs.NodeOf.{view_of}
+use Rattle.node.specs.StoredView.{LeavesAsBefore}
 use Rattle.protocol.specs.Node.ArmedRestarts.{restart_after}
 use Rattle.std.specs.declared.sync.Arc.{Arc}
 use Rattle.std.specs.declared.alloc.Global.{Global}
@@ -119,3 +120,31 @@ abbrev pub LeavesDeviceAt : {C O : Type 0} {cell : CellWords C} {slots : SlotWor
 LeavesDeviceAt {C} {O} {cell} {slots} event answer place olds news =
     (old new : Station C O slots cell) → slice_get olds place ≡ Some old → slice_get news place ≡ Some new
     → LeavesDeviceBy event answer old new
+
+-- A station's cell holds the same header and slots as before, and a crash at any moment between leaves what it might have
+-- left before.
+pub record HoldsAsBefore {C O : Type 0} {cell : CellWords C} {slots : SlotWords C} (old new : Station C O slots cell) : Type 0
+  where
+    pub same_whole : slots.whole (cell_in new.node.store) ≡ slots.whole (cell_in old.node.store)
+    pub any_moment : LeavesAsBefore old.node.store new.node.store
+
+-- the same of the station of this place
+abbrev pub HoldsAsBeforeAt : {C O : Type 0} {cell : CellWords C} {slots : SlotWords C} → ℕ → List (Station C O slots cell)
+    → List (Station C O slots cell) → Type 0
+HoldsAsBeforeAt {C} {O} {cell} {slots} place olds news =
+    (old new : Station C O slots cell) → slice_get olds place ≡ Some old → slice_get news place ≡ Some new
+    → HoldsAsBefore old new
+
+-- What a recovery and the arming of a fault leave where they are refused: they may have called the device by then. Every
+-- other event that is refused hasn't touched its cell.
+abbrev pub LeavesWhatItFound : {C O : Type 0} {cell : CellWords C} {slots : SlotWords C} → EventView
+    → Station C O slots cell → Station C O slots cell → Type 0
+LeavesWhatItFound (ByNode k event.Recover) old new = LeavesAsBefore old.node.store new.node.store
+LeavesWhatItFound (ByNode k (event.Arm fault rounds)) old new = LeavesAsBefore old.node.store new.node.store
+LeavesWhatItFound event old new = Unit {0}
+
+abbrev pub LeavesWhatItFoundAt : {C O : Type 0} {cell : CellWords C} {slots : SlotWords C} → EventView → ℕ
+    → List (Station C O slots cell) → List (Station C O slots cell) → Type 0
+LeavesWhatItFoundAt {C} {O} {cell} {slots} event place olds news =
+    (old new : Station C O slots cell) → slice_get olds place ≡ Some old → slice_get news place ≡ Some new
+    → LeavesWhatItFound event old new

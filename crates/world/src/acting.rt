@@ -19,7 +19,7 @@ ghost use Rattle.world.specs.ReplyView.{answer_view, reply_view};
 ghost use Rattle.world.specs.StationView.{outlet_views};
 ghost use Rattle.protocol.specs.World.Steps.{idle_plan, send_plan, setting_in};
 ghost use Rattle.protocol.specs.WorldLaws.PlanLaws.{IsSoundSetting, IsSoundStation};
-ghost use Rattle.world.specs.WorldView.{station_view, IsCellUnchanged, LeavesDeviceBy, RestartsAsArmed};
+ghost use Rattle.world.specs.WorldView.{IsCellUnchanged, LeavesDeviceBy, LeavesWhatItFound, RestartsAsArmed, station_view};
 
 use crate::event::{Event, Reply};
 use crate::network::{arm_packet, delay, lose, repeat, spell_all};
@@ -127,6 +127,7 @@ impl<C: SlotCell, O: Outlet> Station<C, O> {
             → IsCellUnchanged self.old self.new }
         ensures armed { IfOk result (λ reply. reply_view reply ≡ Down
             → RestartsAsArmed round self.old self.new) }
+        ensures held { OnErr result (LeavesWhatItFound (event_view event.now) self.old self.new) }
     {
         match event {
             Event::Deliver { node, place } => self.deliver(alloc, net, wire, *node, *place, round),

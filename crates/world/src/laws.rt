@@ -1,5 +1,7 @@
-//! Laws of the recovery line, and of what is in flight.
+//! Laws of the recovery line, of what is in flight, and of an event that is made again.
 
+ghost use Rattle.protocol.specs.World.Agreeing.{StepsAgree};
+ghost use Rattle.protocol.specs.World.Coordination.{AsksWereReceived};
 ghost use Rattle.protocol.specs.World.InFlight.{EachWasSent, NothingAtFirst, NothingIsMadeUp, OnlyNodesThatAreUpSend};
 ghost use Rattle.protocol.specs.World.RecoveryLine.{LinesFollow};
 
@@ -18,4 +20,18 @@ pub fn traffic_law()
     ensures made { NothingIsMadeUp }
     ensures step { EachWasSent }
     ensures up { OnlyNodesThatAreUpSend }
+{}
+
+/// Whoever is asked to take part was needed. However many events lead from a world in which nothing is in flight to
+/// another, whatever a packet in flight there asks for was received, in one of the worlds on the way, by an image of the
+/// checkpoint that was held then. `World::apply` says of each event what joins two such worlds (`coordinated`).
+pub fn need_law()
+    ensures { AsksWereReceived }
+{}
+
+/// An event comes out in one way, where no device and no outlet fails: two steps by it from one world are answered the
+/// same and lead to the same world. A refusal for want of memory leaves the whole view of the world as it was, so the event
+/// that it hands back comes to what it would have come to at first.
+pub fn step_law()
+    ensures { StepsAgree }
 {}

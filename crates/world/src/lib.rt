@@ -27,7 +27,7 @@ mod world;
 
 pub use event::{Event, Refused, Reply};
 pub use gate_cell::SECTORS;
-pub use laws::{line_law, traffic_law};
+pub use laws::{line_law, need_law, step_law, traffic_law};
 pub use node::node_count;
 pub use opening::OpeningRefused;
 pub use output::Output;

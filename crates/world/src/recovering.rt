@@ -5,7 +5,7 @@ ghost use Rattle.ckpt_store.specs.Spelling.{fits_in};
 ghost use Rattle.ckpt_store.specs.StoreView.{cell_in};
 ghost use Rattle.node.specs.NodeOf.{view_of};
 ghost use Rattle.node.specs.NodeView.{mode_view};
-ghost use Rattle.node.specs.StoredView.{LeavesDevice};
+ghost use Rattle.node.specs.StoredView.{LeavesAsBefore, LeavesDevice};
 ghost use Rattle.protocol.specs.Node.ArmedRestarts.{round_later};
 ghost use Rattle.protocol.specs.Node.Plans.{next_record};
 ghost use Rattle.protocol.specs.Node.Recovering.{recover_prospect};
@@ -99,6 +99,7 @@ impl<C: SlotCell, O: Outlet> Station<C, O> {
             (λ reply. reply_view reply ≡ Down → RestartsAsArmed round self.old self.new) }
         ensures unchanged { IfOk result
             (λ reply. reply_view reply ≡ NotDue → IsCellUnchanged self.old self.new) }
+        ensures held { OnErr result (LeavesAsBefore self.old.node.store self.new.node.store) }
     {
         match self.node.recover(alloc, net, round) {
             Ok(outcome) => {
@@ -138,6 +139,7 @@ impl<C: SlotCell, O: Outlet> Station<C, O> {
             (arm_plan fault.call rounds (station_view O.taken O.failures self.old))
             (station_view O.taken O.failures self.old) (reply_view reply)
             (station_view O.taken O.failures self.new)) }
+        ensures held { OnErr result (LeavesAsBefore self.old.node.store self.new.node.store) }
     {
         match self.node.arm(fault, rounds) {
             Ok(()) => Ok(Reply::Acted),

@@ -19,7 +19,7 @@ ghost use Rattle.world.specs.ReplyView.{answer_view, reply_view};
 ghost use Rattle.protocol.specs.World.ReplyView.{Down};
 ghost use Rattle.protocol.specs.World.Roomy.{HasFullRoom};
 ghost use Rattle.protocol.specs.World.Steps.{are_done_with, is_done_with, round_after, setting_in, IsStep};
-ghost use Rattle.world.specs.WorldView.{capacities, rooms, station_view, world_view, IsCellUnchanged, IsGrown, LeavesDeviceAt, RestartsAsArmedAt};
+ghost use Rattle.world.specs.WorldView.{capacities, HoldsAsBeforeAt, IsCellUnchanged, IsGrown, LeavesDeviceAt, LeavesWhatItFoundAt, RestartsAsArmedAt, rooms, station_view, world_view};
 
 use crate::event::{Event, Refused, Reply};
 use crate::station::Station;
@@ -99,6 +99,8 @@ fn act_at<C: SlotCell, O: Outlet>(
     ensures armed { IfOk result (λ reply. reply_view reply ≡ Down
         → RestartsAsArmedAt round (event_node (event_view event.now))
         stations.old.items stations.new.items) }
+    ensures held { OnErr result (LeavesWhatItFoundAt (event_view event.now)
+        (event_node (event_view event.now)) stations.old.items stations.new.items) }
 {
     if number >= stations.len() {
         return Ok(Reply::NotDue);
@@ -171,9 +173,8 @@ impl<C: SlotCell, O: Outlet> World<C, O> {
         ensures settled { HasOneLine O.taken O.failures self.new.stations.items }
         // Checkpoints that several nodes take together are coordinated: an instance is decided only while all whom the
         // decision names hold it, and stays so until it is permanent there; what is said to be ended is over, and stays
-        // over; and whoever takes part had to.
-        ensures coordinated { AreCoordinated (network_of self.old.net.value.program)
-            (world_of self.old).stations (world_of self.new).stations (world_of self.new).traffic }
+        // over; whoever takes part had to; and steps of the abstract machine lead from the world before to the one after.
+        ensures coordinated { AreCoordinated (world_of self.old) (world_of self.new) }
         // Each stream that has left is a prefix of its channel's history in one approximation on the inputs, the same
         // for all streams of the world.
         ensures prefix { AreApproximated (world_of self.new) }
@@ -213,6 +214,10 @@ impl<C: SlotCell, O: Outlet> World<C, O> {
         ensures others { AreSameElsewhere (event_node (event_view event))
             self.old.stations.items self.new.stations.items }
         ensures refused { OnErr result (world_of self.new ≡ world_of self.old) }
+        // What the cell of its node holds, and what a crash may leave of it, is as it was then. Only a `Recover` may have
+        // called its device.
+        ensures held { OnErr result (HoldsAsBeforeAt (event_node (event_view event))
+            self.old.stations.items self.new.stations.items) }
         // An event that takes no memory isn't refused.
         ensures memory { OnErr result (TakesMemory (event_view event)) }
         ensures handed_back { IfErr result (λ refused. refused.event ≡ event) }

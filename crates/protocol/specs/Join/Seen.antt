@@ -1,5 +1,6 @@
 -- How stations and packets are seen by the abstract machine of recovery lines.
 use Rattle.std.specs.Prelude.{◌==◌, ℕ, suc, if◌then◌else◌, List, [], ◌∷◌, Option, Some, None, option_map, slice_get}
+use Rattle.datagram.specs.Reading.{whole_at}
 use Rattle.datagram.specs.declared.packet.Body.{Body}
 use Rattle.datagram.specs.declared.packet.Body.TheVariants as says
 use Rattle.datagram.specs.declared.packet.Need.{Need}
@@ -86,6 +87,14 @@ body_seen from to (says.Undone channel epoch sent) = None
 
 abbrev pub packet_seen : Datagram → Option Packet
 packet_seen packet = body_seen packet.from packet.to packet.body
+
+-- what bytes say of checkpoints, if they spell a packet that says something of them
+abbrev pub spelled_seen : Option Datagram → Option Packet
+spelled_seen None = None
+spelled_seen (Some packet) = packet_seen packet
+
+abbrev pub bytes_seen : List ℕ → Option Packet
+bytes_seen bytes = spelled_seen (whole_at bytes)
 
 abbrev pub all_seen : List Datagram → List Packet
 all_seen [] = []

@@ -22,7 +22,7 @@ use Rattle.protocol.specs.Node.Hearing.{hear_prospect, told_prospect, deliver_pr
 use Rattle.protocol.specs.Join.Joined.{IsJoined}
 use Rattle.protocol.specs.JoinLaws.Promises.{traffic_by}
 use Rattle.protocol.specs.Join.Runs.{Leads, SaysWhatWasSent, Carries, HasRun, RunsOn}
-use Rattle.protocol.specs.Join.Seen.{body_seen, live_seen, mode_seen, node_seen, world_seen}
+use Rattle.protocol.specs.Join.Seen.{body_seen, live_seen, mode_seen, node_seen, spelled_seen, world_seen}
 use Rattle.protocol.specs.JoinLaws.Crossings.{both_true, true_both}
 use Rattle.protocol.specs.JoinLaws.Hears.{hear_leads}
 use Rattle.protocol.specs.JoinLaws.Leading.{leads_here, leads_by, acts, outlets_same, set_itself}
@@ -86,14 +86,14 @@ node_stays restart plan old new answer (inr tells) none outcome.Failed step is =
 left_carries : (traffic : Traffic) (k : ℕ) (came : Option ℕ) (sent : List Packet) → Carries traffic sent
     → Carries (traffic_left traffic k came) sent
 left_carries traffic k None sent carries = carries
-left_carries traffic k (Some place) sent carries = gone_holds (SaysWhatWasSent sent) traffic k place carries
+left_carries traffic k (Some place) sent carries = gone_holds (λ to. SaysWhatWasSent sent) traffic k place carries
 
 pub acted_carries : (act : NetworkAct) (traffic : Traffic) (k place : ℕ) (sent : List Packet) → Carries traffic sent
     → Carries (traffic_acted act traffic k place) sent
-acted_carries event.Lose traffic k place sent carries = gone_holds (SaysWhatWasSent sent) traffic k place carries
-acted_carries event.Repeat traffic k place sent carries = repeated_holds (SaysWhatWasSent sent) traffic k place carries
+acted_carries event.Lose traffic k place sent carries = gone_holds (λ to. SaysWhatWasSent sent) traffic k place carries
+acted_carries event.Repeat traffic k place sent carries = repeated_holds (λ to. SaysWhatWasSent sent) traffic k place carries
 acted_carries (event.Delay rounds) traffic k place sent carries =
-    delayed_holds (SaysWhatWasSent sent) traffic k place rounds carries
+    delayed_holds (λ to. SaysWhatWasSent sent) traffic k place rounds carries
 acted_carries (event.ArmPacket from nth change) traffic k place sent carries = carries
 
 module _ (net : Network) (stations : List StationView) (k : ℕ) (old : StationView)
@@ -165,10 +165,10 @@ module _ (net : Network) (stations : List StationView) (k : ℕ) (old : StationV
         hears_it up =
             hear_leads net valid stations k old there run.sent says.packet.from up node_listed wide says.packet.body
             names
-            (λ told is. arrived_passes (SaysWhatWasSent run.sent k) (flights_to traffic k) place bytes (run.carries k)
-            came
-            says.packet says.text told
-            (ap (λ (n : ℕ). body_seen says.packet.from n says.packet.body) says.here ∙ is))
+            (λ told is. arrived_passes (SaysWhatWasSent run.sent) (flights_to traffic k) place bytes (run.carries k)
+            came told
+            (ap spelled_seen (whole_again bytes says.packet says.text)
+            ∙ (ap (λ (n : ℕ). body_seen says.packet.from n says.packet.body) says.here ∙ is)))
 
         by : (down : Bool) → is_down old.node.mode ≡ down
             → ProspectLeads net stations k old run.sent

@@ -1,20 +1,24 @@
 -- The recovery line of stations to which steps of the abstract machine lead is in order, also at a moment inside an
 -- event.
-use Rattle.std.proofs.Common.{◌≡◌, ◌⊎◌, inl, inr, ℕ, zero, suc, ◌≤◌, List, [], ◌∷◌, Some, refl, sym, ap, ◌∙◌}
+use Rattle.std.proofs.Common.{◌≡◌, ◌⊎◌, inl, inr, ℕ, zero, suc, ◌≤◌, List, [], ◌∷◌, Some, refl, sym, ap, subst, ◌∙◌}
 use Rattle.std.specs.Prelude.{slice_get, slice_set}
 use Rattle.std.proofs.lemmas.List.{map-set}
 use Rattle.kahn_net.specs.Syntax.{Network}
 use Rattle.record.specs.RecordView.{RecordView}
-use Rattle.recovery_line.proofs.Theorems.{line_is_sound, line_covers, line_never_falls_back}
+use Rattle.recovery_line.proofs.Theorems.{line_is_sound, line_covers, line_never_falls_back, commits_while_held}
+use Rattle.recovery_line.proofs.Theorems.{decides_for_the_needed, holders_are_named, no_smaller_decision}
+use Rattle.recovery_line.proofs.Theorems.{over_stays_out, stays_committed, stays_over}
 use Rattle.recovery_line.specs.Images.{Net}
-use Rattle.recovery_line.specs.Line.{Sound, Covers, NotBehind, AtMoment}
+use Rattle.recovery_line.specs.Laws.{NamesTheNeeded}
+use Rattle.recovery_line.specs.Line.{Sound, Covers, NotBehind, AtMoment, Over}
 use Rattle.recovery_line.specs.Packets.{Packet}
 use Rattle.recovery_line.specs.Records.{Record, effective}
-use Rattle.recovery_line.specs.Worlds.{World, Reachable}
-use Rattle.protocol.specs.World.RecoveryLine.{AreEither, AreInLine}
-use Rattle.protocol.specs.Join.Runs.{Leads}
+use Rattle.recovery_line.specs.Worlds.{World, Reachable, Run, Step}
+use Rattle.protocol.specs.World.InLine.{AreInLine, IsCoordinatedInside, nodes_seen}
+use Rattle.protocol.specs.World.RecoveryLine.{AreEither}
+use Rattle.protocol.specs.Join.Runs.{Leads, WriteAtFirst}
 use Rattle.protocol.specs.Join.Seen.{world_seen}
-use Rattle.protocol.specs.JoinLaws.Leading.{leads_here, reached_then, outlets_same}
+use Rattle.protocol.specs.JoinLaws.Leading.{leads_by, leads_here, outlets_same, reached_then, records_at_end}
 use Rattle.protocol.specs.JoinLaws.Sent.{waits}
 use Rattle.protocol.specs.World.RecoveryLine.{net_seen, records_of, records_seen, outlets_seen}
 use Rattle.protocol.specs.World.StationView.{StationView}
@@ -85,6 +89,75 @@ one_other (k ∷ kepts) (r ∷ records) (suc place) next either =
       | inr new ↦ inr (first ∙ ap (λ (others : List RecordView). k ∷ others) new)
     ]
 
+-- ---- the step that writes
+
+-- a step from this world, behind which no record is written any more
+pub record FirstStep (net : Net) (w v : World) : Type 0 where
+  pub world : World
+  pub step : Step net w world
+  pub same : world.records ≡ v.records
+
+pub first_step : (net : Net) (w v : World) → Leads net w v → FirstStep net w v
+first_step net w v leads = by leads.worlds leads.run leads.once
+  where
+    by : (worlds : List World) → Run net w worlds v → WriteAtFirst worlds → FirstStep net w v
+    by [] run once = record { world = w; step = waits net w; same = ap (λ (x : World). x.records) run }
+    by (u ∷ worlds) run once =
+        record { world = u; step = run.0; same = sym (records_at_end net u v worlds run.1 once) }
+
+-- what is over, whatever is in flight
+pub over_there : (stations : List StationView) (sent : List Packet) (x n : ℕ) → Over (world_seen stations sent) x n
+    → Over (nodes_seen stations) x n
+over_there stations sent x n over =
+    record { used = over.used; undecided = over.undecided; closed = λ live is. over.closed live is }
+
+pub over_here : (stations : List StationView) (sent : List Packet) (x n : ℕ) → Over (nodes_seen stations) x n
+    → Over (world_seen stations sent) x n
+over_here stations sent x n over =
+    record { used = over.used; undecided = over.undecided; closed = λ live is. over.closed live is }
+
+-- and whom a decision names
+pub named_there : (net : Net) (stations : List StationView) (sent : List Packet) (records : ℕ → Record) (x n : ℕ)
+    → NamesTheNeeded net (world_seen stations sent) records x n → NamesTheNeeded net (nodes_seen stations) records x n
+named_there net stations sent records x n names = record {
+  live = names.live;
+  is = names.is;
+  number = names.number;
+  takers = names.takers;
+  needed = names.needed;
+}
+
+-- Checkpoints are coordinated by the records to which steps lead, of which none but the first writes one.
+coordinated_inside : (net : Net) (before : List StationView) (sent : List Packet) (v : World) (records : ℕ → Record)
+    → Reachable net (world_seen before sent) → Leads net (world_seen before sent) v → v.records ≡ records
+    → IsCoordinatedInside net (nodes_seen before) records
+coordinated_inside net before sent v records reached leads are =
+    subst (IsCoordinatedInside net (nodes_seen before)) (first.same ∙ are) (record {
+      commits_while_held = λ x n p. commits_while_held net w first.world x n p reached first.step;
+      stays_committed = λ x n p image. stays_committed net w first.world x n p image reached first.step;
+      holders_are_named = λ x n p image. holders_are_named net first.world x n p image then_reached;
+      stays_over = λ x n over. let later =
+          stays_over net w first.world (first.world ∷ []) x n reached (first.step, refl)
+          (over_here before sent x n over) in (later.used, later.undecided);
+      over_stays_out = λ k. elim (over_stays_out net w first.world k reached first.step) [
+        | inl same ↦ inl same
+        | inr new ↦ inr (new.0, new.1, new.2, λ over. new.3 (over_here before sent new.0 new.1 over))
+      ];
+      names_the_needed = λ x n never now.
+          named_there net before sent first.world.records x n
+          (decides_for_the_needed net w first.world x n reached first.step never now);
+      no_smaller_decision = λ x n p part. no_smaller_decision net w first.world x n p part reached first.step;
+    })
+  where
+    w : World
+    w = world_seen before sent
+
+    first : FirstStep net w v
+    first = first_step net w v leads
+
+    then_reached : Reachable net first.world
+    then_reached = reached_then net w first.world reached (leads_by net w first.world first.step)
+
 -- ---- stations
 
 line_stays : (net : Network) (before after : List StationView) (sent : List Packet) (records : List RecordView)
@@ -101,6 +174,8 @@ line_stays net before after sent records reached first last =
       at_first = record { sound = one.sound; covers = one.covers };
       at_last = record { sound = other.sound; covers = other.covers };
       not_behind = one.not_behind;
+      coordinated = ∣ coordinated_inside (net_seen net) before sent first.world (records_seen records) reached
+          first.leads first.records_are ∣₁;
     }
 
 module _ (net : Network) (before : List StationView) (sent : List Packet)

@@ -183,5 +183,6 @@ module _ (net : Network) (nodes : ℕ) (outlets : List OutletView) where
   run_opens number failures nothing = record {
     sent = [];
     reached = ([], sym (world_opens number failures nothing));
-    carries = opened_holds (SaysWhatWasSent []);
+    carries = opened_holds (λ to. SaysWhatWasSent []);
+    flown = λ told was. absurd (cc);
   }

@@ -15,7 +15,8 @@ use Rattle.protocol.specs.Join.Runs.{Leads, Carries, HasRun, RunsOn}
 use Rattle.protocol.specs.Join.Seen.{mode_seen, all_seen, node_seen, world_seen}
 use Rattle.protocol.specs.JoinLaws.Leading.{leads_here, leads_by, leads_then, acts, outlets_same, same_records, set_there}
 use Rattle.protocol.specs.JoinLaws.Leading.{set_again, set_itself, unseen}
-use Rattle.protocol.specs.World.RecoveryLine.{AreEither, AreInLine}
+use Rattle.protocol.specs.World.InLine.{AreInLine}
+use Rattle.protocol.specs.World.RecoveryLine.{AreEither}
 use Rattle.protocol.specs.JoinLaws.Lines.{line_at_put}
 use Rattle.protocol.specs.JoinLaws.Sent.{carries_still, carries_all}
 use Rattle.protocol.specs.Node.Modes.{crashed, with_kept}

@@ -7,7 +7,8 @@ use Rattle.record.specs.RecordView.{RecordView}
 use Rattle.wire.specs.Traffic.{Traffic, all_sent, opening_traffic}
 use Rattle.protocol.specs.World.Steps.{plan_of}
 use Rattle.protocol.specs.Join.Joined.{IsJoined}
-use Rattle.protocol.specs.World.RecoveryLine.{AreEither, AreInLine}
+use Rattle.protocol.specs.World.InLine.{AreInLine}
+use Rattle.protocol.specs.World.RecoveryLine.{AreEither}
 use Rattle.protocol.specs.Join.Runs.{HasRun, RunsOn}
 use Rattle.protocol.specs.Node.Plans.{next_record}
 use Rattle.protocol.specs.World.DoneView.{DoneView}

@@ -1,11 +1,11 @@
 -- Packets that nodes send, as the abstract machine sees them: they may be sent, and whatever is in flight was.
 use Rattle.std.proofs.Common.{◌≡◌, ◌⊎◌, inl, inr, ℕ, zero, suc, ◌<◌, List, [], ◌∷◌, ◌++◌, length, map, All, get_or}
 use Rattle.std.proofs.Common.{Option}
-use Rattle.std.proofs.Common.{Some, None, refl, ap, subst, ◌∙◌, arith}
+use Rattle.std.proofs.Common.{Some, None, refl, sym, ap, subst, ◌∙◌, arith}
 use Rattle.std.specs.Prelude.{slice_get}
 use Rattle.std.specs.List.{AllByRecursion, flat_map}
 use Rattle.std.proofs.lemmas.List.Elements.{All-map}
-use Rattle.datagram.proofs.Exactness.{one_packet}
+use Rattle.datagram.proofs.Exactness.{whole_again}
 use Rattle.datagram.specs.PacketText.{IsPacket, packet_text}
 use Rattle.datagram.specs.declared.packet.Packet.{Packet as Datagram}
 use Rattle.wire.specs.Traffic.{Traffic, all_sent}
@@ -14,7 +14,7 @@ use Rattle.recovery_line.specs.Images.{Net}
 use Rattle.recovery_line.specs.Packets.{Packet}
 use Rattle.recovery_line.specs.Worlds.{World, MaySend, Step, Send}
 use Rattle.protocol.specs.Join.Runs.{WasSent, SaysWhatWasSent, Carries}
-use Rattle.protocol.specs.Join.Seen.{packet_seen, all_seen, world_seen}
+use Rattle.protocol.specs.Join.Seen.{all_seen, packet_seen, spelled_seen, world_seen}
 use Rattle.protocol.specs.Node.Beginning.{in_front}
 use Rattle.protocol.specs.World.StationView.{StationView}
 use Rattle.protocol.specs.World.Steps.{sending_of}
@@ -82,7 +82,7 @@ was_before (p ∷ first) sent packet was = let rest = was_before first sent pack
 pub carries_still : (first sent : List Packet) (traffic : Traffic) → Carries traffic sent
     → Carries traffic (first ++ sent)
 carries_still first sent traffic carries to =
-    λ i d within. λ packet text told is. was_before first sent told (carries to i d within packet text told is)
+    λ i d within. λ told is. was_before first sent told (carries to i d within told is)
 
 front_was : (o : Option Packet) (others sent : List Packet) (told : Packet) → o ≡ Some told
     → WasSent (in_front o others ++ sent) told
@@ -94,25 +94,25 @@ behind_was : (o : Option Packet) (others sent : List Packet) (told : Packet) →
 behind_was None others sent told was = was
 behind_was (Some packet) others sent told was = (suc was.0, was.1)
 
--- a packet has one spelling: what the bytes of one say was sent with it
+-- a spelling is of one packet: what the bytes of one say was sent with it
 texts_say : (packets : List Datagram) (sent : List Packet) → All IsPacket packets
-    → All (λ (p : Datagram). SaysWhatWasSent (all_seen packets ++ sent) p.to (packet_text p)) packets
+    → All (λ (p : Datagram). SaysWhatWasSent (all_seen packets ++ sent) (packet_text p)) packets
 texts_say packets sent allowed i d within = at packets i within (allowed i d within)
   where
     at : (ps : List Datagram) (i : ℕ) → i < length ps → IsPacket (get_or ps i d)
-        → SaysWhatWasSent (all_seen ps ++ sent) (get_or ps i d).to (packet_text (get_or ps i d))
-    at [] i within ok packet text told is = absurd (omega (arith, within))
-    at (p ∷ ps) zero within ok packet text told is =
-        let same : p ≡ packet = one_packet packet p (packet_text p) text (record { allowed = ok; spelled = refl }) in
-        front_was (packet_seen p) (all_seen ps) sent told (ap packet_seen same ∙ is)
-    at (p ∷ ps) (suc i) within ok packet text told is =
-        behind_was (packet_seen p) (all_seen ps) sent told (at ps i (omega (arith, within)) ok packet text told is)
+        → SaysWhatWasSent (all_seen ps ++ sent) (packet_text (get_or ps i d))
+    at [] i within ok told is = absurd (omega (arith, within))
+    at (p ∷ ps) zero within ok told is =
+        front_was (packet_seen p) (all_seen ps) sent told
+        (sym (ap spelled_seen (whole_again (packet_text p) p (record { allowed = ok; spelled = refl }))) ∙ is)
+    at (p ∷ ps) (suc i) within ok told is =
+        behind_was (packet_seen p) (all_seen ps) sent told (at ps i (omega (arith, within)) ok told is)
 
 pub carries_all : (round : ℕ) (packets : List Datagram) (traffic : Traffic) (sent : List Packet)
     → Carries traffic sent → All IsPacket packets
     → Carries (all_sent round (map sending_of packets) traffic) (all_seen packets ++ sent)
 carries_all round packets traffic sent carries allowed =
-    all_sent_holds (SaysWhatWasSent (all_seen packets ++ sent)) round (map sending_of packets) traffic
+    all_sent_holds (λ to. SaysWhatWasSent (all_seen packets ++ sent)) round (map sending_of packets) traffic
     (carries_still (all_seen packets) sent traffic carries)
-    (All-map (λ (s : Sending). SaysWhatWasSent (all_seen packets ++ sent) s.to s.packet) sending_of packets
+    (All-map (λ (s : Sending). SaysWhatWasSent (all_seen packets ++ sent) s.packet) sending_of packets
     (texts_say packets sent allowed))

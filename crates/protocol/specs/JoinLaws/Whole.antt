@@ -29,7 +29,7 @@ use Rattle.protocol.specs.JoinLaws.Events.{release_puts_none}
 use Rattle.protocol.specs.JoinLaws.Events.{acted_carries}
 use Rattle.protocol.specs.Join.Seen.{world_seen}
 use Rattle.protocol.specs.World.RecoveryLine.{net_seen}
-use Rattle.protocol.specs.JoinLaws.Leading.{leads_here, reached_then, outlets_same, set_itself}
+use Rattle.protocol.specs.JoinLaws.Leading.{leads_here, outlets_same, set_itself}
 use Rattle.protocol.specs.JoinLaws.Lines.{line_at_release, line_now}
 use Rattle.protocol.specs.JoinLaws.Opens.{run_opens}
 use Rattle.protocol.specs.JoinLaws.Plans.{ProspectLeads, prospect_line}
@@ -58,16 +58,7 @@ use Rattle.protocol.specs.declared.links.Inbox.{Inbox}
 pub opening_has_run : OpeningHasRun
 opening_has_run net failures outlets nothing = ∣ run_opens net (node_count net) outlets 0 failures nothing ∣₁
 
--- a world that goes on has run then
-pub has_run_then : (net : Network) (before after : List StationView) (traffic flown : Traffic)
-    → RunsOn net before traffic after flown → HasRun net after flown
-has_run_then net before after traffic flown on = record {
-  sent = on.sent;
-  reached = reached_then (net_seen net) _ _ on.run.reached on.leads;
-  carries = on.carries;
-}
-
--- and one in which nothing happens goes on
+-- a world in which nothing happens goes on
 pub runs_still : (net : Network) (stations : List StationView) (traffic : Traffic) → HasRun net stations traffic
     → RunsOn net stations traffic stations traffic
 runs_still net stations traffic run = record {

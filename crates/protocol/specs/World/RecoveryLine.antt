@@ -6,9 +6,9 @@ use Rattle.std.specs.Prelude.{slice_get}
 use Rattle.kahn_net.specs.Syntax.{Network}
 use Rattle.record.specs.RecordView.{RecordView}
 use Rattle.recovery_line.specs.Images.{Net}
-use Rattle.recovery_line.specs.Line.{Sound, Covers, NotBehind}
+use Rattle.recovery_line.specs.Line.{NotBehind}
 use Rattle.recovery_line.specs.Observers.{record_seen}
-use Rattle.recovery_line.specs.Records.{Record, new_record, effective}
+use Rattle.recovery_line.specs.Records.{Record, new_record}
 use Rattle.protocol.specs.Node.Layout.{producer_of, consumer_of}
 use Rattle.protocol.specs.Node.Plans.{next_record}
 use Rattle.protocol.specs.World.EventView.{EventView, ByNode, ByNetwork, Install, Release, event_node}
@@ -59,19 +59,6 @@ abbrev pub records_of : List StationView → List RecordView
 records_of stations = map (λ (station : StationView). station.node.kept) stations
 
 -- ---- lines in order
-
--- The line that follows from these records is sound: nobody has received what another would have to put again, and
--- nothing is lost that is still to be received or to leave. And it covers what has left these stations.
-pub record IsLineOf (net : Network) (stations : List StationView) (records : List RecordView) : Type 0 where
-  pub sound : Sound (net_seen net) (effective (records_seen records)) (outlets_seen stations)
-  pub covers : Covers (net_seen net) (records_seen records) (outlets_seen stations)
-
--- What a crash in an event left is in line: the line of these records is one of what had left before the event, and of
--- what has left by its end; and it isn't behind the line before the event.
-pub record AreInLine (net : Network) (before after : List StationView) (records : List RecordView) : Type 0 where
-  pub at_first : IsLineOf net before records
-  pub at_last : IsLineOf net after records
-  pub not_behind : NotBehind (records_seen (records_of before)) (records_seen records)
 
 -- Lines that follow one another: one that isn't behind a second isn't behind what the second isn't behind.
 abbrev pub LinesFollow : Type 0

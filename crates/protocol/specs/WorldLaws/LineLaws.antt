@@ -13,7 +13,8 @@ use Rattle.protocol.specs.Node.Starting.{IsBehind}
 use Rattle.protocol.specs.World.EventView.{EventView, ByNode, ByNetwork, Install, Release, event_node}
 use Rattle.protocol.specs.World.EventView as event
 use Rattle.protocol.specs.World.Invariant.{AreSound, IsNumbered, WorldInvariant}
-use Rattle.protocol.specs.World.RecoveryLine.{AreEither, AreInLine, LinesFollow, next_for, next_kept, records_of}
+use Rattle.protocol.specs.World.InLine.{AreInLine}
+use Rattle.protocol.specs.World.RecoveryLine.{AreEither, LinesFollow, next_for, next_kept, records_of}
 use Rattle.protocol.specs.World.RecoveryLine.{records_seen}
 use Rattle.protocol.specs.World.ReplyView.{ReplyView}
 use Rattle.protocol.specs.World.StationView.{StationView}

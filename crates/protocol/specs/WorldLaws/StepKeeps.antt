@@ -41,7 +41,8 @@ use Rattle.protocol.specs.JoinLaws.Promises.{StandsIn}
 use Rattle.protocol.specs.Join.Runs.{HasRun, RunsOn}
 use Rattle.protocol.specs.JoinLaws.Lasting.{deeds_stay_joined, install_joined, release_joined}
 use Rattle.protocol.specs.JoinLaws.Leading.{set_there}
-use Rattle.protocol.specs.JoinLaws.Whole.{deeds_run, has_run_then, installs_run, network_runs, releases_run, runs_still}
+use Rattle.protocol.specs.JoinLaws.Flown.{has_run_then}
+use Rattle.protocol.specs.JoinLaws.Whole.{deeds_run, installs_run, network_runs, releases_run, runs_still}
 use Rattle.protocol.specs.World.Invariant.{output_of, outputs_of, AreJoined, AreSound, IsNumbered, RunsSoundly}
 use Rattle.protocol.specs.World.Invariant.{StationInvariant, WorldInvariant}
 use Rattle.protocol.specs.World.OutputView.{OutputView}

@@ -32,3 +32,17 @@ returns-in-Err-clause-event g c =
     (epoch_fits (S.slot_capacity (cell_in old)) (record_in old)
     (record_fits C S met.fits_slot met.whole_may_stay old)) c.in-Err.fault c.end_put.result
     c.in-Err.ensures c.end_put.ensures.answer c.end_put.ensures.stays c.end_put.ensures.failed).1
+
+pub returns-in-Err-clause-held : goal.returns-in-Err-clause-held
+returns-in-Err-clause-held g c =
+    let C = g.C.StableCell in
+    let S = g.C.SlotCell in
+    let met = g.met.C.SlotCell in
+    let old = c.args.store.now in
+    (not_raised C S met.includes_now_whole met.whole_may_stay met.settled_whole
+    (network_of c.args.net.now.program) c.args.number c.args.round old c.raise.new.store
+    c.end_put.new.store c.args.state.now c.end_put.new.state c.requires
+    (sym c.is_down.ensures ∙ c.if-not-is_down.false)
+    (epoch_fits (S.slot_capacity (cell_in old)) (record_in old)
+    (record_fits C S met.fits_slot met.whole_may_stay old)) c.in-Err.fault c.end_put.result
+    c.in-Err.ensures c.end_put.ensures.answer c.end_put.ensures.stays c.end_put.ensures.failed).2

@@ -1,7 +1,7 @@
 use Rattle.recovery_line.proofs.Theorems.{line_is_sound, line_covers, line_never_falls_back, commits_while_held}
 use Rattle.recovery_line.proofs.Theorems.{stays_committed, holders_are_named, ended_is_over, stays_over, over_stays_out}
 use Rattle.recovery_line.proofs.Theorems.{takers_are_needed, no_smaller_set, no_smaller_decision, asks_for_needs}
-use Rattle.recovery_line.proofs.Theorems.{takes_where_needed}
+use Rattle.recovery_line.proofs.Theorems.{asks_as_received, decides_for_the_needed, takes_where_needed}
 use Rattle.recovery_line.proofs.runs.every_run_law.Goals as goal
 
 pub returns-clause-line_is_sound : goal.returns-clause-line_is_sound
@@ -39,6 +39,12 @@ returns-clause-no_smaller_set c = no_smaller_set
 
 pub returns-clause-no_smaller_decision : goal.returns-clause-no_smaller_decision
 returns-clause-no_smaller_decision c = no_smaller_decision
+
+pub returns-clause-decides_for_the_needed : goal.returns-clause-decides_for_the_needed
+returns-clause-decides_for_the_needed c = decides_for_the_needed
+
+pub returns-clause-asks_as_received : goal.returns-clause-asks_as_received
+returns-clause-asks_as_received c = asks_as_received
 
 pub returns-clause-asks_for_needs : goal.returns-clause-asks_for_needs
 returns-clause-asks_for_needs c = asks_for_needs

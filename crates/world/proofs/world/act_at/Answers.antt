@@ -16,6 +16,7 @@ use Rattle.protocol.specs.World.Pairs.{AreSameElsewhere}
 use Rattle.protocol.specs.WorldLaws.PairLaws.{elsewhere_set, on_err_map, pairs_refl, pairs_set}
 use Rattle.world.specs.WorldView.{station_view}
 use Rattle.world.specs.declared.station.Station.{Station}
+use Rattle.world.proofs.Held.{found_at}
 use Rattle.world.proofs.Restarts.{devices_at, devices_nowhere, restarts_at}
 use Rattle.world.proofs.Stations.{all_still, all_grown, all_still_in_line, all_in_line}
 use Rattle.world.proofs.Views.{acted, cell_stays, none_acted, refused_at, seen_at, sound_at}
@@ -163,3 +164,10 @@ returns-then-number-len-clause-device g c =
     let out : length c.args.stations.now.items ≤ c.args.number = search rules in
     devices_nowhere (event_view c.args.event.now) _ c.args.stations.now.items c.args.number
     (event_node (event_view c.args.event.now)) c.requires.at out
+
+pub returns-clause-held : goal.returns-clause-held
+returns-clause-held g c =
+    on_err_map c.act.result c.act.ensures.held
+    (found_at (event_view c.args.event.now) c.args.stations.now.items c.args.number
+    (event_node (event_view c.args.event.now)) c.index_mut.result.now c.act.new.self c.requires.at (search rules)
+    c.index_mut.ensures.value)

@@ -20,6 +20,8 @@ use Rattle.wire.specs.Traffic.{Traffic, traffic_of}
 use Rattle.world.specs.WholeView.{world_of}
 use Rattle.world.specs.WorldView.{rooms, station_view, world_view}
 use Rattle.world.specs.declared.station.Station.{Station}
+use Rattle.protocol.specs.World.EventView.{event_node}
+use Rattle.world.proofs.Held.{held_at}
 use Rattle.world.proofs.Lines.{keeps_line, one_line}
 use Rattle.world.proofs.Views.{setting_is, world_steps}
 use Rattle.world.proofs.world.World.apply.Goals as goal
@@ -147,10 +149,24 @@ returns-in-Ok-clause-coordinated g c =
 pub returns-in-Err-clause-coordinated : goal.returns-in-Err-clause-coordinated
 returns-in-Err-clause-coordinated g c =
     let was = c.args.self.now in
-    subst (λ (stations : List StationView). AreCoordinated (network_of was.net.value.program) (world_of was).stations
-    stations (traffic_of c.act_at.new.wire)) (sym c.in-Err.ensures.refused.0)
-    (subst (λ (traffic : Traffic). AreCoordinated (network_of was.net.value.program) (world_of was).stations
-    (world_of was).stations traffic) (sym c.in-Err.ensures.same_traffic) (coordinated_still (world_of was) was.sound))
+    subst (λ (stations : List StationView). AreCoordinated (world_of was)
+    (record {
+      net = network_of was.net.value.program;
+      inputs = was.inputs.value;
+      stations = stations;
+      traffic = traffic_of c.act_at.new.wire;
+      round = was.round;
+      room = was.room;
+    })) (sym c.in-Err.ensures.refused.0)
+    (subst (λ (traffic : Traffic). AreCoordinated (world_of was)
+    (record {
+      net = network_of was.net.value.program;
+      inputs = was.inputs.value;
+      stations = (world_of was).stations;
+      traffic = traffic;
+      round = was.round;
+      room = was.room;
+    })) (sym c.in-Err.ensures.same_traffic) (coordinated_still (world_of was) was.sound))
 
 pub returns-in-Ok-clause-settled : goal.returns-in-Ok-clause-settled
 returns-in-Ok-clause-settled g c =
@@ -210,3 +226,11 @@ pub returns-in-Ok-clause-home : goal.returns-in-Ok-clause-home
 returns-in-Ok-clause-home g c =
     granted_at_home (rooms c.args.self.now.stations.items) (event_view c.args.event) (world_of c.args.self.now)
     (reply_view c.in-Ok.reply) _ c.args.self.now.sound (returns-in-Ok-clause-step g c)
+
+pub returns-in-Err-clause-held : goal.returns-in-Err-clause-held
+returns-in-Err-clause-held g c =
+    let was = c.args.self.now in
+    held_at {cell = g.C.StableCell} {slots = g.C.SlotCell} g.met.C.SlotCell.includes_now_whole
+    g.met.C.SlotCell.only_now_whole g.met.C.SlotCell.whole_may_stay (event_view c.args.event)
+    (event_node (event_view c.args.event)) was.stations.items c.act_at.new.stations.items c.in-Err.ensures.refused.1
+    c.in-Err.ensures.held c.in-Err.ensures.unchanged

@@ -1,0 +1,5 @@
+use Rattle.protocol.specs.WorldLaws.AgreeLaws.{steps_agree}
+use Rattle.world.proofs.laws.step_law.Goals as goal
+
+pub returns : goal.returns
+returns c = steps_agree
