@@ -24,8 +24,35 @@ const MOST_ROOM: u64 = MAX_RETAINED_ITEMS as u64;
 const ABOUT: &str =
     "Runs a Kahn process network on its inputs, and prints what each output released: right whatever the script breaks.";
 
-const EXAMPLE: &str =
-    "Example: kahnrun examples/two_nodes.net examples/two_nodes.inputs --script examples/two_nodes.script";
+// What stands behind the options.
+const AFTER_OPTIONS: &str = "\
+Example: kahnrun examples/two_nodes.net examples/two_nodes.inputs --script examples/two_nodes.script
+
+Refusals, as in `net line 4: refusal 14` on standard error:
+   2  a character that can't stand there
+   3  the text can't go on so
+   4  a number past its range
+   5  a name, a nesting or a text that is too long
+  10  named twice
+  11  nothing of this name is declared
+  12  a second producer of a channel
+  13  a second consumer of a channel
+  14  a loop that may go round without an item
+  15  past a limit
+  16  a channel on which nobody puts
+  17  a channel from which nobody gets
+  18  an input without its line
+  19  an approximation that is too long
+  70  no line of a failure script
+  71  a node that the network doesn't have
+
+Exit status:
+   0  the report ends in `complete`
+   3  the report ends in `partial`
+   2  a text or the command line is refused, or help was asked for
+   1  anything else
+
+docs/FORMATS.md says more of texts, options, refusals and statuses.";
 
 /// The name of a file, and what it is for.
 fn file<'a>(alloc: Global, name: &'a str, help: &'a str) -> Arg<'a>
@@ -108,7 +135,7 @@ fn command<'a>(alloc: Global) -> Result<Command<'a>, AllocError>
 {
     let command = Command::new(alloc, "kahnrun")
         .about(ABOUT)
-        .after_help(EXAMPLE)
+        .after_help(AFTER_OPTIONS)
         .arg(file(alloc, "NET", "The network's text"))?
         .arg(file(
             alloc,

@@ -12,7 +12,7 @@ pub enum Answer {
     NotYet,
     /// The script has no line left.
     NoMore,
-    /// The hub is stopped: no call makes an event any more.
+    /// The hub is stopped: no turn and no line of the script makes an event any more, but a job that is out may come back.
     Stopped,
 }
 

@@ -339,7 +339,7 @@ impl<C: SlotCell, O: Outlet, J: Run> Book<C, O, J> {
         self.totals.made()
     }
 
-    /// From now on no call makes an event.
+    /// From now on no turn and no line of the script makes an event. What comes of a job that is out may still come back.
     pub fn stop(&mut self)
         ensures { self.new.stopped ≡ true }
     {

@@ -154,7 +154,7 @@ impl<C: SlotCell, O: Outlet, J: Run> Hub<C, O, J> {
         self.book.lock(rt).made()
     }
 
-    /// From now on no call makes an event.
+    /// From now on no turn and no line of the script makes an event. What comes of a job that is out may still come back.
     pub fn stop<R: Wait>(&self, rt: &R) {
         self.book.lock(rt).stop();
     }

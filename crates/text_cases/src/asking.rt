@@ -4,6 +4,8 @@ use crate::judging::Outcome;
 use crate::plan::{Asked, Plan};
 use crate::questions::answers;
 use crate::texts::text_of;
+use clap::Error;
+use clap::error::ErrorKind;
 use fail_script::{Script, parse_script};
 use kahn_program::{Failure, Options, not_text, options, print_failure, run};
 use net_text::{Token, tokens};
@@ -55,12 +57,20 @@ fn options_of(alloc: Global, words: &str) -> anyhow::Result<Options> {
     }
 }
 
-/// The same as a text, or why the command line is refused.
+/// Why a command line is refused; where it asks for help, what that says.
+fn refused_text(alloc: Global, error: &Error) -> Result<String, AllocError> {
+    match error.kind() {
+        ErrorKind::DisplayHelp => error.to_string(alloc),
+        kind => format!(in alloc; "refused {kind:?}\n"),
+    }
+}
+
+/// What a command line asks for as a text, or why it is refused.
 fn options_text(alloc: Global, words: &str) -> anyhow::Result<String> {
     let words: Vec<&str> = words.split_whitespace().collect(alloc)?;
     let text = match options(alloc, words.as_slice()) {
         Ok(options) => format!(in alloc; "{options:?}\n")?,
-        Err(error) => format!(in alloc; "refused {:?}\n", error.kind())?,
+        Err(error) => refused_text(alloc, &error)?,
     };
     Ok(text)
 }

@@ -23,7 +23,7 @@
 //! | `-- net slow` | a reader that gives a byte at a time, and is interrupted before each |
 //! | `-- net fails other` | a reader that fails behind its bytes: `other`, `invalid data`, `unexpected end`, `out of memory` |
 //! | `-- out fails behind 3`, `-- err fails at the flush` | a writer that fails behind so many bytes, or at its flush |
-//! | `-- options kahnrun a.net b` | nothing runs: on standard output comes what this command line asks for, or `refused KIND` |
+//! | `-- options kahnrun a.net b` | nothing runs: on standard output comes what this command line asks for, or `refused KIND`; the whole text where it asks for help |
 //! | `-- read_script 2` | nothing runs: the network's text is a failure script for so many nodes, and on standard output comes a line for each of its lines, or `refused NUMBER LINE` |
 //! | `-- ask turn` | nothing runs: each line that follows asks the same of the network's first process, and on standard output comes a line for each. A turn's is its place, variables, items at hand on channel 0, room on channel 1 and version: `1 left 2; 5 6; 7 8; 64; 3`. A place is `not begun`, `finished` or a site, with the passes that remain of repetitions |
 //! | `-- ask run` | of such lines as `0 0; 1 2 3; 2; 1`: what a hundred turns put in all, from these variables on, with these items, of which so many at most are at hand, and so much room |

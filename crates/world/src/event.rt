@@ -113,8 +113,8 @@ pub enum Reply {
     Sent,
     Started,
     Decided,
-    /// A start, a decision or a recovery was refused: its record would be too large (22), or the number of a start or the
-    /// epoch of a recovery would pass 2^63 - 1 (44).
+    /// A start was refused: its record would be too large (22), or its number would pass 2^63 - 1 (44); or a recovery, whose
+    /// epoch would (44).
     Refused(Refusal),
     Released(Freed),
     /// The outlet failed. It took the item or didn't.
