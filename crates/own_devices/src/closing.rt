@@ -60,3 +60,8 @@ pub fn closed_after(alloc: Global, sectors: usize, most: usize) -> anyhow::Resul
         None => bail!("no disk"),
     }
 }
+
+/// Whether two disks hold the same, or their worlds had not as many events.
+pub fn may_follow(one: &Closed, other: &Closed) -> bool {
+    one.events != other.events || one.bytes == other.bytes
+}

@@ -15,7 +15,7 @@ ghost use Rattle.sector_disk.specs.declared.TheConstants.{SECTOR_BYTES};
 ghost use Rattle.protocol.specs.World.Sound.{output_channels};
 ghost use Rattle.world.specs.OpeningWorld.{IsUnused};
 
-use crate::closing::closed_after;
+use crate::closing::{closed_after, may_follow};
 use crate::counting::CountingDisk;
 use crate::ledger::{Ledger, Weakness};
 use crate::retrying::{apply, run_job};
@@ -194,13 +194,15 @@ fn run_whole(
     report(rt, world)
 }
 
-/// A world that is closed where an event is refused, or at its end, and another that is closed behind as many events: whether their disks
-/// have the same bytes.
+/// Worlds that are closed where an event is refused, or at their end: each that comes next has as many events as the one before, unless one
+/// of its own is refused. Whether the disks of those with as many hold the same.
 fn run_closed(rt: &HostRuntime) -> anyhow::Result<()> {
     let alloc = rt.alloc();
     let first = closed_after(alloc, SECTORS, 100)?;
     let second = closed_after(alloc, SECTORS, first.events)?;
-    println!(rt; "closed: the same bytes {}", first.bytes == second.bytes)?;
+    let third = closed_after(alloc, SECTORS, second.events)?;
+    let is_same = may_follow(&first, &second) && may_follow(&second, &third);
+    println!(rt; "closed: the same bytes {is_same}")?;
     Ok(())
 }
 
