@@ -9,10 +9,11 @@ use sector_disk::{Disk, SECTOR_BYTES};
 use std::alloc::Global;
 use world::{Event, Reply};
 
-/// How many events a world had, and what its disk holds behind them.
+/// How many events a world had, whether the next one was refused, and what its disk holds behind them.
 #[derive(Drop)]
 pub struct Closed {
     pub events: usize,
+    pub is_refused: bool,
     pub bytes: Vec<u8>,
 }
 
@@ -24,20 +25,20 @@ fn next(world: &OwnWorld, done: Option<Done>) -> Event {
     }
 }
 
-/// Goes on until the world is complete, an event is refused, or there were so many. Gives how many there were.
-fn go_on(alloc: Global, world: &mut OwnWorld, most: usize) -> anyhow::Result<usize> {
+/// Goes on until the world is complete, an event is refused, or there were so many. Gives how many there were, and whether one was refused.
+fn go_on(alloc: Global, world: &mut OwnWorld, most: usize) -> anyhow::Result<(usize, bool)> {
     let mut done = None;
     for count in 0..most {
         if world.complete() {
-            return Ok(count);
+            return Ok((count, false));
         }
         match world.apply(alloc, next(world, done.take())) {
             Ok(Reply::Granted(job)) => done = Some(run_job(alloc, job)?),
             Ok(_) => {}
-            Err(_) => return Ok(count),
+            Err(_) => return Ok((count, true)),
         }
     }
-    Ok(most)
+    Ok((most, false))
 }
 
 /// All that a disk holds.
@@ -47,14 +48,20 @@ fn bytes_of(alloc: Global, disk: &mut OwnDisk, sectors: usize) -> anyhow::Result
     Ok(bytes)
 }
 
-/// A world that is closed behind so many events, or where one is refused before.
-pub fn closed_after(alloc: Global, sectors: usize, most: usize) -> anyhow::Result<Closed> {
-    let mut world = open(alloc, Weakness::None)?;
-    let events = go_on(alloc, &mut world, most)?;
+/// A world that is closed behind so many events, or where one is refused before. Its first outlet may be weak.
+pub fn closed_after(
+    alloc: Global,
+    sectors: usize,
+    weakness: Weakness,
+    most: usize,
+) -> anyhow::Result<Closed> {
+    let mut world = open(alloc, weakness)?;
+    let (events, is_refused) = go_on(alloc, &mut world, most)?;
     let (mut disks, _outputs) = world.close(alloc)?;
     match disks.first_mut() {
         Some(disk) => Ok(Closed {
             events,
+            is_refused,
             bytes: bytes_of(alloc, disk, sectors)?,
         }),
         None => bail!("no disk"),

@@ -1,6 +1,6 @@
-//! Worlds over a disk and outlets of one's own: a network with two outputs, event by event, once with a crash in the middle, and twice
-//! with an outlet that fails. `embedded` is the same with the disk and the outlet that are there. An event that is refused for want of
-//! memory is applied once more; and one world is closed where that happens, to look at its disk.
+//! Worlds over a disk and outlets of one's own: a network with two outputs, event by event, once with a crash in the middle, twice
+//! with an outlet that fails, and once with one that lacks memory. An event that is refused for want of memory is applied once more;
+//! and one world is closed where that happens, to look at its disk. `embedded` is the same with the disk and the outlet that are there.
 #![tactic(auto)]
 
 mod closing;
@@ -159,6 +159,9 @@ fn report(rt: &HostRuntime, world: OwnWorld) -> anyhow::Result<()> {
             ledger.len(),
             ledger.sum()
         )?;
+        if ledger.has_lacked() {
+            println!(rt; "it lacked memory, and the event was applied again")?;
+        }
     }
     for disk in &disks {
         println!(rt;
@@ -194,15 +197,18 @@ fn run_whole(
     report(rt, world)
 }
 
-/// Worlds that are closed where an event is refused, or at their end: each that comes next has as many events as the one before, unless one
-/// of its own is refused. Whether the disks of those with as many hold the same.
+/// A world that is closed where an event is refused, since its outlet lacks memory, and two that are closed behind as many events, unless one
+/// of their own is refused before. Whether the disks of those with as many hold the same.
 fn run_closed(rt: &HostRuntime) -> anyhow::Result<()> {
     let alloc = rt.alloc();
-    let first = closed_after(alloc, SECTORS, 100)?;
-    let second = closed_after(alloc, SECTORS, first.events)?;
-    let third = closed_after(alloc, SECTORS, second.events)?;
+    let first = closed_after(alloc, SECTORS, Weakness::Lacks(1), 100)?;
+    let second = closed_after(alloc, SECTORS, Weakness::None, first.events)?;
+    let third = closed_after(alloc, SECTORS, Weakness::None, second.events)?;
     let is_same = may_follow(&first, &second) && may_follow(&second, &third);
-    println!(rt; "closed: the same bytes {is_same}")?;
+    println!(rt;
+        "closed where an event is refused: {}, with the bytes of a world behind as many events: {is_same}",
+        first.is_refused
+    )?;
     Ok(())
 }
 
@@ -218,6 +224,12 @@ fn main(rt: HostRuntime) -> anyhow::Result<()> {
         &rt,
         "an outlet that fails behind an item",
         Weakness::Behind(1),
+        false,
+    )?;
+    run_whole(
+        &rt,
+        "an outlet that lacks memory for an item",
+        Weakness::Lacks(1),
         false,
     )?;
     run_closed(&rt)

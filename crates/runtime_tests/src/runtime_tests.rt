@@ -35,14 +35,14 @@ use std::{mem, thread};
 use wire::{Change, Rule};
 use world::{Event, Reply, SECTORS, World, list_outputs, node_count};
 
-const SUM_ON_TWO_NODES: &str =
+pub const SUM_ON_TWO_NODES: &str =
     "kahn 1; input i; chan c; output o; process copy on 0 { var v; loop { v = get i; put v to c; } } process sum on 1 { var a; var v; loop { v = get c; a = a + v; put a to o; } }";
 
 // Kahn's own example: the items 0 and 1 in turn, for ever.
 const KAHN: &str =
     "kahn 1; chan X; chan Y; chan Z; chan T1; chan T2; output out; process f on 0 { var v; loop { v = get Y; put v to X; put v to out; v = get Z; put v to X; put v to out; } } process g on 0 { var v; loop { v = get X; put v to T1; v = get X; put v to T2; } } process h0 on 1 { var v; put 0 to Y; loop { v = get T1; put v to Y; } } process h1 on 1 { var v; put 1 to Z; loop { v = get T2; put v to Z; } }";
 
-const NODES: u8 = 2;
+pub const NODES: u8 = 2;
 
 const OUTPUT: u8 = 2;
 
@@ -57,11 +57,11 @@ type SumHub<J> = Hub<SplitCell<MemDisk>, ListOutlet, J>;
 
 type SumArmed = ArmedWorld<SplitCell<MemDisk>, ListOutlet>;
 
-fn net_of(alloc: Global, text: &str) -> Result<Net, Fail> {
+pub fn net_of(alloc: Global, text: &str) -> Result<Net, Fail> {
     Ok(check(alloc, parse(alloc, text)?)?)
 }
 
-fn inputs_of(alloc: Global, net: &Net, text: &str) -> Result<Inputs, Fail>
+pub fn inputs_of(alloc: Global, net: &Net, text: &str) -> Result<Inputs, Fail>
     ensures { IfOk result (λ inputs. Fits (network_of net.now.program) inputs) }
 {
     Ok(bind(alloc, net, parse_inputs(alloc, text)?)?)
@@ -74,7 +74,7 @@ fn empty_disk(alloc: Global, sectors: usize) -> Result<MemDisk, AllocError>
     MemDisk::new(alloc, sectors)
 }
 
-fn disks(alloc: Global, nodes: usize) -> Result<Vec<MemDisk>, Fail>
+pub fn disks(alloc: Global, nodes: usize) -> Result<Vec<MemDisk>, Fail>
     ensures { IfOk result (λ disks. vec_len disks ≡ nodes) }
 {
     let mut disks = Vec::with_capacity(alloc, nodes)?;
@@ -623,7 +623,7 @@ impl Gate for HeldGate {
     }
 }
 
-const BOUNDS: Bounds = Bounds {
+pub const BOUNDS: Bounds = Bounds {
     rounds: 1_000,
     items: None,
 };
