@@ -256,7 +256,7 @@ impl Run {
             text.push_str("; ")?;
         }
         for (channel, _) in self.net.program.channels.iter().enumerate() {
-            self.add_channel(alloc, &mut text, channel as u8)?;
+            self.add_channel(alloc, &mut text, u8::try_from(channel)?)?;
         }
         Ok(text)
     }

@@ -1,6 +1,7 @@
 //! What comes of a case.
 
 use crate::beginnings::beginnings_text;
+use crate::faults::faults_text;
 use crate::judging::Outcome;
 use crate::plan::{Asked, Plan};
 use crate::questions::answers;
@@ -142,7 +143,8 @@ fn answer(alloc: Global, plan: &Plan) -> anyhow::Result<String> {
     match &plan.asked {
         Asked::Options(words) => options_text(alloc, words),
         Asked::Tokens => tokens_text(alloc, &plan.net.bytes),
-        Asked::Beginnings => beginnings_text(alloc, &plan.net.bytes),
+        Asked::Beginnings => Ok(beginnings_text(alloc, &plan.net.bytes)?),
+        Asked::Faults => Ok(faults_text(alloc)?),
         Asked::Script(nodes) => script_text(alloc, &plan.net.bytes, *nodes),
         Asked::Lines(question) => answers(
             alloc,

@@ -40,14 +40,14 @@ fn add_run(
 }
 
 /// A line for each row of beginnings of which the same comes: from no byte on, up to the whole text.
-pub fn beginnings_text(alloc: Global, bytes: &[u8]) -> anyhow::Result<String> {
+pub fn beginnings_text(alloc: Global, bytes: &[u8]) -> Result<String, AllocError> {
     let mut text = String::new(alloc);
     let mut first: usize = 0;
     let mut came = answer(alloc, b"")?;
     for length in 1..=bytes.len() {
         let next = answer(alloc, bytes.get(..length).unwrap_or(bytes))?;
         if next.as_str() != came.as_str() {
-            add_run(alloc, &mut text, first, length - 1, &came)?;
+            add_run(alloc, &mut text, first, length.saturating_sub(1), &came)?;
             first = length;
             came = next;
         }

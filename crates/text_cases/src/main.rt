@@ -35,12 +35,14 @@
 //! | `-- ask solves` | of histories as `1 2 3; 1 3 6`, one for each channel, or `no channel`: whether they are a solution |
 //! | `-- refusal 44`, `-- not_text` | nothing runs: what comes where this number is refused and no text is, and on standard output the first line of why a command line isn't text |
 //! | `-- beginnings` | nothing runs: on standard output comes a line for each row of beginnings of the network's text of which the same comes, by their lengths in bytes, as `0 to 6 refused 3 1`, with number and line, or `7 to 8 read` |
+//! | `-- faults` | nothing runs: on standard output comes a line for each fault of each layer, with its number |
 //! | `-- tokens` | nothing runs: on standard output comes a line for each token of the network's text, or `refused NUMBER LINE` |
 #![tactic(auto)]
 
 mod asking;
 mod beginnings;
 mod devices;
+mod faults;
 mod jobs;
 mod judging;
 mod likeness;

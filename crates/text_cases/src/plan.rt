@@ -33,6 +33,8 @@ pub enum Asked {
     Tokens,
     /// What comes of each beginning of the network's text.
     Beginnings,
+    /// What each fault prints.
+    Faults,
     /// The lines of a failure script for so many nodes, which stands in the place of the network's text.
     Script(u8),
     /// This of the network, on each line of the text that stands in the place of a script.
@@ -241,6 +243,7 @@ impl Plan {
             "err" => self.part = Part::Err,
             "tokens" => self.asked = Asked::Tokens,
             "beginnings" => self.asked = Asked::Beginnings,
+            "faults" => self.asked = Asked::Faults,
             "not_text" => self.asked = Asked::NotText,
             _ => anyhow::bail!("{word} is no directive"),
         }
