@@ -62,50 +62,56 @@ fn found_in(
         .context(format_args!("the case of line {}", case.line))
 }
 
-/// Whether a case comes out as written for one choice. Prints it where it doesn't.
-fn holds_for(
-    rt: &HostRuntime,
-    case: &Case,
-    choice: &[u64],
-    trial: &impl Trial,
-) -> anyhow::Result<bool> {
-    match found_in(rt, case, choice, trial)? {
-        Some(difference) => {
-            report(rt, case, choice, &difference)?;
-            Ok(false)
-        }
-        None => Ok(true),
-    }
+/// How a case came out.
+#[derive(Drop)]
+struct Judged<'a> {
+    /// For how many choices it came out as written.
+    as_written: usize,
+    /// The first choice for which it came out otherwise, with what came.
+    otherwise: Option<(&'a [u64], Difference)>,
 }
 
-/// Whether a case comes out as written, for each of these choices. Prints the first that doesn't.
-fn holds(
+/// How a case comes out for these choices. Cases that are wrong on purpose go by this too, so that a judgement which lets everything
+/// pass lets them pass.
+fn judge<'a>(
     rt: &HostRuntime,
     case: &Case,
-    choices: &[Vec<u64>],
+    choices: &'a [Vec<u64>],
     trial: &impl Trial,
-) -> anyhow::Result<bool> {
+) -> anyhow::Result<Judged<'a>> {
+    let mut as_written: usize = 0;
+    let mut otherwise = None;
     for choice in choices {
-        if !holds_for(rt, case, choice, trial)? {
-            return Ok(false);
+        match found_in(rt, case, choice, trial)? {
+            None => as_written = as_written.saturating_add(1),
+            Some(difference) => {
+                if otherwise.is_none() {
+                    otherwise = Some((choice.as_slice(), difference));
+                }
+            }
         }
     }
-    Ok(true)
+    Ok(Judged {
+        as_written,
+        otherwise,
+    })
 }
 
-/// Whether a case comes out otherwise, for each of these choices.
-fn fails(
-    rt: &HostRuntime,
-    case: &Case,
-    choices: &[Vec<u64>],
-    trial: &impl Trial,
-) -> anyhow::Result<bool> {
-    for choice in choices {
-        if found_in(rt, case, choice, trial)?.is_none() {
-            return Ok(false);
-        }
+/// Whether a case comes out as written for each choice of its numbers. Prints the first for which it doesn't.
+fn holds(rt: &HostRuntime, case: &Case, trial: &impl Trial) -> anyhow::Result<bool> {
+    let choices = choices(rt.alloc(), &case.names)?;
+    let judged = judge(rt, case, &choices, trial)?;
+    if let Some((choice, difference)) = &judged.otherwise {
+        report(rt, case, choice, difference)?;
     }
-    Ok(true)
+    Ok(judged.as_written == choices.len())
+}
+
+/// Whether a case comes out otherwise for each choice of its numbers.
+fn fails(rt: &HostRuntime, case: &Case, trial: &impl Trial) -> anyhow::Result<bool> {
+    let choices = choices(rt.alloc(), &case.names)?;
+    let judged = judge(rt, case, &choices, trial)?;
+    Ok(judged.as_written == 0 && judged.otherwise.is_some())
 }
 
 /// Runs cases, and prints each that comes out otherwise, and how many came out as written. Refuses where one didn't, and where one
@@ -113,8 +119,7 @@ fn fails(
 pub fn run_cases(rt: &HostRuntime, cases: &[Case], trial: &impl Trial) -> anyhow::Result<()> {
     let mut as_written: usize = 0;
     for case in cases {
-        let all = choices(rt.alloc(), &case.names)?;
-        if holds(rt, case, &all, trial)? {
+        if holds(rt, case, trial)? {
             as_written = as_written.saturating_add(1);
         }
     }
@@ -131,9 +136,8 @@ pub fn run_cases(rt: &HostRuntime, cases: &[Case], trial: &impl Trial) -> anyhow
 /// program that lets it pass would let every case pass.
 pub fn run_wrong_cases(rt: &HostRuntime, cases: &[Case], trial: &impl Trial) -> anyhow::Result<()> {
     for case in cases {
-        let all = choices(rt.alloc(), &case.names)?;
         anyhow::ensure!(
-            fails(rt, case, &all, trial)?,
+            fails(rt, case, trial)?,
             "the wrong case of line {} came out as written",
             case.line
         );

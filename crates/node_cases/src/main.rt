@@ -32,6 +32,8 @@
 //! | `deliver 02 01 00 .. -> delivered`, `-> dropped`, `-> not due` | bytes come to the node, in round 0; `deliver` alone is none |
 //! | `deliver in 7 04 01 00 .. -> failed`, `-> declined` | the same in round 7; `failed` where the device does in it, and `declined` where the node takes no part in a checkpoint since its record would be too large |
 //! | `deliver each 0 to 1023 behind 01 00 ..` | for each of these numbers a packet comes, in which the number stands twice behind these bytes, in 8 bytes each: the answer is the first that isn't `delivered`, or that |
+//! | `deliver each beginning of 02 01 00 .. -> dropped` | each proper beginning of these bytes comes, from none on: the answer is the first that isn't `dropped`, or that; `changed` where a dropped one leaves anything of the node otherwise than it was |
+//! | `deliver with a byte more 02 01 00 .. -> dropped` | the same of these bytes with one more, of each value |
 //! | `start 7 -> stored`, `-> not due`, `-> failed`, `-> refused 44` | a checkpoint is begun in round 7 |
 //! | `decide 7 -> stored` | the checkpoint is decided for which answers are collected, with the same answers. A node that is down isn't asked: `not due` |
 //! | `said -> 04 01 00 .., 04 01 02 ..` | the bytes of each packet that was sent in the last `deliver`, `start` or `decide`; `none` |

@@ -227,6 +227,82 @@ impl Run {
         Ok(Some(Outcome::Made))
     }
 
+    /// Adds to a text what is to be seen of a channel.
+    fn add_channel(&self, alloc: Global, text: &mut String, channel: u8) -> anyhow::Result<()> {
+        let questions = [
+            Question::Now(channel),
+            Question::Log(channel),
+            Question::Inbox(channel),
+        ];
+        for question in questions {
+            text.push_str(&self.shown(alloc, question)?)?;
+            text.push_str("; ")?;
+        }
+        Ok(())
+    }
+
+    /// All that is to be seen of the node.
+    fn seen(&self, alloc: Global) -> anyhow::Result<String> {
+        let questions = [
+            Question::State,
+            Question::Record,
+            Question::Processes,
+            Question::HasJob,
+            Question::Packets,
+        ];
+        let mut text = String::new(alloc);
+        for question in questions {
+            text.push_str(&self.shown(alloc, question)?)?;
+            text.push_str("; ")?;
+        }
+        for (channel, _) in self.net.program.channels.iter().enumerate() {
+            self.add_channel(alloc, &mut text, u8::try_from(channel)?)?;
+        }
+        Ok(text)
+    }
+
+    /// Delivers bytes that are to be dropped, and says what came of that: also where something is otherwise than it was seen before.
+    fn deliver_damaged(
+        &mut self,
+        alloc: Global,
+        bytes: &[u8],
+        before: &str,
+    ) -> anyhow::Result<&'static str> {
+        let heard = self.deliver(alloc, bytes, 0)?;
+        if heard.is_none() && self.seen(alloc)?.as_str() != before {
+            return Ok("changed");
+        }
+        Ok(delivery_word(heard))
+    }
+
+    /// Delivers each beginning of these bytes, until one isn't dropped. Says what came of the last.
+    fn deliver_beginnings(&mut self, alloc: Global, bytes: &[u8]) -> anyhow::Result<&'static str> {
+        let before = self.seen(alloc)?;
+        for length in 0..bytes.len() {
+            let beginning = bytes.get(..length).unwrap_or(bytes);
+            let came = self.deliver_damaged(alloc, beginning, &before)?;
+            if came != "dropped" {
+                return Ok(came);
+            }
+        }
+        Ok("dropped")
+    }
+
+    /// Delivers these bytes with each byte behind them, until that isn't dropped. Says what came of the last.
+    fn deliver_longer(&mut self, alloc: Global, bytes: &[u8]) -> anyhow::Result<&'static str> {
+        let before = self.seen(alloc)?;
+        let mut longer = Vec::from_slice(alloc, bytes)?;
+        for byte in 0..=u8::MAX {
+            longer.push(byte)?;
+            let came = self.deliver_damaged(alloc, &longer, &before)?;
+            if came != "dropped" {
+                return Ok(came);
+            }
+            longer.truncate(bytes.len());
+        }
+        Ok("dropped")
+    }
+
     fn shown(&self, alloc: Global, question: Question) -> anyhow::Result<String> {
         let node = &self.node;
         let text = match question {
@@ -263,6 +339,14 @@ impl Run {
             Step::DeliverEach(row) => {
                 let heard = self.deliver_each(alloc, row)?;
                 Ok(String::from_str(alloc, delivery_word(heard))?)
+            }
+            Step::DeliverBeginnings(bytes) => {
+                let came = self.deliver_beginnings(alloc, bytes)?;
+                Ok(String::from_str(alloc, came)?)
+            }
+            Step::DeliverLonger(bytes) => {
+                let came = self.deliver_longer(alloc, bytes)?;
+                Ok(String::from_str(alloc, came)?)
             }
             Step::Ask(question) => self.shown(alloc, *question),
         }

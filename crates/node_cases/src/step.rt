@@ -58,6 +58,10 @@ pub enum Step {
     Install(Brought),
     Deliver { round: u64, bytes: Vec<u8> },
     DeliverEach(Row),
+    /// Each beginning of these bytes.
+    DeliverBeginnings(Vec<u8>),
+    /// These bytes with one more, whatever it is.
+    DeliverLonger(Vec<u8>),
     Ask(Question),
 }
 
@@ -144,6 +148,10 @@ fn arrival_of(alloc: Global, named: &[NamedBytes], text: &str) -> anyhow::Result
         Step::Install(Brought::Foreign(String::from_str(alloc, inputs)?))
     } else if let Some(job) = text.strip_prefix("install ") {
         Step::Install(Brought::Earlier(size(job)?))
+    } else if let Some(bytes) = text.strip_prefix("deliver each beginning of ") {
+        Step::DeliverBeginnings(spelled(alloc, named, bytes)?)
+    } else if let Some(bytes) = text.strip_prefix("deliver with a byte more ") {
+        Step::DeliverLonger(spelled(alloc, named, bytes)?)
     } else if let Some(row) = text.strip_prefix("deliver each ") {
         Step::DeliverEach(row_of(alloc, named, row)?)
     } else if let Some(bytes) = text.strip_prefix("deliver ") {

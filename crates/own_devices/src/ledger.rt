@@ -5,7 +5,7 @@ ghost use Rattle.std.specs.Prelude.{◌≡◌, [], if◌then◌else◌};
 use outlet::{Outlet, OutletFault};
 use std::alloc::Global;
 
-/// When a ledger fails: once, at the item that comes next when it has so many.
+/// When a ledger fails, or lacks memory: once, at the item that comes next when it has so many.
 #[derive(Clone, Copy, PartialEq, Eq)]
 pub enum Weakness {
     /// It never fails.
@@ -14,15 +14,18 @@ pub enum Weakness {
     Before(usize),
     /// It fails when it has taken the item.
     Behind(usize),
+    /// It has no memory for the item.
+    Lacks(usize),
 }
 
-/// Items, and their sum, which wraps. Want of memory aside it fails once at most.
+/// Items, and their sum, which wraps. The allocator aside it fails once at most, or lacks memory once.
 #[derive(Drop)]
 pub struct Ledger {
     items: Vec<i64>,
     sum: i64,
     weakness: Weakness,
     has_failed: bool,
+    has_lacked: bool,
 }
 
 impl Ledger {
@@ -35,7 +38,13 @@ impl Ledger {
             sum: 0,
             weakness,
             has_failed: false,
+            has_lacked: false,
         }
+    }
+
+    /// Whether it was told to lack memory, and did.
+    pub fn has_lacked(&self) -> bool {
+        self.has_lacked
     }
 
     pub fn sum(&self) -> i64 {
@@ -61,6 +70,10 @@ impl Outlet for Ledger {
         if !self.has_failed && self.weakness == Weakness::Before(count) {
             self.has_failed = true;
             return Err(OutletFault::Failed);
+        }
+        if !self.has_lacked && self.weakness == Weakness::Lacks(count) {
+            self.has_lacked = true;
+            return Err(OutletFault::NoMemory);
         }
         self.items.push(item)?;
         self.sum = self.sum.wrapping_add(item);

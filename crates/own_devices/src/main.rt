@@ -1,9 +1,12 @@
-//! Worlds over a disk and outlets of one's own: a network with two outputs, event by event, once with a crash in the middle, and twice
-//! with an outlet that fails. `embedded` is the same with the disk and the outlet that are there.
+//! Worlds over a disk and outlets of one's own: a network with two outputs, event by event, once with a crash in the middle, twice
+//! with an outlet that fails, and once with one that lacks memory. An event that is refused for want of memory is applied once more;
+//! and one world is closed where that happens, to look at its disk. `embedded` is the same with the disk and the outlet that are there.
 #![tactic(auto)]
 
+mod closing;
 mod counting;
 mod ledger;
+mod retrying;
 
 ghost use Rattle.std.specs.Prelude.{◌≡◌, ◌*◌, ◌^◌, ◌<◌, IfOk, map};
 ghost use Rattle.std.specs.List.{AllByRecursion};
@@ -12,21 +15,22 @@ ghost use Rattle.sector_disk.specs.declared.TheConstants.{SECTOR_BYTES};
 ghost use Rattle.protocol.specs.World.Sound.{output_channels};
 ghost use Rattle.world.specs.OpeningWorld.{IsUnused};
 
+use crate::closing::{closed_after, may_follow};
 use crate::counting::CountingDisk;
 use crate::ledger::{Ledger, Weakness};
+use crate::retrying::{apply, run_job};
 use gate_cell::SplitCell;
 use net_check::{Net, bind, check};
 use net_text::{parse, parse_inputs};
 use outlet::Outlet;
-use proc_step::Job;
 use sector_disk::MemDisk;
 use std::alloc::{AllocError, Global};
 use std::sync::Arc;
 use world::{Event, Output, Reply, World, list_outputs, node_count};
 
-/// Each item goes to the first output, and the sum of those so far to the second.
-const NET: &str = "kahn 1; input i; output same; output total;
-process sum on 0 { var a; var v; loop { v = get i; put v to same; a = a + v; put a to total; } }";
+/// The sum of the items so far goes to the first output, and each item to the second.
+const NET: &str = "kahn 1; input i; output total; output same;
+process sum on 0 { var a; var v; loop { v = get i; a = a + v; put a to total; put v to same; } }";
 
 /// The sectors of the disk.
 const SECTORS: usize = 401;
@@ -34,9 +38,9 @@ const SECTORS: usize = 401;
 /// The turn before which the node crashes: it has taken a tentative image then, and not made it permanent.
 const CRASHES_AT: u32 = 2;
 
-type OwnDisk = CountingDisk<MemDisk>;
+pub type OwnDisk = CountingDisk<MemDisk>;
 
-type OwnWorld = World<SplitCell<OwnDisk>, Ledger>;
+pub type OwnWorld = World<SplitCell<OwnDisk>, Ledger>;
 
 fn empty_disk(alloc: Global, sectors: usize) -> Result<OwnDisk, AllocError>
     requires { SECTOR_BYTES * sectors < 2 ^ 64 }
@@ -77,7 +81,7 @@ fn own_outputs(alloc: Global, net: &Net, weakness: Weakness) -> anyhow::Result<V
 }
 
 /// The world before its first event.
-fn open(alloc: Global, weakness: Weakness) -> anyhow::Result<OwnWorld> {
+pub fn open(alloc: Global, weakness: Weakness) -> anyhow::Result<OwnWorld> {
     let net = check(alloc, parse(alloc, NET)?)?;
     anyhow::ensure!(node_count(&net) == 1, "several nodes");
     let inputs = bind(alloc, &net, parse_inputs(alloc, "i: 1 2 3")?)?;
@@ -92,19 +96,13 @@ fn open(alloc: Global, weakness: Weakness) -> anyhow::Result<OwnWorld> {
     }
 }
 
-/// One event. `World::apply` refuses for want of memory alone.
-fn apply(alloc: Global, world: &mut OwnWorld, event: Event) -> anyhow::Result<Reply> {
-    match world.apply(alloc, event) {
-        Ok(reply) => Ok(reply),
-        Err(_) => Err(anyhow::anyhow!("no memory")),
-    }
-}
-
-/// Tells what a release answers: the channel, and how many items have left by it.
-fn tell(rt: &HostRuntime, reply: &Reply) -> anyhow::Result<()> {
+/// Tells what a release answers, with the round in which that is: the channel, and how many items have left by it; or how many the first
+/// output has where it failed.
+fn tell(rt: &HostRuntime, world: &OwnWorld, reply: &Reply) -> anyhow::Result<()> {
+    let round = world.round();
     match reply {
-        Reply::Released(freed) => print!(rt; " {}.{}", freed.output, freed.number)?,
-        Reply::OutletFailed => print!(rt; " failed")?,
+        Reply::Released(freed) => print!(rt; " {}.{}@{round}", freed.output, freed.number)?,
+        Reply::OutletFailed => print!(rt; " failed:{}@{round}", world.released(1).len())?,
         _ => {}
     }
     Ok(())
@@ -116,12 +114,10 @@ fn step(rt: &HostRuntime, world: &mut OwnWorld) -> anyhow::Result<()> {
     let event = world.pick(0);
     match apply(alloc, world, event)? {
         Reply::Granted(job) => {
-            let Ok(done) = Job::run(job, alloc) else {
-                return Err(anyhow::anyhow!("no memory"));
-            };
+            let done = run_job(alloc, job)?;
             apply(alloc, world, Event::Install(done))?;
         }
-        reply => tell(rt, &reply)?,
+        reply => tell(rt, world, &reply)?,
     }
     Ok(())
 }
@@ -163,6 +159,9 @@ fn report(rt: &HostRuntime, world: OwnWorld) -> anyhow::Result<()> {
             ledger.len(),
             ledger.sum()
         )?;
+        if ledger.has_lacked() {
+            println!(rt; "it lacked memory, and the event was applied again")?;
+        }
     }
     for disk in &disks {
         println!(rt;
@@ -193,9 +192,24 @@ fn run_whole(
     println!(rt; "{name}")?;
     let mut world = open(rt.alloc(), weakness)?;
     run(rt, &mut world, crashes)?;
-    print_items(rt, "same", world.released(1))?;
-    print_items(rt, "total", world.released(2))?;
+    print_items(rt, "total", world.released(1))?;
+    print_items(rt, "same", world.released(2))?;
     report(rt, world)
+}
+
+/// A world that is closed where an event is refused, since its outlet lacks memory, and two that are closed behind as many events, unless one
+/// of their own is refused before. Whether the disks of those with as many hold the same.
+fn run_closed(rt: &HostRuntime) -> anyhow::Result<()> {
+    let alloc = rt.alloc();
+    let first = closed_after(alloc, SECTORS, Weakness::Lacks(1), 100)?;
+    let second = closed_after(alloc, SECTORS, Weakness::None, first.events)?;
+    let third = closed_after(alloc, SECTORS, Weakness::None, second.events)?;
+    let is_same = may_follow(&first, &second) && may_follow(&second, &third);
+    println!(rt;
+        "closed where an event is refused: {}, with the bytes of a world behind as many events: {is_same}",
+        first.is_refused
+    )?;
+    Ok(())
 }
 
 fn main(rt: HostRuntime) -> anyhow::Result<()> {
@@ -211,5 +225,12 @@ fn main(rt: HostRuntime) -> anyhow::Result<()> {
         "an outlet that fails behind an item",
         Weakness::Behind(1),
         false,
-    )
+    )?;
+    run_whole(
+        &rt,
+        "an outlet that lacks memory for an item",
+        Weakness::Lacks(1),
+        false,
+    )?;
+    run_closed(&rt)
 }

@@ -4,4 +4,6 @@
 #[cfg(test)]
 mod marks_tests;
 #[cfg(test)]
+mod poor_tests;
+#[cfg(test)]
 mod runtime_tests;

@@ -13,34 +13,40 @@ ghost use Rattle.world.specs.WorldView.{rooms};
 
 use gate_cell::SplitCell;
 use kahn_net::Channel;
-use marks::{MarksName, Opened, Seat};
+use marks::{Marks, MarksName, Opened, Seat};
 use net_check::{Inputs, Net, bind, check};
 use net_text::{parse, parse_inputs};
 use outlet::ListOutlet;
 use proc_step::Job;
-use replay::{KeptReply, Maker, PlainEvent, ScriptedEvent, Silence};
+use replay::{ArmedCrash, KeptReply, Maker, PlainEvent, ScriptedEvent, Silence};
 use runtime::{
-    Answer, ArmedWorld, Blanks, Bounds, DriverPost, DriverSeat, Floor, Gate, History, Hub,
-    KeptEvent, Line, NodeSeat, OpenGate, Post, Run, run_threads, run_world,
+    Answer, ArmedWorld, Blanks, Bounds, DriverPost, DriverSeat, Entry, Floor, Gate, History, Hub,
+    KeptEvent, Line, NodeSeat, OpenGate, Post, Run, run_threads, run_world, work,
 };
-use sector_disk::{ArmedFault, MemDisk};
+use sector_disk::{ArmedFault, Disk, MemDisk, SECTOR_BYTES};
 use std::alloc::{AllocError, Global};
 use std::marker::Brand;
 use std::sync::atomic::AtomicBool;
 use std::sync::atomic::Ordering::SeqCst;
 use std::sync::{Arc, Wait};
 use std::test::Fail;
-use std::thread;
 use std::thread::Threads;
+use std::{mem, thread};
 use wire::{Change, Rule};
 use world::{Event, Reply, SECTORS, World, list_outputs, node_count};
 
-const SUM_ON_TWO_NODES: &str =
+pub const SUM_ON_TWO_NODES: &str =
     "kahn 1; input i; chan c; output o; process copy on 0 { var v; loop { v = get i; put v to c; } } process sum on 1 { var a; var v; loop { v = get c; a = a + v; put a to o; } }";
 
-const NODES: u8 = 2;
+// Kahn's own example: the items 0 and 1 in turn, for ever.
+const KAHN: &str =
+    "kahn 1; chan X; chan Y; chan Z; chan T1; chan T2; output out; process f on 0 { var v; loop { v = get Y; put v to X; put v to out; v = get Z; put v to X; put v to out; } } process g on 0 { var v; loop { v = get X; put v to T1; v = get X; put v to T2; } } process h0 on 1 { var v; put 0 to Y; loop { v = get T1; put v to Y; } } process h1 on 1 { var v; put 1 to Z; loop { v = get T2; put v to Z; } }";
+
+pub const NODES: u8 = 2;
 
 const OUTPUT: u8 = 2;
+
+const OUTPUT_OF_KAHN: u8 = 5;
 
 // No run here takes so many rounds of the seats.
 const ROUNDS: u32 = 100_000;
@@ -51,14 +57,14 @@ type SumHub<J> = Hub<SplitCell<MemDisk>, ListOutlet, J>;
 
 type SumArmed = ArmedWorld<SplitCell<MemDisk>, ListOutlet>;
 
-fn sum_net(alloc: Global) -> Result<Net, Fail> {
-    Ok(check(alloc, parse(alloc, SUM_ON_TWO_NODES)?)?)
+pub fn net_of(alloc: Global, text: &str) -> Result<Net, Fail> {
+    Ok(check(alloc, parse(alloc, text)?)?)
 }
 
-fn sum_inputs(alloc: Global, net: &Net) -> Result<Inputs, Fail>
+pub fn inputs_of(alloc: Global, net: &Net, text: &str) -> Result<Inputs, Fail>
     ensures { IfOk result (λ inputs. Fits (network_of net.now.program) inputs) }
 {
-    Ok(bind(alloc, net, parse_inputs(alloc, "i: 1 2 3")?)?)
+    Ok(bind(alloc, net, parse_inputs(alloc, text)?)?)
 }
 
 // A disk in memory of so many sectors. (Of a given number, a proof that has its content in reach would write out all the zeros.)
@@ -68,7 +74,7 @@ fn empty_disk(alloc: Global, sectors: usize) -> Result<MemDisk, AllocError>
     MemDisk::new(alloc, sectors)
 }
 
-fn disks(alloc: Global, nodes: usize) -> Result<Vec<MemDisk>, Fail>
+pub fn disks(alloc: Global, nodes: usize) -> Result<Vec<MemDisk>, Fail>
     ensures { IfOk result (λ disks. vec_len disks ≡ nodes) }
 {
     let mut disks = Vec::with_capacity(alloc, nodes)?;
@@ -82,9 +88,9 @@ fn disks(alloc: Global, nodes: usize) -> Result<Vec<MemDisk>, Fail>
     }
 }
 
-fn sum_world(alloc: Global) -> Result<SumWorld, Fail> {
-    let net = sum_net(alloc)?;
-    let inputs = sum_inputs(alloc, &net)?;
+fn open_world(alloc: Global, text: &str, inputs: &str) -> Result<SumWorld, Fail> {
+    let net = net_of(alloc, text)?;
+    let inputs = inputs_of(alloc, &net, inputs)?;
     let outputs = list_outputs(alloc, &net)?;
     let disks = disks(alloc, node_count(&net))?;
     let net = Arc::new(alloc, net)?;
@@ -93,6 +99,10 @@ fn sum_world(alloc: Global) -> Result<SumWorld, Fail> {
         Ok(world) => Ok(world),
         Err(_) => Err(Fail::new("no world")),
     }
+}
+
+fn sum_world(alloc: Global) -> Result<SumWorld, Fail> {
+    open_world(alloc, SUM_ON_TWO_NODES, "i: 1 2 3")
 }
 
 /// The first packet from node 0 is lost, and in round 1 node 1 crashes.
@@ -364,7 +374,7 @@ fn play_sum_by_threads<R: Threads + Wait + Sync>(
     alloc: Global,
     script: Vec<ScriptedEvent>,
 ) -> Result<Ended, Fail> {
-    let net = sum_net(alloc)?;
+    let net = net_of(alloc, SUM_ON_TWO_NODES)?;
     let opened = Opened::new(alloc, &net)?;
     let world = sum_world(alloc)?;
     let blanks = Blanks::new(u64::from(NODES) + 1);
@@ -443,12 +453,12 @@ fn a_script_on_one_thread(rt: HostRuntime) -> Result<(), Fail> {
     Ok(())
 }
 
-// Makes the events of a history once more, on a world that is new, and tells how many were made.
+// Makes the events of a history once more, on a world that is new, and tells how many were made and answered as they were then.
 fn replay(alloc: Global, armed: &mut SumArmed, history: &History) -> Option<u64> {
     let mut made: u64 = 0;
     for line in &history.lines {
         if let Line::Made(entry) = line {
-            if !make_again(alloc, armed, &entry.event) {
+            if !make_again(alloc, armed, entry) {
                 return None;
             }
             made = made.saturating_add(1);
@@ -457,33 +467,93 @@ fn replay(alloc: Global, armed: &mut SumArmed, history: &History) -> Option<u64>
     Some(made)
 }
 
-fn make_again(alloc: Global, armed: &mut SumArmed, event: &KeptEvent) -> bool {
-    match event {
-        KeptEvent::Plain(event) => armed.play(alloc, *event).is_ok(),
-        KeptEvent::Install(job) => install_again(alloc, armed, job),
+fn make_again(alloc: Global, armed: &mut SumArmed, entry: &Entry) -> bool {
+    match &entry.event {
+        KeptEvent::Plain(event) => match armed.play(alloc, *event) {
+            Ok(reply) => is_kept(&reply, entry.reply),
+            Err(_) => false,
+        },
+        KeptEvent::Install(job) => install_again(alloc, armed, job, entry.reply),
     }
 }
 
-fn install_again(alloc: Global, armed: &mut SumArmed, job: &Arc<Job>) -> bool {
+fn install_again(alloc: Global, armed: &mut SumArmed, job: &Arc<Job>, kept: KeptReply) -> bool {
     let Ok(job) = Arc::try_clone(job) else {
         return false;
     };
-    match Job::run(job, alloc) {
-        Ok(done) => armed.apply(alloc, Event::Install(done)).is_ok(),
+    let Ok(done) = Job::run(job, alloc) else {
+        return false;
+    };
+    match armed.apply(alloc, Event::Install(done)) {
+        Ok(reply) => is_kept(&reply, kept),
         Err(_) => false,
     }
 }
 
-// Whether the history leads a new world to one that is like the run's.
-fn is_replayed(alloc: Global, ended: &Ended) -> Result<bool, Fail> {
+// Whether an answer was kept so.
+fn is_kept(reply: &Reply, kept: KeptReply) -> bool {
+    let again = match reply {
+        Reply::Delivered => KeptReply::Delivered,
+        Reply::Dropped => KeptReply::Dropped,
+        Reply::Granted(_) => KeptReply::Granted,
+        Reply::Installed => KeptReply::Installed,
+        Reply::Discarded => KeptReply::Discarded,
+        Reply::Sent => KeptReply::Sent,
+        Reply::Started => KeptReply::Started,
+        Reply::Decided => KeptReply::Decided,
+        Reply::Refused(refusal) => KeptReply::Refused(*refusal),
+        Reply::Released(freed) => KeptReply::Released {
+            output: freed.output,
+            number: freed.number,
+        },
+        Reply::OutletFailed => KeptReply::OutletFailed,
+        Reply::Crashed => KeptReply::Crashed,
+        Reply::Recovered => KeptReply::Recovered,
+        Reply::InDoubt => KeptReply::InDoubt,
+        Reply::Down => KeptReply::Down,
+        Reply::Acted => KeptReply::Acted,
+        Reply::Idled => KeptReply::Idled,
+        Reply::NotDue => KeptReply::NotDue,
+    };
+    again == kept
+}
+
+// All that a disk of so many sectors holds.
+fn bytes_of(alloc: Global, disk: &mut MemDisk, sectors: usize) -> Option<Vec<u8>> {
+    let mut bytes = Vec::from_elem(alloc, 0u8, SECTOR_BYTES.saturating_mul(sectors)).ok()?;
+    match disk.read(0, &mut bytes) {
+        Ok(()) => Some(bytes),
+        Err(_) => None,
+    }
+}
+
+// Whether the disks of two worlds hold the same.
+fn have_same_disks(alloc: Global, one: SumWorld, other: SumWorld) -> bool {
+    let Ok((mut ones, _)) = one.close(alloc) else {
+        return false;
+    };
+    let Ok((mut others, _)) = other.close(alloc) else {
+        return false;
+    };
+    for (one, other) in ones.iter_mut().zip(others.iter_mut()) {
+        let one = bytes_of(alloc, one, SECTORS);
+        if one.is_none() || one != bytes_of(alloc, other, SECTORS) {
+            return false;
+        }
+    }
+    ones.len() == others.len()
+}
+
+// Whether the history leads a new world, by the same answers, to one that is like the run's.
+fn is_replayed(alloc: Global, ended: Ended) -> Result<bool, Fail> {
     let mut armed = SumArmed::new(alloc, sum_world(alloc)?)?;
     let made = replay(alloc, &mut armed, &ended.history);
-    Ok(
-        made == Some(ended.all)
-            && armed.world.released(OUTPUT) == ended.world.released(OUTPUT)
-            && armed.world.round() == ended.world.round()
-            && armed.world.complete(),
-    )
+    let is_like = made == Some(ended.all)
+        && armed.world.released(OUTPUT) == ended.world.released(OUTPUT)
+        && armed.world.round() == ended.world.round()
+        && armed.world.complete();
+    let again = mem::replace(&mut armed.world, sum_world(alloc)?);
+    Ok(is_like && have_same_disks(alloc, again, ended.world))
 }
 
 #[test]
@@ -491,102 +561,369 @@ fn a_script_with_a_thread_for_each_node(rt: HostRuntime) -> Result<(), Fail> {
     let alloc = rt.alloc();
     let ended = play_sum_by_threads(&rt, alloc, script(alloc)?)?;
     let came = ended.came();
-    let replayed = is_replayed(alloc, &ended);
-    drop(ended);
+    let replayed = is_replayed(alloc, ended)?;
     assert!(rt; is_whole(&came));
     assert!(rt; came.made[2] >= 1);
-    assert!(rt; replayed?);
+    assert!(rt; replayed);
     Ok(())
 }
 
-// A gate that holds node 0's first job up until what came of a job of node 1 was taken in.
+// A gate that holds node 0's first job up until what came of a job of this node was taken in, or until it is opened otherwise.
 #[derive(Drop)]
 struct HeldGate {
+    opened_by: u8,
+    held: AtomicBool,
     came: AtomicBool,
     gave_up: AtomicBool,
 }
 
+impl HeldGate {
+    fn new(opened_by: u8) -> HeldGate {
+        HeldGate {
+            opened_by,
+            held: AtomicBool::new(false),
+            came: AtomicBool::new(false),
+            gave_up: AtomicBool::new(false),
+        }
+    }
+
+    // Whether it held a job up, and was opened in time.
+    fn has_held(&self) -> bool {
+        self.held.load(SeqCst) && self.came.load(SeqCst) && !self.gave_up.load(SeqCst)
+    }
+}
+
 const POLLS: u32 = 1_000_000;
+
+// Waits until this is so, if it is so in time.
+fn wait_for(that: &AtomicBool) -> bool {
+    for _poll in 0..POLLS {
+        if that.load(SeqCst) {
+            return true;
+        }
+        thread::yield_now();
+    }
+    false
+}
 
 impl Gate for HeldGate {
     fn before_run(&self, node: u8, nth: u64) {
-        if node != 0 || nth != 0 {
-            return;
-        }
-        for _poll in 0..POLLS {
-            if self.came.load(SeqCst) {
-                return;
+        if node == 0 && nth == 0 {
+            self.held.store(true, SeqCst);
+            if !wait_for(&self.came) {
+                self.gave_up.store(true, SeqCst);
             }
-            thread::yield_now();
         }
-        self.gave_up.store(true, SeqCst);
     }
 
     fn after_install(&self, node: u8, _nth: u64) {
-        if node == 1 {
+        if node == self.opened_by {
             self.came.store(true, SeqCst);
         }
     }
 }
 
-const BOUNDS: Bounds = Bounds {
+pub const BOUNDS: Bounds = Bounds {
     rounds: 1_000,
     items: None,
 };
 
-// Whether a run with a thread for each node, by this script and this gate, comes to the whole stream.
-fn comes_whole<G: Gate + Sync, R: Threads + Wait + Sync>(
+// What a test asks of a run with a thread for each node.
+#[derive(Clone, Copy)]
+struct Went {
+    // Whether the whole stream left, and nothing is left to do.
+    whole: bool,
+    // How many events the driver made before anybody else made one.
+    led: u64,
+    // How many nodes crashed at the end of a delivery, and how often a device took its node down.
+    crashed: u64,
+    down: u64,
+}
+
+// How many events the driver made before anybody else made one.
+fn led_by_driver(history: &History) -> u64 {
+    let mut led: u64 = 0;
+    for line in &history.lines {
+        match line {
+            Line::Made(entry) if entry.maker == Maker::Driver => led = led.saturating_add(1),
+            Line::Made(_) => return led,
+            Line::Silent { .. } => {}
+        }
+    }
+    led
+}
+
+// How many events of nodes were answered so.
+fn answered(history: &History, reply: KeptReply) -> u64 {
+    let mut count: u64 = 0;
+    for line in &history.lines {
+        if let Line::Made(entry) = line {
+            if entry.maker != Maker::Driver && entry.reply == reply {
+                count = count.saturating_add(1);
+            }
+        }
+    }
+    count
+}
+
+// What a run of the sum with a thread for each node came to, by this script and this gate.
+fn run_sum<G: Gate + Sync, R: Threads + Wait + Sync>(
     rt: &R,
     alloc: Global,
     script: Vec<ScriptedEvent>,
     gate: &G,
-) -> Result<bool, Fail> {
-    let net = sum_net(alloc)?;
+) -> Result<Went, Fail> {
+    let net = net_of(alloc, SUM_ON_TWO_NODES)?;
     let world = sum_world(alloc)?;
     match run_world(rt, alloc, &net, world, script, NODES, gate, BOUNDS) {
-        Ok((world, _)) => { Ok(world.complete() && world.released(OUTPUT) == [1, 3, 6].as_slice()) }
+        Ok((world, history)) => Ok(Went {
+            whole: world.complete() && world.released(OUTPUT) == [1, 3, 6].as_slice(),
+            led: led_by_driver(&history),
+            crashed: answered(&history, KeptReply::Crashed),
+            down: answered(&history, KeptReply::Down),
+        }),
         Err(_) => Err(Fail::new("refused")),
     }
+}
+
+// A line of round 0.
+fn at_first(alloc: Global, event: PlainEvent) -> Result<Vec<ScriptedEvent>, Fail> {
+    let lines = vec![in alloc; ScriptedEvent { round: 0, event }]?;
+    Ok(lines)
+}
+
+// Runs by this script with node 0's first job held up. Node 1's first one was taken in meanwhile.
+fn holds_up<R: Threads + Wait + Sync>(
+    rt: &R,
+    alloc: Global,
+    script: Vec<ScriptedEvent>,
+) -> Result<Went, Fail> {
+    let gate = HeldGate::new(1);
+    let mut went = run_sum(rt, alloc, script, &gate)?;
+    went.whole = went.whole && gate.has_held();
+    Ok(went)
 }
 
 #[test]
 fn jobs_run_side_by_side(rt: HostRuntime) -> Result<(), Fail> {
     let alloc = rt.alloc();
-    let gate = HeldGate {
-        came: AtomicBool::new(false),
-        gave_up: AtomicBool::new(false),
-    };
-    assert!(rt; comes_whole(&rt, alloc, Vec::new(alloc), &gate)?);
-    assert!(rt; !gate.gave_up.load(SeqCst));
+    assert!(rt; holds_up(&rt, alloc, Vec::new(alloc))?.whole);
+    // While node 0 is held up nothing is sent to node 1, so that this crash comes behind node 1's first job.
+    let crash = PlainEvent::ArmCrash(ArmedCrash {
+        node: 1,
+        delivery: 1,
+        fill: 0,
+        rounds: 1,
+    });
+    let went = holds_up(&rt, alloc, at_first(alloc, crash)?)?;
+    assert!(rt; went.whole);
+    assert!(rt; went.led == 1);
+    assert!(rt; went.crashed == 1);
     Ok(())
 }
 
 // The node's device fails at this call, and a crash then settles by this byte.
-fn stop(alloc: Global, node: u8, call: u64, fill: u8) -> Result<Vec<ScriptedEvent>, Fail> {
-    let fault = ArmedFault { call, fill };
-    let event = PlainEvent::Arm {
+fn stop(node: u8, call: u64, fill: u8) -> PlainEvent {
+    PlainEvent::Arm {
         node,
-        fault,
+        fault: ArmedFault { call, fill },
         rounds: 1,
-    };
-    let lines = vec![in alloc; ScriptedEvent { round: 0, event }]?;
-    Ok(lines)
+    }
 }
 
-const FILLS: [u8; 4] = [0, 1, 254, 255];
+const FILLS: [u8; 2] = [0, 1];
 
-const CALLS_THAT_STOP: u64 = 40;
+// The first calls of each node. (All of a run, by four fills, are a case of `text_cases`.)
+const CALLS_THAT_STOP: u64 = 10;
+
+// Each node takes an image, which fills a slot by two calls, and names it by four.
+const CALLS_OF_EACH_RUN: u64 = 6;
 
 #[test]
-fn each_device_call_of_each_node_stops(rt: HostRuntime) -> Result<(), Fail> {
+fn a_device_call_of_either_node_stops(rt: HostRuntime) -> Result<(), Fail> {
     let alloc = rt.alloc();
     for node in 0..NODES {
         for call in 1..=CALLS_THAT_STOP {
             for fill in &FILLS {
-                let script = stop(alloc, node, call, *fill)?;
-                assert!(rt; comes_whole(&rt, alloc, script, &OpenGate)?);
+                let script = at_first(alloc, stop(node, call, *fill))?;
+                let went = run_sum(&rt, alloc, script, &OpenGate)?;
+                assert!(rt; went.whole);
+                // The script's line comes before all else, and only once.
+                assert!(rt; went.led == 1);
+                assert!(rt; went.down == 1 || (went.down == 0 && call > CALLS_OF_EACH_RUN));
             }
         }
     }
+    Ok(())
+}
+
+// A run that would go on for so many rounds ends at four items of each output.
+const FOUR_ITEMS: Bounds = Bounds {
+    rounds: 20_000,
+    items: Some(4),
+};
+
+// The round in which Kahn's example had four items, if they were right.
+fn round_of_four<R: Threads + Wait + Sync>(rt: &R, alloc: Global) -> Result<Option<u64>, Fail> {
+    let net = net_of(alloc, KAHN)?;
+    let world = open_world(alloc, KAHN, "")?;
+    let script = Vec::new(alloc);
+    match run_world(rt, alloc, &net, world, script, NODES, &OpenGate, FOUR_ITEMS) {
+        Ok((world, _)) => Ok(match world.released(OUTPUT_OF_KAHN) {
+            [0, 1, 0, 1, ..] => Some(world.round()),
+            _ => None,
+        }),
+        Err(_) => Err(Fail::new("refused")),
+    }
+}
+
+#[test]
+fn a_run_ends_at_the_items_that_are_asked_for(rt: HostRuntime) -> Result<(), Fail> {
+    let alloc = rt.alloc();
+    let Some(round) = round_of_four(&rt, alloc)? else {
+        return Err(Fail::new("other items"));
+    };
+    assert!(rt; round < 10_000);
+    Ok(())
+}
+
+// Takes a node's turns until the hub is stopped, which it is once nothing is left to do. Whether it came to that.
+fn take_turns<J: Run, R: Wait>(
+    rt: &R,
+    alloc: Global,
+    hub: &SumHub<J>,
+    seat: &mut NodeSeat<J>,
+) -> bool {
+    for _turn in 0..POLLS {
+        if hub.status(rt).stopped {
+            return true;
+        }
+        if !go(rt, alloc, hub, seat) {
+            return false;
+        }
+        thread::yield_now();
+    }
+    false
+}
+
+// Lets node 0 crash by the script's line while its first job is held up, and takes the turns of node 1. Whether the node crashed, and all
+// came to its end.
+fn strike<J: Run, R: Wait>(
+    rt: &R,
+    alloc: Global,
+    hub: &SumHub<J>,
+    gate: &HeldGate,
+    seat: &mut NodeSeat<J>,
+    driver: &mut DriverSeat<J>,
+) -> bool {
+    let held = wait_for(&gate.held);
+    let struck = match hub.fault(rt, alloc, driver) {
+        Ok(Answer::Reply(Reply::Crashed)) => held,
+        _ => false,
+    };
+    gate.came.store(true, SeqCst);
+    let ended = take_turns(rt, alloc, hub, seat);
+    hub.stop(rt);
+    struck && ended
+}
+
+// Node 0 works on a thread of its own, behind a gate; the thread that calls is the driver's and node 1's.
+fn crash_at_gate<J: Run + Send + Sync, N: MarksName + Send + Sync, R: Threads + Wait + Sync>(
+    rt: &R,
+    alloc: Global,
+    hub: &SumHub<J>,
+    marks: &Marks<N>,
+    gate: &HeldGate,
+    seats: &mut [NodeSeat<J>],
+    marks_seats: &mut [Seat<N>],
+    driver: &mut DriverSeat<J>,
+) -> bool {
+    let [zero, one] = seats else {
+        return false;
+    };
+    let [marks_seat, ..] = marks_seats else {
+        return false;
+    };
+    let (worked, struck) = thread::join(
+        rt,
+        || work(rt, alloc, hub, zero, marks, marks_seat, gate).is_ok(),
+        || strike(rt, alloc, hub, gate, one, driver),
+    );
+    worked && struck
+}
+
+// A run in which node 0 crashes between the grant of its first job and the job's end.
+fn play_with_crash<J: Run + Send + Sync, N: MarksName + Send + Sync, R: Threads + Wait + Sync>(
+    rt: &R,
+    alloc: Global,
+    gate: &HeldGate,
+    world: SumWorld,
+    script: Vec<ScriptedEvent>,
+    blanks: Blanks,
+    opened: Opened,
+) -> Result<Ended, Fail>
+    requires opening { world_of world ≡ J.opening }
+    requires rooms { rooms world.stations.items ≡ J.rooms }
+    requires script { script.items ≡ J.script }
+    requires names { names_of blanks ≡ J.names }
+    requires parts { HaveParts blanks J.seats }
+    requires seats { J.seats ≡ NODES + 1 }
+    requires table { table_of opened ≡ N.table }
+{
+    let (marks, mut marks_seats) = opened.named::<N>(alloc)?;
+    let (hub, mut seats, mut driver) = SumHub::<J>::new(alloc, world, script, NODES, blanks)?;
+    if !crash_at_gate(
+        rt,
+        alloc,
+        &hub,
+        &marks,
+        gate,
+        seats.as_mut_slice(),
+        marks_seats.as_mut_slice(),
+        &mut driver,
+    ) {
+        return Err(Fail::new("no crash between a grant and its turn's end"));
+    }
+    let made = made_by_seats(seats.as_slice(), &driver);
+    let all = hub.entries(rt);
+    let (world, history) = hub.close(seats, driver);
+    Ok(Ended {
+        world,
+        history,
+        made,
+        all,
+    })
+}
+
+fn play_sum_with_crash<R: Threads + Wait + Sync>(
+    rt: &R,
+    alloc: Global,
+    gate: &HeldGate,
+    script: Vec<ScriptedEvent>,
+) -> Result<Ended, Fail> {
+    let net = net_of(alloc, SUM_ON_TWO_NODES)?;
+    let opened = Opened::new(alloc, &net)?;
+    let world = sum_world(alloc)?;
+    let blanks = Blanks::new(u64::from(NODES) + 1);
+    play_with_crash::<Brand, Brand, R>(rt, alloc, gate, world, script, blanks, opened)
+}
+
+#[test]
+fn a_crash_while_a_job_is_out(rt: HostRuntime) -> Result<(), Fail> {
+    let alloc = rt.alloc();
+    // No node opens the gate: the driver does, once node 0 crashed.
+    let gate = HeldGate::new(NODES);
+    let crash = PlainEvent::Crash {
+        node: 0,
+        fill: 0,
+        rounds: 1,
+    };
+    let ended = play_sum_with_crash(&rt, alloc, &gate, at_first(alloc, crash)?)?;
+    let came = ended.came();
+    let discarded = answered(&ended.history, KeptReply::Discarded);
+    drop(ended);
+    assert!(rt; is_whole(&came));
+    assert!(rt; gate.has_held());
+    assert!(rt; discarded == 1);
     Ok(())
 }

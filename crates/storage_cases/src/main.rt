@@ -37,6 +37,7 @@
 //! | `can release 3 -> yes`, `release 3` | whether what the log has up to a position may be released, and that |
 //! | `spelling opening 00` | bytes that may spell a record, in place of those there were |
 //! | `spells -> yes`, `-> refused 32`, `spells with 9 1`, `spells first 12`, `spells from before` | whether they are read as a record that is spelled by them again; with byte 9, counted from 0, another one; the first twelve alone; read with version 1, and spelled by them |
+//! | `spells header -> yes`, `spells header first 12`, `spells image`, `spells image first 12` | whether they, or the first twelve, are read as a header, or as an image, by itself |
 //! | `stands turned 9 128 -> yes` | whether, with these bits of byte 9 turned, they spell a record or are refused by 30 to 32 |
 //! | `image counts 5 -> 0 5 2`, `image retained 5 4 -> 15`, `-> none`, `image copy -> 00` | of the permanent image of their record: of a channel how many items were received, put, and put before those retained; the item at a position; the bytes of a copy |
 #![tactic(auto)]

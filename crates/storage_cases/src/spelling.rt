@@ -1,10 +1,10 @@
 //! What is asked of bytes that may spell a record: whether they do, alone or with one of them changed, and what the permanent image has
-//! that they spell.
+//! that they spell. A header or an image may be spelled by itself.
 
 use crate::answer::Answer;
 use crate::stream::item_at;
 use case_table::{NamedBytes, byte, listed, number, size, spelled};
-use ckpt_codec::{is_image, read_record, write_image, write_record};
+use ckpt_codec::{is_image, read_header, read_image, read_record, write_image, write_record};
 use record::Image;
 use std::alloc::{AllocError, Global};
 
@@ -41,11 +41,27 @@ fn spells_with(alloc: Global, bytes: &[u8], place: usize, value: u8) -> anyhow::
     Ok(spells(alloc, &changed, &changed)?)
 }
 
-/// Whether the first of them, so many, spell a record.
-fn spells_first(alloc: Global, bytes: &[u8], count: usize) -> anyhow::Result<Answer> {
-    match bytes.get(..count) {
-        Some(first) => Ok(spells(alloc, first, first)?),
+/// The first of them, so many.
+fn first_of<'a>(bytes: &'a [u8], count: &str) -> anyhow::Result<&'a [u8]> {
+    match bytes.get(..size(count)?) {
+        Some(first) => Ok(first),
         None => anyhow::bail!("there are fewer than {count} bytes"),
+    }
+}
+
+/// Whether they spell a header.
+fn spells_header(alloc: Global, bytes: &[u8]) -> Answer {
+    match read_header(alloc, bytes) {
+        Ok(_) => Answer::Yes(true),
+        Err(fault) => Answer::Refused(fault.number()),
+    }
+}
+
+/// Whether they spell an image.
+fn spells_image(alloc: Global, bytes: &[u8]) -> Answer {
+    match read_image(alloc, None, bytes) {
+        Ok(_) => Answer::Yes(true),
+        Err(fault) => Answer::Refused(fault.number()),
     }
 }
 
@@ -117,17 +133,32 @@ fn ask_image(alloc: Global, image: &Image, words: &[&str]) -> anyhow::Result<Opt
     Ok(Some(answer))
 }
 
+/// What is asked of bytes that may spell a header or an image alone.
+fn ask_part(alloc: Global, bytes: &[u8], words: &[&str]) -> anyhow::Result<Option<Answer>> {
+    let answer = match words {
+        ["spells", "header"] => spells_header(alloc, bytes),
+        ["spells", "header", "first", count] => spells_header(alloc, first_of(bytes, count)?),
+        ["spells", "image"] => spells_image(alloc, bytes),
+        ["spells", "image", "first", count] => spells_image(alloc, first_of(bytes, count)?),
+        _ => return Ok(None),
+    };
+    Ok(Some(answer))
+}
+
 /// What is asked of bytes.
 fn ask_bytes(alloc: Global, bytes: &[u8], words: &[&str]) -> anyhow::Result<Option<Answer>> {
     let answer = match words {
         ["spells"] => spells(alloc, bytes, bytes)?,
         ["spells", "with", place, value] => spells_with(alloc, bytes, size(place)?, byte(value)?)?,
-        ["spells", "first", count] => spells_first(alloc, bytes, size(count)?)?,
+        ["spells", "first", count] => {
+            let first = first_of(bytes, count)?;
+            spells(alloc, first, first)?
+        }
         ["stands", "turned", place, bits] => {
             stands_turned(alloc, bytes, size(place)?, byte(bits)?)?
         }
         ["spells", "from", "before"] => spells_from_before(alloc, bytes)?,
-        _ => return Ok(None),
+        _ => return ask_part(alloc, bytes, words),
     };
     Ok(Some(answer))
 }

@@ -1,5 +1,7 @@
 //! What comes of a case.
 
+use crate::beginnings::beginnings_text;
+use crate::faults::faults_text;
 use crate::judging::Outcome;
 use crate::plan::{Asked, Plan};
 use crate::questions::answers;
@@ -10,6 +12,7 @@ use fail_script::{Script, parse_script};
 use kahn_program::{Failure, Options, not_text, options, print_failure, run};
 use net_text::{Token, tokens};
 use std::alloc::{AllocError, Global};
+use std::mem;
 use std::sync::Wait;
 use std::thread::Threads;
 
@@ -150,6 +153,8 @@ fn answer(alloc: Global, plan: &Plan) -> anyhow::Result<String> {
     match &plan.asked {
         Asked::Options(words) => options_text(alloc, words),
         Asked::Tokens => tokens_text(alloc, &plan.net.bytes),
+        Asked::Beginnings => Ok(beginnings_text(alloc, &plan.net.bytes)?),
+        Asked::Faults => Ok(faults_text(alloc)?),
         Asked::Script(nodes) => script_text(alloc, &plan.net.bytes, *nodes),
         Asked::Lines(question) => answers(
             alloc,
@@ -162,8 +167,8 @@ fn answer(alloc: Global, plan: &Plan) -> anyhow::Result<String> {
     }
 }
 
-/// What comes of a case.
-pub fn outcome<R: Threads + Wait + Sync>(
+/// What comes of a case, once.
+fn outcome<R: Threads + Wait + Sync>(
     rt: &R,
     alloc: Global,
     plan: &Plan,
@@ -174,4 +179,51 @@ pub fn outcome<R: Threads + Wait + Sync>(
         Asked::Refusal(number) => Ok(refusal(alloc, *number, plan)),
         _ => Ok(told(alloc, answer(alloc, plan)?)?),
     }
+}
+
+/// What came, and the line of the case of which it is told.
+#[derive(Drop)]
+pub struct Came {
+    pub line: usize,
+    pub outcome: Outcome,
+}
+
+/// What comes of a run with each of these lines for its script. They stand in the table behind this line.
+fn run_scripts<R: Threads + Wait + Sync>(
+    rt: &R,
+    alloc: Global,
+    behind: usize,
+    scripts: &str,
+    plan: &mut Plan,
+    came: &mut Vec<Came>,
+) -> anyhow::Result<()> {
+    for (place, script) in scripts.lines().enumerate() {
+        plan.script.bytes = Vec::from_slice(alloc, script.as_bytes())?;
+        let line = behind.saturating_add(place).saturating_add(1);
+        let outcome = outcome(rt, alloc, plan)?;
+        came.push(Came { line, outcome })?;
+    }
+    Ok(())
+}
+
+/// What comes of the case of this line: once, or with each of its scripts.
+pub fn outcomes<R: Threads + Wait + Sync>(
+    rt: &R,
+    alloc: Global,
+    line: usize,
+    plan: &mut Plan,
+) -> anyhow::Result<Vec<Came>> {
+    let mut came = Vec::new(alloc);
+    match plan.scripts_behind {
+        None => {
+            let outcome = outcome(rt, alloc, plan)?;
+            came.push(Came { line, outcome })?;
+        }
+        Some(behind) => {
+            let scripts = mem::replace(&mut plan.script.bytes, Vec::new(alloc));
+            run_scripts(rt, alloc, behind, text_of(&scripts)?, plan, &mut came)?;
+        }
+    }
+    anyhow::ensure!(!came.is_empty(), "no script stands there");
+    Ok(came)
 }

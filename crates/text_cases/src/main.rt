@@ -17,6 +17,7 @@
 //! | `-- from running_sum.net` | what stands in a file |
 //! | `-- status 3` | the exit status; 0 where it isn't said |
 //! | `-- approx 2`, `-- items 4`, `-- rounds 1`, `-- room 64` | an option of the run |
+//! | `-- each script` | each line that follows is a failure script of its own, with which the run is made once: the same has to come of all |
 //! | `-- threads` | the run has a thread for each node; else it takes turns on one |
 //! | `-- words kahnrun --items 4 NET INPUTS` | the whole command line, whose options the run has; its files are the texts |
 //! | `-- net absent`, `-- inputs absent`, `-- script absent` | a file that can't be opened |
@@ -33,11 +34,15 @@
 //! | `-- ask fits` | of networks: whether the first one's inputs are theirs |
 //! | `-- ask solves` | of histories as `1 2 3; 1 3 6`, one for each channel, or `no channel`: whether they are a solution |
 //! | `-- refusal 44`, `-- not_text` | nothing runs: what comes where this number is refused and no text is, and on standard output the first line of why a command line isn't text |
+//! | `-- beginnings` | nothing runs: on standard output comes a line for each row of beginnings of the network's text of which the same comes, by their lengths in bytes, as `0 to 6 refused 3 1`, with number and line, or `7 to 8 read` |
+//! | `-- faults` | nothing runs: on standard output comes a line for each fault of each layer, with its number |
 //! | `-- tokens` | nothing runs: on standard output comes a line for each token of the network's text, or `refused NUMBER LINE` |
 #![tactic(auto)]
 
 mod asking;
+mod beginnings;
 mod devices;
+mod faults;
 mod jobs;
 mod judging;
 mod likeness;
@@ -46,13 +51,13 @@ mod questions;
 mod texts;
 mod words;
 
-use crate::asking::outcome;
+use crate::asking::{Came, outcomes};
 use crate::judging::{Outcome, differing};
 use crate::plan::{Plan, plan_of};
 use case_table::{
     Case, Difference, Table, Trial, read, run_cases, run_wrong_cases, table_of_texts,
 };
-use std::alloc::Global;
+use std::alloc::{AllocError, Global};
 use std::sync::Wait;
 use std::thread::Threads;
 
@@ -61,7 +66,20 @@ use std::thread::Threads;
 struct Ran {
     line: usize,
     wanted: Outcome,
-    came: Outcome,
+    came: Vec<Came>,
+}
+
+impl Ran {
+    /// The first of what came that is otherwise, if anything is.
+    fn difference(&self, alloc: Global) -> Result<Option<Difference>, AllocError> {
+        for came in &self.came {
+            let found = differing(alloc, came.line, &self.wanted, &came.outcome)?;
+            if found.is_some() {
+                return Ok(found);
+            }
+        }
+        Ok(None)
+    }
 }
 
 /// Runs what the case of this line says.
@@ -69,9 +87,9 @@ fn ran_by<R: Threads + Wait + Sync>(
     threads: &R,
     alloc: Global,
     line: usize,
-    plan: Plan,
+    mut plan: Plan,
 ) -> anyhow::Result<Ran> {
-    let came = outcome(threads, alloc, &plan)?;
+    let came = outcomes(threads, alloc, line, &mut plan)?;
     Ok(Ran {
         line,
         wanted: plan.wanted,
@@ -110,7 +128,7 @@ impl Trial for TextCases {
     ) -> anyhow::Result<Option<Difference>> {
         for ran in &self.ran {
             if ran.line == case.line {
-                return Ok(differing(rt.alloc(), ran.line, &ran.wanted, &ran.came)?);
+                return Ok(ran.difference(rt.alloc())?);
             }
         }
         anyhow::bail!("a case that wasn't run")

@@ -31,6 +31,10 @@ pub enum Asked {
     Options(String),
     /// The tokens of the network's text.
     Tokens,
+    /// What comes of each beginning of the network's text.
+    Beginnings,
+    /// What each fault prints.
+    Faults,
     /// The lines of a failure script for so many nodes, which stands in the place of the network's text.
     Script(u8),
     /// This of the network, on each line of the text that stands in the place of a script.
@@ -53,6 +57,10 @@ pub struct Plan {
     pub err: Taking,
     /// The text that is read.
     pub part: Part,
+    /// Whether a line says an option of the run.
+    says_option: bool,
+    /// The line behind which each line is a script of its own, if there are such.
+    pub scripts_behind: Option<usize>,
 }
 
 fn nothing_given(alloc: Global) -> Given {
@@ -132,6 +140,8 @@ impl Plan {
             out: takes_all(),
             err: takes_all(),
             part: Part::Net,
+            says_option: false,
+            scripts_behind: None,
         }
     }
 
@@ -154,10 +164,13 @@ impl Plan {
     }
 
     /// The run has a thread for each node.
-    fn use_threads(&mut self) {
-        if let Asked::Run(options) = &mut self.asked {
-            options.plain = false;
-        }
+    fn use_threads(&mut self) -> anyhow::Result<()> {
+        let Asked::Run(options) = &mut self.asked else {
+            anyhow::bail!("no run is asked for");
+        };
+        options.plain = false;
+        self.says_option = true;
+        Ok(())
     }
 
     /// Takes an option of the run.
@@ -172,6 +185,7 @@ impl Plan {
             "rounds" => options.rounds = value,
             _ => anyhow::bail!("{word} is no directive"),
         }
+        self.says_option = true;
         Ok(())
     }
 
@@ -224,20 +238,34 @@ impl Plan {
                 self.ask_for_script(alloc);
                 self.part = Part::Script;
             }
-            "threads" => self.use_threads(),
+            "threads" => self.use_threads()?,
             "out" => self.part = Part::Out,
             "err" => self.part = Part::Err,
             "tokens" => self.asked = Asked::Tokens,
+            "beginnings" => self.asked = Asked::Beginnings,
+            "faults" => self.asked = Asked::Faults,
             "not_text" => self.asked = Asked::NotText,
             _ => anyhow::bail!("{word} is no directive"),
         }
         Ok(())
     }
 
-    fn add(&mut self, rt: &HostRuntime, line: &str) -> anyhow::Result<()> {
+    /// The run is made again and again, with each line that follows for its script.
+    fn begin_scripts(&mut self, alloc: Global, number: usize) -> anyhow::Result<()> {
+        anyhow::ensure!(self.script.bytes.is_empty(), "there is a script");
+        self.ask_for_script(alloc);
+        self.part = Part::Script;
+        self.scripts_behind = Some(number);
+        Ok(())
+    }
+
+    fn add(&mut self, rt: &HostRuntime, number: usize, line: &str) -> anyhow::Result<()> {
         let Some(directive) = line.strip_prefix("-- ") else {
             return add_line(self.text(), line);
         };
+        if directive == "each script" {
+            return self.begin_scripts(rt.alloc(), number);
+        }
         match directive.split_once(" ") {
             None => self.turn_to(rt.alloc(), directive),
             Some((word, rest)) => {
@@ -250,11 +278,20 @@ impl Plan {
     }
 }
 
+/// Refuses an option that would have no effect, since a later line asks for something else than the run.
+fn check_options(plan: &Plan) -> anyhow::Result<()> {
+    let is_run = matches!(plan.asked, Asked::Run(_));
+    anyhow::ensure!(is_run || !plan.says_option, "an option without effect");
+    Ok(())
+}
+
 /// What a case says.
 pub fn plan_of(rt: &HostRuntime, case: &Case) -> anyhow::Result<Plan> {
     let mut plan = Plan::new(rt.alloc());
     for Line { number, text } in &case.lines {
-        plan.add(rt, text).context(format_args!("line {number}"))?;
+        plan.add(rt, *number, text)
+            .context(format_args!("line {number}"))?;
     }
+    check_options(&plan).context(format_args!("line {}", case.line))?;
     Ok(plan)
 }

@@ -1,0 +1,74 @@
+//! A world that is closed, and the bytes of its disk.
+
+use crate::ledger::Weakness;
+use crate::retrying::run_job;
+use crate::{OwnDisk, OwnWorld, open};
+use anyhow::bail;
+use proc_step::Done;
+use sector_disk::{Disk, SECTOR_BYTES};
+use std::alloc::Global;
+use world::{Event, Reply};
+
+/// How many events a world had, whether the next one was refused, and what its disk holds behind them.
+#[derive(Drop)]
+pub struct Closed {
+    pub events: usize,
+    pub is_refused: bool,
+    pub bytes: Vec<u8>,
+}
+
+/// What is next: that a job's outcome comes back, or else what the world picks.
+fn next(world: &OwnWorld, done: Option<Done>) -> Event {
+    match done {
+        Some(done) => Event::Install(done),
+        None => world.pick(0),
+    }
+}
+
+/// Goes on until the world is complete, an event is refused, or there were so many. Gives how many there were, and whether one was refused.
+fn go_on(alloc: Global, world: &mut OwnWorld, most: usize) -> anyhow::Result<(usize, bool)> {
+    let mut done = None;
+    for count in 0..most {
+        if world.complete() {
+            return Ok((count, false));
+        }
+        match world.apply(alloc, next(world, done.take())) {
+            Ok(Reply::Granted(job)) => done = Some(run_job(alloc, job)?),
+            Ok(_) => {}
+            Err(_) => return Ok((count, true)),
+        }
+    }
+    Ok((most, false))
+}
+
+/// All that a disk holds.
+fn bytes_of(alloc: Global, disk: &mut OwnDisk, sectors: usize) -> anyhow::Result<Vec<u8>> {
+    let mut bytes = Vec::from_elem(alloc, 0u8, SECTOR_BYTES.saturating_mul(sectors))?;
+    disk.read(0, &mut bytes)?;
+    Ok(bytes)
+}
+
+/// A world that is closed behind so many events, or where one is refused before. Its first outlet may be weak.
+pub fn closed_after(
+    alloc: Global,
+    sectors: usize,
+    weakness: Weakness,
+    most: usize,
+) -> anyhow::Result<Closed> {
+    let mut world = open(alloc, weakness)?;
+    let (events, is_refused) = go_on(alloc, &mut world, most)?;
+    let (mut disks, _outputs) = world.close(alloc)?;
+    match disks.first_mut() {
+        Some(disk) => Ok(Closed {
+            events,
+            is_refused,
+            bytes: bytes_of(alloc, disk, sectors)?,
+        }),
+        None => bail!("no disk"),
+    }
+}
+
+/// Whether two disks hold the same, or their worlds had not as many events.
+pub fn may_follow(one: &Closed, other: &Closed) -> bool {
+    one.events != other.events || one.bytes == other.bytes
+}

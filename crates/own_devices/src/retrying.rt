@@ -1,0 +1,78 @@
+//! Events and jobs that are refused for want of memory, and made once more.
+
+use crate::OwnWorld;
+use anyhow::bail;
+use proc_step::{Done, Job};
+use std::alloc::Global;
+use std::sync::Arc;
+use world::{Event, Reply};
+
+/// What is to be seen of a world from without, with no memory.
+#[derive(Clone, Copy)]
+struct Seen {
+    next: &'static str,
+    is_complete: bool,
+    round: u64,
+    total: usize,
+    same: usize,
+}
+
+fn name_of(event: &Event) -> &'static str {
+    match event {
+        Event::Grant(_) => "grant",
+        Event::Start(_) => "start",
+        Event::Decide(_) => "decide",
+        Event::Release(_) => "release",
+        Event::Recover(_) => "recover",
+        Event::Send(_) => "send",
+        Event::Idle(_) => "idle",
+        _ => "another",
+    }
+}
+
+fn look_at(world: &OwnWorld) -> Seen {
+    Seen {
+        next: name_of(&world.pick(0)),
+        is_complete: world.complete(),
+        round: world.round(),
+        total: world.released(1).len(),
+        same: world.released(2).len(),
+    }
+}
+
+/// Whether nothing of a world is otherwise.
+fn is_same(one: &Seen, other: &Seen) -> bool {
+    one.next == other.next
+        && one.is_complete == other.is_complete
+        && one.round == other.round
+        && one.total == other.total
+        && one.same == other.same
+}
+
+/// One event. Where it is refused the world is as it was, and it is applied once more.
+pub fn apply(alloc: Global, world: &mut OwnWorld, event: Event) -> anyhow::Result<Reply> {
+    let before = look_at(world);
+    match world.apply(alloc, event) {
+        Ok(reply) => Ok(reply),
+        Err(refused) => {
+            if !is_same(&before, &look_at(world)) {
+                bail!("a refused event left the world otherwise");
+            }
+            match world.apply(alloc, refused.event) {
+                Ok(reply) => Ok(reply),
+                Err(_) => bail!("no memory"),
+            }
+        }
+    }
+}
+
+/// What comes of a job. Where it is refused it is handed back, and run once more.
+pub fn run_job(alloc: Global, job: Arc<Job>) -> anyhow::Result<Done> {
+    match Job::run(job, alloc) {
+        Ok(done) => Ok(done),
+        Err(fault) => match Job::run(fault.job, alloc) {
+            Ok(done) => Ok(done),
+            Err(_) => bail!("no memory"),
+        },
+    }
+}
