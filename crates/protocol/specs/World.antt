@@ -20,6 +20,7 @@ pub mod InFlight
 pub mod Agreeing
 pub mod Choice
 pub mod Quiet
+pub mod Still
 pub mod RecoveryLine
 pub mod InLine
 pub mod Coordination

@@ -47,7 +47,7 @@ IsNumbered stations =
     (i : ℕ) (station : StationView) → slice_get stations i ≡ Some station
     → (station.number ≡ i) × (station.node.kept.node ≡ i)
 
--- what each of these stations keeps and collects may be said to other nodes, and none is in doubt
+-- what each of these stations keeps and collects may be said to other nodes
 abbrev pub AreJoined : Network → List StationView → Type 0
 AreJoined net stations =
     (i : ℕ) (station : StationView) → slice_get stations i ≡ Some station → IsJoined net station
