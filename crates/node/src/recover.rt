@@ -1,5 +1,5 @@
 // A node crashes, and comes back.
-ghost use Rattle.std.specs.Prelude.{◌≡◌, false, not, IfOk, IsSome, IsTrue, None};
+ghost use Rattle.std.specs.Prelude.{◌≡◌, false, not, IfOk, IsSome, IsTrue, None, OnErr};
 ghost use Rattle.kahn_net.specs.Syntax.{network_of};
 ghost use Rattle.sector_disk.specs.Clock.{Only};
 ghost use Rattle.ckpt_store.specs.StoreView.{cell_in, known_in, record_in};
