@@ -29,6 +29,34 @@ zip_at P (z ∷ xs) (w ∷ ys) zero x y all there then_there =
     subst (λ v. P v y) first (subst (λ v. P z v) second all.0)
 zip_at P (z ∷ xs) (w ∷ ys) (suc k) x y all there then_there = zip_at P xs ys k x y all.1 there then_there
 
+-- ---- one cell
+
+module _ {C : Type 0} (cell : CellWords C) (slots : SlotWords C) where
+  -- a cell that a crash may only leave as it is holds that still, where no crash meanwhile leaves anything new
+  whole_same : ((one : C) (t : ℕ) (left : Whole) → t ≤ cell.moment one → slots.may_leave_whole one left
+      → slots.left_since_whole one t left) → ((one : C) → slots.may_leave_whole one (slots.whole one))
+      → (old new : Store C slots cell) → Only (slots.whole (cell_in old)) (slots.may_leave_whole (cell_in old))
+      → LeavesAsBefore old new → slots.whole (cell_in new) ≡ slots.whole (cell_in old)
+  whole_same includes_now may_stay old new settled moments =
+      settled (slots.whole (cell_in new))
+      (moments.each (slots.whole (cell_in new))
+      (includes_now (cell_in new) (cell.moment (cell_in old)) (slots.whole (cell_in new)) moments.later
+      (may_stay (cell_in new))))
+
+  abbrev LeavesBetween : C → C → Type 0
+  LeavesBetween one other = LeavesOnly cell.moment slots.left_since_whole one other (slots.may_leave_whole one)
+
+  leaves_itself : ((one : C) (left : Whole) → slots.left_since_whole one (cell.moment one) left
+      → slots.may_leave_whole one left) → (one : C) → LeavesBetween one one
+  leaves_itself only_now one = record {
+    later = omega arith;
+    each = λ left since. only_now one left since;
+    before = λ t left early since. inl since;
+    keeps = λ t left early since. since;
+  }
+
+-- ---- one station, and all
+
 module _ {C O : Type 0} {cell : CellWords C} {slots : SlotWords C} where
   pub found_at : (e : EventView) (xs : List (Station C O slots cell)) (place number : ℕ) (x y : Station C O slots cell)
       → number ≡ place → place < length xs → x ≡ get_or xs place x → LeavesWhatItFound e x y
@@ -44,36 +72,17 @@ module _ {C O : Type 0} {cell : CellWords C} {slots : SlotWords C} where
       (only_now : (one : C) (left : Whole) → slots.left_since_whole one (cell.moment one) left
       → slots.may_leave_whole one left)
       (may_stay : (one : C) → slots.may_leave_whole one (slots.whole one)) where
-    -- a cell that a crash may only leave as it is holds that still, where no crash meanwhile leaves anything new
-    whole_same : (old new : Store C slots cell)
-        → Only (slots.whole (cell_in old)) (slots.may_leave_whole (cell_in old)) → LeavesAsBefore old new
-        → slots.whole (cell_in new) ≡ slots.whole (cell_in old)
-    whole_same old new settled moments =
-        settled (slots.whole (cell_in new))
-        (moments.each (slots.whole (cell_in new))
-        (includes_now (cell_in new) (cell.moment (cell_in old)) (slots.whole (cell_in new)) moments.later
-        (may_stay (cell_in new))))
-
-    abbrev LeavesBetween : C → C → Type 0
-    LeavesBetween one other = LeavesOnly cell.moment slots.left_since_whole one other (slots.may_leave_whole one)
-
-    leaves_itself : (one : C) → LeavesBetween one one
-    leaves_itself one = record {
-      later = omega arith;
-      each = λ left since. only_now one left since;
-      before = λ t left early since. inl since;
-      keeps = λ t left early since. since;
-    }
-
     untouched : (old new : Station C O slots cell) → IsCellUnchanged old new → HoldsAsBefore old new
     untouched old new same = record {
       same_whole = ap slots.whole same;
-      any_moment = subst (LeavesBetween (cell_in old.node.store)) (sym same) (leaves_itself (cell_in old.node.store));
+      any_moment = subst (LeavesBetween cell slots (cell_in old.node.store)) (sym same)
+          (leaves_itself cell slots only_now (cell_in old.node.store));
     }
 
     looked : (old new : Station C O slots cell) → LeavesAsBefore old.node.store new.node.store → HoldsAsBefore old new
     looked old new moments = record {
-      same_whole = whole_same old.node.store new.node.store old.node.kept.settled moments;
+      same_whole = whole_same cell slots includes_now may_stay old.node.store new.node.store old.node.kept.settled
+          moments;
       any_moment = moments;
     }
 
