@@ -1,6 +1,6 @@
 -- Two numerals write different numbers exactly where they differ but for the zeros in front.
 use Rattle.std.proofs.Common.{◌≡◌, ◌≢◌, ℕ, suc, zero, ◌+◌, ◌*◌, ◌^◌, ◌<◌, ◌≤◌, ◌==◌, ◌/◌, ◌%◌, Bool, true, false}
-use Rattle.std.proofs.Common.{List, [], ◌∷◌, length, rules, refl, ap, arith, sym, ◌∙◌, inl, inr, cond, get_or}
+use Rattle.std.proofs.Common.{List, [], ◌∷◌, length, refl, ap, arith, sym, ◌∙◌, inl, inr, cond, get_or}
 use Rattle.std.proofs.lemmas.Bool.{eqb-true, eqb-false, eq-eqb, ne_eqb, cases_lt, and_parts}
 use Rattle.std.proofs.lemmas.Int.Digits.{digits_value-lt}
 use Rattle.std.proofs.lemmas.Nat.{div-mul-add, mod-mul-add}

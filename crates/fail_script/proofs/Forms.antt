@@ -1,6 +1,6 @@
 -- Words have one form at most, and those of a line have its own.
 use Rattle.std.proofs.Common.{◌≡◌, ◌≢◌, ℕ, List, get_or}
-use Rattle.std.proofs.Common.{rules, refl, ap, arith, sym, ◌∙◌, Option, Some, None}
+use Rattle.std.proofs.Common.{refl, ap, arith, sym, ◌∙◌, Option, Some, None}
 use Rattle.fail_script.specs.declared.words.Form.{Form}
 use Rattle.fail_script.specs.declared.words.Form.TheVariants as form
 use Rattle.fail_script.specs.Reading.{has_form, word}

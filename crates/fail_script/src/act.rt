@@ -1,7 +1,7 @@
 //! What a script's lines do.
 
 /// What one line breaks, or does.
-#[derive(Clone, Copy, Debug, PartialEq, Eq)]
+#[derive(Clone, Copy, Debug)]
 pub enum Act {
     /// The packet of this count, from 1, of those that go from one node to another isn't put in flight.
     Lose {
@@ -55,7 +55,7 @@ pub enum Act {
 }
 
 /// A line: what it does, once the world has come to its round.
-#[derive(Clone, Copy, Debug, PartialEq, Eq)]
+#[derive(Clone, Copy, Debug)]
 pub struct ScriptLine {
     pub round: u32,
     pub act: Act,

@@ -5,6 +5,7 @@ ghost use Rattle.std.specs.List.{list_all};
 ghost use Rattle.net_text.specs.InputLines.{is_space, is_comment};
 ghost use Rattle.fail_script.specs.Reading.{packet_in, crash_in, act_in, has_form, is_in_network};
 ghost use Rattle.fail_script.specs.Reading.{IsLineRead, IsTextRead, IsTextFault};
+ghost use Rattle.fail_script.specs.declared.words.Form.TheVariants as form;
 
 use crate::act::{Act, ScriptLine};
 use crate::fault::ScriptFault;
@@ -35,66 +36,114 @@ fn crash_in(fill: &str, rounds: &str) -> Option<(u8, u32)>
     Some((fill, rounds))
 }
 
+// What words of a packet that is lost do.
+fn loss_of(words: &[&str]) -> Option<Act>
+    requires { has_form form.Lose (map (λ w. w.now) words.now) }
+    ensures { result ≡ act_in form.Lose (map (λ w. w.now) words.now) }
+{
+    let (from, to, count) = packet_in(words[1], words[2], words[3])?;
+    Some(Act::Lose { from, to, count })
+}
+
+// What words of a packet that comes twice do.
+fn repeat_of(words: &[&str]) -> Option<Act>
+    requires { has_form form.Repeat (map (λ w. w.now) words.now) }
+    ensures { result ≡ act_in form.Repeat (map (λ w. w.now) words.now) }
+{
+    let (from, to, count) = packet_in(words[1], words[2], words[3])?;
+    Some(Act::Repeat { from, to, count })
+}
+
+// What words of a packet that is late do.
+fn delay_of(words: &[&str]) -> Option<Act>
+    requires { has_form form.Delay (map (λ w. w.now) words.now) }
+    ensures { result ≡ act_in form.Delay (map (λ w. w.now) words.now) }
+{
+    let (from, to, count) = packet_in(words[1], words[2], words[3])?;
+    let rounds = number_in(words[4], 1, MAX_ROUNDS)?;
+    Some(Act::Delay {
+        from,
+        to,
+        count,
+        rounds,
+    })
+}
+
+// What words of a crash at once do.
+fn crash_of(words: &[&str]) -> Option<Act>
+    requires { has_form form.Crash (map (λ w. w.now) words.now) }
+    ensures { result ≡ act_in form.Crash (map (λ w. w.now) words.now) }
+{
+    let node = node_in(words[1])?;
+    let (fill, rounds) = crash_in(words[3], words[4])?;
+    Some(Act::Crash { node, fill, rounds })
+}
+
+// What words of a crash at a delivery do.
+fn crash_at_delivery_of(words: &[&str]) -> Option<Act>
+    requires { has_form form.CrashAtDelivery (map (λ w. w.now) words.now) }
+    ensures { result ≡ act_in form.CrashAtDelivery (map (λ w. w.now) words.now) }
+{
+    let node = node_in(words[1])?;
+    let count = number_in(words[3], 1, MAX_COUNT)?;
+    let (fill, rounds) = crash_in(words[4], words[5])?;
+    Some(Act::CrashAtDelivery {
+        node,
+        count,
+        fill,
+        rounds,
+    })
+}
+
+// What words of a crash inside a device call do.
+fn stop_of(words: &[&str]) -> Option<Act>
+    requires { has_form form.StopAtCall (map (λ w. w.now) words.now) }
+    ensures { result ≡ act_in form.StopAtCall (map (λ w. w.now) words.now) }
+{
+    let node = node_in(words[1])?;
+    let count = number_in(words[3], 1, MAX_COUNT)?;
+    let (fill, rounds) = crash_in(words[4], words[5])?;
+    Some(Act::StopAtCall {
+        node,
+        count,
+        fill,
+        rounds,
+    })
+}
+
+// What words of a device call that fails do.
+fn failure_of(words: &[&str]) -> Option<Act>
+    requires { has_form form.FailCall (map (λ w. w.now) words.now) }
+    ensures { result ≡ act_in form.FailCall (map (λ w. w.now) words.now) }
+{
+    let node = node_in(words[1])?;
+    let count = number_in(words[3], 1, MAX_COUNT)?;
+    Some(Act::FailCall { node, count })
+}
+
+// What words of a checkpoint do.
+fn start_of(words: &[&str]) -> Option<Act>
+    requires { has_form form.Start (map (λ w. w.now) words.now) }
+    ensures { result ≡ act_in form.Start (map (λ w. w.now) words.now) }
+{
+    let node = node_in(words[1])?;
+    Some(Act::Start { node })
+}
+
 /// What words of this form do.
 pub fn act_of(form: Form, words: &[&str]) -> Option<Act>
     requires { has_form form (map (λ w. w.now) words.now) }
     ensures { result ≡ act_in form (map (λ w. w.now) words.now) }
 {
     match form {
-        Form::Lose => {
-            let (from, to, count) = packet_in(words[1], words[2], words[3])?;
-            Some(Act::Lose { from, to, count })
-        }
-        Form::Repeat => {
-            let (from, to, count) = packet_in(words[1], words[2], words[3])?;
-            Some(Act::Repeat { from, to, count })
-        }
-        Form::Delay => {
-            let (from, to, count) = packet_in(words[1], words[2], words[3])?;
-            let rounds = number_in(words[4], 1, MAX_ROUNDS)?;
-            Some(Act::Delay {
-                from,
-                to,
-                count,
-                rounds,
-            })
-        }
-        Form::Crash => {
-            let node = node_in(words[1])?;
-            let (fill, rounds) = crash_in(words[3], words[4])?;
-            Some(Act::Crash { node, fill, rounds })
-        }
-        Form::CrashAtDelivery => {
-            let node = node_in(words[1])?;
-            let count = number_in(words[3], 1, MAX_COUNT)?;
-            let (fill, rounds) = crash_in(words[4], words[5])?;
-            Some(Act::CrashAtDelivery {
-                node,
-                count,
-                fill,
-                rounds,
-            })
-        }
-        Form::StopAtCall => {
-            let node = node_in(words[1])?;
-            let count = number_in(words[3], 1, MAX_COUNT)?;
-            let (fill, rounds) = crash_in(words[4], words[5])?;
-            Some(Act::StopAtCall {
-                node,
-                count,
-                fill,
-                rounds,
-            })
-        }
-        Form::FailCall => {
-            let node = node_in(words[1])?;
-            let count = number_in(words[3], 1, MAX_COUNT)?;
-            Some(Act::FailCall { node, count })
-        }
-        Form::Start => {
-            let node = node_in(words[1])?;
-            Some(Act::Start { node })
-        }
+        Form::Lose => loss_of(words),
+        Form::Repeat => repeat_of(words),
+        Form::Delay => delay_of(words),
+        Form::Crash => crash_of(words),
+        Form::CrashAtDelivery => crash_at_delivery_of(words),
+        Form::StopAtCall => stop_of(words),
+        Form::FailCall => failure_of(words),
+        Form::Start => start_of(words),
     }
 }
 

@@ -1,4 +1,4 @@
-use Rattle.std.proofs.Common.{rules, sym, subst, ◌∷◌, map}
+use Rattle.std.proofs.Common.{sym, subst, ◌∷◌, map}
 use Rattle.fail_script.specs.Reading.{IsLineRead}
 use Rattle.fail_script.proofs.LineLaws.{none_by_form, none_by_act, some_line}
 use Rattle.fail_script.proofs.reading.line_with.Goals as goal

@@ -1,5 +1,5 @@
 use Rattle.std.proofs.Common.{refl, sym, subst, rules, ap, map, ◌∙◌, Some, None}
-use Rattle.fail_script.specs.Reading.{IsLineRead, is_in_network}
+use Rattle.fail_script.specs.Reading.{IsLineRead}
 use Rattle.fail_script.proofs.LineLaws.{shown_is, formless, no_node, line_stands}
 use Rattle.fail_script.proofs.reading.read_line.Goals as goal
 

@@ -1,4 +1,4 @@
-use Rattle.std.proofs.Common.{rules, arith, ap, ◌∙◌}
+use Rattle.std.proofs.Common.{rules, ap, ◌∙◌}
 use Rattle.std.proofs.lemmas.Result.{err_from_is_err_and}
 use Rattle.fail_script.proofs.ScriptLaws.{texts_of, parts_are_lines, told_fault, told_once, told_no_script}
 use Rattle.fail_script.proofs.ScriptLaws.{read_script, read_no_fault, read_once}

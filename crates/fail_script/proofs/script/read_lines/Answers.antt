@@ -1,4 +1,3 @@
-use Rattle.std.proofs.Common.{rules}
 use Rattle.std.proofs.lemmas.Result.{err_from_is_err_and}
 use Rattle.fail_script.proofs.ScriptLaws.{turn_goes_on, turn_fails}
 use Rattle.fail_script.proofs.script.read_lines.Goals as goal
