@@ -17,7 +17,7 @@
 //! | `-- from running_sum.net` | what stands in a file |
 //! | `-- status 3` | the exit status; 0 where it isn't said |
 //! | `-- approx 2`, `-- items 4`, `-- rounds 1`, `-- room 64` | an option of the run |
-//! | `-- each script` | each line that follows is a failure script of its own, with which the run is made once: the same has to come of all |
+//! | `-- each script` | each line that follows is a failure script of its own, with which the run is made once: the same has to come of all. The line that is told counts them one by one from here on |
 //! | `-- threads` | the run has a thread for each node; else it takes turns on one |
 //! | `-- words kahnrun --items 4 NET INPUTS` | the whole command line, whose options the run has; its files are the texts |
 //! | `-- net absent`, `-- inputs absent`, `-- script absent` | a file that can't be opened |
