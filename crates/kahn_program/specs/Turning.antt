@@ -17,10 +17,11 @@ use Rattle.protocol.specs.World.ReplyView.{ReplyView, Granted}
 use Rattle.protocol.specs.World.Sound.{output_channels}
 use Rattle.protocol.specs.World.StationView.{OutletView, StationView}
 use Rattle.protocol.specs.World.Steps.{WorldView, with_room}
+use Rattle.protocol.specs.World.Still.{given_room}
 use Rattle.protocol.specs.declared.limits.TheConstants.{MIN_ROOM}
 use Rattle.ckpt_codec.specs.declared.lengths.TheConstants.{MAX_RETAINED_ITEMS}
 use Rattle.gate_cell.specs.declared.TheConstants.{SECTORS}
-use Rattle.replay.specs.Armed.{ArmedEvent, ArmedView, IsArmedStep, OfWorld, armed_at_first}
+use Rattle.replay.specs.Armed.{ArmedEvent, ArmedView, IsArmedStep, OfWorld, armed_at_first, with_world}
 use Rattle.kahn_program.specs.declared.turning.TheConstants.{MAX_TURNS}
 use Rattle.replay.specs.Plain.{plain_view}
 use Rattle.replay.specs.declared.kept.ScriptedEvent.{ScriptedEvent}
@@ -96,13 +97,18 @@ turn_node nodes turn = if nat_lt 0 nodes then turn % nodes else 0
 abbrev pub line_before : List ScriptedEvent → ℕ → Progress → Option PlainEvent
 line_before script node now = if node == 0 then next_event script now else None
 
+-- what a turn of this node finds: before one of node 0 channels get more room, where the world stands still for want of it
+abbrev pub found_by : ℕ → ArmedView → ArmedView
+found_by node armed = if node == 0 then with_world (given_room armed.world) armed else armed
+
 -- So many turns lead from one world of so many nodes to another, and the line before the next turn is passed; none is taken
 -- where a run is over.
 abbrev pub CameTo : (WorldView → Bool) → ℕ → List ScriptedEvent → ℕ → Progress → Progress → Type 0
 CameTo over nodes script zero first now = IsDriven (line_before script (turn_node nodes 0) first) first now
 CameTo over nodes script (suc turns) first now =
     (before : Progress) × (after : ArmedView) × CameTo over nodes script turns first before
-    × (over before.armed.world ≡ false) × IsNodeTurn (turn_node nodes turns) before.armed after
+    × (over before.armed.world ≡ false)
+    × IsNodeTurn (turn_node nodes turns) (found_by (turn_node nodes turns) before.armed) after
     × IsDriven (line_before script (turn_node nodes (suc turns)) (progress after before.passed))
     (progress after before.passed) now
 

@@ -9,10 +9,10 @@ ghost use Rattle.world.specs.ReplyView.{reply_view};
 ghost use Rattle.world.specs.WholeView.{world_of};
 ghost use Rattle.world.specs.WorldView.{capacities};
 ghost use Rattle.kahn_program.specs.Resting.{AllRest};
-ghost use Rattle.kahn_program.specs.Turning.{Follows, HasBegun, IsDriven, IsNodeTurn, IsRunByTurns, IsRunRoom, TakesTurns, due_event, is_over, line_before, progress, turn_node};
+ghost use Rattle.kahn_program.specs.Turning.{Follows, HasBegun, found_by, IsDriven, IsNodeTurn, IsRunByTurns, IsRunRoom, TakesTurns, due_event, is_over, line_before, progress, turn_node};
 
-use crate::ending::{RunWorld, is_over};
-use crate::resting::{Resting, is_alone, is_idle, note_line, note_turn, passes_again};
+use crate::ending::{RunWorld, is_over, stands_still};
+use crate::resting::{Resting, is_alone, is_idle, note_line, note_none, note_turn, passes_again};
 use gate_cell::SplitCell;
 use kahn_net::{Channel, MAX_NODES};
 use outlet::ListOutlet;
@@ -109,6 +109,34 @@ fn take_turn(
     take_event(alloc, armed, resting, node)
 }
 
+/// Before a turn of node 0: gives channels more room, where the world stands still for want of it. A node that rests may go on
+/// then.
+fn give_room(
+    armed: &mut RunArmed,
+    resting: &mut Resting,
+    nodes: usize,
+    moving: &mut u8,
+    node: u8,
+)
+    requires nodes { nodes ≤ MAX_NODES }
+    requires room { AllByRecursion IsRunRoom (capacities armed.old.world.stations.items) }
+    requires rest { AllRest resting.old (world_of armed.old.world) }
+    ensures same { (armed.new.world.net ≡ armed.old.world.net)
+        × (armed.new.world.inputs ≡ armed.old.world.inputs) }
+    ensures room { AllByRecursion IsRunRoom (capacities armed.new.world.stations.items) }
+    ensures found { armed_view armed.new ≡ found_by node (armed_view armed.old) }
+    ensures rest { AllRest resting.new (world_of armed.new.world) }
+{
+    if node != 0 {
+        return;
+    }
+    if !stands_still(&armed.world, nodes, moving) {
+        return;
+    }
+    armed.world.widen();
+    note_none(resting);
+}
+
 /// The event of the script's next line, if there is one and it is due.
 fn next_event(script: &[ScriptedEvent], passed: usize, round: u64) -> Option<PlainEvent>
     ensures event { result ≡ due_event round (slice_get script.now passed) }
@@ -194,7 +222,8 @@ fn drive_before(
     }
 }
 
-/// Takes turns until the run is over: of the nodes, so many, one after another.
+/// Takes turns until the run is over: of the nodes, so many, one after another. Where nothing but room is missing, channels get
+/// more.
 fn take_turns(
     alloc: Global,
     channels: &[Channel],
@@ -215,6 +244,8 @@ fn take_turns(
 {
     // A node at which something was left to do when it was last asked.
     let mut busy: u8 = 0;
+    // One at which something was to be done when it was last asked.
+    let mut moving: u8 = 0;
     let mut resting: Resting = [false; MAX_NODES as usize];
     let mut node = 0;
     let mut passed = drive_before(alloc, armed, script, begun, node)?;
@@ -222,6 +253,7 @@ fn take_turns(
         if is_over(channels, &armed.world, nodes, &mut busy, rounds, items) {
             return Ok(());
         }
+        give_room(armed, &mut resting, nodes, &mut moving, node);
         take_turn(alloc, armed, &mut resting, node)?;
         node = node_after(nodes, node);
         let now = drive_before(alloc, armed, script, passed, node)?;

@@ -12,6 +12,8 @@ pub enum Answer {
     NotYet,
     /// The script has no line left.
     NoMore,
+    /// The world stood still for want of room, and channels have more now.
+    Widened,
     /// The hub is stopped: no call makes an event any more.
     Stopped,
 }
