@@ -52,6 +52,16 @@ pub record IsNodeTurn (node : ℕ) (old new : ArmedView) : Type 0 where
   pub step : IsRunStep (OfWorld (choice old.world node)) old answer between
   pub follows : Follows answer between new
 
+-- behind a turn by which a round ended channels get more room, where the world stands still for want of it
+abbrev pub room_behind : ArmedView → ArmedView → ArmedView
+room_behind old new = if new.world.round == old.world.round then new else with_world (given_room new.world) new
+
+-- a turn, and what comes behind it
+pub record IsWholeTurn (node : ℕ) (old new : ArmedView) : Type 0 where
+  pub between : ArmedView
+  pub turn : IsNodeTurn node old between
+  pub room : new ≡ room_behind old between
+
 -- ---- a run by turns
 
 -- how far a run has come: its world, and how many lines of its script are passed
@@ -97,18 +107,13 @@ turn_node nodes turn = if nat_lt 0 nodes then turn % nodes else 0
 abbrev pub line_before : List ScriptedEvent → ℕ → Progress → Option PlainEvent
 line_before script node now = if node == 0 then next_event script now else None
 
--- what a turn of this node finds: before one of node 0 channels get more room, where the world stands still for want of it
-abbrev pub found_by : ℕ → ArmedView → ArmedView
-found_by node armed = if node == 0 then with_world (given_room armed.world) armed else armed
-
 -- So many turns lead from one world of so many nodes to another, and the line before the next turn is passed; none is taken
 -- where a run is over.
 abbrev pub CameTo : (WorldView → Bool) → ℕ → List ScriptedEvent → ℕ → Progress → Progress → Type 0
 CameTo over nodes script zero first now = IsDriven (line_before script (turn_node nodes 0) first) first now
 CameTo over nodes script (suc turns) first now =
     (before : Progress) × (after : ArmedView) × CameTo over nodes script turns first before
-    × (over before.armed.world ≡ false)
-    × IsNodeTurn (turn_node nodes turns) (found_by (turn_node nodes turns) before.armed) after
+    × (over before.armed.world ≡ false) × IsWholeTurn (turn_node nodes turns) before.armed after
     × IsDriven (line_before script (turn_node nodes (suc turns)) (progress after before.passed))
     (progress after before.passed) now
 

@@ -4,7 +4,6 @@ ghost use Rattle.std.specs.Prelude.{◌≡◌, ◌≤◌, if◌then◌else◌, t
 ghost use Rattle.std.specs.List.{list_all};
 ghost use Rattle.kahn_net.specs.declared.limits.TheConstants.{MAX_CHANNELS, MAX_NODES};
 ghost use Rattle.protocol.specs.World.Quiet.{are_quiet};
-ghost use Rattle.protocol.specs.World.Still.{stands_still};
 ghost use Rattle.protocol.specs.World.Released.{released_of};
 ghost use Rattle.protocol.specs.World.Sound.{goes_outside, output_channels};
 ghost use Rattle.world.specs.WholeView.{world_of};
@@ -81,23 +80,6 @@ fn is_complete(world: &RunWorld, nodes: usize, busy: &mut u8) -> bool
         }
     }
     world.complete()
-}
-
-/// Whether the world stands still for want of room. A node at which something was to be done before is asked first, as above.
-pub(crate) fn stands_still(world: &RunWorld, nodes: usize, moving: &mut u8) -> bool
-    requires { nodes ≤ MAX_NODES }
-    ensures { result ≡ stands_still (world_of world.now) }
-{
-    if !world.is_still(*moving) {
-        return false;
-    }
-    for node in 0..nodes {
-        if !world.is_still(node as u8) {
-            *moving = node as u8;
-            return false;
-        }
-    }
-    world.stands_still()
 }
 
 /// Whether a run is over: nothing is left to do, the rounds are over, or each output has the items that are asked for.

@@ -25,7 +25,6 @@ pub mod GrowLaws
 pub mod OpenLaws
 pub mod PairLaws
 pub mod QuietLaws
-pub mod StillLaws
 pub mod ShownLaws
 pub mod ReleasedLaws
 pub mod ClosedLaws

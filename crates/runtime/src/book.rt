@@ -271,8 +271,8 @@ impl<C: SlotCell, O: Outlet, J: Run> Book<C, O, J> {
         find_silence(&self.lines, reason).is_some()
     }
 
-    /// The event that is next for a node. Where all that it could do is to let its turn pass, channels get more room if the world
-    /// stands still for want of it; and none comes where the node has let a turn pass in this round.
+    /// The event that is next for a node; none where all that it could do is to let its turn pass, and it has done so in this
+    /// round. Before it does so first, channels get more room if the world stands still for want of it.
     pub fn turn(
         &mut self,
         alloc: Global,
@@ -299,13 +299,13 @@ impl<C: SlotCell, O: Outlet, J: Run> Book<C, O, J> {
             return Ok(Answer::Nothing);
         }
         let event = self.armed.world.pick(node);
-        if is_idle(&event) && self.armed.world.stands_still() {
-            self.widen(tally)?;
-            return Ok(Answer::Widened);
-        }
         if is_idle(&event) && has_idled(&self.armed.world, node) {
             self.be_silent(Silence::Nothing(node), tally)?;
             return Ok(Answer::Nothing);
+        }
+        if is_idle(&event) && self.armed.world.stands_still() {
+            self.widen(tally)?;
+            return Ok(Answer::Widened);
         }
         match self.make(alloc, node, event, tally) {
             Ok(reply) => Ok(Answer::Reply(reply)),

@@ -10,11 +10,12 @@ ghost use Rattle.protocol.specs.Node.NodeView.{running_node, running_of};
 ghost use Rattle.protocol.specs.Node.Popping.{has_place};
 ghost use Rattle.protocol.specs.World.Invariant.{outputs_of};
 ghost use Rattle.protocol.specs.World.Quiet.{sent_at};
-ghost use Rattle.protocol.specs.World.Still.{has_come, has_come_from, has_let_go, is_node_still, is_settled_at, is_still, keeps_all, kept_at, stands_still, wants_room, wider, widened};
+ghost use Rattle.protocol.specs.World.Still.{has_come, has_come_from, has_let_go, is_settled_at, is_still, keeps_all, kept_at, stands_still, wants_room, wider, widened};
 ghost use Rattle.world.specs.StationView.{outlet_views};
 ghost use Rattle.world.specs.WholeView.{world_of};
 ghost use Rattle.world.specs.WorldView.{station_view};
 
+use crate::output::Output;
 use crate::picking::has_more;
 use crate::quiet::have_all_left;
 use crate::station::Station;
@@ -24,7 +25,7 @@ use gate_cell::SlotCell;
 use kahn_net::MAX_COUNT;
 use layout::{consumer_node, producer_node};
 use net_check::{Inputs, Net};
-use node::{Mode, Running};
+use node::{Mode, NodeState, Running};
 use outlet::Outlet;
 use protocol::{Inbox, MAX_INBOX_ITEMS, Outbox};
 use record::{Image, Record};
@@ -73,7 +74,20 @@ fn has_come(sent: u64, inbox: &Inbox) -> bool
     }
 }
 
-// Whether nothing more comes to these inboxes.
+// Whether nothing more comes to an inbox, beside these stations.
+fn has_come_from<C: SlotCell, O: Outlet>(
+    net: &Net,
+    stations: &[Station<C, O>],
+    inbox: &Inbox,
+) -> bool
+    ensures { result ≡ has_come_from (network_of net.now.program)
+        (map (station_view O.taken O.failures) stations.now) inbox.now }
+{
+    let from = producer_node(net, usize::from(inbox.channel));
+    has_come(sent_at(stations, from, inbox.channel), inbox)
+}
+
+// Whether nothing more comes to any of these inboxes.
 fn have_come<C: SlotCell, O: Outlet>(
     net: &Net,
     stations: &[Station<C, O>],
@@ -83,15 +97,28 @@ fn have_come<C: SlotCell, O: Outlet>(
         (map (station_view O.taken O.failures) stations.now)) inboxes.now }
 {
     for inbox in inboxes {
-        let from = producer_node(net, usize::from(inbox.channel));
-        if !has_come(sent_at(stations, from, inbox.channel), inbox) {
+        if !has_come_from(net, stations, inbox) {
             return false;
         }
     }
     true
 }
 
-// Whether the log of each of these channels has let go of all that is kept for good at the other end.
+// Whether the log of a channel to another node has let go of all that is kept for good there.
+fn has_let_go<C: SlotCell, O: Outlet>(
+    net: &Net,
+    stations: &[Station<C, O>],
+    image: &Image,
+    outbox: &Outbox,
+) -> bool
+    ensures { result ≡ has_let_go (network_of net.now.program)
+        (map (station_view O.taken O.failures) stations.now) image.now outbox.now }
+{
+    let to = consumer_node(net, usize::from(outbox.channel));
+    kept_at(stations, to, outbox.channel) <= image.base(outbox.channel)
+}
+
+// Whether the log of each of these channels has.
 fn have_let_go<C: SlotCell, O: Outlet>(
     net: &Net,
     stations: &[Station<C, O>],
@@ -102,8 +129,7 @@ fn have_let_go<C: SlotCell, O: Outlet>(
         (map (station_view O.taken O.failures) stations.now) image.now) outboxes.now }
 {
     for outbox in outboxes {
-        let to = consumer_node(net, usize::from(outbox.channel));
-        if kept_at(stations, to, outbox.channel) > image.base(outbox.channel) {
+        if !has_let_go(net, stations, image, outbox) {
             return false;
         }
     }
@@ -120,43 +146,46 @@ fn keeps_all(running: &Running, kept: &Record, version: u64) -> bool
         && !has_more(&running.current, &kept.permanent)
 }
 
-impl<C: SlotCell, O: Outlet> Station<C, O> {
-    // Whether its node runs and all of it is settled, beside these stations.
-    fn is_settled(&self, net: &Net, stations: &[Station<C, O>]) -> bool
-        ensures { result ≡ is_settled_at (network_of net.now.program)
-            (map (station_view O.taken O.failures) stations.now)
-            (running_of (view_of self.now.node))
-            (outputs_of (outlet_views O.taken O.failures self.now.outputs.items)) }
-    {
-        let node = &self.node;
-        let Ok(kept) = node.store.record() else {
-            return false;
-        };
-        match &node.state.mode {
-            Mode::Running(running) => {
-                keeps_all(running, kept, node.state.version)
-                    && have_all_left(&running.current, &self.outputs)
-                    && have_come(net, stations, &running.inboxes)
-                    && have_let_go(net, stations, &running.current, &running.outboxes)
-            }
-            Mode::Down | Mode::InDoubt => false,
+// Whether a node with this record runs, and all of it is settled, beside these stations. What is known soonest comes first.
+fn is_settled<C: SlotCell, O: Outlet>(
+    net: &Net,
+    stations: &[Station<C, O>],
+    state: &NodeState,
+    kept: &Record,
+    outputs: &[Output<O>],
+) -> bool
+    ensures { result ≡ is_settled_at (network_of net.now.program)
+        (map (station_view O.taken O.failures) stations.now)
+        (running_of (node_view kept.now state.now))
+        (outputs_of (outlet_views O.taken O.failures outputs.now)) }
+{
+    match &state.mode {
+        Mode::Running(running) => {
+            keeps_all(running, kept, state.version)
+                && have_all_left(&running.current, outputs)
+                && have_come(net, stations, &running.inboxes)
+                && have_let_go(net, stations, &running.current, &running.outboxes)
         }
+        Mode::Down | Mode::InDoubt => false,
     }
+}
 
-    // Whether nothing is to be done here where a channel has so much room, beside these stations: it is settled, and its node
-    // can grant no job. What is known soonest comes first.
-    fn is_still(
-        &self,
-        net: &Net,
-        inputs: &Inputs,
-        room: usize,
-        stations: &[Station<C, O>],
-    ) -> bool
+impl<C: SlotCell, O: Outlet> Station<C, O> {
+    // Whether nothing is to be done here where a channel has so much room, beside these stations: its node is settled, and can
+    // grant no job.
+    fn is_still(&self, net: &Net, inputs: &Inputs, room: usize, stations: &[Station<C, O>]) -> bool
         ensures { result ≡ is_still (network_of net.now.program) inputs.now room
             (map (station_view O.taken O.failures) stations.now)
             (station_view O.taken O.failures self.now) }
     {
-        self.is_settled(net, stations) && !self.node.has_job(net, inputs, room)
+        let node = &self.node;
+        match node.store.record() {
+            Ok(kept) => {
+                is_settled(net, stations, &node.state, kept, &self.outputs)
+                    && !node.has_job(net, inputs, room)
+            }
+            Err(_) => false,
+        }
     }
 
     // Whether its node could grant a job where channels had as much room as a record has.
@@ -216,17 +245,6 @@ fn wider(room: usize) -> usize
 }
 
 impl<C: SlotCell, O: Outlet> World<C, O> {
-    /// Whether nothing is to be done at a node but by more room; true of one that isn't of this world. Where it answers no, the
-    /// world doesn't stand still. Takes no memory.
-    pub fn is_still(&self, node: u8) -> bool
-        ensures { result ≡ is_node_still (world_of self.now) node }
-    {
-        match self.stations.get(usize::from(node)) {
-            Some(station) => station.is_still(&self.net, &self.inputs, self.room, &self.stations),
-            None => true,
-        }
-    }
-
     /// Whether the world stands still for want of room: each node runs and holds no image, each has kept all that it got and
     /// put, all that was put has left, nothing more comes from one node to another or is let go of, no job can be granted, and
     /// one could be if channels had as much room as a record has. Takes no memory.

@@ -1,5 +1,5 @@
 -- A world that stands still, and would go on if channels had more room.
-use Rattle.std.specs.Prelude.{◌==◌, ◌*◌, ℕ, nat_le, Bool, true, false, ◌&&◌, not, if◌then◌else◌, min, ℤ, List, length, Option}
+use Rattle.std.specs.Prelude.{◌==◌, ◌*◌, ℕ, nat_le, Bool, false, ◌&&◌, not, if◌then◌else◌, min, ℤ, List, length, Option}
 use Rattle.std.specs.Prelude.{Some, None, is_some, slice_get}
 use Rattle.std.specs.List.{list_all, list_any}
 use Rattle.kahn_net.specs.Syntax.{Network}
@@ -77,14 +77,6 @@ abbrev pub stands_still : WorldView → Bool
 stands_still world =
     list_all (is_still world.net world.inputs world.room world.stations) world.stations &&
     list_any (wants_room world.net world.inputs) world.stations
-
--- at none that a world has of this number is anything to be done but by more room
-abbrev pub is_still_of : WorldView → Option StationView → Bool
-is_still_of world None = true
-is_still_of world (Some station) = is_still world.net world.inputs world.room world.stations station
-
-abbrev pub is_node_still : WorldView → ℕ → Bool
-is_node_still world number = is_still_of world (slice_get world.stations number)
 
 -- twice the room of a channel, and no more than a record has
 abbrev pub wider : ℕ → ℕ

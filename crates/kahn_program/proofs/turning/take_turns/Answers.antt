@@ -1,8 +1,7 @@
 use Rattle.std.proofs.Common.{sym, subst, ◌∙◌, ℕ}
 use Rattle.runtime.specs.ArmedWorlds.{armed_view}
 use Rattle.world.specs.WholeView.{world_of}
-use Rattle.replay.specs.Armed.{ArmedView}
-use Rattle.kahn_program.specs.Turning.{IsDriven, IsNodeTurn, found_by, line_before, progress}
+use Rattle.kahn_program.specs.Turning.{IsDriven, IsWholeTurn, line_before, progress}
 use Rattle.kahn_program.proofs.Next.{first_node}
 use Rattle.kahn_program.proofs.Passing.{none_noted, noted_line}
 use Rattle.kahn_program.proofs.Turns.{more_turns}
@@ -30,10 +29,9 @@ loop-turn-preserved c =
     let next = c.node_after-node.ensures c.loop-turn._turn c.loop-turn.invariant.node in
     record {
       same = (
-        c.drive_before-in-loop-turn.ensures.same.0
-            ∙ (c.take_turn.ensures.same.0 ∙ (c.give_room.ensures.same.0 ∙ c.loop-turn.invariant.same.0)),
+        c.drive_before-in-loop-turn.ensures.same.0 ∙ (c.take_turn.ensures.same.0 ∙ c.loop-turn.invariant.same.0),
         c.drive_before-in-loop-turn.ensures.same.1
-            ∙ (c.take_turn.ensures.same.1 ∙ (c.give_room.ensures.same.1 ∙ c.loop-turn.invariant.same.1)),
+            ∙ (c.take_turn.ensures.same.1 ∙ c.loop-turn.invariant.same.1),
       );
       room = c.drive_before-in-loop-turn.ensures.room;
       node = next;
@@ -43,9 +41,8 @@ loop-turn-preserved c =
           c.in_ok-take_turn.ensures.rest;
       came = more_turns _ c.args.nodes c.args.script.now c.loop-turn._turn _ before now after
           c.loop-turn.invariant.came (sym c.is_over.ensures ∙ c.if-is_over.false)
-          (subst (λ (n : ℕ). IsNodeTurn n (found_by n (armed_view c.loop-turn.armed)) after) c.loop-turn.invariant.node
-          (subst (λ (found : ArmedView). IsNodeTurn c.loop-turn.node found after) c.give_room.ensures.found
-          c.in_ok-take_turn.ensures.turn))
+          (subst (λ (n : ℕ). IsWholeTurn n (armed_view c.loop-turn.armed) after) c.loop-turn.invariant.node
+          c.in_ok-take_turn.ensures.turn)
           (subst (λ (n : ℕ). IsDriven (line_before c.args.script.now n between) between now) next
           c.in_ok-now.ensures.driven);
     }
