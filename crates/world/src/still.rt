@@ -1,11 +1,10 @@
 // When a world stands still for want of room.
-ghost use Rattle.std.specs.Prelude.{◌≡◌, ◌==◌, length, map, slice_get, not, is_some};
+ghost use Rattle.std.specs.Prelude.{◌≡◌, map, slice_get};
 ghost use Rattle.std.specs.List.{list_all, list_any};
 ghost use Rattle.kahn_net.specs.Syntax.{network_of};
-ghost use Rattle.retained.specs.LogState.{log_end};
+ghost use Rattle.record.specs.Ends.{received_of};
 ghost use Rattle.node.specs.NodeOf.{view_of};
 ghost use Rattle.node.specs.NodeView.{node_view, running_view};
-ghost use Rattle.protocol.specs.Node.Choosing.{node_job};
 ghost use Rattle.protocol.specs.Node.NodeView.{running_node, running_of};
 ghost use Rattle.protocol.specs.Node.Popping.{has_place};
 ghost use Rattle.protocol.specs.World.Invariant.{outputs_of};
@@ -42,16 +41,26 @@ fn sent_at<C: SlotCell, O: Outlet>(stations: &[Station<C, O>], number: u8, chann
     }
 }
 
+impl<C: SlotCell, O: Outlet> Station<C, O> {
+    // How many items of a channel its node keeps for good.
+    fn kept(&self, channel: u8) -> u64
+        ensures { result ≡ received_of (view_of self.now.node).kept.permanent channel }
+    {
+        let node = &self.node;
+        match node.store.record() {
+            Ok(kept) => kept.permanent.received(channel),
+            Err(_) => 0,
+        }
+    }
+}
+
 // How many items of a channel the node of this number keeps for good.
 fn kept_at<C: SlotCell, O: Outlet>(stations: &[Station<C, O>], number: u8, channel: u8) -> u64
     ensures { result ≡ kept_at channel
         (slice_get (map (station_view O.taken O.failures) stations.now) number) }
 {
     match stations.get(usize::from(number)) {
-        Some(station) => match station.node.store.record() {
-            Ok(kept) => kept.permanent.received(channel),
-            Err(_) => 0,
-        },
+        Some(station) => station.kept(channel),
         None => 0,
     }
 }
