@@ -25,7 +25,7 @@ ghost use Rattle.world.specs.declared.event.Event.TheVariants as event;
 
 use crate::answer::{Answer, HeldBack, HubFault, Status};
 use crate::armed::ArmedWorld;
-use crate::counting::{add_silence, find_silence};
+use crate::counting::{add_silence, add_widened, find_silence};
 use crate::history::{History, Line};
 use crate::making::{make_event, make_scripted};
 use crate::tally::{Counted, Run, Tally, Totals};
@@ -220,9 +220,7 @@ impl<C: SlotCell, O: Outlet, J: Run> Book<C, O, J> {
             totals,
             ..
         } = self;
-        if lines.push(Line::Widened).is_err() {
-            return Err(HubFault::NoMemory);
-        }
+        add_widened(lines)?;
         armed.world.widen();
         *incomplete = false;
         totals.add(tally, Counted::Entry);

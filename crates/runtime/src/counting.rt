@@ -2,7 +2,7 @@
 ghost use Rattle.std.specs.Prelude.{◌≡◌, ◌⊎◌, ◌++◌, ◌∷◌, [], ◌<◌, ◌+◌, ◌-◌, ℕ, IfSome, OnErr, OnOk};
 ghost use Rattle.replay.specs.Replay as happening;
 ghost use Rattle.runtime.specs.Counts.{kind_of, numbers_in};
-ghost use Rattle.runtime.specs.Lines.{IsSaidAt, happenings};
+ghost use Rattle.runtime.specs.Lines.{IsSaidAt, IsWidened, happenings};
 ghost use Rattle.runtime.specs.Numbers.{counted};
 
 use crate::answer::HubFault;
@@ -62,6 +62,17 @@ pub(crate) fn add_silence(lines: &mut Vec<Line>, reason: Silence) -> Result<(), 
         return raise(lines, place, reason);
     }
     if lines.push(Line::Silent { reason, count: 1 }).is_err() {
+        return Err(HubFault::NoMemory);
+    }
+    Ok(())
+}
+
+/// Notes that channels got more room.
+pub(crate) fn add_widened(lines: &mut Vec<Line>) -> Result<(), HubFault>
+    ensures added { OnOk result (IsWidened lines.old.items lines.new.items) }
+    ensures refused { OnErr result (lines.new.items ≡ lines.old.items) }
+{
+    if lines.push(Line::Widened).is_err() {
         return Err(HubFault::NoMemory);
     }
     Ok(())
