@@ -2,14 +2,13 @@
 ghost use Rattle.std.specs.Prelude.{◌≡◌, map, slice_get};
 ghost use Rattle.std.specs.List.{list_all, list_any};
 ghost use Rattle.kahn_net.specs.Syntax.{network_of};
-ghost use Rattle.record.specs.Ends.{received_of};
 ghost use Rattle.node.specs.NodeOf.{view_of};
 ghost use Rattle.node.specs.NodeView.{node_view, running_view};
 ghost use Rattle.protocol.specs.Node.NodeView.{running_node, running_of};
 ghost use Rattle.protocol.specs.Node.Popping.{has_place};
 ghost use Rattle.protocol.specs.World.Invariant.{outputs_of};
 ghost use Rattle.protocol.specs.World.Quiet.{sent_at};
-ghost use Rattle.protocol.specs.World.Still.{has_come, has_come_from, has_let_go, is_settled_at, is_still, keeps_all, kept_at, stands_still, wants_room, wider, widened};
+ghost use Rattle.protocol.specs.World.Still.{has_come, has_come_from, has_let_go, is_settled_at, is_still, keeps_all, kept_at, kept_by, stands_still, wants_room, wider, widened};
 ghost use Rattle.world.specs.StationView.{outlet_views};
 ghost use Rattle.world.specs.WholeView.{world_of};
 ghost use Rattle.world.specs.WorldView.{station_view};
@@ -41,14 +40,24 @@ fn sent_at<C: SlotCell, O: Outlet>(stations: &[Station<C, O>], number: u8, chann
     }
 }
 
+// How many items of a channel a node with this record keeps for good; none where it doesn't run.
+fn kept_by(state: &NodeState, kept: &Record, channel: u8) -> u64
+    ensures { result ≡ kept_by channel (running_of (node_view kept.now state.now)) }
+{
+    match &state.mode {
+        Mode::Running(_) => kept.permanent.received(channel),
+        Mode::Down | Mode::InDoubt => 0,
+    }
+}
+
 impl<C: SlotCell, O: Outlet> Station<C, O> {
     // How many items of a channel its node keeps for good.
     fn kept(&self, channel: u8) -> u64
-        ensures { result ≡ received_of (view_of self.now.node).kept.permanent channel }
+        ensures { result ≡ kept_by channel (running_of (view_of self.now.node)) }
     {
         let node = &self.node;
         match node.store.record() {
-            Ok(kept) => kept.permanent.received(channel),
+            Ok(kept) => kept_by(&node.state, kept, channel),
             Err(_) => 0,
         }
     }
