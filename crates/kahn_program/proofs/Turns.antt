@@ -46,7 +46,7 @@ use Rattle.world.specs.declared.event.Reply.{Reply}
 use Rattle.world.specs.declared.event.Reply.TheVariants.{Granted}
 use Rattle.world.specs.declared.output.Output.{Output}
 use Rattle.world.specs.declared.station.Station.{Station}
-use Rattle.kahn_program.specs.Turning.{turn_node, CameTo, first_world, Follows, HavePassed, IsDriven, IsNodeTurn}
+use Rattle.kahn_program.specs.Turning.{turn_node, CameTo, first_world, Follows, HavePassed, IsDriven, IsWholeTurn}
 use Rattle.kahn_program.specs.Turning.{IsRunRoom, IsRunStep, Progress, line_before, nearest_room}
 use Rattle.kahn_program.specs.Turning.{next_event, progress, run_rooms, unused_outlet}
 use Rattle.runtime.specs.declared.answer.HubFault.{HubFault}
@@ -185,7 +185,7 @@ more_passed script first old new passed now (Some event) came is some driven =
 pub more_turns : (over : WorldView → Bool) (nodes : ℕ) (script : List ScriptedEvent) (turns : ℕ)
     (first before now : Progress) (after : ArmedView)
     → CameTo over nodes script turns first before → over before.armed.world ≡ false
-    → IsNodeTurn (turn_node nodes turns) before.armed after
+    → IsWholeTurn (turn_node nodes turns) before.armed after
     → IsDriven (line_before script (turn_node nodes (turns + 1)) (progress after before.passed))
     (progress after before.passed) now
     → CameTo over nodes script (turns + 1) first now

@@ -17,10 +17,11 @@ use Rattle.protocol.specs.World.ReplyView.{ReplyView, Granted}
 use Rattle.protocol.specs.World.Sound.{output_channels}
 use Rattle.protocol.specs.World.StationView.{OutletView, StationView}
 use Rattle.protocol.specs.World.Steps.{WorldView, with_room}
+use Rattle.protocol.specs.World.Still.{given_room}
 use Rattle.protocol.specs.declared.limits.TheConstants.{MIN_ROOM}
 use Rattle.ckpt_codec.specs.declared.lengths.TheConstants.{MAX_RETAINED_ITEMS}
 use Rattle.gate_cell.specs.declared.TheConstants.{SECTORS}
-use Rattle.replay.specs.Armed.{ArmedEvent, ArmedView, IsArmedStep, OfWorld, armed_at_first}
+use Rattle.replay.specs.Armed.{ArmedEvent, ArmedView, IsArmedStep, OfWorld, armed_at_first, with_world}
 use Rattle.kahn_program.specs.declared.turning.TheConstants.{MAX_TURNS}
 use Rattle.replay.specs.Plain.{plain_view}
 use Rattle.replay.specs.declared.kept.ScriptedEvent.{ScriptedEvent}
@@ -50,6 +51,16 @@ pub record IsNodeTurn (node : ℕ) (old new : ArmedView) : Type 0 where
   pub between : ArmedView
   pub step : IsRunStep (OfWorld (choice old.world node)) old answer between
   pub follows : Follows answer between new
+
+-- behind a turn by which a round ended channels get more room, where the world stands still for want of it
+abbrev pub room_behind : ArmedView → ArmedView → ArmedView
+room_behind old new = if new.world.round == old.world.round then new else with_world (given_room new.world) new
+
+-- a turn, and what comes behind it
+pub record IsWholeTurn (node : ℕ) (old new : ArmedView) : Type 0 where
+  pub between : ArmedView
+  pub turn : IsNodeTurn node old between
+  pub room : new ≡ room_behind old between
 
 -- ---- a run by turns
 
@@ -102,7 +113,7 @@ abbrev pub CameTo : (WorldView → Bool) → ℕ → List ScriptedEvent → ℕ 
 CameTo over nodes script zero first now = IsDriven (line_before script (turn_node nodes 0) first) first now
 CameTo over nodes script (suc turns) first now =
     (before : Progress) × (after : ArmedView) × CameTo over nodes script turns first before
-    × (over before.armed.world ≡ false) × IsNodeTurn (turn_node nodes turns) before.armed after
+    × (over before.armed.world ≡ false) × IsWholeTurn (turn_node nodes turns) before.armed after
     × IsDriven (line_before script (turn_node nodes (suc turns)) (progress after before.passed))
     (progress after before.passed) now
 

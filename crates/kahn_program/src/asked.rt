@@ -30,7 +30,7 @@ pub struct Options {
     pub rounds: u64,
     /// A run ends where each output has so many items.
     pub items: Option<u64>,
-    /// How many items a channel of a run retains at most, from `MIN_ROOM` to `MAX_RETAINED_ITEMS`. Any other number is taken
+    /// How many items a channel of a run retains at most at first, from `MIN_ROOM` to `MAX_RETAINED_ITEMS`. Any other number is taken
     /// for the nearest of these.
     pub room: u64,
     /// A run takes turns on one thread. Else each node has a thread of its own.

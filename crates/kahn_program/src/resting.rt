@@ -72,7 +72,7 @@ pub(crate) fn note_turn(resting: &mut Resting, others_stay: bool, node: u8, pass
     ensures { resting.new ≡ rest_after others_stay node passed resting.old }
 {
     if !others_stay {
-        *resting = [false; MAX_NODES as usize];
+        note_none(resting);
         return;
     }
     if node < MAX_NODES {
@@ -80,11 +80,18 @@ pub(crate) fn note_turn(resting: &mut Resting, others_stay: bool, node: u8, pass
     }
 }
 
+/// Notes of no node that it rests.
+pub(crate) fn note_none(resting: &mut Resting)
+    ensures { resting.new ≡ none_rest }
+{
+    *resting = [false; MAX_NODES as usize];
+}
+
 /// Notes that a line of the script came, or none: a line may change any node.
 pub(crate) fn note_line(resting: &mut Resting, none: bool)
     ensures { resting.new ≡ (if none then resting.old else none_rest) }
 {
     if !none {
-        *resting = [false; MAX_NODES as usize];
+        note_none(resting);
     }
 }

@@ -1,18 +1,20 @@
 //! A run by turns, on one thread.
 
-ghost use Rattle.std.specs.Prelude.{◌≡◌, ◌<◌, ◌≤◌, ◌+◌, ℕ, length, IfOk, IsSome, OnOk, slice_get};
+ghost use Rattle.std.specs.Prelude.{◌≡◌, ◌==◌, ◌<◌, ◌≤◌, ◌+◌, ℕ, if◌then◌else◌, length, IfOk, IsSome, OnOk, slice_get};
 ghost use Rattle.std.specs.List.{AllByRecursion};
 ghost use Rattle.kahn_net.specs.declared.limits.TheConstants.{MAX_CHANNELS, MAX_NODES};
 ghost use Rattle.protocol.specs.World.Sound.{output_channels};
 ghost use Rattle.runtime.specs.ArmedWorlds.{armed_view};
+ghost use Rattle.protocol.specs.World.Still.{given_room};
+ghost use Rattle.replay.specs.Armed.{with_world};
 ghost use Rattle.world.specs.ReplyView.{reply_view};
 ghost use Rattle.world.specs.WholeView.{world_of};
 ghost use Rattle.world.specs.WorldView.{capacities};
 ghost use Rattle.kahn_program.specs.Resting.{AllRest};
-ghost use Rattle.kahn_program.specs.Turning.{Follows, HasBegun, IsDriven, IsNodeTurn, IsRunByTurns, IsRunRoom, TakesTurns, due_event, is_over, line_before, progress, turn_node};
+ghost use Rattle.kahn_program.specs.Turning.{Follows, HasBegun, IsDriven, IsNodeTurn, IsRunByTurns, IsRunRoom, IsWholeTurn, TakesTurns, due_event, is_over, line_before, progress, turn_node};
 
 use crate::ending::{RunWorld, is_over};
-use crate::resting::{Resting, is_alone, is_idle, note_line, note_turn, passes_again};
+use crate::resting::{Resting, is_alone, is_idle, note_line, note_none, note_turn, passes_again};
 use gate_cell::SplitCell;
 use kahn_net::{Channel, MAX_NODES};
 use outlet::ListOutlet;
@@ -88,7 +90,30 @@ fn take_event(
     }
 }
 
+/// Gives channels more room where the world stands still for want of it, if a round has ended: if this round is another. A node
+/// that rests may go on then.
+fn give_room(armed: &mut RunArmed, resting: &mut Resting, round: u64)
+    requires room { AllByRecursion IsRunRoom (capacities armed.old.world.stations.items) }
+    requires rest { AllRest resting.old (world_of armed.old.world) }
+    ensures same { (armed.new.world.net ≡ armed.old.world.net)
+        × (armed.new.world.inputs ≡ armed.old.world.inputs) }
+    ensures room { AllByRecursion IsRunRoom (capacities armed.new.world.stations.items) }
+    ensures given { armed_view armed.new
+        ≡ (if (world_of armed.old.world).round == round then armed_view armed.old
+        else with_world (given_room (world_of armed.old.world)) (armed_view armed.old)) }
+    ensures rest { AllRest resting.new (world_of armed.new.world) }
+{
+    if armed.world.round() == round {
+        return;
+    }
+    if armed.world.stands_still() {
+        armed.world.widen();
+        note_none(resting);
+    }
+}
+
 /// A turn of a node: the event that is next for it, or nothing, where that event would be to let the turn pass once more.
+/// Where a round ends by it, and nothing but room is missing, channels get more.
 fn take_turn(
     alloc: Global,
     armed: &mut RunArmed,
@@ -100,13 +125,16 @@ fn take_turn(
     ensures same { (armed.new.world.net ≡ armed.old.world.net)
         × (armed.new.world.inputs ≡ armed.old.world.inputs) }
     ensures room { AllByRecursion IsRunRoom (capacities armed.new.world.stations.items) }
-    ensures turn { OnOk result (IsNodeTurn node (armed_view armed.old) (armed_view armed.new)) }
+    ensures turn { OnOk result (IsWholeTurn node (armed_view armed.old) (armed_view armed.new)) }
     ensures rest { OnOk result (AllRest resting.new (world_of armed.new.world)) }
 {
     if passes_again(armed, resting, node) {
         return Ok(());
     }
-    take_event(alloc, armed, resting, node)
+    let round = armed.world.round();
+    take_event(alloc, armed, resting, node)?;
+    give_room(armed, resting, round);
+    Ok(())
 }
 
 /// The event of the script's next line, if there is one and it is due.

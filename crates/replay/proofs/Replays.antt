@@ -1,5 +1,5 @@
 -- What a history keeps of the world.
-use Rattle.std.proofs.Common.{◌≡◌, ◌∙◌, ℕ, Bool, List, Option, Some, None, sym, ap, subst}
+use Rattle.std.proofs.Common.{◌≡◌, ◌∙◌, ℕ, Bool, List, [], ◌∷◌, ◌++◌, Option, Some, None, refl, sym, ap, subst}
 use mathlib.Core.Logic.{∥∥₁_map}
 use Rattle.record.specs.RecordView.{RecordView}
 use Rattle.protocol.specs.World.EventView.{EventView, ByNode}
@@ -7,11 +7,12 @@ use Rattle.protocol.specs.World.EventView as event
 use Rattle.protocol.specs.World.Invariant.{WorldInvariant}
 use Rattle.protocol.specs.World.ReplyView.{ReplyView}
 use Rattle.protocol.specs.World.Steps.{WorldView}
-use Rattle.protocol.specs.WorldLaws.StepKeeps.{step_keeps}
+use Rattle.protocol.specs.World.Still.{wider}
+use Rattle.protocol.specs.WorldLaws.StepKeeps.{room_keeps_world, step_keeps}
 use Rattle.replay.specs.Armed.{ArmedEvent, ArmedView, OfWorld, ArmCrash, IsArmedStep, EndsWith}
 use Rattle.replay.specs.Armed.{crash_after, delivered_to}
-use Rattle.replay.specs.Laws.{ReplaysKeep, ReplaysStay}
-use Rattle.replay.specs.Replay.{Happening, Made, Silent, Happens, IsReplay, at_first, and_then}
+use Rattle.replay.specs.Laws.{ReplaysKeep, ReplaysStay, room_after}
+use Rattle.replay.specs.Replay.{Happening, Made, Silent, Widened, Happens, IsReplay, at_first, and_then}
 use Rattle.replay.specs.declared.kept.ArmedCrash.{ArmedCrash}
 use Rattle.replay.specs.declared.kept.ScriptedEvent.{ScriptedEvent}
 
@@ -39,6 +40,9 @@ happens_keeps fits script (Made maker kept said) passed old new inv made =
     armed_keeps fits made.event old made.answer new inv made.step
 happens_keeps fits script (Silent reason) passed old new inv silent =
     subst WorldInvariant (sym (ap (λ (a : ArmedView). a.world) silent.1)) inv
+happens_keeps fits script Widened passed old new inv wide =
+    subst WorldInvariant (sym (ap (λ (a : ArmedView). a.world) wide.1))
+    (room_keeps_world old.world (wider old.world.room) inv)
 
 pub replays_keep : ReplaysKeep
 replays_keep fits script opening _ _ _ inv (at_first armed same) =
@@ -64,6 +68,31 @@ stays_same opening world same = (
   ap (λ (w : WorldView). w.room) same,
 )
 
+-- but for the room, where this happens
+abbrev StaysBut : List Happening → WorldView → WorldView → Type 0
+StaysBut happened opening world =
+    (world.net ≡ opening.net) × (world.inputs ≡ opening.inputs) × (world.room ≡ room_after happened opening.room)
+
+-- the room behind one more
+room_then : (before : List Happening) (next : Happening) (room : ℕ)
+    → room_after (before ++ next ∷ []) room ≡ room_after (next ∷ []) (room_after before room)
+room_then [] next room = refl
+room_then (Made maker event answer ∷ before) next room = room_then before next room
+room_then (Silent reason ∷ before) next room = room_then before next room
+room_then (Widened ∷ before) next room = room_then before next (wider room)
+
+stays_more : (before all : List Happening) (next : Happening) (opening old new : WorldView)
+    → StaysBut before opening old → StaysBut (next ∷ []) old new → all ≡ before ++ next ∷ []
+    → StaysBut all opening new
+stays_more before all next opening old new so_far then longer = (
+  then.0 ∙ so_far.0,
+  then.1 ∙ so_far.1,
+  then.2
+      ∙ (ap (room_after (next ∷ [])) so_far.2
+      ∙ (sym (room_then before next opening.room)
+      ∙ ap (λ (happened : List Happening). room_after happened opening.room) (sym longer))),
+)
+
 end_stays : (fits : List (RecordView → Bool)) (crash : Option ArmedCrash) (said answer : ReplyView)
     (between new : WorldView) → EndsWith fits crash said between answer new → StaysFrom between new
 end_stays fits None said answer between new ends = stays_same between new ends.1
@@ -79,22 +108,27 @@ armed_stays fits (ArmCrash crash) old answer new step =
     stays_same old.world new.world (ap (λ (a : ArmedView). a.world) step.1)
 
 happens_stays : (fits : List (RecordView → Bool)) (script : List ScriptedEvent) (next : Happening) (passed : ℕ)
-    (old new : ArmedView) → Happens fits script next passed old new → StaysFrom old.world new.world
+    (old new : ArmedView) → Happens fits script next passed old new → StaysBut (next ∷ []) old.world new.world
 happens_stays fits script (Made maker kept said) passed old new made =
     armed_stays fits made.event old made.answer new made.step
 happens_stays fits script (Silent reason) passed old new silent =
     stays_same old.world new.world (ap (λ (a : ArmedView). a.world) silent.1)
+happens_stays fits script Widened passed old new wide = (
+  ap (λ (a : ArmedView). a.world.net) wide.1,
+  ap (λ (a : ArmedView). a.world.inputs) wide.1,
+  ap (λ (a : ArmedView). a.world.room) wide.1,
+)
 
 replay_stays : (fits : List (RecordView → Bool)) (script : List ScriptedEvent) (opening : WorldView)
     (happened : List Happening) (passed : ℕ) (armed : ArmedView)
-    → IsReplay fits script opening happened passed armed → StaysFrom opening armed.world
+    → IsReplay fits script opening happened passed armed → StaysBut happened opening armed.world
 replay_stays fits script opening _ _ _ (at_first armed same) =
     stays_same opening armed.world (ap (λ (a : ArmedView). a.world) same)
 replay_stays fits script opening _ _ _ (and_then before all next passed after old new run happens longer count) =
-    stays_through opening old.world new.world (replay_stays fits script opening before passed old run)
-    (happens_stays fits script next passed old new happens)
+    stays_more before all next opening old.world new.world (replay_stays fits script opening before passed old run)
+    (happens_stays fits script next passed old new happens) longer
 
 pub replays_stay : ReplaysStay
 replays_stay fits script opening happened world leads =
     ∥∥₁_map leads (λ run.
-    subst (StaysFrom opening) run.3 (replay_stays fits script opening happened run.0 run.1 run.2))
+    subst (StaysBut happened opening) run.3 (replay_stays fits script opening happened run.0 run.1 run.2))

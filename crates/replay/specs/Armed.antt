@@ -10,6 +10,7 @@ use Rattle.protocol.specs.World.Replies.{has_happened}
 use Rattle.protocol.specs.World.ReplyView.{ReplyView}
 use Rattle.protocol.specs.World.ReplyView as reply
 use Rattle.protocol.specs.World.Steps.{IsStep, WorldView}
+use Rattle.protocol.specs.World.Still.{widened}
 use Rattle.replay.specs.declared.kept.ArmedCrash.{ArmedCrash}
 
 -- an event of a world, or that a crash is armed
@@ -26,6 +27,14 @@ pub record ArmedView : Type 0 where
 abbrev pub armed_at_first : WorldView → ArmedView
 armed_at_first world =
     record { world = world; deliveries = replicate (length world.stations) 0; crashes = [] }
+
+-- the same with another world
+abbrev pub with_world : WorldView → ArmedView → ArmedView
+with_world world armed = record { world = world; deliveries = armed.deliveries; crashes = armed.crashes }
+
+-- and where its channels have more room
+abbrev pub armed_widened : ArmedView → ArmedView
+armed_widened armed = with_world (widened armed.world) armed
 
 -- ---- deliveries and their number
 

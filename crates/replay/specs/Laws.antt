@@ -8,8 +8,9 @@ use Rattle.protocol.specs.World.Invariant.{WorldInvariant}
 use Rattle.protocol.specs.World.ReplyView.{ReplyView, Installed, Discarded}
 use Rattle.protocol.specs.World.StationView.{StationView}
 use Rattle.protocol.specs.World.Steps.{IsStep, WorldView}
+use Rattle.protocol.specs.World.Still.{wider}
 use Rattle.replay.specs.Armed.{ArmedView}
-use Rattle.replay.specs.Replay.{Happening, Made, Silent, IsReplay, IsSilence, LeadsTo}
+use Rattle.replay.specs.Replay.{Happening, Made, Silent, Widened, IsReplay, IsSilence, LeadsTo}
 use Rattle.replay.specs.declared.kept.ScriptedEvent.{ScriptedEvent}
 use Rattle.replay.specs.declared.kept.Silence.{Silence}
 
@@ -19,11 +20,19 @@ ReplaysKeep = (fits : List (RecordView → Bool)) (script : List ScriptedEvent) 
     (happened : List Happening) (passed : ℕ) (armed : ArmedView) → WorldInvariant opening
     → IsReplay fits script opening happened passed armed → WorldInvariant armed.world
 
--- the network and its inputs stay, and so does the room of a channel
+-- the room of a channel behind these, where it was so much before
+abbrev pub room_after : List Happening → ℕ → ℕ
+room_after [] room = room
+room_after (Made maker event answer ∷ rest) room = room_after rest room
+room_after (Silent reason ∷ rest) room = room_after rest room
+room_after (Widened ∷ rest) room = room_after rest (wider room)
+
+-- the network and its inputs stay, and so does the room of a channel, but where the history says that it was widened
 abbrev pub ReplaysStay : Type 0
 ReplaysStay = (fits : List (RecordView → Bool)) (script : List ScriptedEvent) (opening : WorldView)
     (happened : List Happening) (world : WorldView) → LeadsTo fits script opening happened world
-    → ∥ (world.net ≡ opening.net) × (world.inputs ≡ opening.inputs) × (world.room ≡ opening.room) ∥₁
+    → ∥ (world.net ≡ opening.net) × (world.inputs ≡ opening.inputs)
+    × (world.room ≡ room_after happened opening.room) ∥₁
 
 -- a turn is taken in exactly where its job is the one that is out at its node, and else gone
 abbrev pub InstallsAreTold : Type 0
@@ -38,6 +47,7 @@ abbrev pub no_event : List Happening → Bool
 no_event [] = true
 no_event (Made maker event answer ∷ rest) = false
 no_event (Silent reason ∷ rest) = no_event rest
+no_event (Widened ∷ rest) = false
 
 -- what was said behind the last event holds still
 abbrev pub SilencesStay : Type 0

@@ -10,8 +10,9 @@ use Rattle.protocol.specs.World.EventView as deed
 use Rattle.protocol.specs.World.ReplyView.{ReplyView}
 use Rattle.protocol.specs.World.StationView.{StationView}
 use Rattle.protocol.specs.World.Steps.{WorldView}
+use Rattle.protocol.specs.World.Still.{stands_still}
 use Rattle.protocol.specs.World.Turns.{turns_of}
-use Rattle.replay.specs.Armed.{ArmedEvent, OfWorld, ArmedView, IsArmedStep, armed_at_first}
+use Rattle.replay.specs.Armed.{ArmedEvent, OfWorld, ArmedView, IsArmedStep, armed_at_first, armed_widened}
 use Rattle.replay.specs.Plain.{plain_view}
 use Rattle.replay.specs.Replies.{kept_reply}
 use Rattle.replay.specs.declared.plain.PlainEvent.{PlainEvent}
@@ -34,11 +35,13 @@ abbrev pub IsKeptOf : KeptEventView → ArmedEvent → Type 0
 IsKeptOf (Plainly plain) event = event ≡ plain_view plain
 IsKeptOf (OfJob job) event = (done : DoneView) × (event ≡ OfWorld (Install done)) × (done.job ≡ job)
 
--- What happened: an event with its maker and its answer, or that none was made. How often it was said that none was isn't
--- told here, since it makes no difference to the world.
+-- What happened: an event with its maker and its answer; that none was made; or that channels got more room, since the world
+-- stood still for want of it. (That is nobody's event: whoever finds it so may say it, and it comes out the same.)
+-- How often it was said that no event was made isn't told here, since it makes no difference to the world.
 pub data Happening : Type 0 where
   Made : (maker : Maker) → (event : KeptEventView) → (answer : KeptReply) → Happening
   Silent : (reason : Silence) → Happening
+  Widened : Happening
 
 -- ---- whose event may be which
 
@@ -93,6 +96,7 @@ pub record IsMade (fits : List (RecordView → Bool)) (script : List ScriptedEve
 abbrev pub Happens : List (RecordView → Bool) → List ScriptedEvent → Happening → ℕ → ArmedView → ArmedView → Type 0
 Happens fits script (Made maker kept said) passed old new = IsMade fits script maker kept said passed old new
 Happens fits script (Silent reason) passed old new = IsSilence script reason passed old.world × (new ≡ old)
+Happens fits script Widened passed old new = (stands_still old.world ≡ true) × (new ≡ armed_widened old)
 
 -- how many lines of the script are passed then
 abbrev pub passed_by : Maker → ℕ → ℕ
@@ -102,6 +106,7 @@ passed_by Driver passed = passed + 1
 abbrev pub passed_after : Happening → ℕ → ℕ
 passed_after (Made maker kept said) passed = passed_by maker passed
 passed_after (Silent reason) passed = passed
+passed_after Widened passed = passed
 
 -- What happened, in order, leads from one world, for which no crash is armed, to another, and passes so many lines of the
 -- script. (The equations stand beside, and not in the indices, so that a proof may take the family apart.)

@@ -1,7 +1,8 @@
 // Laws of histories.
 ghost use Rattle.replay.specs.Laws.{InstallsAreTold, ReplaysKeep, ReplaysStay, SilencesStay};
 
-/// A history leads on from a sound world to a sound one, and network and inputs stay.
+/// A history leads on from a sound world to a sound one. Network and inputs stay, and the room of a channel is twice what it was for
+/// each time that it was widened.
 pub fn replay_law()
     ensures keeps { ReplaysKeep }
     ensures stays { ReplaysStay }

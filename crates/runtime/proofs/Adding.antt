@@ -1,5 +1,5 @@
 -- A history that goes on.
-use Rattle.std.proofs.Common.{◌≡◌, ◌∙◌, ◌⊎◌, ◌++◌, ◌∷◌, [], ℕ, ◌+◌, ◌≤◌, Bool, List, drop, take, slice_get, Option, Some, None, refl, sym, ap, subst}
+use Rattle.std.proofs.Common.{◌≡◌, ◌∙◌, ◌⊎◌, ◌++◌, ◌∷◌, [], ℕ, ◌+◌, ◌≤◌, Bool, true, List, drop, take, slice_get, Option, Some, None, refl, sym, ap, subst}
 use Rattle.std.proofs.Common.{arith, inl, inr}
 use Rattle.std.proofs.Math.Logic.{∥∥₁_map, ∥∥₁_map₂}
 use Rattle.std.specs.Prelude.{is_some, IfSome, IsTrue}
@@ -8,8 +8,9 @@ use Rattle.std.proofs.lemmas.List.Sums.{sum_by-append}
 use Rattle.record.specs.RecordView.{RecordView}
 use Rattle.protocol.specs.World.ReplyView.{ReplyView}
 use Rattle.protocol.specs.World.Steps.{WorldView}
-use Rattle.replay.specs.Armed.{ArmedEvent, ArmedView, IsArmedStep, armed_at_first}
-use Rattle.replay.specs.Replay.{Happening, Made, Silent, Happens, IsEventOf, IsReplay, IsScripted, IsSilence, LeadsTo}
+use Rattle.protocol.specs.World.Still.{stands_still}
+use Rattle.replay.specs.Armed.{ArmedEvent, ArmedView, IsArmedStep, armed_at_first, armed_widened}
+use Rattle.replay.specs.Replay.{Happening, Made, Silent, Widened, Happens, IsEventOf, IsReplay, IsScripted, IsSilence, LeadsTo}
 use Rattle.replay.specs.Replay.{at_first, and_then, passed_by}
 use Rattle.replay.specs.Plain.{plain_view}
 use Rattle.replay.proofs.Silences.{silences_stay}
@@ -17,7 +18,7 @@ use Rattle.replay.specs.declared.kept.Maker.{Maker}
 use Rattle.replay.specs.declared.kept.ScriptedEvent.{ScriptedEvent}
 use Rattle.replay.specs.declared.kept.Silence.{Silence}
 use Rattle.runtime.specs.Counts.{numbers_in, events_in, nothings_in, not_yets_in, no_mores_in}
-use Rattle.runtime.specs.Lines.{IsAdded, IsSaidAt, happening_of, happenings, kept_view}
+use Rattle.runtime.specs.Lines.{IsAdded, IsSaidAt, IsWidened, happening_of, happenings, kept_view}
 use Rattle.runtime.specs.Numbers.{counted}
 use Rattle.runtime.specs.declared.history.Line.{Line}
 use Rattle.runtime.specs.declared.history.Line.TheVariants as line
@@ -65,6 +66,26 @@ pub numbers_made : (before now : List Line) (stops : ℕ) (maker : Maker) (event
 numbers_made before now stops maker event answer added =
     let one = line.Made added.entry ∷ [] in
     ap (λ (lines : List Line). numbers_in lines stops) added.longer
+    ∙ same_numbers _ _ _ _ _ _ _ _ _ _ (omega (arith, sum_by-append events_in before one))
+    (omega (arith, sum_by-append nothings_in before one)) (omega (arith, sum_by-append not_yets_in before one))
+    (omega (arith, sum_by-append no_mores_in before one)) refl
+
+-- more room for channels
+pub widens : (fits : List (RecordView → Bool)) (script : List ScriptedEvent) (opening : WorldView)
+    (before now : List Line) (passed : ℕ) (old new : ArmedView)
+    → Replays fits script opening (happenings before) passed old → stands_still old.world ≡ true
+    → IsWidened before now → new ≡ armed_widened old → Replays fits script opening (happenings now) passed new
+widens fits script opening before now passed old new run still added wider =
+    let longer : happenings now ≡ happenings before ++ Widened ∷ [] =
+    ap happenings added ∙ map-append happening_of before (line.Widened ∷ []) in
+    ∥∥₁_map run (λ r.
+    and_then (happenings before) (happenings now) Widened passed passed old new r (still, wider) longer refl)
+
+pub numbers_widened : (before now : List Line) (stops : ℕ) → IsWidened before now
+    → numbers_in now stops ≡ counted kind.Entry (numbers_in before stops)
+numbers_widened before now stops added =
+    let one = line.Widened ∷ [] in
+    ap (λ (lines : List Line). numbers_in lines stops) added
     ∙ same_numbers _ _ _ _ _ _ _ _ _ _ (omega (arith, sum_by-append events_in before one))
     (omega (arith, sum_by-append nothings_in before one)) (omega (arith, sum_by-append not_yets_in before one))
     (omega (arith, sum_by-append no_mores_in before one)) refl

@@ -10,7 +10,7 @@ use Rattle.runtime.specs.Counts.{kind_of, numbers_in, events_in, nothings_in, no
 use Rattle.runtime.specs.Lines.{happening_of, happenings}
 use Rattle.runtime.specs.Numbers.{counted, numbers}
 use Rattle.runtime.specs.declared.history.Line.{Line}
-use Rattle.runtime.specs.declared.history.Line.TheVariants.{Made, Silent}
+use Rattle.runtime.specs.declared.history.Line.TheVariants.{Made, Silent, Widened}
 
 -- ---- looking back
 
@@ -85,6 +85,7 @@ abbrev reason_in : Option Line → Silence
 reason_in None = NoMore
 reason_in (Some (Made entry)) = NoMore
 reason_in (Some (Silent reason count)) = reason
+reason_in (Some Widened) = NoMore
 
 -- where the line that is found is the one that is read
 pub numbers_raised_there : (lines : List Line) (place found read : ℕ) (reason said : Silence)

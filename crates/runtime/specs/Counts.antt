@@ -4,7 +4,7 @@ use Rattle.replay.specs.declared.kept.Silence.{Silence}
 use Rattle.replay.specs.declared.kept.Silence.TheVariants.{Nothing, NotYet, NoMore}
 use Rattle.runtime.specs.Numbers.{Numbers, numbers}
 use Rattle.runtime.specs.declared.history.Line.{Line}
-use Rattle.runtime.specs.declared.history.Line.TheVariants.{Made, Silent}
+use Rattle.runtime.specs.declared.history.Line.TheVariants.{Made, Silent, Widened}
 use Rattle.runtime.specs.declared.tally.Counted.{Counted}
 use Rattle.runtime.specs.declared.tally.Counted.TheVariants as counted
 
@@ -14,27 +14,32 @@ kind_of (Nothing node) = counted.Nothing
 kind_of NotYet = counted.NotYet
 kind_of NoMore = counted.NoMore
 
+-- that channels got more room counts as an event
 abbrev pub events_in : Line → ℕ
 events_in (Made entry) = 1
 events_in (Silent reason count) = 0
+events_in Widened = 1
 
 abbrev pub nothings_in : Line → ℕ
 nothings_in (Made entry) = 0
 nothings_in (Silent (Nothing node) count) = count
 nothings_in (Silent NotYet count) = 0
 nothings_in (Silent NoMore count) = 0
+nothings_in Widened = 0
 
 abbrev pub not_yets_in : Line → ℕ
 not_yets_in (Made entry) = 0
 not_yets_in (Silent (Nothing node) count) = 0
 not_yets_in (Silent NotYet count) = count
 not_yets_in (Silent NoMore count) = 0
+not_yets_in Widened = 0
 
 abbrev pub no_mores_in : Line → ℕ
 no_mores_in (Made entry) = 0
 no_mores_in (Silent (Nothing node) count) = 0
 no_mores_in (Silent NotYet count) = 0
 no_mores_in (Silent NoMore count) = count
+no_mores_in Widened = 0
 
 -- of these lines, and of so many answers `Stopped`
 abbrev pub numbers_in : List Line → ℕ → Numbers

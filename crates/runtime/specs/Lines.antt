@@ -4,7 +4,7 @@ use Rattle.node.specs.JobView.{shared_view}
 use Rattle.protocol.specs.World.ReplyView.{ReplyView}
 use Rattle.replay.specs.Armed.{ArmedEvent}
 use Rattle.replay.specs.Laws.{no_event}
-use Rattle.replay.specs.Replay.{Happening, IsKeptOf, KeptEventView, Made, OfJob, Plainly, Silent}
+use Rattle.replay.specs.Replay.{Happening, IsKeptOf, KeptEventView, Made, OfJob, Plainly, Silent, Widened}
 use Rattle.replay.specs.Replies.{kept_reply}
 use Rattle.replay.specs.declared.kept.Maker.{Maker}
 use Rattle.replay.specs.declared.kept.Silence.{Silence}
@@ -21,6 +21,7 @@ kept_view (kept.Install job) = OfJob (shared_view job)
 abbrev pub happening_of : Line → Happening
 happening_of (line.Made entry) = Made entry.maker (kept_view entry.event) entry.reply
 happening_of (line.Silent reason count) = Silent reason
+happening_of line.Widened = Widened
 
 abbrev pub happenings : List Line → List Happening
 happenings lines = map happening_of lines
@@ -32,6 +33,10 @@ pub record IsAdded (maker : Maker) (event : ArmedEvent) (answer : ReplyView) (be
   pub of_maker : entry.maker ≡ maker
   pub is_kept : IsKeptOf (kept_view entry.event) event
   pub is_said : entry.reply ≡ kept_reply answer
+
+-- channels got more room
+abbrev pub IsWidened : List Line → List Line → Type 0
+IsWidened before now = now ≡ before ++ line.Widened ∷ []
 
 -- at this place it was said why no event was made, and none was made since
 abbrev pub IsSaidAt : List Line → ℕ → Silence → Type 0

@@ -12,6 +12,8 @@ pub enum Answer {
     NotYet,
     /// The script has no line left.
     NoMore,
+    /// The world stood still for want of room, and channels have more now.
+    Widened,
     /// The hub is stopped: no turn and no line of the script makes an event any more, but a job that is out may come back.
     Stopped,
 }

@@ -2,6 +2,7 @@
 ghost use Rattle.std.specs.Prelude.{◌≡◌, ◌||◌, ◌<◌, true, false, length, IfErr, IfOk, IsTrue, OnErr, OnOk};
 ghost use Rattle.protocol.specs.World.EventView.{event_node, Install};
 ghost use Rattle.protocol.specs.World.Quiet.{are_quiet};
+ghost use Rattle.protocol.specs.World.Still.{stands_still};
 ghost use Rattle.protocol.specs.World.Replies.{IsGrantedAt};
 ghost use Rattle.replay.specs.Armed.{OfWorld, armed_at_first};
 ghost use Rattle.replay.specs.Plain.{plain_view};
@@ -10,7 +11,7 @@ ghost use Rattle.replay.specs.declared.kept.Maker.TheVariants as who;
 ghost use Rattle.runtime.specs.ArmedWorlds.{armed_view};
 ghost use Rattle.runtime.specs.Answers.{answer_kind, IsGrantedIn, IsWritten};
 ghost use Rattle.runtime.specs.Counts.{kind_of, numbers_in};
-ghost use Rattle.runtime.specs.Lines.{IsAdded, happenings};
+ghost use Rattle.runtime.specs.Lines.{IsAdded, IsWidened, happenings};
 ghost use Rattle.runtime.specs.declared.answer.Answer.TheVariants as answers;
 ghost use Rattle.runtime.specs.Numbers.{counted, no_numbers};
 ghost use Rattle.runtime.specs.Tallies.{tally_numbers, tally_parts, total_numbers};
@@ -24,7 +25,7 @@ ghost use Rattle.world.specs.declared.event.Event.TheVariants as event;
 
 use crate::answer::{Answer, HeldBack, HubFault, Status};
 use crate::armed::ArmedWorld;
-use crate::counting::{add_silence, find_silence};
+use crate::counting::{add_silence, add_widened, find_silence};
 use crate::history::{History, Line};
 use crate::making::{make_event, make_scripted};
 use crate::tally::{Counted, Run, Tally, Totals};
@@ -199,6 +200,33 @@ impl<C: SlotCell, O: Outlet, J: Run> Book<C, O, J> {
         Ok(reply)
     }
 
+    // Gives channels more room, with its line and its count.
+    fn widen(&mut self, tally: &mut Tally<J>) -> Result<(), HubFault>
+        requires part { 0 < tally_parts tally.old }
+        requires still { stands_still (world_of self.old.armed.world) ≡ true }
+        ensures parts { tally_parts tally.new ≡ tally_parts tally.old }
+        ensures counted { OnOk result
+            (tally_numbers tally.new ≡ counted kind.Entry (tally_numbers tally.old)) }
+        ensures added { OnOk result (IsWidened self.old.lines.items self.new.lines.items) }
+        ensures refused { OnErr result (tally_numbers tally.new ≡ tally_numbers tally.old) }
+    {
+        if self.totals.made() >= MAX_COUNT {
+            return Err(HubFault::PastNumber);
+        }
+        let Book {
+            armed,
+            lines,
+            incomplete,
+            totals,
+            ..
+        } = self;
+        add_widened(lines)?;
+        armed.world.widen();
+        *incomplete = false;
+        totals.add(tally, Counted::Entry);
+        Ok(())
+    }
+
     // An answer without an event.
     fn be_silent(&mut self, reason: Silence, tally: &mut Tally<J>) -> Result<(), HubFault>
         requires part { 0 < tally_parts tally.old }
@@ -242,7 +270,7 @@ impl<C: SlotCell, O: Outlet, J: Run> Book<C, O, J> {
     }
 
     /// The event that is next for a node; none where all that it could do is to let its turn pass, and it has done so in this
-    /// round.
+    /// round. Before it does so first, channels get more room if the world stands still for want of it.
     pub fn turn(
         &mut self,
         alloc: Global,
@@ -272,6 +300,10 @@ impl<C: SlotCell, O: Outlet, J: Run> Book<C, O, J> {
         if is_idle(&event) && has_idled(&self.armed.world, node) {
             self.be_silent(Silence::Nothing(node), tally)?;
             return Ok(Answer::Nothing);
+        }
+        if is_idle(&event) && self.armed.world.stands_still() {
+            self.widen(tally)?;
+            return Ok(Answer::Widened);
         }
         match self.make(alloc, node, event, tally) {
             Ok(reply) => Ok(Answer::Reply(reply)),

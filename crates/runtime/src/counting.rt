@@ -2,7 +2,7 @@
 ghost use Rattle.std.specs.Prelude.{◌≡◌, ◌⊎◌, ◌++◌, ◌∷◌, [], ◌<◌, ◌+◌, ◌-◌, ℕ, IfSome, OnErr, OnOk};
 ghost use Rattle.replay.specs.Replay as happening;
 ghost use Rattle.runtime.specs.Counts.{kind_of, numbers_in};
-ghost use Rattle.runtime.specs.Lines.{IsSaidAt, happenings};
+ghost use Rattle.runtime.specs.Lines.{IsSaidAt, IsWidened, happenings};
 ghost use Rattle.runtime.specs.Numbers.{counted};
 
 use crate::answer::HubFault;
@@ -10,7 +10,7 @@ use crate::history::Line;
 use kahn_net::MAX_COUNT;
 use replay::Silence;
 
-/// Where this was said since the last event, if it was. So it looks at a line for each node at most.
+/// Where this was said since the last event or widening, if it was. So it looks at a line for each node at most.
 pub(crate) fn find_silence(lines: &[Line], reason: Silence) -> Option<usize>
     ensures { IfSome result (λ place. IsSaidAt lines.now place reason) }
 {
@@ -18,7 +18,7 @@ pub(crate) fn find_silence(lines: &[Line], reason: Silence) -> Option<usize>
     while place > 0 {
         place -= 1;
         match &lines[place] {
-            Line::Made(_) => return None,
+            Line::Made(_) | Line::Widened => return None,
             Line::Silent { reason: said, .. } => {
                 if *said == reason {
                     return Some(place);
@@ -38,7 +38,7 @@ fn raise(lines: &mut Vec<Line>, place: usize, reason: Silence) -> Result<(), Hub
     ensures refused { OnErr result (lines.new.items ≡ lines.old.items) }
 {
     match &mut lines[place] {
-        Line::Made(_) => Ok(()),
+        Line::Made(_) | Line::Widened => Ok(()),
         Line::Silent { count, .. } => {
             if *count >= MAX_COUNT {
                 return Err(HubFault::PastNumber);
@@ -62,6 +62,17 @@ pub(crate) fn add_silence(lines: &mut Vec<Line>, reason: Silence) -> Result<(), 
         return raise(lines, place, reason);
     }
     if lines.push(Line::Silent { reason, count: 1 }).is_err() {
+        return Err(HubFault::NoMemory);
+    }
+    Ok(())
+}
+
+/// Notes that channels got more room.
+pub(crate) fn add_widened(lines: &mut Vec<Line>) -> Result<(), HubFault>
+    ensures added { OnOk result (IsWidened lines.old.items lines.new.items) }
+    ensures refused { OnErr result (lines.new.items ≡ lines.old.items) }
+{
+    if lines.push(Line::Widened).is_err() {
         return Err(HubFault::NoMemory);
     }
     Ok(())

@@ -26,6 +26,8 @@ pub enum Line {
     Made(Entry),
     /// So often no event was made for this reason, between two events.
     Silent { reason: Silence, count: u64 },
+    /// The world stood still for want of room, and channels got more.
+    Widened,
 }
 
 /// All that happened in a run, and how often a seat was answered `Stopped`.

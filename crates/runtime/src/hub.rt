@@ -67,7 +67,7 @@ impl<C: SlotCell, O: Outlet, J: Run> Hub<C, O, J> {
         Ok((hub, seats, driver_seat(all)))
     }
 
-    /// The event that is next for the seat's node, `Nothing` or `Stopped`.
+    /// The event that is next for the seat's node, `Widened`, `Nothing` or `Stopped`.
     pub fn turn<R: Wait>(
         &self,
         rt: &R,
@@ -87,8 +87,9 @@ impl<C: SlotCell, O: Outlet, J: Run> Hub<C, O, J> {
             return Err(HubFault::PastNumber);
         }
         let answer = self.book.lock(rt).turn(alloc, *node, tally)?;
-        if let Answer::Reply(_) = &answer {
-            *made += 1;
+        match &answer {
+            Answer::Reply(_) | Answer::Widened => *made += 1,
+            Answer::Nothing | Answer::NotYet | Answer::NoMore | Answer::Stopped => {}
         }
         Ok(answer)
     }
@@ -138,8 +139,9 @@ impl<C: SlotCell, O: Outlet, J: Run> Hub<C, O, J> {
             return Err(HubFault::PastNumber);
         }
         let answer = self.book.lock(rt).fault(alloc, tally)?;
-        if let Answer::Reply(_) = &answer {
-            *made += 1;
+        match &answer {
+            Answer::Reply(_) | Answer::Widened => *made += 1,
+            Answer::Nothing | Answer::NotYet | Answer::NoMore | Answer::Stopped => {}
         }
         Ok(answer)
     }

@@ -73,7 +73,7 @@ fn take_turns<C: SlotCell, O: Outlet, J: Run, N: MarksName, G: Gate, R: Wait>(
                 nth = nth.wrapping_add(1);
             }
             Answer::Reply(Reply::Released(freed)) => raise(marks, marks_seat, freed),
-            Answer::Reply(_) => {}
+            Answer::Reply(_) | Answer::Widened => {}
             // Nothing is to be done: somebody else may go first.
             Answer::Nothing | Answer::NotYet | Answer::NoMore => thread::yield_now(),
         }

@@ -34,9 +34,10 @@
 //! | `jobs 0 896` | so many jobs are granted to the node, and what comes of each is brought back at once |
 //! | `chance 1 1500` | so many events, each of a node that this number chooses, as `pick` says or of a packet to it |
 //! | `room 64 -> set`, `room 63 -> refused` | the room of a channel is set, or is as it was |
+//! | `widen -> 128` | channels get more room, and so much they have then |
 //! | `pick 0 -> grant` | the event that is next for the node |
 //! | `released 1 -> 1 3 6` | what has left by the output; `nothing`, or the first items and `..` |
-//! | `complete -> yes`, `round -> 3`, `nodes -> 2`, `room -> 4096` | what the world says of itself |
+//! | `complete -> yes`, `round -> 3`, `nodes -> 2`, `room -> 4096`, `still -> no` | what the world says of itself; whether it stands still for want of room |
 //! | `packet 1 0 -> 03 01 00 0001 0000000000000003` | the bytes of the packet at a place, in hexadecimal, with spaces where one likes; `none` |
 //! | `node 0 -> up version 0 restart 0` | whether the node is `up`, `down` or `in doubt`, how often it went down or back, and from which round on it may be recovered |
 //! | `record 0 -> epoch 0 number 1 held none` | of the node's record the epoch, the number that it used last, and that of the image that is held |

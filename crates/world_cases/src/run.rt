@@ -5,7 +5,7 @@ use crate::closing::Closed;
 use crate::opening::{CaseWorld, open_world};
 use crate::plan::Settings;
 use crate::showing::shown;
-use crate::step::{Brought, Step};
+use crate::step::{Brought, Question, Step};
 use crate::stream::Stream;
 use case_table::listed;
 use proc_step::{Done, Job};
@@ -342,6 +342,10 @@ impl Run {
             Step::SetRoom(items) => {
                 let word = set_word(self.world.set_room(items));
                 Ok(Came::Answer(String::from_str(alloc, word)?))
+            }
+            Step::Widen => {
+                self.world.widen();
+                Ok(Came::Answer(shown(alloc, &self.world, Question::Room)?))
             }
             Step::Ask(question) => Ok(Came::Answer(shown(alloc, &self.world, question)?)),
             Step::Run(rounds) => self.run(alloc, rounds, streams, line),

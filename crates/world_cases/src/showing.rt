@@ -106,6 +106,7 @@ pub fn shown(alloc: Global, world: &CaseWorld, question: Question) -> Result<Str
         Question::Round => format!(in alloc; "{}", world.round()),
         Question::Nodes => format!(in alloc; "{}", world.stations.len()),
         Question::Room => format!(in alloc; "{}", world.room()),
+        Question::Still => String::from_str(alloc, yes_or_no(world.stands_still())),
         Question::Packet { node, place } => packet_text(alloc, world.packet(node, place)),
         Question::Node(node) => node_text(alloc, world, node),
         Question::Record(node) => record_text(alloc, world, node),

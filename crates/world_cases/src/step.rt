@@ -26,6 +26,7 @@ pub enum Question {
     Round,
     Nodes,
     Room,
+    Still,
     Packet { node: u8, place: usize },
     Node(u8),
     Record(u8),
@@ -42,6 +43,8 @@ pub enum Step {
     Install(Brought),
     /// The room of a channel is set.
     SetRoom(usize),
+    /// Channels get more room.
+    Widen,
     Ask(Question),
     /// Each node in turn goes on through `pick`, until the world is complete, at most for so many rounds.
     Run(u64),
@@ -59,8 +62,12 @@ impl Step {
     /// Whether it answers something.
     pub fn has_answer(&self) -> bool {
         match self {
-            Step::Open | Step::Event(_) | Step::Install(_) | Step::SetRoom(_) | Step::Ask(_) =>
-                true,
+            Step::Open
+            | Step::Event(_)
+            | Step::Install(_)
+            | Step::SetRoom(_)
+            | Step::Widen
+            | Step::Ask(_) => true,
             Step::Run(_)
             | Step::InTurn(_)
             | Step::Turns { .. }
@@ -167,6 +174,7 @@ fn question_of(words: &[&str]) -> anyhow::Result<Option<Question>> {
         ["round"] => Question::Round,
         ["nodes"] => Question::Nodes,
         ["room"] => Question::Room,
+        ["still"] => Question::Still,
         ["packet", node, place] => Question::Packet {
             node: byte(node)?,
             place: size(place)?,
@@ -193,6 +201,7 @@ fn other_step(words: &[&str]) -> anyhow::Result<Option<Step>> {
         ["install"] => Step::Install(Brought::Last),
         ["install", job] => Step::Install(Brought::Earlier(size(job)?)),
         ["room", items] => Step::SetRoom(size(items)?),
+        ["widen"] => Step::Widen,
         ["run", rounds] => Step::Run(number(rounds)?),
         ["in", "turn", events] => Step::InTurn(number(events)?),
         ["turns", node, count] => Step::Turns {

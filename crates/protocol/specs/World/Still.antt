@@ -30,10 +30,14 @@ abbrev pub has_come_from : Network → List StationView → Inbox → Bool
 has_come_from net stations inbox =
     has_come (sent_at inbox.channel (slice_get stations (producer_node net inbox.channel))) inbox
 
--- how many items of a channel a station keeps for good
+-- how many items of a channel a node keeps for good: none, where it doesn't run
+abbrev pub kept_by : ℕ → Option RunningNode → ℕ
+kept_by channel None = 0
+kept_by channel (Some node) = received_of node.kept.permanent channel
+
 abbrev pub kept_at : ℕ → Option StationView → ℕ
 kept_at channel None = 0
-kept_at channel (Some station) = received_of station.node.kept.permanent channel
+kept_at channel (Some station) = kept_by channel (running_of station.node)
 
 -- the log of a channel to another node has let go of all that is kept for good there
 abbrev pub has_let_go : Network → List StationView → ImageView → Outbox → Bool

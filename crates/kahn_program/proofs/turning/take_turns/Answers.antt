@@ -1,7 +1,7 @@
 use Rattle.std.proofs.Common.{sym, subst, ◌∙◌, ℕ}
 use Rattle.runtime.specs.ArmedWorlds.{armed_view}
 use Rattle.world.specs.WholeView.{world_of}
-use Rattle.kahn_program.specs.Turning.{IsDriven, IsNodeTurn, line_before, progress}
+use Rattle.kahn_program.specs.Turning.{IsDriven, IsWholeTurn, line_before, progress}
 use Rattle.kahn_program.proofs.Next.{first_node}
 use Rattle.kahn_program.proofs.Passing.{none_noted, noted_line}
 use Rattle.kahn_program.proofs.Turns.{more_turns}
@@ -41,7 +41,7 @@ loop-turn-preserved c =
           c.in_ok-take_turn.ensures.rest;
       came = more_turns _ c.args.nodes c.args.script.now c.loop-turn._turn _ before now after
           c.loop-turn.invariant.came (sym c.is_over.ensures ∙ c.if-is_over.false)
-          (subst (λ (n : ℕ). IsNodeTurn n (armed_view c.loop-turn.armed) after) c.loop-turn.invariant.node
+          (subst (λ (n : ℕ). IsWholeTurn n (armed_view c.loop-turn.armed) after) c.loop-turn.invariant.node
           c.in_ok-take_turn.ensures.turn)
           (subst (λ (n : ℕ). IsDriven (line_before c.args.script.now n between) between now) next
           c.in_ok-now.ensures.driven);

@@ -1,0 +1,21 @@
+use Rattle.std.proofs.Common.{◌∙◌, sym, ap}
+use Rattle.protocol.specs.World.Steps.{WorldView}
+use Rattle.replay.specs.Armed.{with_world}
+use Rattle.runtime.specs.ArmedWorlds.{armed_view}
+use Rattle.runtime.specs.Numbers.{Numbers, counted}
+use Rattle.runtime.specs.declared.tally.Counted.TheVariants as kind
+use Rattle.runtime.proofs.Adding.{numbers_widened, widens}
+use Rattle.runtime.proofs.book.Book.widen.Goals as goal
+
+pub invariant_of-self-2-clause-replays : goal.invariant_of-self-2-clause-replays
+invariant_of-self-2-clause-replays g c =
+    let old = c.args.self.now in
+    widens _ _ _ old.lines.items _ old.passed (armed_view old.armed) _ old.replays c.requires.still
+    c.in_ok-add_widened.ensures.added
+    (ap (λ (world : WorldView). with_world world (armed_view old.armed)) c.widen.ensures.set)
+
+pub invariant_of-self-2-clause-numbers : goal.invariant_of-self-2-clause-numbers
+invariant_of-self-2-clause-numbers g c =
+    let old = c.args.self.now in
+    numbers_widened old.lines.items _ old.stops c.in_ok-add_widened.ensures.added
+    ∙ (ap (λ (n : Numbers). counted kind.Entry n) old.numbers ∙ sym c.add.ensures.total)
