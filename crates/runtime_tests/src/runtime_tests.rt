@@ -654,7 +654,7 @@ fn led_by_driver(history: &History) -> u64 {
         match line {
             Line::Made(entry) if entry.maker == Maker::Driver => led = led.saturating_add(1),
             Line::Made(_) => return led,
-            Line::Silent { .. } => {}
+            _ => {}
         }
     }
     led
