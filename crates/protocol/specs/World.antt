@@ -19,6 +19,7 @@ pub mod Steps
 pub mod InFlight
 pub mod Choice
 pub mod Quiet
+pub mod Still
 pub mod RecoveryLine
 pub mod Coordination
 pub mod Released

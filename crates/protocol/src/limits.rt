@@ -13,7 +13,7 @@ pub const MAX_INBOX_ITEMS: usize = 1_024;
 pub const WINDOW: u64 = 64;
 
 /// How many items a channel retains at most, unless the world is told otherwise. Each checkpoint writes what is
-/// retained, so a small number makes checkpoints quick; a network that has more on a channel at once stands still.
+/// retained, so a small number makes checkpoints quick; a network that has more on a channel at once needs more.
 pub const DEFAULT_ROOM: usize = 4_096;
 
 /// The least room of a channel: as many items as a job puts there at most.

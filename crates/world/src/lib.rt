@@ -22,6 +22,7 @@ mod released;
 mod releasing;
 mod room;
 mod station;
+mod still;
 mod turning;
 mod world;
 

@@ -39,7 +39,7 @@ fn has_risen(now: &Image, before: &Image, channel: u8) -> bool
 }
 
 // Whether some count of an image is above what it is in an earlier one.
-fn has_more(now: &Image, before: &Image) -> bool
+pub(crate) fn has_more(now: &Image, before: &Image) -> bool
     ensures { result ≡ counts_rose now.now before.now now.now.ends }
 {
     for saved in &now.ends {

@@ -34,7 +34,7 @@ fn count_of(inputs: &[History], channel: usize) -> usize
 
 impl<C: SlotCell, O: Outlet> Station<C, O> {
     // How many items its node has put on a channel by now; none where it doesn't run.
-    fn sent(&self, channel: u8) -> u64
+    pub(crate) fn sent(&self, channel: u8) -> u64
         ensures { result ≡ sent_by channel (running_of (view_of self.now.node)) }
     {
         match &self.node.state.mode {
@@ -175,7 +175,7 @@ fn have_been_put<C: SlotCell, O: Outlet>(
 }
 
 // Whether each outlet has all that was put.
-fn have_all_left<O: Outlet>(image: &Image, outputs: &[Output<O>]) -> bool
+pub(crate) fn have_all_left<O: Outlet>(image: &Image, outputs: &[Output<O>]) -> bool
     ensures { result ≡ have_all_left image.now
         (outputs_of (outlet_views O.taken O.failures outputs.now)) }
 {
