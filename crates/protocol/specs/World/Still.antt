@@ -47,8 +47,8 @@ has_let_go net stations image outbox =
 
 -- ---- nodes
 
--- A node has nothing to keep or to confirm: it holds no image, all that it decided is settled, no job is out, and it
--- has got and put no more than its permanent image counts.
+-- A node has nothing to keep or to confirm: it holds no image, all that it decided is settled, no job is out, and it has
+-- got and put no more than its permanent image counts.
 abbrev pub keeps_all : RunningNode → Bool
 keeps_all node =
     is_none node.kept.tentative && (length node.kept.decisions == 0 && (is_none node.out && not (has_more (Some node))))
