@@ -25,6 +25,14 @@ fn next(world: &OwnWorld, done: Option<Done>) -> Event {
     }
 }
 
+/// What came of the job that a reply grants, if it grants one.
+fn outcome_of(alloc: Global, reply: Reply) -> anyhow::Result<Option<Done>> {
+    match reply {
+        Reply::Granted(job) => Ok(Some(run_job(alloc, job)?)),
+        _other => Ok(None),
+    }
+}
+
 /// Goes on until the world is complete, an event is refused, or there were so many. Gives how many there were, and whether one was refused.
 fn go_on(alloc: Global, world: &mut OwnWorld, most: usize) -> anyhow::Result<(usize, bool)> {
     let mut done = None;
@@ -32,10 +40,10 @@ fn go_on(alloc: Global, world: &mut OwnWorld, most: usize) -> anyhow::Result<(us
         if world.complete() {
             return Ok((count, false));
         }
-        match world.apply(alloc, next(world, done.take())) {
-            Ok(Reply::Granted(job)) => done = Some(run_job(alloc, job)?),
-            Ok(_) => {}
-            Err(_) => return Ok((count, true)),
+        let event = next(world, done.take());
+        match world.apply(alloc, event) {
+            Ok(reply) => done = outcome_of(alloc, reply)?,
+            Err(_refused) => return Ok((count, true)),
         }
     }
     Ok((most, false))

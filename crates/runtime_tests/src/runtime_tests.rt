@@ -529,10 +529,10 @@ fn bytes_of(alloc: Global, disk: &mut MemDisk, sectors: usize) -> Option<Vec<u8>
 
 // Whether the disks of two worlds hold the same.
 fn have_same_disks(alloc: Global, one: SumWorld, other: SumWorld) -> bool {
-    let Ok((mut ones, _)) = one.close(alloc) else {
+    let Ok((mut ones, _outputs)) = one.close(alloc) else {
         return false;
     };
-    let Ok((mut others, _)) = other.close(alloc) else {
+    let Ok((mut others, _outputs)) = other.close(alloc) else {
         return false;
     };
     for (one, other) in ones.iter_mut().zip(others.iter_mut()) {
@@ -546,14 +546,21 @@ fn have_same_disks(alloc: Global, one: SumWorld, other: SumWorld) -> bool {
 
 // Whether the history leads a new world, by the same answers, to one that is like the run's.
 fn is_replayed(alloc: Global, ended: Ended) -> Result<bool, Fail> {
+    let Ended {
+        world,
+        history,
+        made: _,
+        all,
+    } = ended;
     let mut armed = SumArmed::new(alloc, sum_world(alloc)?)?;
-    let made = replay(alloc, &mut armed, &ended.history);
-    let is_like = made == Some(ended.all)
-        && armed.world.released(OUTPUT) == ended.world.released(OUTPUT)
-        && armed.world.round() == ended.world.round()
+    let fresh = sum_world(alloc)?;
+    let made = replay(alloc, &mut armed, &history);
+    let is_like = made == Some(all)
+        && armed.world.released(OUTPUT) == world.released(OUTPUT)
+        && armed.world.round() == world.round()
         && armed.world.complete();
-    let again = mem::replace(&mut armed.world, sum_world(alloc)?);
-    Ok(is_like && have_same_disks(alloc, again, ended.world))
+    let again = mem::replace(&mut armed.world, fresh);
+    Ok(is_like && have_same_disks(alloc, again, world))
 }
 
 #[test]
