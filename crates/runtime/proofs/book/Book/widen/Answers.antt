@@ -19,3 +19,6 @@ invariant_of-self-2-clause-numbers g c =
     let old = c.args.self.now in
     numbers_widened old.lines.items _ old.stops c.in_ok-add_widened.ensures.added
     ∙ (ap (λ (n : Numbers). counted kind.Entry n) old.numbers ∙ sym c.add.ensures.total)
+
+pub invariant_of-self-2-clause-same_rooms : goal.invariant_of-self-2-clause-same_rooms
+invariant_of-self-2-clause-same_rooms g c = rw c.widen.ensures.same.2 c.args.self.now.same_rooms
