@@ -841,16 +841,11 @@ fn crash_at_gate<J: Run + Send + Sync, N: MarksName + Send + Sync, R: Threads + 
     hub: &SumHub<J>,
     marks: &Marks<N>,
     gate: &HeldGate,
-    seats: &mut [NodeSeat<J>],
-    marks_seats: &mut [Seat<N>],
+    zero: &mut NodeSeat<J>,
+    marks_seat: &mut Seat<N>,
+    one: &mut NodeSeat<J>,
     driver: &mut DriverSeat<J>,
 ) -> bool {
-    let [zero, one] = seats else {
-        return false;
-    };
-    let [marks_seat, ..] = marks_seats else {
-        return false;
-    };
     let (worked, struck) = thread::join(
         rt,
         || work(rt, alloc, hub, zero, marks, marks_seat, gate).is_ok(),
@@ -877,20 +872,30 @@ fn play_with_crash<J: Run + Send + Sync, N: MarksName + Send + Sync, R: Threads 
     requires seats { J.seats ≡ NODES + 1 }
     requires table { table_of opened ≡ N.table }
 {
-    let (marks, mut marks_seats) = opened.named::<N>(alloc)?;
+    let (marks, marks_seats) = opened.named::<N>(alloc)?;
     let (hub, mut seats, mut driver) = SumHub::<J>::new(alloc, world, script, NODES, blanks)?;
-    if !crash_at_gate(
+    let (Some(mut one), Some(mut zero)) = (seats.pop(), seats.pop()) else {
+        return Err(Fail::new("no seats"));
+    };
+    let Some(mut marks_seat) = marks_seats.into_iter().next() else {
+        return Err(Fail::new("no seat of marks"));
+    };
+    let crashed = crash_at_gate(
         rt,
         alloc,
         &hub,
         &marks,
         gate,
-        seats.as_mut_slice(),
-        marks_seats.as_mut_slice(),
+        &mut zero,
+        &mut marks_seat,
+        &mut one,
         &mut driver,
-    ) {
+    );
+    if !crashed {
         return Err(Fail::new("no crash between a grant and its turn's end"));
     }
+    seats.push(zero)?;
+    seats.push(one)?;
     let made = made_by_seats(seats.as_slice(), &driver);
     let all = hub.entries(rt);
     let (world, history) = hub.close(seats, driver);
