@@ -1,7 +1,7 @@
 //! The checkpoint for which a node collects answers.
-ghost use Rattle.std.specs.Prelude.{◌≡◌, ◌++◌, ◌<◌, ◌≤◌, [], ◌∷◌, length, map, IfOk, OnOk, OnErr, Some, slice_get};
+ghost use Rattle.std.specs.Prelude.{◌≡◌, ◌++◌, ◌<◌, ◌≤◌, [], ◌∷◌, length, map, take, IfOk, OnOk, OnErr, Some, slice_get};
 ghost use Rattle.kahn_net.specs.Syntax.{network_of};
-ghost use Rattle.protocol.specs.Node.Beginning.{in_front, live_asks, live_begun, open_question};
+ghost use Rattle.protocol.specs.Node.Beginning.{in_front, live_asks, live_begun, open_question, open_questions};
 ghost use Rattle.protocol.specs.Node.Collecting.{answered_by, is_open, is_open_at, awaits, covered_live, joined_asks, joined_live, needs_no_question, new_ask, new_asks, was_asked, with_answer, with_need, with_needs, with_taker};
 ghost use Rattle.protocol.specs.Node.Needs.{question_on, questions_of};
 ghost use Rattle.protocol.specs.Node.Verdicts.{all_answered, commit_packets, commit_to, participants_of};
@@ -151,9 +151,10 @@ fn add_ask(
     question: &Option<Asked>,
 ) -> Result<(), AllocError>
     requires { channel < MAX_CHANNELS }
-    ensures { OnOk result (packets.new.items ≡ packets.old.items ++ in_front
+    ensures ok { OnOk result (packets.new.items ≡ packets.old.items ++ in_front
         (open_question (network_of net.now.program) home number channel
         (question_view question.now)) []) }
+    ensures err { OnErr result (packets.new.items ≡ packets.old.items) }
 {
     match question {
         Some(
@@ -175,6 +176,27 @@ fn add_ask(
         }
         _ => Ok(()),
     }
+}
+
+// Adds those of these questions that aren't answered, channels ascending. Where memory is missing, some may stand there.
+fn add_open_asks(
+    packets: &mut Vec<Packet>,
+    net: &Net,
+    home: u8,
+    number: u64,
+    questions: &[Option<Asked>],
+) -> Result<(), AllocError>
+    requires { length questions.now ≤ MAX_CHANNELS }
+    ensures ok { OnOk result (packets.new.items ≡ packets.old.items
+        ++ open_questions (network_of net.now.program) home number 0
+        (map question_view questions.now)) }
+    ensures err { OnErr result
+        (take (length packets.old.items) packets.new.items ≡ packets.old.items) }
+{
+    for (channel, question) in questions.iter().enumerate() {
+        add_ask(packets, net, home, number, channel, question)?;
+    }
+    Ok(())
 }
 
 // ---- needs of who takes part
@@ -229,9 +251,10 @@ fn add_new_ask(
     need: Need,
     questions: &[Option<Asked>],
 ) -> Result<(), AllocError>
-    ensures { OnOk result (packets.new.items ≡ packets.old.items ++ in_front
+    ensures ok { OnOk result (packets.new.items ≡ packets.old.items ++ in_front
         (new_ask (network_of net.now.program) home number need (map question_view questions.now))
         []) }
+    ensures err { OnErr result (packets.new.items ≡ packets.old.items) }
 {
     if needs_no_question(net, home, need, questions) {
         return Ok(());
@@ -248,7 +271,7 @@ fn add_new_ask(
     Ok(())
 }
 
-// Adds the questions that needs make, and notes each.
+// Adds the questions that needs make, and notes each. Where memory is missing, some may stand there.
 fn add_new_asks(
     packets: &mut Vec<Packet>,
     net: &Net,
@@ -257,9 +280,11 @@ fn add_new_asks(
     needs: &[Need],
     questions: &mut [Option<Asked>],
 ) -> Result<(), AllocError>
-    ensures { OnOk result (packets.new.items ≡ packets.old.items
+    ensures ok { OnOk result (packets.new.items ≡ packets.old.items
         ++ new_asks (network_of net.now.program) home number needs.now
         (map question_view questions.old)) }
+    ensures err { OnErr result
+        (take (length packets.old.items) packets.new.items ≡ packets.old.items) }
 {
     for need in needs {
         add_new_ask(packets, net, home, number, *need, questions)?;
@@ -278,9 +303,11 @@ fn add_asks_behind(
     needs: &[Need],
     questions: &mut [Option<Asked>],
 ) -> Result<(), AllocError>
-    ensures { OnOk result (packets.new.items ≡ packets.old.items
+    ensures ok { OnOk result (packets.new.items ≡ packets.old.items
         ++ new_asks (network_of net.now.program) home number needs.now
         (with_answer (answer_view Answer.ByTook) channel (map question_view questions.old))) }
+    ensures err { OnErr result
+        (take (length packets.old.items) packets.new.items ≡ packets.old.items) }
 {
     note(questions, usize::from(channel), Answer::ByTook);
     add_new_asks(packets, net, home, number, needs, questions)
@@ -350,17 +377,18 @@ impl Initiator {
         true
     }
 
-    /// Adds the questions that aren't answered, channels ascending. Refuses for want of memory alone.
+    /// Adds the questions that aren't answered, channels ascending. Refuses for want of memory alone, and then adds none.
     pub fn add_asks(&self, packets: &mut Vec<Packet>, net: &Net, home: u8) -> Result<(), AllocError>
-        ensures { OnOk result (packets.new.items ≡ packets.old.items
+        ensures ok { OnOk result (packets.new.items ≡ packets.old.items
             ++ live_asks (network_of net.now.program) home (Some self.now)) }
+        ensures err { OnErr result (packets.new.items ≡ packets.old.items) }
     {
-        let number = self.number;
-        let questions = self.questions.as_slice();
-        for (channel, question) in questions.iter().enumerate() {
-            add_ask(packets, net, home, number, channel, question)?;
+        let before = packets.len();
+        let end = add_open_asks(packets, net, home, self.number, self.questions.as_slice());
+        if end.is_err() {
+            packets.truncate(before);
         }
-        Ok(())
+        end
     }
 
     // Whether an answer is missing of this channel.
@@ -391,7 +419,7 @@ impl Initiator {
     }
 
     /// Adds the questions that arise where a node took part of which this channel was asked, and has these needs. Changes
-    /// nothing else, and refuses for want of memory alone.
+    /// nothing else, refuses for want of memory alone, and then adds none.
     pub fn add_asks_of(
         &self,
         packets: &mut Vec<Packet>,
@@ -400,13 +428,19 @@ impl Initiator {
         channel: u16,
         needs: &[Need],
     ) -> Result<(), AllocError>
-        ensures { OnOk result (packets.new.items ≡ packets.old.items
+        ensures ok { OnOk result (packets.new.items ≡ packets.old.items
             ++ joined_asks (network_of net.now.program) home channel needs.now (Some self.now)) }
+        ensures err { OnErr result (packets.new.items ≡ packets.old.items) }
     {
+        let before = packets.len();
         // What a need makes depends on what the needs before it made.
         let mut questions = self.questions.clone()?;
         let questions = questions.as_mut_slice();
-        add_asks_behind(packets, net, home, self.number, channel, needs, questions)
+        let end = add_asks_behind(packets, net, home, self.number, channel, needs, questions);
+        if end.is_err() {
+            packets.truncate(before);
+        }
+        end
     }
 
     /// A node took part of which this channel was asked, and has these needs. Refuses for want of memory alone, and then

@@ -1,4 +1,6 @@
 pub mod Replays
 mod Turns
+mod Looks
+pub mod Outs
 pub mod Silences
 pub mod Choices

@@ -2,4 +2,5 @@ pub mod Armed
 pub mod Plain
 pub mod Replies
 pub mod Replay
+pub mod Out
 pub mod Laws

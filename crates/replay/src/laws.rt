@@ -1,5 +1,6 @@
 // Laws of histories.
 ghost use Rattle.replay.specs.Laws.{InstallsAreTold, ReplaysKeep, ReplaysStay, SilencesStay};
+ghost use Rattle.replay.specs.Out.{InstallsFollowGrants, JobsAreTold};
 
 /// A history leads on from a sound world to a sound one. Network and inputs stay, and the room of a channel is twice what it was for
 /// each time that it was widened.
@@ -11,6 +12,13 @@ pub fn replay_law()
 /// What comes back of a job is taken in exactly where the job is the one that is out at its node, and else gone.
 pub fn installs_law()
     ensures { InstallsAreTold }
+{}
+
+/// The jobs that are out are those that the history granted, and that none has installed since and no crash or going back has undone; and
+/// just these are taken in when they come back.
+pub fn jobs_law()
+    ensures told { JobsAreTold }
+    ensures installs { InstallsFollowGrants }
 {}
 
 /// What was said where no event was made holds until the next event: it may be said again without another look at the world.

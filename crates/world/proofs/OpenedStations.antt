@@ -9,6 +9,7 @@ use Rattle.kahn_net.specs.Fits.{Fits}
 use Rattle.kahn_net.specs.Nodes.{node_count}
 use Rattle.kahn_net.specs.Syntax.{Network, network_of}
 use Rattle.net_check.specs.declared.net.Net.{Net}
+use Rattle.sector_disk.specs.declared.disk.ArmedFault.{ArmedFault}
 use Rattle.sector_disk.specs.declared.disk.Disk.{Ghosts as DiskWords}
 use Rattle.gate_cell.specs.declared.cell.StableCell.{Ghosts as CellWords}
 use Rattle.gate_cell.specs.declared.slot_cell.SlotCell.{Ghosts as SlotWords}
@@ -31,7 +32,7 @@ use Rattle.protocol.specs.World.Sound.{is_output, output_channels}
 use Rattle.protocol.specs.World.StationView.{OutletView, StationView}
 use Rattle.protocol.specs.WorldLaws.OpenLaws.{world_opened}
 use Rattle.protocol.specs.WorldLaws.OutputLaws.{output_once}
-use Rattle.world.specs.OpeningWorld.{fresh, own_outputs, opening_length, AllNumbered, HasRoom, HaveRoom, HaveOutlets}
+use Rattle.world.specs.OpeningWorld.{armed_on, calls_on, fresh, own_outputs, opening_length, AllNumbered, HasRoom, HaveRoom, HaveOutlets}
 use Rattle.world.specs.OpeningWorld.{IsOpened, IsOpenedNode, IsOpeningRefusal, IsUnused, IsWorldRefusal}
 use Rattle.world.specs.OpeningWorld.{LeaveOnlyRecords}
 use Rattle.world.specs.OpeningWorld.{version_for, AreFormatted, StandsInVersion, IsVersion, AreVersions}
@@ -191,6 +192,29 @@ module _ {D O : Type 0} {disk : DiskWords D} {cell : CellWords (SplitCell D disk
       ∙ ap (λ (rest : List ℕ). slot_room_on (disk.sector_count d) ∷ rest)
       (opened_rooms outputs (suc number) disks stations all.1)
 
+  pub opened_armed : (outputs : List (Output O)) (number : ℕ) (disks : List D)
+      (stations : List (Station (SplitCell D disk) O slots cell))
+      → AllNumbered (IsOpened taken failures net versions outputs) number disks stations
+      → armed_on stations ≡ map (λ (d : D). disk.armed d) disks
+  opened_armed outputs number [] [] all = refl
+  opened_armed outputs number [] (s ∷ stations) all = absurd all
+  opened_armed outputs number (d ∷ disks) [] all = absurd all
+  opened_armed outputs number (d ∷ disks) (s ∷ stations) all =
+      ap (λ (faults : List ArmedFault). faults ∷ armed_on stations) all.0.armed
+      ∙ ap (λ (rest : List (List ArmedFault)). disk.armed d ∷ rest)
+      (opened_armed outputs (suc number) disks stations all.1)
+
+  pub opened_calls : (outputs : List (Output O)) (number : ℕ) (disks : List D)
+      (stations : List (Station (SplitCell D disk) O slots cell))
+      → AllNumbered (IsOpened taken failures net versions outputs) number disks stations
+      → calls_on stations ≡ map (λ (d : D). 0) disks
+  opened_calls outputs number [] [] all = refl
+  opened_calls outputs number [] (s ∷ stations) all = absurd all
+  opened_calls outputs number (d ∷ disks) [] all = absurd all
+  opened_calls outputs number (d ∷ disks) (s ∷ stations) all =
+      ap (λ (count : ℕ). count ∷ calls_on stations) all.0.counted
+      ∙ ap (λ (rest : List ℕ). 0 ∷ rest) (opened_calls outputs (suc number) disks stations all.1)
+
   pub opened_fits : (outputs : List (Output O)) (number : ℕ) (disks : List D)
       (stations : List (Station (SplitCell D disk) O slots cell))
       → AllNumbered (IsOpened taken failures net versions outputs) number disks stations
@@ -255,6 +279,9 @@ module _ {D O : Type 0} {disk : DiskWords D} {cell : CellWords (SplitCell D disk
             (subst (λ (v : ℕ). StandsInVersion v (opening_record net nodes number) node.store) told opened.formatted));
         room = ap (λ (n : Node (SplitCell D disk) slots cell). slots.slot_capacity (cell_in n.store)) same
             ∙ opened.room;
+        armed = ap (λ (n : Node (SplitCell D disk) slots cell). cell.armed (cell_in n.store)) same ∙ opened.armed;
+        counted = ap (λ (n : Node (SplitCell D disk) slots cell). cell.call_count (cell_in n.store)) same
+            ∙ opened.counted;
         fits = subst
             (λ (n : ℕ). HasRoom (disk.sector_count given) (image_length (opening_record net n number).permanent)) count
             opened.fits;

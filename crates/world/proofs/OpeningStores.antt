@@ -124,6 +124,11 @@ module _ {C : Type 0} (words : CellWords C) (slots : SlotWords C) (kept : Record
   pub opened_room : slots.slot_capacity (cell_in recounted) ≡ slots.slot_capacity cell
   opened_room = same.same_slot_room ∙ load.same_slot_room
 
+  -- the faults that were armed are, and its calls are counted anew
+  pub opened_armed : words.armed (cell_in recounted) ≡ words.armed (cell_in opened)
+      → words.armed (cell_in recounted) ≡ words.armed cell
+  opened_armed same_faults = same_faults ∙ load.same_setup.same_faults
+
   -- its device hasn't failed again
   pub opened_failures : IsSome (known_in opened) → words.failure_count (cell_in recounted) ≡ words.failure_count cell
   opened_failures known = same.failures ∙ load.failures.otherwise (answered (known_in opened) known)

@@ -3,6 +3,7 @@ use Rattle.std.specs.Prelude.{◌≡◌, ◌⊎◌, ◌<◌, ◌≤◌, ℕ, suc
 use Rattle.std.specs.List.{AllByRecursion, AllZip}
 use Rattle.kahn_net.specs.Nodes.{node_count}
 use Rattle.kahn_net.specs.Syntax.{Network}
+use Rattle.sector_disk.specs.declared.disk.ArmedFault.{ArmedFault}
 use Rattle.sector_disk.specs.declared.disk.Disk.{Ghosts as DiskWords}
 use Rattle.gate_cell.specs.declared.split.SplitCell.{SplitCell}
 use Rattle.gate_cell.specs.SplitLayout.{slot_room_on}
@@ -149,16 +150,27 @@ HaveOutlets net number outputs [] = Unit {0}
 HaveOutlets net number outputs (station ∷ stations) =
     HasOutlets (own_outputs net number outputs) station × HaveOutlets net (suc number) outputs stations
 
+-- the faults that are armed on the devices of these stations, and how many calls each has counted
+abbrev pub armed_on : {C O : Type 0} {cell : CellWords C} {slots : SlotWords C} → List (Station C O slots cell) → List (List ArmedFault)
+armed_on {C} {O} {cell} {slots} stations = map (λ (station : Station C O slots cell). cell.armed (cell_in station.node.store)) stations
+
+abbrev pub calls_on : {C O : Type 0} {cell : CellWords C} {slots : SlotWords C} → List (Station C O slots cell) → List ℕ
+calls_on {C} {O} {cell} {slots} stations =
+    map (λ (station : Station C O slots cell). cell.call_count (cell_in station.node.store)) stations
+
 -- ---- what was opened
 
 -- The node of this number, of so many, was opened on a disk that was formatted in this version: it runs from the opening
--- record, which is all that a crash leaves, and its slots have the room of the disk, which its image fits.
+-- record, which is all that a crash leaves, and its slots have the room of the disk, which its image fits. No fault was armed on
+-- the disk, and its calls are counted from now on.
 pub record IsOpenedNode {D : Type 0} {disk : DiskWords D} {cell : CellWords (SplitCell D disk)} {slots : SlotWords (SplitCell D disk)} (net : Network)
     (nodes number version : ℕ) (given : D)
     (node : Node (SplitCell D disk) slots cell) : Type 0 where
   pub number_is : node.number ≡ number
   pub view : view_of node ≡ opening_node net nodes number
   pub failures : cell.failure_count (cell_in node.store) ≡ disk.failure_count given
+  pub armed : cell.armed (cell_in node.store) ≡ disk.armed given
+  pub counted : cell.call_count (cell_in node.store) ≡ 0
   pub left : (left : Whole) → slots.may_leave_whole (cell_in node.store) left
       → Spells (opening_record net nodes number) left
   pub formatted : StandsInVersion version (opening_record net nodes number) node.store
@@ -167,7 +179,7 @@ pub record IsOpenedNode {D : Type 0} {disk : DiskWords D} {cell : CellWords (Spl
 
 -- The station of the node of this number was opened on a disk, in the version given for it, with those of the outputs that
 -- are its node's: it is as it is said of an opening one, a crash leaves the opening record, and its slots have the room of
--- the disk, which its image fits.
+-- the disk, which its image fits. No fault was armed on the disk, and its calls are counted from now on.
 pub record IsOpened {D O : Type 0} {disk : DiskWords D} {cell : CellWords (SplitCell D disk)} {slots : SlotWords (SplitCell D disk)} (taken : O → List ℤ)
     (failures : O → ℕ) (net : Network) (versions : List ℕ) (outputs : List (Output O)) (number : ℕ) (given : D)
     (station : Station (SplitCell D disk) O slots cell) : Type 0 where
@@ -179,6 +191,8 @@ pub record IsOpened {D O : Type 0} {disk : DiskWords D} {cell : CellWords (Split
   pub formatted : StandsInVersion (version_for versions number) (opening_record net (node_count net) number)
       station.node.store
   pub room : slots.slot_capacity (cell_in station.node.store) ≡ slot_room_on (disk.sector_count given)
+  pub armed : cell.armed (cell_in station.node.store) ≡ disk.armed given
+  pub counted : cell.call_count (cell_in station.node.store) ≡ 0
   pub fits : HasRoom (disk.sector_count given) (opening_length net number)
 
 -- ---- what comes back where an opening is refused; `sectors` and `failures` are the disks' words

@@ -4,7 +4,7 @@ ghost use Rattle.std.specs.List.{AllByRecursion};
 ghost use Rattle.kahn_net.specs.Nodes.{node_count};
 ghost use Rattle.kahn_net.specs.Fits.{Fits};
 ghost use Rattle.kahn_net.specs.Syntax.{network_of};
-ghost use Rattle.gate_cell.specs.SplitCell.{slot_capacity_of, failures_of};
+ghost use Rattle.gate_cell.specs.SplitCell.{armed_of, calls_of, failures_of, slot_capacity_of};
 ghost use Rattle.gate_cell.specs.SplitLayout.{slot_room_on};
 ghost use Rattle.ckpt_codec.specs.HeaderText.{IsImageSpelled};
 ghost use Rattle.ckpt_codec.specs.Lengths.{image_length};
@@ -18,7 +18,7 @@ ghost use Rattle.protocol.specs.World.Headline.{AreApproximated};
 ghost use Rattle.protocol.specs.World.OpeningWorld.{opening_world};
 ghost use Rattle.protocol.specs.World.Sound.{is_output, output_channels};
 ghost use Rattle.protocol.specs.World.Turns.{no_turns};
-ghost use Rattle.world.specs.OpeningWorld.{fresh, own_outputs, AllNumbered, HasRoom, HaveRoom, HaveOutlets};
+ghost use Rattle.world.specs.OpeningWorld.{armed_on, calls_on, fresh, own_outputs, AllNumbered, HasRoom, HaveRoom, HaveOutlets};
 ghost use Rattle.world.specs.OpeningWorld.{IsOpened, IsOpenedNode, IsUnused, LeaveOnlyRecords};
 ghost use Rattle.world.specs.OpeningWorld.{AreHandedBack, IsNotOpened, IsOpeningRefusal, IsWorldRefusal};
 ghost use Rattle.world.specs.OpeningWorld.{version_for, AreFormatted, AreVersions, AreVersionsFor, IsVersion, StandsInVersion};
@@ -129,6 +129,8 @@ fn open_store<D: Disk>(
     ensures known { IfOk result (λ store. IsSome (known_in store)) }
     ensures failures { IfOk result
         (λ store. failures_of (cell_in store) ≡ D.failure_count disk) }
+    ensures armed { IfOk result (λ store. armed_of (cell_in store) ≡ D.armed disk) }
+    ensures counted { IfOk result (λ store. calls_of (cell_in store) ≡ 0) }
     ensures holds { IfOk result (λ store. Holds store kept.now) }
     ensures formatted { IfOk result (StandsInVersion version kept.now) }
     ensures room { IfOk result
@@ -376,6 +378,9 @@ fn open_world<D: Disk, O: Outlet>(
     ensures room { IfOk result
         (λ world. capacities world.stations.items
         ≡ map (λ disk. slot_room_on (D.sector_count disk)) disks.items) }
+    ensures armed { IfOk result (λ world. armed_on world.stations.items
+        ≡ map (λ disk. D.armed disk) disks.items) }
+    ensures counted { IfOk result (λ world. calls_on world.stations.items ≡ map (λ disk. 0) disks.items) }
     ensures fits { OnOk result (HaveRoom (network_of net.value.program) 0
         (map (λ disk. D.sector_count disk) disks.items)) }
     ensures refused { IfErr result (λ refused. IsWorldRefusal (network_of net.value.program) 0
@@ -461,6 +466,10 @@ impl<D: Disk, O: Outlet> World<SplitCell<D>, O> {
         ensures room { IfOk result
             (λ world. capacities world.stations.items
             ≡ map (λ disk. slot_room_on (D.sector_count disk)) disks.items) }
+        // No fault is armed on a disk, nor disarmed, and each disk counts its calls from now on.
+        ensures armed { IfOk result (λ world. armed_on world.stations.items
+            ≡ map (λ disk. D.armed disk) disks.items) }
+        ensures counted { IfOk result (λ world. calls_on world.stations.items ≡ map (λ disk. 0) disks.items) }
         // It is made only on disks with room for those records, and refused for no other reasons than those above.
         ensures fits { OnOk result (HaveRoom (network_of net.value.program) 0
             (map (λ disk. D.sector_count disk) disks.items)) }
@@ -515,6 +524,10 @@ impl<D: Disk, O: Outlet> World<SplitCell<D>, O> {
         ensures room { IfOk result
             (λ world. capacities world.stations.items
             ≡ map (λ disk. slot_room_on (D.sector_count disk)) disks.items) }
+        // No fault is armed on a disk, nor disarmed, and each disk counts its calls from now on.
+        ensures armed { IfOk result (λ world. armed_on world.stations.items
+            ≡ map (λ disk. D.armed disk) disks.items) }
+        ensures counted { IfOk result (λ world. calls_on world.stations.items ≡ map (λ disk. 0) disks.items) }
         // It is made only on disks with room for those records, in versions of which there is one for each disk.
         ensures fits { OnOk result (HaveRoom (network_of net.value.program) 0
             (map (λ disk. D.sector_count disk) disks.items)) }

@@ -1,4 +1,5 @@
-use Rattle.std.proofs.Common.{◌≡◌, ◌+◌, false, true, [], length, Some, refl, ap, sym, ◌∙◌, length-set}
+use Rattle.std.proofs.lemmas.Grind.{elements}
+use Rattle.std.proofs.Common.{◌≡◌, ◌+◌, false, true, [], length, Some, refl, ap, sym, ◌∙◌, length-set, arith}
 use Rattle.ckpt_store.specs.Refusals.{refusal_to_take}
 use Rattle.ckpt_store.specs.StoreView.{record_in}
 use Rattle.kahn_net.specs.Syntax.{network_of}
@@ -10,6 +11,7 @@ use Rattle.node.specs.NodeView.{mode_view, node_view, running_view}
 use Rattle.node.proofs.Starts.{begun_is, next_own, own_fine, start_planned}
 use Rattle.node.specs.declared.checkpoint.Then.TheVariants as then_is
 use Rattle.node.proofs.Puts.{put_event, put_kept}
+use Rattle.node.proofs.Memory.{memory_refused}
 use Rattle.node.proofs.checkpoint.start.Goals as goal
 
 pub returns-clause-kept : goal.returns-clause-kept
@@ -80,3 +82,26 @@ returns-clause-event g c =
     (ap mode_view c.in-Running.is) c.in_ok-image.ensures begins highest seen))
     (λ no. absurd (cc)) (start_prospect net number was) (start_planned net number highest was seen due c.if-highest-ge-MAX_COUNT.false)
     c.end_put_then.result c.end_put_then.ensures.answer refl
+
+pub returns-in_default-clause-event : goal.returns-in_default-clause-event
+returns-in_default-clause-event g c = grind (arith, elements)
+
+pub returns-then-highest-ge-MAX_COUNT-clause-event : goal.returns-then-highest-ge-MAX_COUNT-clause-event
+returns-then-highest-ge-MAX_COUNT-clause-event g c = grind (arith, elements)
+
+pub returns-then-not-can_start-clause-event : goal.returns-then-not-can_start-clause-event
+returns-then-not-can_start-clause-event g c = grind (arith, elements)
+
+pub returns-in_err-live-clause-event : goal.returns-in_err-live-clause-event
+returns-in_err-live-clause-event g c =
+    let old = record_in c.args.store.now in
+    memory_refused g.C.StableCell g.C.SlotCell g.met.C.SlotCell.only_now_whole c.args.store.now c.from_residual.result
+    _ c.args.round (node_view old c.args.state.now) (node_view old c.args.state.now) c.from_residual.ensures.0
+    refl
+
+pub returns-in_err-image-clause-event : goal.returns-in_err-image-clause-event
+returns-in_err-image-clause-event g c =
+    let old = record_in c.args.store.now in
+    memory_refused g.C.StableCell g.C.SlotCell g.met.C.SlotCell.only_now_whole c.args.store.now c.from_residual-in_err-image.result
+    _ c.args.round (node_view old c.args.state.now) (node_view old c.args.state.now) c.from_residual-in_err-image.ensures.0
+    refl

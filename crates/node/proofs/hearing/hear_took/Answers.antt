@@ -1,4 +1,5 @@
-use Rattle.std.proofs.Common.{◌≡◌, false, [], List, refl, ap, sym, ◌∙◌}
+use Rattle.std.proofs.lemmas.Grind.{elements}
+use Rattle.std.proofs.Common.{◌≡◌, false, [], List, refl, ap, sym, ◌∙◌, arith}
 use Rattle.datagram.specs.declared.packet.Need.{Need}
 use Rattle.kahn_net.specs.Syntax.{network_of}
 use Rattle.record.specs.RecordView.{RecordView}
@@ -8,7 +9,7 @@ use Rattle.protocol.specs.Node.Beginning.{live_in}
 use Rattle.protocol.specs.Node.Collecting.{TookAnswer, Joins, answer_to_took, joined_asks, joining, took_by, took_prospect}
 use Rattle.protocol.specs.Node.NodeView.{on_running}
 use Rattle.node.specs.NodeView.{mode_view, node_view}
-use Rattle.node.proofs.Memory.{memory_event}
+use Rattle.node.proofs.Memory.{memory_event, memory_refused}
 use Rattle.node.proofs.hearing.hear_took.Goals as goal
 
 pub returns-in_ok-join-in-Joins-clause-event : goal.returns-in_ok-join-in-Joins-clause-event
@@ -37,3 +38,19 @@ returns-in_ok-join-in-Joins-clause-event g c =
     (ap (λ (a : TookAnswer). took_by net home c.args.from c.args.channel needs a was) answer) refl
     (c.in_ok-join-in-Joins.ensures.ok old
     ∙ ap (λ (ns : List Need). on_running (joining net home c.args.from c.args.channel ns) was) c.as_slice-needs.ensures)
+
+pub returns-in-GivesUp-clause-event : goal.returns-in-GivesUp-clause-event
+returns-in-GivesUp-clause-event g c = grind (arith, elements)
+
+pub returns-in-Ignores-clause-event : goal.returns-in-Ignores-clause-event
+returns-in-Ignores-clause-event g c = grind (arith, elements)
+
+pub returns-in_default-clause-event : goal.returns-in_default-clause-event
+returns-in_default-clause-event g c = grind (arith, elements)
+
+pub returns-in_err-join-in-Joins-clause-event : goal.returns-in_err-join-in-Joins-clause-event
+returns-in_err-join-in-Joins-clause-event g c =
+    let old = record_in c.args.store.now in
+    memory_refused g.C.StableCell g.C.SlotCell g.met.C.SlotCell.only_now_whole c.args.store.now c.from_residual.result
+    _ c.args.round (node_view old c.args.state.now) (node_view old c.join.new.self) c.from_residual.ensures.0
+    (c.in_err-join-in-Joins.ensures.err old)

@@ -1,4 +1,5 @@
-use Rattle.std.proofs.Common.{◌≡◌, [], ◌∷◌, length, Option, Some, refl, ap, sym, ◌∙◌, length-set}
+use Rattle.std.proofs.lemmas.Grind.{elements}
+use Rattle.std.proofs.Common.{◌≡◌, [], ◌∷◌, length, Option, Some, refl, ap, sym, ◌∙◌, length-set, arith}
 use Rattle.datagram.specs.declared.packet.Body.TheVariants.{Refused}
 use Rattle.datagram.specs.declared.packet.Reason.TheVariants.{TooLarge}
 use Rattle.kahn_net.specs.Syntax.{network_of}
@@ -16,6 +17,7 @@ use Rattle.node.specs.Said.{current_in}
 use Rattle.node.proofs.Asks.{current_as, same_answer, take_fine, takes_is}
 use Rattle.node.specs.declared.checkpoint.Then.TheVariants as then_is
 use Rattle.node.proofs.Puts.{put_event, put_kept}
+use Rattle.node.proofs.Memory.{memory_refused}
 use Rattle.node.proofs.hearing.take_part.Goals as goal
 
 pub returns-clause-kept : goal.returns-clause-kept
@@ -91,3 +93,16 @@ returns-clause-event g c =
     (ap (λ (r : RecordView). with_kept r was) (current_as x n image old mode current))
     (λ no. absurd (cc)) (ask_prospect net home x n ch m was) (ap (λ (a : AskAnswer). answering net home x n ch m a was) answer)
     c.end_put_then.result c.end_put_then.ensures.answer refl
+
+pub returns-in_default-clause-event : goal.returns-in_default-clause-event
+returns-in_default-clause-event g c = grind (arith, elements)
+
+pub returns-in_default-current-clause-event : goal.returns-in_default-current-clause-event
+returns-in_default-current-clause-event g c = grind (arith, elements)
+
+pub returns-in_err-image-clause-event : goal.returns-in_err-image-clause-event
+returns-in_err-image-clause-event g c =
+    let old = record_in c.args.store.now in
+    memory_refused g.C.StableCell g.C.SlotCell g.met.C.SlotCell.only_now_whole c.args.store.now c.from_residual.result
+    _ c.args.round (node_view old c.args.state.now) (node_view old c.args.state.now) c.from_residual.ensures.0
+    refl

@@ -42,6 +42,8 @@ returns-in-Ok-run_from-clause-opened g c = record {
   number_is = search rules;
   view = search rules;
   failures = search rules;
+  armed = search rules;
+  counted = search rules;
   left = node_left _ _ c.in-Ok-run_from.node c.in-Ok-open_store.store _ _ c.in-Ok-run_from.ensures.same.1
       c.in-Ok.ensures c.in-Ok-open_store.ensures.holds;
   formatted = node_stands _ _ c.in-Ok-run_from.node c.in-Ok-open_store.store _ _ c.args.version

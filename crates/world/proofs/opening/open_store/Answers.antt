@@ -9,7 +9,7 @@ use Rattle.ckpt_codec.specs.Lengths.{image_length}
 use Rattle.ckpt_codec.specs.RecordText.{most_decisions}
 use Rattle.ckpt_store.proofs.Puts.{permanent_spelled}
 use Rattle.world.specs.OpeningWorld.{HasRoom}
-use Rattle.world.proofs.OpeningStores.{first_spelled, opened_record, opened_failures, opened_holds, opened_header, first_header, fill_refusal, open_refusal, load_back}
+use Rattle.world.proofs.OpeningStores.{first_spelled, opened_armed, opened_record, opened_failures, opened_holds, opened_header, first_header, fill_refusal, open_refusal, load_back}
 use Rattle.world.proofs.opening.open_store.Goals as goal
 
 pub has_room-requires : goal.has_room-requires
@@ -90,6 +90,15 @@ returns-clause-failures g c =
     opened_failures _ _ c.args.kept.now c.fill.new.self c.in-Ok-open.store c.recount.new.self
     c.in-Ok-open.ensures.opens c.recount.ensures.untouched c.in-Ok-open.ensures.ready
     ∙ (fill.cause.otherwise (λ e. absurd cc) ∙ c.in-Ok.ensures.failures)
+
+pub returns-clause-armed : goal.returns-clause-armed
+returns-clause-armed g c =
+    opened_armed _ _ c.args.kept.now c.fill.new.self c.in-Ok-open.store c.recount.new.self c.in-Ok-open.ensures.opens
+    c.recount.ensures.untouched c.recount.ensures.same_faults
+    ∙ (c.in_default-fill.ensures.same_setup.same_faults ∙ c.in-Ok.ensures.setup.same_faults)
+
+pub returns-clause-counted : goal.returns-clause-counted
+returns-clause-counted g c = c.recount.ensures.none_counted
 
 pub returns-clause-holds : goal.returns-clause-holds
 returns-clause-holds g c =

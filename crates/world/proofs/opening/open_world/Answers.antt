@@ -4,7 +4,7 @@ use Rattle.protocol.specs.WorldLaws.PrefixLaws.{released_prefix}
 use Rattle.wire.specs.Traffic.{traffic_of}
 use Rattle.world.specs.OpeningWorld.{fresh}
 use Rattle.world.proofs.OpenedStations.{opened_all, opened_sound, opened_world, opened_outlets, opened_left}
-use Rattle.world.proofs.OpenedStations.{opened_rooms, opened_fits, opened_versions, world_refused, none_opened}
+use Rattle.world.proofs.OpenedStations.{opened_armed, opened_calls, opened_rooms, opened_fits, opened_versions, world_refused, none_opened}
 use Rattle.world.proofs.opening.open_world.Goals as goal
 
 pub invariant_of-result : goal.invariant_of-result
@@ -61,6 +61,22 @@ returns-in-Ok-clause-formatted g c =
 pub returns-in-Ok-clause-room : goal.returns-in-Ok-clause-room
 returns-in-Ok-clause-room g c =
     opened_rooms g.O.Outlet.taken g.O.Outlet.failures (network_of c.args.net.value.program) c.args.versions.now
+    (map fresh c.args.outputs.items) 0 c.args.disks.items c.open_stations.new.stations.items
+    (opened_all g.O.Outlet.taken g.O.Outlet.failures c.deref.result.now c.args.net.value c.args.versions.now c.args.disks.items
+    c.args.outputs.items (map fresh c.args.outputs.items) c.open_stations.new.stations.items c.deref.ensures refl
+    c.in-Ok.ensures.opened)
+
+pub returns-in-Ok-clause-armed : goal.returns-in-Ok-clause-armed
+returns-in-Ok-clause-armed g c =
+    opened_armed g.O.Outlet.taken g.O.Outlet.failures (network_of c.args.net.value.program) c.args.versions.now
+    (map fresh c.args.outputs.items) 0 c.args.disks.items c.open_stations.new.stations.items
+    (opened_all g.O.Outlet.taken g.O.Outlet.failures c.deref.result.now c.args.net.value c.args.versions.now c.args.disks.items
+    c.args.outputs.items (map fresh c.args.outputs.items) c.open_stations.new.stations.items c.deref.ensures refl
+    c.in-Ok.ensures.opened)
+
+pub returns-in-Ok-clause-counted : goal.returns-in-Ok-clause-counted
+returns-in-Ok-clause-counted g c =
+    opened_calls g.O.Outlet.taken g.O.Outlet.failures (network_of c.args.net.value.program) c.args.versions.now
     (map fresh c.args.outputs.items) 0 c.args.disks.items c.open_stations.new.stations.items
     (opened_all g.O.Outlet.taken g.O.Outlet.failures c.deref.result.now c.args.net.value c.args.versions.now c.args.disks.items
     c.args.outputs.items (map fresh c.args.outputs.items) c.open_stations.new.stations.items c.deref.ensures refl
