@@ -63,7 +63,8 @@ fn asked(rt: &HostRuntime, alloc: Global) -> Result<Options, u8> {
     }
 }
 
-/// The files that a command line names, each where it can be opened.
+/// The files that a command line names, each where it can be opened. A script that isn't asked for isn't opened, since that may wait, as
+/// at a pipe.
 #[derive(Drop)]
 struct Files {
     net: Option<File>,
@@ -75,9 +76,9 @@ fn open_all(rt: &HostRuntime, options: &Options) -> Result<Files, AllocError> {
     Ok(Files {
         net: open(rt, options.net.as_str())?,
         inputs: open(rt, options.inputs.as_str())?,
-        script: match &options.script {
-            Some(name) => open(rt, name.as_str())?,
-            None => None,
+        script: match (&options.script, options.approx) {
+            (Some(name), None) => open(rt, name.as_str())?,
+            _ => None,
         },
     })
 }
