@@ -17,6 +17,7 @@ use Rattle.replay.proofs.Silences.{silences_stay}
 use Rattle.replay.specs.declared.kept.Maker.{Maker}
 use Rattle.replay.specs.declared.kept.ScriptedEvent.{ScriptedEvent}
 use Rattle.replay.specs.declared.kept.Silence.{Silence}
+use Rattle.runtime.specs.Answers.{IsReplyIn, IsSilentIn, IsStillIn}
 use Rattle.runtime.specs.Counts.{numbers_in, events_in, nothings_in, not_yets_in, no_mores_in}
 use Rattle.runtime.specs.Lines.{IsAdded, IsSaidAt, IsWidened, happening_of, happenings, kept_view}
 use Rattle.runtime.specs.Numbers.{counted}
@@ -59,6 +60,45 @@ makes fits here script opening before now passed after old new maker event answe
       step = subst (λ (rooms : List (RecordView → Bool)). IsArmedStep rooms event old answer new) same step;
     } in
     ∥∥₁_map run (λ r. and_then (happenings before) (happenings now) next passed after old new r made longer count)
+
+-- so whoever is told the answer is told of a run
+pub tells : (fits here : List (RecordView → Bool)) (script : List ScriptedEvent) (opening : WorldView) (before now : List Line)
+    (passed : ℕ) (old new : ArmedView) (maker : Maker) (event : ArmedEvent) (answer : ReplyView)
+    → Replays fits script opening (happenings before) passed old
+    → IsEventOf script maker passed old.world event → IsAdded maker event answer before now
+    → IsArmedStep here event old answer new → here ≡ fits → ∥ IsReplyIn fits script opening maker answer ∥₁
+tells fits here script opening before now passed old new maker event answer run own added step same =
+    ∥∥₁_map run (λ r. record {
+      before = happenings before;
+      passed = passed;
+      old = old;
+      new = new;
+      kept = kept_view added.entry.event;
+      said = added.entry.reply;
+      run = r;
+      made = record {
+        event = event;
+        answer = answer;
+        own = own;
+        is_kept = added.is_kept;
+        is_said = added.is_said;
+        step = subst (λ (rooms : List (RecordView → Bool)). IsArmedStep rooms event old answer new) same step;
+      };
+      answered = refl;
+    })
+
+pub tells_silence : (fits : List (RecordView → Bool)) (script : List ScriptedEvent) (opening : WorldView) (happened : List Happening)
+    (passed : ℕ) (armed : ArmedView) (reason : Silence) → Replays fits script opening happened passed armed
+    → ∥ IsSilence script reason passed armed.world ∥₁ → ∥ IsSilentIn fits script opening reason ∥₁
+tells_silence fits script opening happened passed armed reason run silent =
+    ∥∥₁_map₂ run silent (λ r said.
+    record { before = happened; passed = passed; old = armed; run = r; silence = said })
+
+pub tells_still : (fits : List (RecordView → Bool)) (script : List ScriptedEvent) (opening : WorldView) (happened : List Happening)
+    (passed : ℕ) (armed : ArmedView) → Replays fits script opening happened passed armed → stands_still armed.world ≡ true
+    → ∥ IsStillIn fits script opening ∥₁
+tells_still fits script opening happened passed armed run still =
+    ∥∥₁_map run (λ r. record { before = happened; passed = passed; old = armed; run = r; still = still })
 
 -- and its number
 pub numbers_made : (before now : List Line) (stops : ℕ) (maker : Maker) (event : ArmedEvent) (answer : ReplyView)

@@ -1,8 +1,11 @@
 -- The numbers of a history.
-use Rattle.std.specs.Prelude.{ℕ, List, sum_by}
+use Rattle.std.specs.Prelude.{◌≡◌, ◌⊎◌, ℕ, List, [], ◌∷◌, ◌++◌, sum_by}
+use Rattle.replay.specs.Replay as happening
 use Rattle.replay.specs.declared.kept.Silence.{Silence}
 use Rattle.replay.specs.declared.kept.Silence.TheVariants.{Nothing, NotYet, NoMore}
+use Rattle.runtime.specs.Lines.{happenings}
 use Rattle.runtime.specs.Numbers.{Numbers, numbers}
+use Rattle.runtime.specs.Numbers as number
 use Rattle.runtime.specs.declared.history.Line.{Line}
 use Rattle.runtime.specs.declared.history.Line.TheVariants.{Made, Silent, Widened}
 use Rattle.runtime.specs.declared.tally.Counted.{Counted}
@@ -46,3 +49,8 @@ abbrev pub numbers_in : List Line → ℕ → Numbers
 numbers_in lines stops =
     numbers (sum_by events_in lines) (sum_by nothings_in lines) (sum_by not_yets_in lines) (sum_by no_mores_in lines)
     stops
+
+-- An answer without an event was counted, for this reason: where it was given since the last event, or in a line of its own.
+pub record IsCounted (reason : Silence) (before now : List Line) : Type 0 where
+  pub lines : (happenings now ≡ happenings before) ⊎ (happenings now ≡ happenings before ++ happening.Silent reason ∷ [])
+  pub counts : (stops : ℕ) → numbers_in now stops ≡ number.counted (kind_of reason) (numbers_in before stops)

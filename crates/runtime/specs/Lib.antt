@@ -7,4 +7,5 @@ pub mod Counts
 pub mod Answers
 pub mod Seats
 pub mod ArmedWorlds
+pub mod Books
 pub mod Scripts

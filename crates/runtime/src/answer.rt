@@ -2,19 +2,27 @@
 
 use world::{Event, Reply};
 
-/// What a call is answered: the reply of its event, or why it made none.
+/// What a node's turn is answered: the reply of its event, or why it made none.
 #[derive(Drop)]
-pub enum Answer {
+pub enum TurnAnswer {
     Reply(Reply),
     /// To let its turn pass is all that the node could do, and it has done so in this round.
     Nothing,
+    /// The world stood still for want of room, and channels have more now.
+    Widened,
+    /// The hub is stopped: no turn and no line of the script makes an event any more, but a job that is out may come back.
+    Stopped,
+}
+
+/// What the driver is answered, who goes through the script: the reply of a line's event, or why it made none.
+#[derive(Drop)]
+pub enum FaultAnswer {
+    Reply(Reply),
     /// The next line of the script isn't due yet.
     NotYet,
     /// The script has no line left.
     NoMore,
-    /// The world stood still for want of room, and channels have more now.
-    Widened,
-    /// The hub is stopped: no turn and no line of the script makes an event any more, but a job that is out may come back.
+    /// The hub is stopped, as for a turn.
     Stopped,
 }
 

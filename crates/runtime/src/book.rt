@@ -9,10 +9,11 @@ ghost use Rattle.replay.specs.Plain.{plain_view};
 ghost use Rattle.replay.specs.Replay.{IsEventOf, IsIdle, IsReplay, IsSilence, LeadsTo, has_idled};
 ghost use Rattle.replay.specs.declared.kept.Maker.TheVariants as who;
 ghost use Rattle.runtime.specs.ArmedWorlds.{armed_view};
-ghost use Rattle.runtime.specs.Answers.{answer_kind, IsGrantedIn, IsWritten};
-ghost use Rattle.runtime.specs.Counts.{kind_of, numbers_in};
+ghost use Rattle.runtime.specs.Answers.{fault_kind, turn_kind, IsGrantedIn, IsReplyIn, IsSilentIn, IsStillIn, IsFaultWritten, IsTurnWritten, TellsFault, TellsTurn};
+ghost use Rattle.runtime.specs.Counts.{kind_of, numbers_in, IsCounted};
 ghost use Rattle.runtime.specs.Lines.{IsAdded, IsWidened, happenings};
-ghost use Rattle.runtime.specs.declared.answer.Answer.TheVariants as answers;
+ghost use Rattle.runtime.specs.declared.answer.FaultAnswer.TheVariants as faults;
+ghost use Rattle.runtime.specs.declared.answer.TurnAnswer.TheVariants as turns;
 ghost use Rattle.runtime.specs.Numbers.{counted, no_numbers};
 ghost use Rattle.runtime.specs.Tallies.{tally_numbers, tally_parts, total_numbers};
 ghost use Rattle.runtime.specs.declared.tally.Counted.TheVariants as kind;
@@ -23,7 +24,7 @@ ghost use Rattle.world.specs.WholeView.{world_of};
 ghost use Rattle.world.specs.WorldView.{rooms};
 ghost use Rattle.world.specs.declared.event.Event.TheVariants as event;
 
-use crate::answer::{Answer, HeldBack, HubFault, Status};
+use crate::answer::{FaultAnswer, HeldBack, HubFault, Status, TurnAnswer};
 use crate::armed::ArmedWorld;
 use crate::counting::{add_silence, add_widened, find_silence};
 use crate::history::{History, Line};
@@ -90,6 +91,8 @@ fn has_idled<C: SlotCell, O: Outlet>(world: &World<C, O>, node: u8) -> bool
 }
 
 impl<C: SlotCell, O: Outlet, J: Run> Book<C, O, J> {
+    ghost use Rattle.runtime.specs.Books.{IsSameBook};
+
     /// A book of which nothing is written.
     pub fn new(
         alloc: Global,
@@ -132,7 +135,10 @@ impl<C: SlotCell, O: Outlet, J: Run> Book<C, O, J> {
             (λ reply. IsGrantedAt (event_node (event_view event)) (reply_view reply)) }
         ensures added { IfOk result (λ reply. IsAdded (who.Node node) (OfWorld (event_view event))
             (reply_view reply) self.old.lines.items self.new.lines.items) }
+        ensures told { IfOk result (λ reply. ∥ IsReplyIn J.rooms J.script J.opening (who.Node node)
+            (reply_view reply) ∥₁) }
         ensures refused { OnErr result (tally_numbers tally.new ≡ tally_numbers tally.old) }
+        ensures unchanged { OnErr result (IsSameBook self.old self.new) }
         ensures handed_back { IfErr result (λ held. held.event ≡ event) }
     {
         if self.totals.made() >= MAX_COUNT {
@@ -178,7 +184,10 @@ impl<C: SlotCell, O: Outlet, J: Run> Book<C, O, J> {
             (tally_numbers tally.new ≡ counted kind.Entry (tally_numbers tally.old)) }
         ensures added { IfOk result (λ reply. IsAdded who.Driver (plain_view event)
             (reply_view reply) self.old.lines.items self.new.lines.items) }
+        ensures told { IfOk result (λ reply. ∥ IsReplyIn J.rooms J.script J.opening who.Driver
+            (reply_view reply) ∥₁) }
         ensures refused { OnErr result (tally_numbers tally.new ≡ tally_numbers tally.old) }
+        ensures unchanged { OnErr result (IsSameBook self.old self.new) }
     {
         if self.totals.made() >= MAX_COUNT {
             return Err(HubFault::PastNumber);
@@ -208,7 +217,9 @@ impl<C: SlotCell, O: Outlet, J: Run> Book<C, O, J> {
         ensures counted { OnOk result
             (tally_numbers tally.new ≡ counted kind.Entry (tally_numbers tally.old)) }
         ensures added { OnOk result (IsWidened self.old.lines.items self.new.lines.items) }
+        ensures told { OnOk result (∥ IsStillIn J.rooms J.script J.opening ∥₁) }
         ensures refused { OnErr result (tally_numbers tally.new ≡ tally_numbers tally.old) }
+        ensures unchanged { OnErr result (IsSameBook self.old self.new) }
     {
         if self.totals.made() >= MAX_COUNT {
             return Err(HubFault::PastNumber);
@@ -235,7 +246,10 @@ impl<C: SlotCell, O: Outlet, J: Run> Book<C, O, J> {
         ensures parts { tally_parts tally.new ≡ tally_parts tally.old }
         ensures counted { OnOk result
             (tally_numbers tally.new ≡ counted (kind_of reason) (tally_numbers tally.old)) }
+        ensures added { OnOk result (IsCounted reason self.old.lines.items self.new.lines.items) }
+        ensures told { OnOk result (∥ IsSilentIn J.rooms J.script J.opening reason ∥₁) }
         ensures refused { OnErr result (tally_numbers tally.new ≡ tally_numbers tally.old) }
+        ensures unchanged { OnErr result (IsSameBook self.old self.new) }
     {
         let Book { lines, totals, .. } = self;
         add_silence(lines, reason)?;
@@ -250,7 +264,9 @@ impl<C: SlotCell, O: Outlet, J: Run> Book<C, O, J> {
         ensures parts { tally_parts tally.new ≡ tally_parts tally.old }
         ensures counted { OnOk result
             (tally_numbers tally.new ≡ counted kind.Stop (tally_numbers tally.old)) }
+        ensures same { self.new.lines.items ≡ self.old.lines.items }
         ensures refused { OnErr result (tally_numbers tally.new ≡ tally_numbers tally.old) }
+        ensures unchanged { OnErr result (IsSameBook self.old self.new) }
     {
         if self.stops >= MAX_COUNT {
             return Err(HubFault::PastNumber);
@@ -276,37 +292,39 @@ impl<C: SlotCell, O: Outlet, J: Run> Book<C, O, J> {
         alloc: Global,
         node: u8,
         tally: &mut Tally<J>,
-    ) -> Result<Answer, HubFault>
+    ) -> Result<TurnAnswer, HubFault>
         requires part { 0 < tally_parts tally.old }
         ensures parts { tally_parts tally.new ≡ tally_parts tally.old }
         ensures counted { IfOk result (λ answer. tally_numbers tally.new
-            ≡ counted (answer_kind answer) (tally_numbers tally.old)) }
+            ≡ counted (turn_kind answer) (tally_numbers tally.old)) }
         ensures home { IfOk result (IsGrantedIn node) }
         ensures written { IfOk result
-            (IsWritten (who.Node node) self.old.lines.items self.new.lines.items) }
+            (IsTurnWritten node self.old.lines.items self.new.lines.items) }
+        ensures told { IfOk result (TellsTurn J.rooms J.script J.opening node) }
         ensures stopped { self.old.stopped ≡ true
-            → IfOk result (λ answer. answer ≡ answers.Stopped) }
+            → IfOk result (λ answer. answer ≡ turns.Stopped) }
         ensures refused { OnErr result (tally_numbers tally.new ≡ tally_numbers tally.old) }
+        ensures unchanged { OnErr result (IsSameBook self.old self.new) }
     {
         if self.stopped {
             self.be_stopped(tally)?;
-            return Ok(Answer::Stopped);
+            return Ok(TurnAnswer::Stopped);
         }
         if self.has_said(Silence::Nothing(node)) {
             self.be_silent(Silence::Nothing(node), tally)?;
-            return Ok(Answer::Nothing);
+            return Ok(TurnAnswer::Nothing);
         }
         let event = self.armed.world.pick(node);
         if is_idle(&event) && has_idled(&self.armed.world, node) {
             self.be_silent(Silence::Nothing(node), tally)?;
-            return Ok(Answer::Nothing);
+            return Ok(TurnAnswer::Nothing);
         }
         if is_idle(&event) && self.armed.world.stands_still() {
             self.widen(tally)?;
-            return Ok(Answer::Widened);
+            return Ok(TurnAnswer::Widened);
         }
         match self.make(alloc, node, event, tally) {
-            Ok(reply) => Ok(Answer::Reply(reply)),
+            Ok(reply) => Ok(TurnAnswer::Reply(reply)),
             Err(held) => Err(held.fault),
         }
     }
@@ -324,42 +342,47 @@ impl<C: SlotCell, O: Outlet, J: Run> Book<C, O, J> {
         ensures parts { tally_parts tally.new ≡ tally_parts tally.old }
         ensures added { IfOk result (λ reply. IsAdded (who.Node node)
             (OfWorld (Install (done_view done))) (reply_view reply) self.old.lines.items self.new.lines.items) }
+        ensures told { IfOk result (λ reply. ∥ IsReplyIn J.rooms J.script J.opening (who.Node node)
+            (reply_view reply) ∥₁) }
         ensures counted { OnOk result
             (tally_numbers tally.new ≡ counted kind.Entry (tally_numbers tally.old)) }
         ensures refused { OnErr result (tally_numbers tally.new ≡ tally_numbers tally.old) }
+        ensures unchanged { OnErr result (IsSameBook self.old self.new) }
         ensures handed_back { IfErr result (λ held. held.event ≡ event.Install done) }
     {
         self.make(alloc, node, Event::Install(done), tally)
     }
 
     /// The event of the script's next line, if there is one and it is due.
-    pub fn fault(&mut self, alloc: Global, tally: &mut Tally<J>) -> Result<Answer, HubFault>
+    pub fn fault(&mut self, alloc: Global, tally: &mut Tally<J>) -> Result<FaultAnswer, HubFault>
         requires part { 0 < tally_parts tally.old }
         ensures parts { tally_parts tally.new ≡ tally_parts tally.old }
         ensures counted { IfOk result (λ answer. tally_numbers tally.new
-            ≡ counted (answer_kind answer) (tally_numbers tally.old)) }
+            ≡ counted (fault_kind answer) (tally_numbers tally.old)) }
         ensures written { IfOk result
-            (IsWritten who.Driver self.old.lines.items self.new.lines.items) }
+            (IsFaultWritten self.old.lines.items self.new.lines.items) }
+        ensures told { IfOk result (TellsFault J.rooms J.script J.opening) }
         ensures stopped { self.old.stopped ≡ true
-            → IfOk result (λ answer. answer ≡ answers.Stopped) }
+            → IfOk result (λ answer. answer ≡ faults.Stopped) }
         ensures refused { OnErr result (tally_numbers tally.new ≡ tally_numbers tally.old) }
+        ensures unchanged { OnErr result (IsSameBook self.old self.new) }
     {
         if self.stopped {
             self.be_stopped(tally)?;
-            return Ok(Answer::Stopped);
+            return Ok(FaultAnswer::Stopped);
         }
         let passed = self.passed;
         if passed >= self.script.len() {
             self.be_silent(Silence::NoMore, tally)?;
-            return Ok(Answer::NoMore);
+            return Ok(FaultAnswer::NoMore);
         }
         let line = self.script[passed];
         if line.round > self.armed.world.round() {
             self.be_silent(Silence::NotYet, tally)?;
-            return Ok(Answer::NotYet);
+            return Ok(FaultAnswer::NotYet);
         }
         match self.play(alloc, line.event, tally) {
-            Ok(reply) => Ok(Answer::Reply(reply)),
+            Ok(reply) => Ok(FaultAnswer::Reply(reply)),
             Err(fault) => Err(fault),
         }
     }

@@ -1,6 +1,6 @@
 // What the driver's thread does at the hub.
 
-use crate::answer::{Answer, HubFault};
+use crate::answer::{FaultAnswer, HubFault};
 use crate::hub::Hub;
 use crate::seat::DriverSeat;
 use crate::tally::Run;
@@ -51,7 +51,7 @@ pub(crate) fn begin<C: SlotCell, O: Outlet, J: Run, R: Wait>(
 ) -> Result<(), HubFault> {
     for _ in rt.forever() {
         match hub.fault(rt, alloc, seat)? {
-            Answer::Reply(_) => {}
+            FaultAnswer::Reply(_) => {}
             _ => return Ok(()),
         }
     }
@@ -78,7 +78,7 @@ fn go_through<C: SlotCell, O: Outlet, J: Run, N: MarksName, R: Wait>(
             return Ok(());
         }
         match hub.fault(rt, alloc, seat)? {
-            Answer::Reply(_) => {}
+            FaultAnswer::Reply(_) => {}
             _ => thread::yield_now(),
         }
     }

@@ -2,7 +2,8 @@
 ghost use Rattle.std.specs.Prelude.{◌≡◌, ◌+◌, vec_len, IfErr, IfOk, OnErr, OnOk};
 ghost use Rattle.protocol.specs.World.EventView.{event_node, Install};
 ghost use Rattle.replay.specs.Replay.{LeadsTo};
-ghost use Rattle.runtime.specs.Answers.{answer_kind, IsGrantedIn};
+ghost use Rattle.replay.specs.declared.kept.Maker.TheVariants as who;
+ghost use Rattle.runtime.specs.Answers.{fault_kind, turn_kind, IsGrantedIn, IsReplyIn, TellsFault, TellsTurn};
 ghost use Rattle.runtime.specs.BlankNames.{HaveParts, names_of};
 ghost use Rattle.runtime.specs.Counts.{numbers_in};
 ghost use Rattle.runtime.specs.Lines.{happenings};
@@ -11,11 +12,12 @@ ghost use Rattle.runtime.specs.Seats.{AreOfNodes, numbers_of_seats};
 ghost use Rattle.runtime.specs.Tallies.{tally_numbers};
 ghost use Rattle.runtime.specs.declared.tally.Counted.TheVariants as kind;
 ghost use Rattle.world.specs.DoneView.{done_view};
+ghost use Rattle.world.specs.ReplyView.{reply_view};
 ghost use Rattle.world.specs.WholeView.{world_of};
 ghost use Rattle.world.specs.WorldView.{rooms};
 ghost use Rattle.world.specs.declared.event.Event.TheVariants as event;
 
-use crate::answer::{Answer, HeldBack, HubFault, Status};
+use crate::answer::{FaultAnswer, HeldBack, HubFault, Status, TurnAnswer};
 use crate::armed::ArmedWorld;
 use crate::book::Book;
 use crate::history::History;
@@ -73,12 +75,14 @@ impl<C: SlotCell, O: Outlet, J: Run> Hub<C, O, J> {
         rt: &R,
         alloc: Global,
         seat: &mut NodeSeat<J>,
-    ) -> Result<Answer, HubFault>
+    ) -> Result<TurnAnswer, HubFault>
         ensures node { seat.new.node ≡ seat.old.node }
         ensures counted { IfOk result (λ answer. tally_numbers seat.new.tally
-            ≡ counted (answer_kind answer) (tally_numbers seat.old.tally)) }
+            ≡ counted (turn_kind answer) (tally_numbers seat.old.tally)) }
         // A job that is granted is of a process of the seat's node.
         ensures home { IfOk result (IsGrantedIn seat.old.node) }
+        // The reply is that of an event of this node, and a silence its own, in a world to which a history of this run leads.
+        ensures told { IfOk result (TellsTurn J.rooms J.script J.opening seat.old.node) }
         ensures refused { OnErr result
             (tally_numbers seat.new.tally ≡ tally_numbers seat.old.tally) }
     {
@@ -88,8 +92,8 @@ impl<C: SlotCell, O: Outlet, J: Run> Hub<C, O, J> {
         }
         let answer = self.book.lock(rt).turn(alloc, *node, tally)?;
         match &answer {
-            Answer::Reply(_) | Answer::Widened => *made += 1,
-            Answer::Nothing | Answer::NotYet | Answer::NoMore | Answer::Stopped => {}
+            TurnAnswer::Reply(_) | TurnAnswer::Widened => *made += 1,
+            TurnAnswer::Nothing | TurnAnswer::Stopped => {}
         }
         Ok(answer)
     }
@@ -106,6 +110,8 @@ impl<C: SlotCell, O: Outlet, J: Run> Hub<C, O, J> {
         ensures node { seat.new.node ≡ seat.old.node }
         ensures counted { OnOk result
             (tally_numbers seat.new.tally ≡ counted kind.Entry (tally_numbers seat.old.tally)) }
+        ensures told { IfOk result (λ reply. ∥ IsReplyIn J.rooms J.script J.opening
+            (who.Node seat.old.node) (reply_view reply) ∥₁) }
         ensures refused { OnErr result
             (tally_numbers seat.new.tally ≡ tally_numbers seat.old.tally) }
         ensures handed_back { IfErr result (λ held. held.event ≡ event.Install done) }
@@ -128,9 +134,11 @@ impl<C: SlotCell, O: Outlet, J: Run> Hub<C, O, J> {
         rt: &R,
         alloc: Global,
         seat: &mut DriverSeat<J>,
-    ) -> Result<Answer, HubFault>
+    ) -> Result<FaultAnswer, HubFault>
         ensures counted { IfOk result (λ answer. tally_numbers seat.new.tally
-            ≡ counted (answer_kind answer) (tally_numbers seat.old.tally)) }
+            ≡ counted (fault_kind answer) (tally_numbers seat.old.tally)) }
+        // The reply is that of the script's next line, and a silence the driver's, in a world to which a history of this run leads.
+        ensures told { IfOk result (TellsFault J.rooms J.script J.opening) }
         ensures refused { OnErr result
             (tally_numbers seat.new.tally ≡ tally_numbers seat.old.tally) }
     {
@@ -140,8 +148,8 @@ impl<C: SlotCell, O: Outlet, J: Run> Hub<C, O, J> {
         }
         let answer = self.book.lock(rt).fault(alloc, tally)?;
         match &answer {
-            Answer::Reply(_) | Answer::Widened => *made += 1,
-            Answer::Nothing | Answer::NotYet | Answer::NoMore | Answer::Stopped => {}
+            FaultAnswer::Reply(_) => *made += 1,
+            FaultAnswer::NotYet | FaultAnswer::NoMore | FaultAnswer::Stopped => {}
         }
         Ok(answer)
     }

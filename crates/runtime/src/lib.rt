@@ -21,7 +21,7 @@ mod tally;
 mod threads;
 mod working;
 
-pub use answer::{Answer, HeldBack, HubFault, Status};
+pub use answer::{FaultAnswer, HeldBack, HubFault, Status, TurnAnswer};
 pub use armed::ArmedWorld;
 pub use driving::{Bounds, drive};
 pub use gate::{Gate, OpenGate};

@@ -3,7 +3,7 @@ ghost use Rattle.std.specs.Prelude.{◌≡◌};
 ghost use Rattle.node.specs.JobView.{shared_view};
 ghost use Rattle.protocol.specs.World.EventView.{node_in};
 
-use crate::answer::{Answer, HubFault};
+use crate::answer::{HubFault, TurnAnswer};
 use crate::gate::Gate;
 use crate::hub::Hub;
 use crate::seat::NodeSeat;
@@ -67,15 +67,15 @@ fn take_turns<C: SlotCell, O: Outlet, J: Run, N: MarksName, G: Gate, R: Wait>(
     let mut nth: u64 = 0;
     for _ in rt.forever() {
         match hub.turn(rt, alloc, seat)? {
-            Answer::Stopped => return Ok(()),
-            Answer::Reply(Reply::Granted(job)) => {
+            TurnAnswer::Stopped => return Ok(()),
+            TurnAnswer::Reply(Reply::Granted(job)) => {
                 run_job(rt, alloc, hub, seat, gate, nth, job)?;
                 nth = nth.wrapping_add(1);
             }
-            Answer::Reply(Reply::Released(freed)) => raise(marks, marks_seat, freed),
-            Answer::Reply(_) | Answer::Widened => {}
+            TurnAnswer::Reply(Reply::Released(freed)) => raise(marks, marks_seat, freed),
+            TurnAnswer::Reply(_) | TurnAnswer::Widened => {}
             // Nothing is to be done: somebody else may go first.
-            Answer::Nothing | Answer::NotYet | Answer::NoMore => thread::yield_now(),
+            TurnAnswer::Nothing => thread::yield_now(),
         }
     }
     unreachable!()

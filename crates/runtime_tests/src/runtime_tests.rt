@@ -11,17 +11,17 @@ ghost use Rattle.sector_disk.specs.declared.TheConstants.{SECTOR_BYTES};
 ghost use Rattle.world.specs.WholeView.{world_of};
 ghost use Rattle.world.specs.WorldView.{rooms};
 
-use gate_cell::SplitCell;
+use gate_cell::{SlotCell, SplitCell};
 use kahn_net::Channel;
-use marks::{MarksName, Opened, Seat};
+use marks::{Marks, MarksName, Opened, Seat};
 use net_check::{Inputs, Net, bind, check};
 use net_text::{parse, parse_inputs};
-use outlet::ListOutlet;
+use outlet::{ListOutlet, Outlet};
 use proc_step::Job;
 use replay::{ArmedCrash, KeptReply, Maker, PlainEvent, ScriptedEvent, Silence};
 use runtime::{
-    Answer, ArmedWorld, Blanks, Bounds, DriverPost, DriverSeat, Entry, Floor, Gate, History, Hub,
-    KeptEvent, Line, NodeSeat, OpenGate, Post, Run, run_threads, run_world,
+    ArmedWorld, Blanks, Bounds, DriverPost, DriverSeat, Entry, FaultAnswer, Floor, Gate, History,
+    Hub, KeptEvent, Line, NodeSeat, OpenGate, Post, Run, TurnAnswer, run_threads, run_world, work,
 };
 use sector_disk::{ArmedFault, Disk, MemDisk, SECTOR_BYTES};
 use std::alloc::{AllocError, Global};
@@ -131,10 +131,10 @@ fn script(alloc: Global) -> Result<Vec<ScriptedEvent>, Fail> {
 }
 
 // Runs a job of the seat's node, and brings back what came of it.
-fn run_job<J: Run, R: Wait>(
+fn run_job<C: SlotCell, O: Outlet, J: Run, R: Wait>(
     rt: &R,
     alloc: Global,
-    hub: &SumHub<J>,
+    hub: &Hub<C, O, J>,
     seat: &mut NodeSeat<J>,
     job: Arc<Job>,
 ) -> bool
@@ -148,9 +148,14 @@ fn run_job<J: Run, R: Wait>(
 }
 
 // One call of a node's seat. A job is run outside the lock, and brought back. Whether no call was refused.
-fn go<J: Run, R: Wait>(rt: &R, alloc: Global, hub: &SumHub<J>, seat: &mut NodeSeat<J>) -> bool {
+fn go<C: SlotCell, O: Outlet, J: Run, R: Wait>(
+    rt: &R,
+    alloc: Global,
+    hub: &Hub<C, O, J>,
+    seat: &mut NodeSeat<J>,
+) -> bool {
     match hub.turn(rt, alloc, seat) {
-        Ok(Answer::Reply(Reply::Granted(job))) => run_job(rt, alloc, hub, seat, job),
+        Ok(TurnAnswer::Reply(Reply::Granted(job))) => run_job(rt, alloc, hub, seat, job),
         Ok(_) => true,
         Err(_) => false,
     }
@@ -791,5 +796,157 @@ fn a_run_ends_at_the_items_that_are_asked_for(rt: HostRuntime) -> Result<(), Fai
         return Err(Fail::new("other items"));
     };
     assert!(rt; round < 10_000);
+    Ok(())
+}
+
+// Takes a node's turns until the hub is stopped, which it is once nothing is left to do. Whether it came to that.
+fn take_turns<C: SlotCell, O: Outlet, J: Run, R: Wait>(
+    rt: &R,
+    alloc: Global,
+    hub: &Hub<C, O, J>,
+    seat: &mut NodeSeat<J>,
+) -> bool {
+    for _turn in 0..POLLS {
+        if hub.status(rt).stopped {
+            return true;
+        }
+        if !go(rt, alloc, hub, seat) {
+            return false;
+        }
+        thread::yield_now();
+    }
+    false
+}
+
+// Lets node 0 crash by the script's line while its first job is held up, and takes the turns of node 1. Whether the node crashed, and all
+// came to its end.
+fn strike<C: SlotCell, O: Outlet, J: Run, R: Wait>(
+    rt: &R,
+    alloc: Global,
+    hub: &Hub<C, O, J>,
+    gate: &HeldGate,
+    seat: &mut NodeSeat<J>,
+    driver: &mut DriverSeat<J>,
+) -> bool {
+    let held = wait_for(&gate.held);
+    let struck = match hub.fault(rt, alloc, driver) {
+        Ok(FaultAnswer::Reply(Reply::Crashed)) => held,
+        _ => false,
+    };
+    gate.came.store(true, SeqCst);
+    let ended = take_turns(rt, alloc, hub, seat);
+    hub.stop(rt);
+    struck && ended
+}
+
+// Node 0 works on a thread of its own, behind a gate; the thread that calls is the driver's and node 1's.
+fn crash_at_gate<
+    C: SlotCell + Send,
+    O: Outlet + Send,
+    J: Run + Send + Sync,
+    N: MarksName + Send + Sync,
+    R: Threads + Wait + Sync,
+>(
+    rt: &R,
+    alloc: Global,
+    hub: &Hub<C, O, J>,
+    marks: &Marks<N>,
+    gate: &HeldGate,
+    zero: &mut NodeSeat<J>,
+    marks_seat: &mut Seat<N>,
+    one: &mut NodeSeat<J>,
+    driver: &mut DriverSeat<J>,
+) -> bool {
+    let (worked, struck) = thread::join(
+        rt,
+        || work(rt, alloc, hub, zero, marks, marks_seat, gate).is_ok(),
+        || strike(rt, alloc, hub, gate, one, driver),
+    );
+    worked && struck
+}
+
+// A run in which node 0 crashes between the grant of its first job and the job's end.
+fn play_with_crash<J: Run + Send + Sync, N: MarksName + Send + Sync, R: Threads + Wait + Sync>(
+    rt: &R,
+    alloc: Global,
+    gate: &HeldGate,
+    world: SumWorld,
+    script: Vec<ScriptedEvent>,
+    blanks: Blanks,
+    opened: Opened,
+) -> Result<Ended, Fail>
+    requires opening { world_of world ≡ J.opening }
+    requires rooms { rooms world.stations.items ≡ J.rooms }
+    requires script { script.items ≡ J.script }
+    requires names { names_of blanks ≡ J.names }
+    requires parts { HaveParts blanks J.seats }
+    requires seats { J.seats ≡ NODES + 1 }
+    requires table { table_of opened ≡ N.table }
+{
+    let (marks, marks_seats) = opened.named::<N>(alloc)?;
+    let (hub, mut seats, mut driver) = SumHub::<J>::new(alloc, world, script, NODES, blanks)?;
+    let (Some(mut one), Some(mut zero)) = (seats.pop(), seats.pop()) else {
+        return Err(Fail::new("no seats"));
+    };
+    let Some(mut marks_seat) = marks_seats.into_iter().next() else {
+        return Err(Fail::new("no seat of marks"));
+    };
+    let crashed = crash_at_gate(
+        rt,
+        alloc,
+        &hub,
+        &marks,
+        gate,
+        &mut zero,
+        &mut marks_seat,
+        &mut one,
+        &mut driver,
+    );
+    if !crashed {
+        return Err(Fail::new("no crash between a grant and its turn's end"));
+    }
+    seats.push(zero)?;
+    seats.push(one)?;
+    let made = made_by_seats(seats.as_slice(), &driver);
+    let all = hub.entries(rt);
+    let (world, history) = hub.close(seats, driver);
+    Ok(Ended {
+        world,
+        history,
+        made,
+        all,
+    })
+}
+
+fn play_sum_with_crash<R: Threads + Wait + Sync>(
+    rt: &R,
+    alloc: Global,
+    gate: &HeldGate,
+    script: Vec<ScriptedEvent>,
+) -> Result<Ended, Fail> {
+    let net = net_of(alloc, SUM_ON_TWO_NODES)?;
+    let opened = Opened::new(alloc, &net)?;
+    let world = sum_world(alloc)?;
+    let blanks = Blanks::new(u64::from(NODES) + 1);
+    play_with_crash::<Brand, Brand, R>(rt, alloc, gate, world, script, blanks, opened)
+}
+
+#[test]
+fn a_crash_while_a_job_is_out(rt: HostRuntime) -> Result<(), Fail> {
+    let alloc = rt.alloc();
+    // No node opens the gate: the driver does, once node 0 crashed.
+    let gate = HeldGate::new(NODES);
+    let crash = PlainEvent::Crash {
+        node: 0,
+        fill: 0,
+        rounds: 1,
+    };
+    let ended = play_sum_with_crash(&rt, alloc, &gate, at_first(alloc, crash)?)?;
+    let came = ended.came();
+    let discarded = answered(&ended.history, KeptReply::Discarded);
+    drop(ended);
+    assert!(rt; is_whole(&came));
+    assert!(rt; gate.has_held());
+    assert!(rt; discarded == 1);
     Ok(())
 }

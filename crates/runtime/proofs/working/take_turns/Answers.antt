@@ -2,7 +2,7 @@ use Rattle.std.proofs.Common.{◌∙◌, refl, sym, subst}
 use Rattle.node.specs.JobView.{shared_view}
 use Rattle.protocol.specs.World.Replies.{IsGrantedAt}
 use Rattle.runtime.specs.Answers.{IsGrantedIn}
-use Rattle.runtime.specs.declared.answer.Answer.{Answer}
+use Rattle.runtime.specs.declared.answer.TurnAnswer.{TurnAnswer}
 use Rattle.world.specs.ReplyView.{reply_view}
 use Rattle.world.specs.declared.event.Reply.{Reply}
 use Rattle.runtime.proofs.working.take_turns.Goals as goal
@@ -14,7 +14,7 @@ run_job-requires g c =
     let granted = c.in-Reply-Granted in
     record {
       home = subst (λ (reply : Reply). IsGrantedAt node (reply_view reply)) granted.field-0-is
-          (subst (λ (answer : Answer). IsGrantedIn node answer) granted.is c.in_ok-turn.ensures.home)
+          (subst (λ (answer : TurnAnswer). IsGrantedIn node answer) granted.is c.in_ok-turn.ensures.home)
           (shared_view granted.job) refl
           ∙ sym c.in_ok-turn.ensures.node;
     }

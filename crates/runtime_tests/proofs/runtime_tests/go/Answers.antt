@@ -4,7 +4,7 @@ use Rattle.protocol.specs.World.Replies.{IsGrantedAt}
 use Rattle.world.specs.ReplyView.{reply_view}
 use Rattle.world.specs.declared.event.Reply.{Reply}
 use Rattle.runtime.specs.Answers.{IsGrantedIn}
-use Rattle.runtime.specs.declared.answer.Answer.{Answer}
+use Rattle.runtime.specs.declared.answer.TurnAnswer.{TurnAnswer}
 use Rattle.runtime_tests.proofs.runtime_tests.go.Goals as goal
 
 -- a job that the seat is granted is of a process of its node
@@ -13,6 +13,6 @@ run_job-requires g c =
     let node = c.args.seat.now.node in
     let granted = c.in-Ok-Reply-Granted in
     subst (λ (reply : Reply). IsGrantedAt node (reply_view reply)) granted.field-0-0-is
-    (subst (λ (answer : Answer). IsGrantedIn node answer) granted.field-0-is granted.ensures.home)
+    (subst (λ (answer : TurnAnswer). IsGrantedIn node answer) granted.field-0-is granted.ensures.home)
     (shared_view granted.job) refl
     ∙ sym granted.ensures.node

@@ -3,7 +3,7 @@ use Rattle.runtime.specs.Counts.{kind_of}
 use Rattle.runtime.specs.Numbers.{Numbers, counted}
 use Rattle.runtime.specs.Tallies.{total_numbers}
 use Rattle.runtime.specs.declared.tally.Counted.{Counted}
-use Rattle.runtime.proofs.Adding.{stays_silent}
+use Rattle.runtime.proofs.Adding.{stays_silent, tells_silence}
 use Rattle.runtime.proofs.book.Book.be_silent.Goals as goal
 
 pub invariant_of-self-2-clause-replays : goal.invariant_of-self-2-clause-replays
@@ -18,3 +18,11 @@ invariant_of-self-2-clause-numbers g c =
     c.in_ok-add_silence.ensures.counts old.stops
     ∙ (ap (λ (n : Numbers). counted (kind_of c.args.reason) n) old.numbers
     ∙ (ap (λ (k : Counted). counted k (total_numbers old.totals)) (sym c.counted_as.ensures) ∙ sym c.add.ensures.total))
+
+pub returns-clause-told : goal.returns-clause-told
+returns-clause-told g c =
+    let old = c.args.self.now in
+    tells_silence _ _ _ _ old.passed _ c.args.reason old.replays c.requires.own
+
+pub returns-clause-added : goal.returns-clause-added
+returns-clause-added g c = record { lines = c.in_ok-add_silence.ensures.lines; counts = c.in_ok-add_silence.ensures.counts }

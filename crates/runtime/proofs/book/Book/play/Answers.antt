@@ -2,7 +2,7 @@ use Rattle.std.proofs.Common.{◌∙◌, refl, sym, ap}
 use Rattle.replay.specs.declared.kept.Maker.TheVariants.{Driver}
 use Rattle.runtime.specs.Numbers.{Numbers, counted}
 use Rattle.runtime.specs.declared.tally.Counted.TheVariants as kind
-use Rattle.runtime.proofs.Adding.{makes, numbers_made}
+use Rattle.runtime.proofs.Adding.{makes, numbers_made, tells}
 use Rattle.runtime.proofs.book.Book.play.Goals as goal
 
 pub invariant_of-self-2-clause-replays : goal.invariant_of-self-2-clause-replays
@@ -16,3 +16,9 @@ invariant_of-self-2-clause-numbers g c =
     let old = c.args.self.now in
     numbers_made old.lines.items _ old.stops Driver _ _ c.in-Ok.ensures.added
     ∙ (ap (λ (n : Numbers). counted kind.Entry n) old.numbers ∙ sym c.add.ensures.total)
+
+pub returns-clause-told : goal.returns-clause-told
+returns-clause-told g c =
+    let old = c.args.self.now in
+    tells _ _ _ _ old.lines.items _ old.passed _ _ Driver _ _ old.replays c.requires.own c.in-Ok.ensures.added
+    c.in-Ok.ensures.step old.same_rooms

@@ -4,7 +4,7 @@ use Rattle.replay.specs.Armed.{with_world}
 use Rattle.runtime.specs.ArmedWorlds.{armed_view}
 use Rattle.runtime.specs.Numbers.{Numbers, counted}
 use Rattle.runtime.specs.declared.tally.Counted.TheVariants as kind
-use Rattle.runtime.proofs.Adding.{numbers_widened, widens}
+use Rattle.runtime.proofs.Adding.{numbers_widened, tells_still, widens}
 use Rattle.runtime.proofs.book.Book.widen.Goals as goal
 
 pub invariant_of-self-2-clause-replays : goal.invariant_of-self-2-clause-replays
@@ -22,3 +22,8 @@ invariant_of-self-2-clause-numbers g c =
 
 pub invariant_of-self-2-clause-same_rooms : goal.invariant_of-self-2-clause-same_rooms
 invariant_of-self-2-clause-same_rooms g c = rw c.widen.ensures.same.2 c.args.self.now.same_rooms
+
+pub returns-clause-told : goal.returns-clause-told
+returns-clause-told g c =
+    let old = c.args.self.now in
+    tells_still _ _ _ _ old.passed (armed_view old.armed) old.replays c.requires.still
