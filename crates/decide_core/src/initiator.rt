@@ -233,15 +233,6 @@ fn note_need(net: &Net, home: u8, need: Need, questions: &mut [Option<Asked>])
     }
 }
 
-fn note_needs(net: &Net, home: u8, needs: &[Need], questions: &mut [Option<Asked>])
-    ensures { map question_view questions.new
-        ≡ with_needs (network_of net.now.program) home needs.now (map question_view questions.old) }
-{
-    for need in needs {
-        note_need(net, home, *need, questions);
-    }
-}
-
 // Adds the question that a need makes, if it makes one.
 fn add_new_ask(
     packets: &mut Vec<Packet>,
@@ -271,7 +262,7 @@ fn add_new_ask(
     Ok(())
 }
 
-// Adds the questions that needs make, and notes each. Where memory is missing, some may stand there.
+// Adds the questions that needs make, and notes each.
 fn add_new_asks(
     packets: &mut Vec<Packet>,
     net: &Net,
@@ -283,8 +274,8 @@ fn add_new_asks(
     ensures ok { OnOk result (packets.new.items ≡ packets.old.items
         ++ new_asks (network_of net.now.program) home number needs.now
         (map question_view questions.old)) }
-    ensures err { OnErr result
-        (take (length packets.old.items) packets.new.items ≡ packets.old.items) }
+    ensures noted { OnOk result (map question_view questions.new
+        ≡ with_needs (network_of net.now.program) home needs.now (map question_view questions.old)) }
 {
     for need in needs {
         add_new_ask(packets, net, home, number, *need, questions)?;
@@ -293,7 +284,8 @@ fn add_new_asks(
     Ok(())
 }
 
-// Adds the questions that needs make, and notes each, behind the answer that a node took part of which a channel was asked.
+// Notes that a node took part of which a channel was asked, and then, of each of its needs, the question that it makes; adds those.
+// What a need makes depends on what the needs before it made.
 fn add_asks_behind(
     packets: &mut Vec<Packet>,
     net: &Net,
@@ -306,8 +298,9 @@ fn add_asks_behind(
     ensures ok { OnOk result (packets.new.items ≡ packets.old.items
         ++ new_asks (network_of net.now.program) home number needs.now
         (with_answer (answer_view Answer.ByTook) channel (map question_view questions.old))) }
-    ensures err { OnErr result
-        (take (length packets.old.items) packets.new.items ≡ packets.old.items) }
+    ensures noted { OnOk result (map question_view questions.new
+        ≡ with_needs (network_of net.now.program) home needs.now
+        (with_answer (answer_view Answer.ByTook) channel (map question_view questions.old))) }
 {
     note(questions, usize::from(channel), Answer::ByTook);
     add_new_asks(packets, net, home, number, needs, questions)
@@ -418,53 +411,45 @@ impl Initiator {
         }
     }
 
-    /// Adds the questions that arise where a node took part of which this channel was asked, and has these needs. Changes
-    /// nothing else, refuses for want of memory alone, and then adds none.
-    pub fn add_asks_of(
-        &self,
-        packets: &mut Vec<Packet>,
-        net: &Net,
-        home: u8,
-        channel: u16,
-        needs: &[Need],
-    ) -> Result<(), AllocError>
-        ensures ok { OnOk result (packets.new.items ≡ packets.old.items
-            ++ joined_asks (network_of net.now.program) home channel needs.now (Some self.now)) }
-        ensures err { OnErr result (packets.new.items ≡ packets.old.items) }
+    fn copy(&self) -> Result<Initiator, AllocError>
+        ensures { IfOk result (λ copy. copy ≡ self.now) }
     {
-        let before = packets.len();
-        // What a need makes depends on what the needs before it made.
-        let mut questions = self.questions.clone()?;
-        let questions = questions.as_mut_slice();
-        let end = add_asks_behind(packets, net, home, self.number, channel, needs, questions);
-        if end.is_err() {
-            packets.truncate(before);
-        }
-        end
+        Ok(Initiator {
+            number: self.number,
+            questions: self.questions.clone()?,
+            takers: self.takers.clone()?,
+        })
     }
 
-    /// A node took part of which this channel was asked, and has these needs. Refuses for want of memory alone, and then
-    /// nothing is changed.
-    pub fn join(
-        &mut self,
+    /// The same checkpoint once a node took part of which this channel was asked, and that has these needs; and the questions that
+    /// its needs make. Refuses for want of memory alone.
+    pub fn on_took(
+        &self,
+        alloc: Global,
         net: &Net,
         home: u8,
         from: u8,
         channel: u16,
         needs: &[Need],
-    ) -> Result<(), AllocError>
-        ensures ok { OnOk result (self.new
-            ≡ joined_live (network_of net.now.program) home from channel needs.now self.old) }
-        ensures err { OnErr result (self.new ≡ self.old) }
+    ) -> Result<(Initiator, Vec<Packet>), AllocError>
+        ensures joined { IfOk result (λ made. made.0
+            ≡ joined_live (network_of net.now.program) home from channel needs.now self.now) }
+        ensures asks { IfOk result (λ made. made.1.items
+            ≡ joined_asks (network_of net.now.program) home channel needs.now (Some self.now)) }
     {
-        note_taker(from, &mut self.takers)?;
-        note(
-            self.questions.as_mut_slice(),
-            usize::from(channel),
-            Answer::ByTook,
-        );
-        note_needs(net, home, needs, self.questions.as_mut_slice());
-        Ok(())
+        let mut joined = self.copy()?;
+        note_taker(from, &mut joined.takers)?;
+        let mut asks = Vec::new(alloc);
+        add_asks_behind(
+            &mut asks,
+            net,
+            home,
+            self.number,
+            channel,
+            needs,
+            joined.questions.as_mut_slice(),
+        )?;
+        Ok((joined, asks))
     }
 
     /// Who takes part, of so many nodes, ascending.

@@ -6,6 +6,7 @@ mod Recoveries
 mod Restores
 mod Backs
 mod Puts
+mod Changes
 mod Memory
 mod Starts
 mod Verdicts

@@ -32,6 +32,9 @@ on_ok (Err e) p f = tt
 then_kept : (then : Then) (node : NodeView) → (then_node then node).kept ≡ node.kept
 then_kept then_is.Stays node = refl
 then_kept (then_is.Collects live) node = refl
+then_kept (then_is.Covers number channel) node = refl
+then_kept (then_is.Cuts channel count) node = refl
+then_kept (then_is.Notes channel epoch) node = refl
 then_kept (then_is.Runs restored) node = refl
 then_kept (then_is.GoesBack image own channel epoch) node = refl
 

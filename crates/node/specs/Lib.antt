@@ -5,4 +5,5 @@ pub mod Putting
 pub mod NodeOf
 pub mod Searching
 pub mod Then
+pub mod Planned
 pub mod Said

@@ -19,11 +19,6 @@ use Rattle.protocol.specs.declared.links.Inbox.{Inbox}
 use Rattle.protocol.specs.declared.outcome.Outcome.TheVariants as outcome
 use Rattle.protocol.specs.declared.outcome.Refusal.TheVariants.{TooLarge}
 
--- what is sent where an event is made, and where its record is too large
-abbrev pub IsSaid : List Packet → List Packet → Prospect → Type 0
-IsSaid made declined prospect =
-    (made ≡ packets_by prospect outcome.Made) × (declined ≡ packets_by prospect (outcome.Refused TooLarge))
-
 -- the image that is held, of this initiator's checkpoint of this number
 abbrev pub held_image : ℕ → ℕ → Option Tentative → Option ImageView
 held_image initiator number None = None

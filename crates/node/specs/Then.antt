@@ -1,11 +1,13 @@
--- What becomes of a node's memory behind a put that was made.
+-- What becomes of a node's memory: alone, or behind a put that was made.
 use Rattle.std.specs.Prelude.{◌≤◌, Option, Some, None}
 use Rattle.kahn_net.specs.declared.limits.TheConstants.{MAX_COUNT}
-use Rattle.protocol.specs.Node.GoingBack.{set_back_from}
+use Rattle.protocol.specs.Node.GoingBack.{noting_undone, set_back_from}
 use Rattle.protocol.specs.Node.Modes.{next_number}
 use Rattle.protocol.specs.Node.Recovering.{IsRestorable}
 use Rattle.protocol.specs.Node.Beginning.{collecting}
+use Rattle.protocol.specs.Node.Collecting.{hearing_covered}
 use Rattle.protocol.specs.Node.NodeView.{NodeView, ModeView, Down, InDoubt, Runs, on_mode, on_running, with_mode}
+use Rattle.protocol.specs.Node.Trimming.{cut_at}
 use Rattle.rollback_core.specs.RestoredView.{restored_view}
 use Rattle.rollback_core.specs.declared.restoring.Restored.{Restored}
 use Rattle.node.specs.declared.checkpoint.Then.{Then}
@@ -25,6 +27,9 @@ mode_of (Some restored) mode = mode_from restored mode
 abbrev pub then_node : Then → NodeView → NodeView
 then_node then_is.Stays node = node
 then_node (then_is.Collects live) node = on_running (collecting live) node
+then_node (then_is.Covers number channel) node = on_running (hearing_covered number channel) node
+then_node (then_is.Cuts channel count) node = on_running (cut_at channel count) node
+then_node (then_is.Notes channel epoch) node = on_running (noting_undone channel epoch) node
 then_node (then_is.Runs restored) node = with_mode (mode_of restored node.mode) node
 then_node (then_is.GoesBack image own channel epoch) node = record {
   kept = node.kept;
@@ -38,5 +43,8 @@ then_node (then_is.GoesBack image own channel epoch) node = record {
 abbrev pub MayFollow : Then → Type 0
 MayFollow then_is.Stays = Unit {0}
 MayFollow (then_is.Collects live) = Unit {0}
+MayFollow (then_is.Covers number channel) = Unit {0}
+MayFollow (then_is.Cuts channel count) = Unit {0}
+MayFollow (then_is.Notes channel epoch) = Unit {0}
 MayFollow (then_is.Runs restored) = Unit {0}
 MayFollow (then_is.GoesBack image own channel epoch) = IsRestorable image × (own ≤ MAX_COUNT)

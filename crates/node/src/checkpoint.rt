@@ -1,15 +1,14 @@
 // Checkpoints: a node begins one, and decides it; and how each event ends that puts the record.
 ghost use Rattle.std.specs.Prelude.{◌≡◌, ◌<◌, ◌≤◌, false, length, IfOk, IsTrue, OnErr, OnOk, Some};
-ghost use Rattle.ckpt_store.specs.StoreView.{cell_in, record_in};
+ghost use Rattle.ckpt_store.specs.StoreView.{cell_in};
 ghost use Rattle.protocol.specs.Node.ArmedRestarts.{restart_after};
 ghost use Rattle.protocol.specs.Node.Modes.{crashed};
-ghost use Rattle.protocol.specs.Node.Plans.{LeavesCell, packets_by};
 ghost use Rattle.protocol.specs.Node.Beginning.{start_prospect};
 ghost use Rattle.protocol.specs.Node.Starting.{IsLikeNow};
 ghost use Rattle.protocol.specs.Node.Verdicts.{decide_prospect};
-ghost use Rattle.node.specs.Putting.{IsPutEvent};
+ghost use Rattle.node.specs.Planned.{CanBeMade, prospect_view};
 ghost use Rattle.node.specs.NodeView.{mode_view, node_view};
-ghost use Rattle.node.specs.StoredView.{HasRecord, IsCrashed, IsAnswer, has_failed, put_outcome};
+ghost use Rattle.node.specs.StoredView.{IsCrashed, IsAnswer, has_failed, put_outcome};
 ghost use Rattle.node.specs.Then.{MayFollow, then_node};
 ghost use Rattle.node.specs.Said.{MayBeDecided};
 ghost use Rattle.kahn_net.specs.Syntax.{network_of};
@@ -18,10 +17,10 @@ ghost use Rattle.record.specs.Moves.{highest_seen};
 ghost use Rattle.record.specs.RecordView.{RecordView};
 
 use crate::mode::Mode;
+use crate::plan::{Change, Effect, Plan, Prospect, Said};
 use crate::running::Running;
 use crate::state::NodeState;
 use ckpt_store::{Store, StoreFault};
-use datagram::Packet;
 use decide_core::{Initiator, may_decide};
 use gate_cell::SlotCell;
 use kahn_net::MAX_COUNT;
@@ -85,13 +84,28 @@ pub(crate) fn end_put<C: SlotCell>(
     Ok(Outcome::Failed)
 }
 
-/// What becomes of a node's memory behind a put that was made.
+/// What becomes of a node's memory: alone, or behind a put that was made.
 #[derive(Drop)]
 pub(crate) enum Then {
     /// It stays.
     Stays,
     /// It collects answers for this checkpoint, or for none.
     Collects(Option<Initiator>),
+    /// What was asked of a channel for the checkpoint of this number is kept for good.
+    Covers {
+        number: u64,
+        channel: u16,
+    },
+    /// The receiver of a channel keeps so many items for good.
+    Cuts {
+        channel: u8,
+        count: u64,
+    },
+    /// An epoch of a channel's sender was handled.
+    Notes {
+        channel: u16,
+        epoch: u64,
+    },
     /// Where it was in doubt it runs, with what it restored.
     Runs(Option<Restored>),
     /// It goes back to this image, in this epoch of its own, and notes that of a channel's sender.
@@ -103,7 +117,7 @@ pub(crate) enum Then {
     },
 }
 
-fn carry_on(alloc: Global, then: Then, state: &mut NodeState)
+pub(crate) fn carry_on(alloc: Global, then: Then, state: &mut NodeState)
     requires { MayFollow then }
     ensures { (kept : RecordView) → node_view kept state.new
         ≡ then_node then (node_view kept state.old) }
@@ -115,6 +129,9 @@ fn carry_on(alloc: Global, then: Then, state: &mut NodeState)
                 running.live = live;
             }
         }
+        Then::Covers { number, channel } => state.on_covered(number, channel),
+        Then::Cuts { channel, count } => state.cut(channel, count),
+        Then::Notes { channel, epoch } => state.note_epoch(channel, epoch),
         Then::Runs(None) => {}
         Then::Runs(Some(restored)) => {
             if let Mode::InDoubt = &state.mode {
@@ -175,115 +192,85 @@ fn count_nodes(kept: &Record) -> u8
     kept.highest.len() as u8
 }
 
-/// Whom a node with this record asks that begins a checkpoint now, if it may begin one.
-pub(crate) fn asks(
+/// How a node with this record begins a checkpoint now: it takes a tentative image of where it stands, under its next number, collects
+/// answers for it, and asks.
+pub(crate) fn plan_start(
     alloc: Global,
     net: &Net,
     number: u8,
     state: &NodeState,
     kept: &Record,
-) -> Result<Vec<Packet>, AllocError>
-    requires { number < length kept.now.highest }
-    ensures { IfOk result (λ packets. packets.items ≡ packets_by
-        (start_prospect (network_of net.now.program) number (node_view kept.now state.now))
-        Outcome.Made) }
+) -> Result<Prospect, AllocError>
+    requires listed { number < length kept.now.highest }
+    requires like { IsLikeNow (node_view kept.now state.now) }
+    ensures view { IfOk result (λ prospect. prospect_view (node_view kept.now state.now) prospect
+        ≡ start_prospect (network_of net.now.program) number (node_view kept.now state.now)) }
+    ensures can { IfOk result (λ prospect. CanBeMade (node_view kept.now state.now) prospect) }
 {
-    let mut packets = Vec::new(alloc);
-    if !state.can_start(kept) || highest_seen(kept, number) >= MAX_COUNT {
-        return Ok(packets);
-    }
-    if let Mode::Running(running) = &state.mode {
-        let live = Initiator::begin(alloc, net, number, kept, &running.current)?;
-        live.add_asks(&mut packets, net, number)?;
-    }
-    Ok(packets)
-}
-
-/// What those who take part are told by a node with this record, if the checkpoint may be decided for which it collects
-/// answers.
-pub(crate) fn commits(
-    alloc: Global,
-    number: u8,
-    state: &NodeState,
-    kept: &Record,
-) -> Result<Vec<Packet>, AllocError>
-    requires { length kept.now.highest ≤ MAX_NODES }
-    ensures { IfOk result (λ packets. packets.items ≡ packets_by
-        (decide_prospect number (node_view kept.now state.now)) Outcome.Made) }
-{
-    match state.live() {
-        Some(live) if may_decide(number, kept, Some(live)) => {
-            live.commits(alloc, number, count_nodes(kept))
-        }
-        _ => Ok(Vec::new(alloc)),
-    }
-}
-
-// Begins a checkpoint: takes a tentative image of where a node stands now, under its next number, and collects answers
-// for it.
-pub(crate) fn start<C: SlotCell>(
-    alloc: Global,
-    net: &Net,
-    number: u8,
-    state: &mut NodeState,
-    store: &mut Store<C>,
-    round: u64,
-) -> Result<Outcome, AllocError>
-    requires kept { HasRecord number (mode_view state.old.mode) store.old }
-    requires like { IsLikeNow (node_view (record_in store.old) state.old) }
-    ensures kept { HasRecord number (mode_view state.new.mode) store.new }
-    ensures event { IsPutEvent (start_prospect (network_of net.now.program) number
-        (node_view (record_in store.old) state.old))
-        round (node_view (record_in store.old) state.old) (node_view (record_in store.new) state.new)
-        store.old store.new result }
-    ensures unchanged { LeavesCell result → cell_in store.new ≡ cell_in store.old }
-{
-    let Ok(kept) = store.record() else {
-        return Ok(Outcome::NotDue);
-    };
     let Mode::Running(running) = &state.mode else {
-        return Ok(Outcome::NotDue);
+        return Ok(Prospect::Undue);
     };
     if !state.can_start(kept) {
-        return Ok(Outcome::NotDue);
+        return Ok(Prospect::Undue);
     }
     let highest = highest_seen(kept, number);
     if highest >= MAX_COUNT {
-        return Ok(Outcome::Refused(Refusal::Spent));
+        return Ok(Prospect::Exhausted);
     }
     let live = Initiator::begin(alloc, net, number, kept, &running.current)?;
     let image = running.current.copy(alloc)?;
-    let put = store.take_tentative(alloc, image, number, highest + 1);
-    end_put_then(alloc, put, Then::Collects(Some(live)), state, store, round)
+    let mut asks = Vec::new(alloc);
+    live.add_asks(&mut asks, net, number)?;
+    Ok(Prospect::Planned(Plan {
+        effect: Effect::Puts {
+            change: Change::Takes {
+                image,
+                initiator: number,
+                number: highest + 1,
+            },
+            then: Then::Collects(Some(live)),
+        },
+        said: Said {
+            made: asks,
+            declined: Vec::new(alloc),
+        },
+    }))
 }
 
-// Decides the checkpoint for which answers were collected: its image becomes permanent, and the decision names who took
-// part.
-pub(crate) fn decide<C: SlotCell>(
+/// How a node with this record decides the checkpoint for which it collected answers: its image becomes permanent, and the decision
+/// names who took part, who are told.
+pub(crate) fn plan_decide(
     alloc: Global,
     number: u8,
-    state: &mut NodeState,
-    store: &mut Store<C>,
-    round: u64,
-) -> Result<Outcome, AllocError>
-    requires kept { HasRecord number (mode_view state.old.mode) store.old }
-    requires decided { MayBeDecided number (node_view (record_in store.old) state.old) }
-    ensures kept { HasRecord number (mode_view state.new.mode) store.new }
-    ensures event { IsPutEvent (decide_prospect number (node_view (record_in store.old) state.old))
-        round (node_view (record_in store.old) state.old) (node_view (record_in store.new) state.new)
-        store.old store.new result }
-    ensures unchanged { LeavesCell result → cell_in store.new ≡ cell_in store.old }
+    state: &NodeState,
+    kept: &Record,
+) -> Result<Prospect, AllocError>
+    requires named { kept.now.node ≡ number }
+    requires decided { MayBeDecided number (node_view kept.now state.now) }
+    ensures view { IfOk result (λ prospect. prospect_view (node_view kept.now state.now) prospect
+        ≡ decide_prospect number (node_view kept.now state.now)) }
+    ensures can { IfOk result (λ prospect. CanBeMade (node_view kept.now state.now) prospect) }
 {
-    let Ok(kept) = store.record() else {
-        return Ok(Outcome::NotDue);
-    };
     let Some(live) = state.live() else {
-        return Ok(Outcome::NotDue);
+        return Ok(Prospect::Undue);
     };
     if !may_decide(number, kept, Some(live)) {
-        return Ok(Outcome::NotDue);
+        return Ok(Prospect::Undue);
     }
-    let participants = live.participants(alloc, count_nodes(kept))?;
-    let put = store.decide(alloc, live.number(), participants);
-    end_put_then(alloc, put, Then::Collects(None), state, store, round)
+    let nodes = count_nodes(kept);
+    let participants = live.participants(alloc, nodes)?;
+    let commits = live.commits(alloc, number, nodes)?;
+    Ok(Prospect::Planned(Plan {
+        effect: Effect::Puts {
+            change: Change::Decides {
+                number: live.number(),
+                participants,
+            },
+            then: Then::Collects(None),
+        },
+        said: Said {
+            made: commits,
+            declined: Vec::new(alloc),
+        },
+    }))
 }

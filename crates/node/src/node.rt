@@ -18,24 +18,25 @@ ghost use Rattle.protocol.specs.Node.Telling.{turn_packets};
 ghost use Rattle.protocol.specs.Node.Verdicts.{decide_prospect};
 ghost use Rattle.datagram.specs.PacketText.{IsPacket};
 ghost use Rattle.kahn_net.specs.Nodes.{node_count};
-ghost use Rattle.node.specs.Said.{IsSaid, MayBeDecided};
-ghost use Rattle.kahn_net.specs.declared.limits.TheConstants.{MAX_NODES};
+ghost use Rattle.node.specs.Planned.{CanBeMade, prospect_view};
+ghost use Rattle.node.specs.Said.{MayBeDecided};
 ghost use Rattle.protocol.specs.Node.Installing.{IsInstall, IsOut, TakesTurn};
 ghost use Rattle.node.specs.JobView.{job_view, shared_view};
 ghost use Rattle.node.specs.NodeView.{mode_view};
 ghost use Rattle.protocol.specs.Node.Opening.{running_from};
 ghost use Rattle.protocol.specs.Node.Modes.{crashed, is_down};
-ghost use Rattle.protocol.specs.Node.Plans.{LeavesCell, packets_by};
+ghost use Rattle.protocol.specs.Node.Plans.{LeavesCell};
 ghost use Rattle.protocol.specs.Node.Recovering.{recover_prospect};
 ghost use Rattle.protocol.specs.Node.Starting.{IsLikeNow};
 ghost use Rattle.node.specs.Putting.{IsPutEvent};
 ghost use Rattle.node.specs.StoredView.{HasRecord, LeavesAsBefore, LeavesDevice};
 ghost use Rattle.protocol.specs.Node.Trimming.{HasNext, TookNext, current_log, trimmed_node};
 
-use crate::checkpoint::{asks, commits, decide, start};
-use crate::hearing::{Said, answers, hear, read_for};
+use crate::checkpoint::{plan_decide, plan_start};
+use crate::hearing::{plan_packet, read_for};
 use crate::mode::Mode;
 use crate::opening::open_state;
+use crate::plan::{Prospect, carry_out};
 use crate::preparing::{arm, recount};
 use crate::recover::{come_back, crash};
 use crate::state::NodeState;
@@ -161,55 +162,34 @@ impl<C: SlotCell> Node<C> {
         read_for(alloc, net, self.number, bytes)
     }
 
-    /// What a node that is up says to a packet for it: where the event is made, and where it takes no part in a checkpoint since
-    /// its record would be too large. Refuses for want of memory alone.
-    pub fn answers(&self, alloc: Global, net: &Net, packet: &Packet) -> Result<Said, AllocError>
-        requires up { is_down (view_of self.now).mode ≡ false }
-        requires right { names_right (network_of net.now.program) packet.now ≡ true }
-        requires listed { length (view_of self.now).kept.highest
-            ≡ node_count (network_of net.now.program) }
-        ensures { IfOk result (λ said. IsSaid said.made.items said.declined.items
-            (hear_prospect (network_of net.now.program) self.now.number packet.now.from
-            packet.now.body (view_of self.now))) }
-    {
-        match self.store.record() {
-            Ok(kept) => answers(alloc, net, self.number, &self.state, kept, packet),
-            Err(_) => Err(AllocError),
-        }
-    }
-
-    /// Hears a packet for it, if it is up. Where that puts the record and the device fails, the node goes down, as of a start.
-    /// Refuses for want of memory alone, and then nothing is changed.
-    pub fn hear(
-        &mut self,
+    /// How the node, which is up, hears a packet for it: what becomes of it, and what it says. Changes nothing, and refuses for want of
+    /// memory alone.
+    pub fn plan_packet(
+        &self,
         alloc: Global,
         net: &Net,
         packet: &Packet,
-        round: u64,
-    ) -> Result<Outcome, AllocError>
-        requires up { is_down (view_of self.old).mode ≡ false }
-        requires like { IsLikeNow (view_of self.old) }
-        requires bounded { IsRecordWithin MAX_RETAINED_ITEMS (view_of self.old).kept }
+    ) -> Result<Prospect, AllocError>
+        requires up { is_down (view_of self.now).mode ≡ false }
+        requires like { IsLikeNow (view_of self.now) }
+        requires bounded { IsRecordWithin MAX_RETAINED_ITEMS (view_of self.now).kept }
         requires right { names_right (network_of net.now.program) packet.now ≡ true }
         requires allowed { IsPacket packet.now }
-        requires here { packet.now.to ≡ self.old.number }
-        requires listed { length (view_of self.old).kept.highest
+        requires here { packet.now.to ≡ self.now.number }
+        requires listed { length (view_of self.now).kept.highest
             ≡ node_count (network_of net.now.program) }
-        ensures event { IsPutEvent (hear_prospect (network_of net.now.program) self.old.number
-            packet.now.from packet.now.body (view_of self.old)) round
-            (view_of self.old) (view_of self.new) self.old.store self.new.store result }
-        ensures unchanged { LeavesCell result → cell_in self.new.store ≡ cell_in self.old.store }
-        ensures same_number { self.new.number ≡ self.old.number }
+        ensures view { IfOk result (λ prospect. prospect_view (view_of self.now) prospect
+            ≡ hear_prospect (network_of net.now.program) self.now.number packet.now.from
+            packet.now.body (view_of self.now)) }
+        ensures can { IfOk result (λ prospect. CanBeMade (view_of self.now) prospect) }
     {
-        hear(
-            alloc,
-            net,
-            self.number,
-            &mut self.state,
-            &mut self.store,
-            packet,
-            round,
-        )
+        match self.store.record() {
+            Ok(kept) => {
+                let plan = plan_packet(alloc, net, self.number, &self.state, kept, packet)?;
+                Ok(Prospect::Planned(plan))
+            }
+            Err(_) => Err(AllocError),
+        }
     }
 
     /// What the node says in its turn: of each channel from another node how far it has come, what it still asks, what it
@@ -227,62 +207,56 @@ impl<C: SlotCell> Node<C> {
         }
     }
 
-    /// Whom the node asks that begins a checkpoint now: of what, if it may begin one. Refuses for want of memory alone.
-    pub fn asks(&self, alloc: Global, net: &Net) -> Result<Vec<Packet>, AllocError>
-        ensures { IfOk result (λ packets. packets.items ≡ packets_by
-            (start_prospect (network_of net.now.program) self.now.number (view_of self.now))
-            Outcome.Made) }
+    /// How the node begins a checkpoint now: it takes a tentative image of where it stands, under its next number, collects answers for
+    /// it, and asks. Changes nothing, and refuses for want of memory alone.
+    pub fn plan_start(&self, alloc: Global, net: &Net) -> Result<Prospect, AllocError>
+        requires { IsLikeNow (view_of self.now) }
+        ensures view { IfOk result (λ prospect. prospect_view (view_of self.now) prospect
+            ≡ start_prospect (network_of net.now.program) self.now.number (view_of self.now)) }
+        ensures can { IfOk result (λ prospect. CanBeMade (view_of self.now) prospect) }
     {
         match self.store.record() {
-            Ok(kept) => asks(alloc, net, self.number, &self.state, kept),
-            Err(_) => Ok(Vec::new(alloc)),
+            Ok(kept) => plan_start(alloc, net, self.number, &self.state, kept),
+            Err(_) => Ok(Prospect::Undue),
         }
     }
 
-    /// Begins a checkpoint: takes a tentative image of where the node stands now, under its next number, and collects answers for
-    /// it. Where the device fails the node goes down, and may be recovered after the rounds that were armed with that call, or
-    /// from the next round on. Refuses for want of memory alone, and then nothing is changed.
-    pub fn start(&mut self, alloc: Global, net: &Net, round: u64) -> Result<Outcome, AllocError>
-        requires { IsLikeNow (view_of self.old) }
-        ensures event { IsPutEvent (start_prospect (network_of net.now.program) self.old.number
-            (view_of self.old)) round
+    /// How the node decides the checkpoint for which it collected answers: its image becomes permanent, and the decision names who took
+    /// part, who are told. Changes nothing, and refuses for want of memory alone.
+    pub fn plan_decide(&self, alloc: Global) -> Result<Prospect, AllocError>
+        requires { MayBeDecided self.now.number (view_of self.now) }
+        ensures view { IfOk result (λ prospect. prospect_view (view_of self.now) prospect
+            ≡ decide_prospect self.now.number (view_of self.now)) }
+        ensures can { IfOk result (λ prospect. CanBeMade (view_of self.now) prospect) }
+    {
+        match self.store.record() {
+            Ok(kept) => plan_decide(alloc, self.number, &self.state, kept),
+            Err(_) => Ok(Prospect::Undue),
+        }
+    }
+
+    /// Carries out what an event comes to. Where the device fails the node goes down, and may be recovered after the rounds that were
+    /// armed with that call, or from the next round on. Refuses for want of memory alone, and then nothing is changed.
+    pub fn carry_out(
+        &mut self,
+        alloc: Global,
+        prospect: Prospect,
+        round: u64,
+    ) -> Result<Outcome, AllocError>
+        requires { CanBeMade (view_of self.old) prospect }
+        ensures event { IsPutEvent (prospect_view (view_of self.old) prospect) round
             (view_of self.old) (view_of self.new) self.old.store self.new.store result }
         ensures unchanged { LeavesCell result → cell_in self.new.store ≡ cell_in self.old.store }
         ensures same_number { self.new.number ≡ self.old.number }
     {
-        start(
+        carry_out(
             alloc,
-            net,
             self.number,
+            prospect,
             &mut self.state,
             &mut self.store,
             round,
         )
-    }
-
-    /// What those who take part are told, once the checkpoint is decided for which answers are collected, if it may be decided.
-    /// Refuses for want of memory alone.
-    pub fn commits(&self, alloc: Global) -> Result<Vec<Packet>, AllocError>
-        requires { length (view_of self.now).kept.highest ≤ MAX_NODES }
-        ensures { IfOk result (λ packets. packets.items ≡ packets_by
-            (decide_prospect self.now.number (view_of self.now)) Outcome.Made) }
-    {
-        match self.store.record() {
-            Ok(kept) => commits(alloc, self.number, &self.state, kept),
-            Err(_) => Ok(Vec::new(alloc)),
-        }
-    }
-
-    /// Decides the checkpoint for which answers were collected: its image becomes permanent, and the decision names who took part.
-    /// Where the device fails the node goes down, as of a start. Refuses for want of memory alone, and then nothing is changed.
-    pub fn decide(&mut self, alloc: Global, round: u64) -> Result<Outcome, AllocError>
-        requires { MayBeDecided self.old.number (view_of self.old) }
-        ensures event { IsPutEvent (decide_prospect self.old.number (view_of self.old)) round
-            (view_of self.old) (view_of self.new) self.old.store self.new.store result }
-        ensures unchanged { LeavesCell result → cell_in self.new.store ≡ cell_in self.old.store }
-        ensures same_number { self.new.number ≡ self.old.number }
-    {
-        decide(alloc, self.number, &mut self.state, &mut self.store, round)
     }
 
     /// Crashes, if it is up; says whether it was. What it had in memory is gone, what its cell holds is settled, by this

@@ -5,7 +5,7 @@ ghost use Rattle.kahn_net.specs.Syntax.{network_of};
 ghost use Rattle.kahn_net.specs.States.{standing_of};
 ghost use Rattle.protocol.specs.Node.Choosing.{granted, may_grant, next_job, next_process};
 ghost use Rattle.protocol.specs.Node.Granting.{job_for};
-ghost use Rattle.protocol.specs.Node.Collecting.{hearing_covered, joining};
+ghost use Rattle.protocol.specs.Node.Collecting.{hearing_covered};
 ghost use Rattle.protocol.specs.Node.Delivering.{hearing};
 ghost use Rattle.protocol.specs.Node.GoingBack.{noting_undone, set_back_from};
 ghost use Rattle.protocol.specs.Node.Recovering.{IsRestorable};
@@ -23,7 +23,7 @@ use crate::installing::install_from;
 use crate::sending::{add_all_answers, add_all_outgoing, add_all_undone};
 use crate::sharing::retained_share;
 use crate::telling::{add_live_asks, add_verdicts};
-use datagram::{Body, Need, Packet};
+use datagram::{Body, Packet};
 use decide_core::Initiator;
 use kahn_net::{Channel, MAX_COUNT};
 use net_check::{Inputs, Net};
@@ -291,27 +291,6 @@ impl Running {
     {
         if let Some(live) = &mut self.live {
             live.on_covered(number, channel);
-        }
-    }
-
-    /// A node takes part of which this channel was asked, and has these needs, if answers are collected. Refuses for want of
-    /// memory alone, and then nothing is changed.
-    pub fn join(
-        &mut self,
-        net: &Net,
-        home: u8,
-        from: u8,
-        channel: u16,
-        needs: &[Need],
-    ) -> Result<(), AllocError>
-        ensures ok { OnOk result (running_view self.new
-            ≡ joining (network_of net.now.program) home from channel needs.now
-            (running_view self.old)) }
-        ensures err { OnErr result (running_view self.new ≡ running_view self.old) }
-    {
-        match &mut self.live {
-            Some(live) => live.join(net, home, from, channel, needs),
-            None => Ok(()),
         }
     }
 

@@ -13,7 +13,7 @@ ghost use Rattle.protocol.specs.Node.Delivering.{hearing};
 ghost use Rattle.protocol.specs.Node.Installing.{IsOut, IsTakenIn, TakesTurn};
 ghost use Rattle.node.specs.JobView.{job_view, shared_view};
 ghost use Rattle.protocol.specs.Node.Beginning.{live_in, may_start};
-ghost use Rattle.protocol.specs.Node.Collecting.{hearing_covered, joining};
+ghost use Rattle.protocol.specs.Node.Collecting.{hearing_covered};
 ghost use Rattle.protocol.specs.Node.GoingBack.{noting_undone, set_back_from};
 ghost use Rattle.protocol.specs.Node.Recovering.{IsRestorable};
 ghost use Rattle.protocol.specs.Node.NodeView.{on_running};
@@ -26,7 +26,7 @@ use crate::mode::Mode;
 use crate::releasing::release_next;
 use crate::restart::{round_later, rounds_at};
 use crate::telling::packets_in_doubt;
-use datagram::{Body, Need, Packet};
+use datagram::{Body, Packet};
 use decide_core::Initiator;
 use kahn_net::{Channel, MAX_COUNT};
 use net_check::{Inputs, Net};
@@ -240,27 +240,6 @@ impl NodeState {
         self.version = next_after(self.version);
         if let Mode::Running(running) = &mut self.mode {
             running.go_back(alloc, image, own, channel, epoch);
-        }
-    }
-
-    // A node takes part of which this channel was asked, and has these needs.
-    pub(crate) fn join(
-        &mut self,
-        net: &Net,
-        home: u8,
-        from: u8,
-        channel: u16,
-        needs: &[Need],
-    ) -> Result<(), AllocError>
-        ensures ok { (kept : RecordView) → OnOk result (node_view kept self.new
-            ≡ on_running (joining (network_of net.now.program) home from channel needs.now)
-            (node_view kept self.old)) }
-        ensures err { (kept : RecordView) → OnErr result
-            (node_view kept self.new ≡ node_view kept self.old) }
-    {
-        match &mut self.mode {
-            Mode::Running(running) => running.join(net, home, from, channel, needs),
-            Mode::Down | Mode::InDoubt => Ok(()),
         }
     }
 

@@ -1,7 +1,7 @@
 //! What an event answers, in words, and what was sent in it.
 
 use datagram::Packet;
-use node::{Mode, Outcome, Refusal, Said};
+use node::{Mode, Outcome, Plan, Prospect, Refusal, Said};
 use std::alloc::{AllocError, Global};
 
 /// What came of an event, and what the node sent in it.
@@ -12,14 +12,23 @@ pub struct Came {
 }
 
 impl Came {
-    /// Of an event in which this is sent where it is made, and nothing else.
-    pub fn of(alloc: Global, made: Vec<Packet>, outcome: Outcome) -> Came {
-        let declined = Vec::new(alloc);
-        Came::behind(alloc, Said { made, declined }, outcome)
+    /// Of an event that can't be made.
+    pub fn nothing(alloc: Global) -> Came {
+        Came {
+            outcome: Outcome::NotDue,
+            said: Vec::new(alloc),
+        }
     }
 
-    /// Of an event in which this is sent where it is made, and that where its record is too large.
-    pub fn behind(alloc: Global, said: Said, outcome: Outcome) -> Came {
+    /// Of an event that was planned so, and came out so.
+    pub fn of(alloc: Global, prospect: Prospect, outcome: Outcome) -> Came {
+        let Prospect::Planned(plan) = prospect else {
+            return Came {
+                outcome,
+                said: Vec::new(alloc),
+            };
+        };
+        let Plan { said, .. } = plan;
         let Said { made, declined } = said;
         let said = match outcome {
             Outcome::Made => made,

@@ -17,7 +17,7 @@ use ckpt_store::is_like;
 use decide_core::{Initiator, may_decide};
 use kahn_net::MAX_NODES;
 use net_check::Net;
-use node::{Mode, Outcome};
+use node::Mode;
 use record::{MAX_DECISIONS, Record};
 use std::alloc::{AllocError, Global};
 
@@ -41,9 +41,11 @@ pub fn start(alloc: Global, node: &mut CaseNode, net: &Net, round: u64) -> anyho
         is_like_now(node),
         "what it has now is no image beside its permanent one"
     );
-    let asks = node.asks(alloc, net)?;
-    let outcome = node.start(alloc, net, round)?;
-    Ok(Came::of(alloc, asks, outcome))
+    // Carrying a plan out takes it, so what is said is that of another.
+    let planned = node.plan_start(alloc, net)?;
+    let prospect = node.plan_start(alloc, net)?;
+    let outcome = node.carry_out(alloc, prospect, round)?;
+    Ok(Came::of(alloc, planned, outcome))
 }
 
 fn has_node(node: u8, nodes: &[u8]) -> bool
@@ -107,13 +109,14 @@ fn may_be_decided(alloc: Global, node: &CaseNode) -> Result<bool, AllocError>
 pub fn decide(alloc: Global, node: &mut CaseNode, round: u64) -> anyhow::Result<Came> {
     let state = &node.state;
     if state.is_down() {
-        return Ok(Came::of(alloc, Vec::new(alloc), Outcome::NotDue));
+        return Ok(Came::nothing(alloc));
     }
     anyhow::ensure!(
         may_be_decided(alloc, node)?,
         "its decision would be too long"
     );
-    let commits = node.commits(alloc)?;
-    let outcome = node.decide(alloc, round)?;
-    Ok(Came::of(alloc, commits, outcome))
+    let planned = node.plan_decide(alloc)?;
+    let prospect = node.plan_decide(alloc)?;
+    let outcome = node.carry_out(alloc, prospect, round)?;
+    Ok(Came::of(alloc, planned, outcome))
 }

@@ -15,7 +15,6 @@ use crate::opening::CaseNode;
 use datagram::{Packet, is_packet};
 use layout::{names_right, node_count};
 use net_check::Net;
-use node::Outcome;
 use std::alloc::Global;
 
 /// Whether a node's record lists a number of each node of the network.
@@ -62,9 +61,10 @@ fn hear(
         is_like_now(node),
         "what it has now is no image beside its permanent one"
     );
-    let said = node.answers(alloc, net, packet)?;
-    let outcome = node.hear(alloc, net, packet, round)?;
-    Ok(Came::behind(alloc, said, outcome))
+    let planned = node.plan_packet(alloc, net, packet)?;
+    let prospect = node.plan_packet(alloc, net, packet)?;
+    let outcome = node.carry_out(alloc, prospect, round)?;
+    Ok(Came::of(alloc, planned, outcome))
 }
 
 /// Bytes come to a node, in this round. `None` where it drops them.
@@ -77,7 +77,7 @@ pub fn deliver(
 ) -> anyhow::Result<Option<Came>> {
     let state = &node.state;
     if state.is_down() {
-        return Ok(Some(Came::of(alloc, Vec::new(alloc), Outcome::NotDue)));
+        return Ok(Some(Came::nothing(alloc)));
     }
     match node.read(alloc, net, bytes)? {
         Some(packet) => Ok(Some(hear(alloc, node, net, &packet, round)?)),

@@ -13,13 +13,7 @@ use Rattle.wire.specs.declared.sending.Sending.{Sending}
 use Rattle.wire.proofs.Ready.{still_room}
 use Rattle.wire.proofs.Seen.{seen_at}
 use Rattle.wire.specs.Traffic.{QueueTraffic}
-use Rattle.kahn_net.specs.Syntax.{Network}
-use Rattle.kahn_net.specs.declared.limits.TheConstants.{MAX_COUNT}
-use Rattle.record.specs.Moves.{highest_seen}
-use Rattle.protocol.specs.Node.Beginning.{begun, live_asks, live_in, may_start, start_prospect}
-use Rattle.protocol.specs.Node.NodeView.{NodeView}
-use Rattle.protocol.specs.Node.Plans.{Prospect, Undue, Exhausted, Planned, if_due, packets_by, unless_spent}
-use Rattle.protocol.specs.Node.Verdicts.{commit_packets, concluded, decide_prospect, may_decide}
+use Rattle.protocol.specs.Node.Plans.{Prospect, Undue, Exhausted, Planned, packets_by}
 use Rattle.protocol.specs.Node.Sending.{IsWritable}
 use Rattle.protocol.specs.declared.outcome.Outcome.{Outcome}
 use Rattle.protocol.specs.declared.outcome.Outcome.TheVariants as outcome
@@ -110,48 +104,14 @@ heard_sent round prospect came to place mid before after same sent =
     ∙ (ap (λ (list : List Sending). all_sent round list (taken_by came mid to place)) (prospect_sent prospect came)
     ∙ ap (λ (t : Traffic). all_sent round (map sending_of (packets_by prospect came)) (taken_by came t to place)) same)
 
--- and behind a deed that has nothing to say where its record is too large
-pub own_sent : (round : ℕ) (prospect : Prospect) (came : Outcome) (mid before after : Traffic) → mid ≡ before
-    → packets_by prospect (outcome.Refused TooLarge) ≡ []
-    → after ≡ all_sent round (sent_then came (map sending_of (packets_by prospect outcome.Made)) []) mid
+-- and behind a deed
+pub deed_sent : (round : ℕ) (prospect : Prospect) (came : Outcome) (mid before after : Traffic) → mid ≡ before
+    → after
+    ≡ all_sent round
+    (sent_then came (map sending_of (packets_by prospect outcome.Made))
+    (map sending_of (packets_by prospect (outcome.Refused TooLarge)))) mid
     → after ≡ all_sent round (map sending_of (packets_by prospect came)) before
-own_sent round prospect came mid before after same none sent =
+deed_sent round prospect came mid before after same sent =
     sent
-    ∙ (ap (λ (declined : List Packet). all_sent round
-    (sent_then came (map sending_of (packets_by prospect outcome.Made)) (map sending_of declined)) mid) (sym none)
     ∙ (ap (λ (list : List Sending). all_sent round list mid) (prospect_sent prospect came)
-    ∙ ap (λ (t : Traffic). all_sent round (map sending_of (packets_by prospect came)) t) same))
-
--- a start and a decision have none
-pub start_declines : (net : Network) (home : ℕ) (node : NodeView)
-    → packets_by (start_prospect net home node) (outcome.Refused TooLarge) ≡ []
-start_declines net home node = by (may_start node) (nat_lt (highest_seen home node.kept) MAX_COUNT)
-  where
-    by : (due less : Bool)
-        → packets_by (if_due due (unless_spent false less (Planned (record {
-          node = begun net home node;
-          puts = true;
-          grows = true;
-          packets = live_asks net home (live_in (begun net home node).mode);
-          refused = [];
-        })))) (outcome.Refused TooLarge)
-        ≡ []
-    by false less = refl
-    by true false = refl
-    by true true = refl
-
-pub decide_declines : (home : ℕ) (node : NodeView)
-    → packets_by (decide_prospect home node) (outcome.Refused TooLarge) ≡ []
-decide_declines home node = by (may_decide home node.kept (live_in node.mode))
-  where
-    by : (due : Bool)
-        → packets_by (if_due due (Planned (record {
-          node = concluded node;
-          puts = true;
-          grows = false;
-          packets = commit_packets home (length node.kept.highest) (live_in node.mode);
-          refused = [];
-        }))) (outcome.Refused TooLarge)
-        ≡ []
-    by false = refl
-    by true = refl
+    ∙ ap (λ (t : Traffic). all_sent round (map sending_of (packets_by prospect came)) t) same)

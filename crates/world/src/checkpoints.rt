@@ -1,17 +1,19 @@
 // A station's checkpoints.
 //
-// What an event says is found, spelled and made ready, and room is made for it, before anything changes: behind the put
-// nothing may fail.
-ghost use Rattle.std.specs.Prelude.{◌≡◌, ℕ, ◌≤◌, [], All, IfOk, OnErr, map};
+// What an event comes to is planned; what is said by that is spelled and made ready, and room is made for it; and then it is carried
+// out: behind the put nothing may fail.
+ghost use Rattle.std.specs.Prelude.{◌≡◌, ℕ, ◌≤◌, All, IfOk, OnErr, map};
 ghost use Rattle.ckpt_store.specs.Spelling.{fits_in};
 ghost use Rattle.ckpt_store.specs.StoreView.{cell_in};
 ghost use Rattle.datagram.specs.PacketText.{IsPacket};
 ghost use Rattle.kahn_net.specs.Syntax.{network_of};
 ghost use Rattle.node.specs.NodeOf.{view_of};
+ghost use Rattle.node.specs.Planned.{CanBeMade, prospect_view};
+ghost use Rattle.node.specs.Putting.{IsPutEvent};
 ghost use Rattle.node.specs.Said.{MayBeDecided};
 ghost use Rattle.node.specs.StoredView.{LeavesDevice};
 ghost use Rattle.protocol.specs.Node.Beginning.{start_prospect};
-ghost use Rattle.protocol.specs.Node.Plans.{next_record, packets_by};
+ghost use Rattle.protocol.specs.Node.Plans.{LeavesCell, next_record, packets_by};
 ghost use Rattle.protocol.specs.Node.Starting.{IsLikeNow};
 ghost use Rattle.protocol.specs.Node.Verdicts.{decide_prospect};
 ghost use Rattle.protocol.specs.World.Pairs.{LeaveEitherSince};
@@ -19,18 +21,18 @@ ghost use Rattle.protocol.specs.World.Replies.{AnswerLeaves, answer_by};
 ghost use Rattle.protocol.specs.World.ReplyView.{Down};
 ghost use Rattle.protocol.specs.World.Steps.{decide_plan, sending_of, start_plan, turns_by};
 ghost use Rattle.protocol.specs.declared.outcome.Outcome.{Outcome as OutcomeValue};
-ghost use Rattle.wire.specs.Traffic.{traffic_of};
+ghost use Rattle.wire.specs.Traffic.{all_sent, traffic_of};
 ghost use Rattle.world.specs.Coming.{ComesOut, IsReadyFor};
 ghost use Rattle.world.specs.ReplyView.{answer_view, reply_view};
 ghost use Rattle.world.specs.StationView.{outlet_views};
 ghost use Rattle.world.specs.WorldView.{station_view, IsCellUnchanged, RestartsAsArmed};
 
 use crate::event::Reply;
-use crate::network::{Ready, prepare, send_by};
+use crate::network::{Ready, nothing, prepare, send_by};
 use crate::station::Station;
 use gate_cell::SlotCell;
 use net_check::Net;
-use node::{Outcome, Refusal, Said};
+use node::{Outcome, Prospect, Refusal};
 use outlet::Outlet;
 use protocol::RoundTurns;
 use std::alloc::{AllocError, Global};
@@ -61,53 +63,57 @@ fn note(turns: &mut RoundTurns, noted: RoundTurns, outcome: Outcome)
 }
 
 impl<C: SlotCell, O: Outlet> Station<C, O> {
-    // Whom its node asks that begins a checkpoint, made ready to be sent.
-    fn ready_to_start(
+    // What its node says by what an event comes to, made ready to be sent.
+    pub(crate) fn ready_for(
         &self,
         alloc: Global,
-        net: &Net,
         wire: &mut Wire,
+        prospect: &Prospect,
         round: u64,
     ) -> Result<Ready, AllocError>
         requires { (came : OutcomeValue) → All IsPacket (packets_by
-            (start_prospect (network_of net.now.program) self.now.node.number
-            (view_of self.now.node)) came) }
+            (prospect_view (view_of self.now.node) prospect.now) came) }
         ensures same { traffic_of wire.new ≡ traffic_of wire.old }
         ensures made { IfOk result (λ ready. IsReadyFor wire.new round
-            (map sending_of (packets_by (start_prospect (network_of net.now.program)
-            self.now.node.number (view_of self.now.node)) Outcome.Made)) ready.made) }
-        ensures declined { IfOk result (λ ready. IsReadyFor wire.new round [] ready.declined) }
+            (map sending_of (packets_by (prospect_view (view_of self.now.node) prospect.now)
+            Outcome.Made)) ready.made) }
+        ensures declined { IfOk result (λ ready. IsReadyFor wire.new round
+            (map sending_of (packets_by (prospect_view (view_of self.now.node) prospect.now)
+            (Outcome.Refused Refusal.TooLarge))) ready.declined) }
     {
-        let made = self.node.asks(alloc, net)?;
-        let said = Said {
-            made,
-            declined: Vec::new(alloc),
-        };
-        prepare(alloc, wire, &said, round)
+        match prospect {
+            Prospect::Undue | Prospect::Exhausted => Ok(nothing()),
+            Prospect::Planned(plan) => prepare(alloc, wire, &plan.said, round),
+        }
     }
 
-    // Whom its node tells that decides a checkpoint, made ready to be sent.
-    fn ready_to_decide(
-        &self,
+    // Carries out what an event comes to, and sends what its node says by what came of it.
+    fn carry_out(
+        &mut self,
         alloc: Global,
         wire: &mut Wire,
+        prospect: Prospect,
         round: u64,
-    ) -> Result<Ready, AllocError>
-        requires decided { MayBeDecided self.now.node.number (view_of self.now.node) }
+    ) -> Result<Outcome, AllocError>
+        requires can { CanBeMade (view_of self.old.node) prospect }
         requires allowed { (came : OutcomeValue) → All IsPacket (packets_by
-            (decide_prospect self.now.node.number (view_of self.now.node)) came) }
-        ensures same { traffic_of wire.new ≡ traffic_of wire.old }
-        ensures made { IfOk result (λ ready. IsReadyFor wire.new round
-            (map sending_of (packets_by (decide_prospect
-            self.now.node.number (view_of self.now.node)) Outcome.Made)) ready.made) }
-        ensures declined { IfOk result (λ ready. IsReadyFor wire.new round [] ready.declined) }
+            (prospect_view (view_of self.old.node) prospect) came) }
+        ensures event { IsPutEvent (prospect_view (view_of self.old.node) prospect) round
+            (view_of self.old.node) (view_of self.new.node) self.old.node.store
+            self.new.node.store result }
+        ensures unchanged { LeavesCell result
+            → cell_in self.new.node.store ≡ cell_in self.old.node.store }
+        ensures same { (self.new.node.number ≡ self.old.node.number)
+            × ((self.new.outputs ≡ self.old.outputs) × (self.new.turns ≡ self.old.turns)) }
+        ensures traffic { IfOk result (λ came. traffic_of wire.new ≡ all_sent round
+            (map sending_of (packets_by (prospect_view (view_of self.old.node) prospect) came))
+            (traffic_of wire.old)) }
+        ensures same_traffic { OnErr result (traffic_of wire.new ≡ traffic_of wire.old) }
     {
-        let made = self.node.commits(alloc)?;
-        let said = Said {
-            made,
-            declined: Vec::new(alloc),
-        };
-        prepare(alloc, wire, &said, round)
+        let ready = self.ready_for(alloc, wire, &prospect, round)?;
+        let outcome = self.node.carry_out(alloc, prospect, round)?;
+        send_by(wire, ready, outcome);
+        Ok(outcome)
     }
 
     /// Begins a checkpoint, and asks. That counts as the start of the round also where it is refused or the device fails; the
@@ -146,11 +152,10 @@ impl<C: SlotCell, O: Outlet> Station<C, O> {
         ensures unchanged { AnswerLeaves (answer_view result)
             → IsCellUnchanged self.old self.new }
     {
-        let ready = self.ready_to_start(alloc, net, wire, round)?;
-        let outcome = self.node.start(alloc, net, round)?;
+        let prospect = self.node.plan_start(alloc, net)?;
+        let outcome = self.carry_out(alloc, wire, prospect, round)?;
         let noted = self.turns.of(round).with_start();
         note(&mut self.turns, noted, outcome);
-        send_by(wire, ready, outcome);
         Ok(answer_by(Reply::Started, Reply::Refused(Refusal::TooLarge), outcome))
     }
 
@@ -186,9 +191,8 @@ impl<C: SlotCell, O: Outlet> Station<C, O> {
         ensures unchanged { AnswerLeaves (answer_view result)
             → IsCellUnchanged self.old self.new }
     {
-        let ready = self.ready_to_decide(alloc, wire, round)?;
-        let outcome = self.node.decide(alloc, round)?;
-        send_by(wire, ready, outcome);
+        let prospect = self.node.plan_decide(alloc)?;
+        let outcome = self.carry_out(alloc, wire, prospect, round)?;
         Ok(answer_by(Reply::Decided, Reply::Refused(Refusal::TooLarge), outcome))
     }
 }

@@ -1,5 +1,5 @@
 // A packet comes to a station.
-ghost use Rattle.std.specs.Prelude.{◌≡◌, ◌≤◌, ◌<◌, ℕ, false, All, IfOk, List, OnErr, Some, length, map, slice_get};
+ghost use Rattle.std.specs.Prelude.{◌≡◌, ◌≤◌, ◌<◌, ℕ, false, All, IfOk, List, OnErr, Some, length, slice_get};
 ghost use Rattle.ckpt_codec.specs.SizeLaws.{IsRecordWithin};
 ghost use Rattle.ckpt_codec.specs.declared.lengths.TheConstants.{MAX_RETAINED_ITEMS};
 ghost use Rattle.ckpt_store.specs.Spelling.{fits_in};
@@ -18,20 +18,19 @@ ghost use Rattle.protocol.specs.Node.Starting.{IsLikeNow};
 ghost use Rattle.protocol.specs.World.Pairs.{LeaveEitherSince};
 ghost use Rattle.protocol.specs.World.Replies.{AnswerLeaves};
 ghost use Rattle.protocol.specs.World.ReplyView.{Down};
-ghost use Rattle.protocol.specs.World.Steps.{deliver_plan, due_bytes, sending_of};
+ghost use Rattle.protocol.specs.World.Steps.{deliver_plan, due_bytes};
 ghost use Rattle.protocol.specs.WorldLaws.HeardLaws.{IsHeard};
 ghost use Rattle.protocol.specs.declared.outcome.Outcome.{Outcome as OutcomeValue};
-ghost use Rattle.protocol.specs.declared.outcome.Refusal.TheVariants.{TooLarge};
 ghost use Rattle.wire.specs.Traffic.{flights_to, traffic_of};
 ghost use Rattle.wire.specs.declared.queue.TheConstants.{NODES};
-ghost use Rattle.world.specs.Coming.{ComesHeard, ComesOut, IsReadyFor};
+ghost use Rattle.world.specs.Coming.{ComesHeard, ComesOut};
 ghost use Rattle.world.specs.ReplyView.{answer_view, reply_view};
 ghost use Rattle.world.specs.StationView.{outlet_views};
 ghost use Rattle.world.specs.WorldView.{station_view, IsCellUnchanged, RestartsAsArmed};
 
 use crate::checkpoints::answer_by;
 use crate::event::Reply;
-use crate::network::{Ready, due_packet, prepare, take_by};
+use crate::network::{due_packet, take_by};
 use crate::station::Station;
 use datagram::Packet;
 use gate_cell::SlotCell;
@@ -41,34 +40,6 @@ use std::alloc::{AllocError, Global};
 use wire::Wire;
 
 impl<C: SlotCell, O: Outlet> Station<C, O> {
-    // What its node, which is up, says to a packet for it, made ready to be sent.
-    fn ready_to_hear(
-        &self,
-        alloc: Global,
-        net: &Net,
-        wire: &mut Wire,
-        packet: &Packet,
-        round: u64,
-    ) -> Result<Ready, AllocError>
-        requires up { is_down (view_of self.now.node).mode ≡ false }
-        requires right { IsHeard (network_of net.now.program) self.now.node.number packet.now }
-        requires listed { length (view_of self.now.node).kept.highest
-            ≡ node_count (network_of net.now.program) }
-        requires allowed { (came : OutcomeValue) → All IsPacket (packets_by
-            (hear_prospect (network_of net.now.program) self.now.node.number packet.now.from
-            packet.now.body (view_of self.now.node)) came) }
-        ensures same { traffic_of wire.new ≡ traffic_of wire.old }
-        ensures made { IfOk result (λ ready. IsReadyFor wire.new round (map sending_of (packets_by
-            (hear_prospect (network_of net.now.program) self.now.node.number packet.now.from
-            packet.now.body (view_of self.now.node)) OutcomeValue.Made)) ready.made) }
-        ensures declined { IfOk result (λ ready. IsReadyFor wire.new round (map sending_of (packets_by
-            (hear_prospect (network_of net.now.program) self.now.node.number packet.now.from
-            packet.now.body (view_of self.now.node)) (OutcomeValue.Refused TooLarge))) ready.declined) }
-    {
-        let said = self.node.answers(alloc, net, packet)?;
-        prepare(alloc, wire, &said, round)
-    }
-
     // Its node, which is up, hears a packet for it, of this place of those in flight. The packet is then gone, and what is said to
     // it is sent.
     fn hear(
@@ -115,8 +86,9 @@ impl<C: SlotCell, O: Outlet> Station<C, O> {
         ensures unchanged { AnswerLeaves (answer_view result)
             → IsCellUnchanged self.old self.new }
     {
-        let ready = self.ready_to_hear(alloc, net, wire, packet, round)?;
-        let outcome = self.node.hear(alloc, net, packet, round)?;
+        let prospect = self.node.plan_packet(alloc, net, packet)?;
+        let ready = self.ready_for(alloc, wire, &prospect, round)?;
+        let outcome = self.node.carry_out(alloc, prospect, round)?;
         take_by(wire, to, place, ready, outcome);
         Ok(answer_by(Reply::Delivered, Reply::Delivered, outcome))
     }

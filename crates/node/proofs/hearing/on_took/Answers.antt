@@ -1,0 +1,45 @@
+use Rattle.std.proofs.Common.{◌≡◌, ◌==◌, ◌&&◌, Bool, true, false, cond, ℕ, List, Some, ap, refl, subst, sym, ◌∙◌}
+use Rattle.datagram.specs.declared.packet.Need.{Need}
+use Rattle.kahn_net.specs.Syntax.{Network, network_of}
+use Rattle.record.specs.RecordView.{RecordView}
+use Rattle.protocol.specs.Node.Answering.{holds}
+use Rattle.protocol.specs.Node.Collecting.{GivesUp, Ignores, Joins, TookAnswer, answer_to_took, are_met, was_asked}
+use Rattle.protocol.specs.Node.LiveView.{LiveView}
+use Rattle.decide_core.specs.InitiatorView.{took_view}
+use Rattle.node.specs.NodeView.{node_view}
+use Rattle.node.specs.Planned.{CanDo}
+use Rattle.node.proofs.Verdicts.{dropped_fits, fine_unless_held}
+use Rattle.node.proofs.hearing.on_took.Goals as goal
+
+-- a checkpoint is given up only where its image is held
+gives_up : (net : Network) (home number channel : ℕ) (needs : List Need) (kept : RecordView) (live : LiveView)
+    → answer_to_took net home number channel needs kept (Some live) ≡ GivesUp → holds home number kept.tentative ≡ true
+gives_up net home number channel needs kept live is =
+    at (live.number == number) (was_asked channel live.questions) (holds home number kept.tentative)
+    (are_met net home needs kept.tentative) is
+  where
+    at : (same asked held met : Bool) → cond (same && (asked && held)) (cond met Joins GivesUp) Ignores ≡ GivesUp
+        → held ≡ true
+    at false asked held met is = absurd (cc)
+    at true false held met is = absurd (cc)
+    at true true false met is = absurd (cc)
+    at true true true met is = refl
+
+pub returns-in-GivesUp-clause-can : goal.returns-in-GivesUp-clause-can
+returns-in-GivesUp-clause-can c =
+    let net = network_of c.args.net.now.program in
+    let home = c.args.home in
+    let number = c.args.number in
+    let channel = c.args.channel in
+    let kept = c.args.kept.now in
+    let live = c.in-Some.live.now in
+    let answer : answer_to_took net home number channel c.as_slice-needs.result.now kept (Some live) ≡ GivesUp =
+    sym c.answer_to_took.ensures ∙ ap took_view c.in-GivesUp.is in
+    let held = gives_up net home number channel c.as_slice-needs.result.now kept live answer in
+    subst (CanDo (node_view kept c.args.state.now)) (sym c.give_up.ensures.0) (record {
+      up = c.requires.up;
+      may_be_put = tt;
+      fine = fine_unless_held home number kept held;
+      may_follow = tt;
+      fits = λ short room fits. dropped_fits room kept c.requires.bounded fits;
+    })
