@@ -13,8 +13,7 @@ ghost use Rattle.kahn_program.specs.Turning.{IsNodeTurn};
 
 use crate::turning::RunArmed;
 use kahn_net::MAX_NODES;
-use protocol::{Deed, PlainEvent};
-use world::{Event, Reply};
+use world::{Deed, Event, PlainEvent, Reply};
 
 /// Of which nodes it is noted that they rest: they let a turn pass in this round, and nothing has happened to them since but that
 /// packets may be in flight to them.

@@ -12,10 +12,9 @@ ghost use Rattle.world.specs.WorldView.{capacities, rooms};
 use gate_cell::SlotCell;
 use node::next_after;
 use outlet::Outlet;
-use protocol::{Deed, PlainEvent};
 use replay::{ArmedCrash, RunEvent};
 use std::alloc::{AllocError, Global};
-use world::{Event, Refused, Reply, World};
+use world::{Deed, Event, PlainEvent, Refused, Reply, World};
 
 /// A world, how many deliveries each of its nodes has had, and the crashes that are armed for the ends of some. A delivery for
 /// which a crash is armed is two events of the world, the delivery and the crash, with nothing between them.

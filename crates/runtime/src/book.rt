@@ -34,10 +34,9 @@ use gate_cell::SlotCell;
 use kahn_net::MAX_COUNT;
 use outlet::Outlet;
 use proc_step::Done;
-use protocol::{Deed, PlainEvent};
 use replay::{RunEvent, ScriptedEvent, Silence};
 use std::alloc::Global;
-use world::{Event, Refused, Reply, World};
+use world::{Deed, Event, PlainEvent, Refused, Reply, World};
 
 /// A world with its script and its history, and how often its seats were answered.
 #[derive(Drop)]

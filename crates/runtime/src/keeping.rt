@@ -25,7 +25,7 @@ pub(crate) fn keep(event: &Event) -> Result<KeptEvent, AllocError>
 }
 
 /// An answer as it is kept.
-pub(crate) fn keep_reply(reply: &Reply) -> KeptReply
+pub fn keep_reply(reply: &Reply) -> KeptReply
     ensures { result ≡ kept_reply (reply_view reply.now) }
 {
     match reply {
