@@ -41,7 +41,6 @@ use Rattle.replay.specs.Replay.{Happening, Made, Silent, Widened, Happens, IsKep
 use Rattle.replay.specs.Replay.{Plainly, at_first, and_then, passed_after}
 use Rattle.replay.specs.declared.kept.ArmedCrash.{ArmedCrash}
 use Rattle.replay.specs.Replies.{KeptReply, kept_reply}
-use Rattle.protocol.specs.declared.reply.Reply.TheVariants as kept
 use Rattle.replay.specs.declared.kept.Maker.{Maker}
 use Rattle.replay.specs.declared.kept.ScriptedEvent.{ScriptedEvent}
 use Rattle.replay.proofs.Looks.{Goes, Stays, Loses, goes_same, remembers, made_goes, deliver_goes, send_goes, start_goes}
@@ -436,7 +435,7 @@ armed_goes k fits (ArmCrash crash) old answer new step = (
 )
 
 -- an answer that is kept as that of an install is one
-kept_installed : (answer : ReplyView) → kept_reply answer ≡ kept.Installed → answer ≡ reply.Installed
+kept_installed : (answer : ReplyView) → kept_reply answer ≡ reply.Installed → answer ≡ reply.Installed
 kept_installed reply.Delivered is = absurd (cc)
 kept_installed reply.Dropped is = absurd (cc)
 kept_installed (reply.Granted job) is = absurd (cc)

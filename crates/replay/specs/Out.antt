@@ -16,7 +16,6 @@ use Rattle.replay.specs.Armed.{ArmedView, IsArmedStep, OfWorld}
 use Rattle.replay.specs.Replay.{Happening, Made, Silent, Widened, Happens, IsMade, IsReplay, KeptEventView, OfJob, Plainly}
 use Rattle.replay.specs.Replay.{passed_after, passed_by}
 use Rattle.replay.specs.Replies.{KeptReply}
-use Rattle.protocol.specs.declared.reply.Reply.TheVariants as kept
 use Rattle.replay.specs.declared.kept.Maker.{Maker}
 use Rattle.replay.specs.declared.kept.ScriptedEvent.{ScriptedEvent}
 
@@ -57,7 +56,7 @@ RunsOn old new = (old.runs ≡ true) × (new.runs ≡ true) × (new.epoch ≡ ol
 -- what came back of this job was taken in at this node
 abbrev pub IsInstallOf : ℕ → JobView → Happening → Type 0
 IsInstallOf node job (Made maker (OfJob back) said) =
-    (back ≡ job) × (node_in job.code ≡ node) × (said ≡ kept.Installed)
+    (back ≡ job) × (node_in job.code ≡ node) × (said ≡ reply.Installed)
 IsInstallOf node job (Made maker (Plainly event) said) = ⊥
 IsInstallOf node job (Silent reason) = ⊥
 IsInstallOf node job Widened = ⊥

@@ -1,4 +1,4 @@
-use Rattle.std.proofs.Common.{rules, ◌≡◌, ◌<◌, Err, Result, ℤ, List, Ok, refl, sym, subst, ap, ◌∙◌}
+use Rattle.std.proofs.Common.{rules, ◌≡◌, ◌<◌, Err, Result, ℕ, ℤ, List, Ok, refl, sym, subst, ap, ◌∙◌}
 use Rattle.std.proofs.Common.{arith}
 use Rattle.std.specs.Prelude.{All, IfOk, slice_get}
 use Rattle.std.specs.declared.alloc.AllocError.{AllocError}
@@ -6,6 +6,10 @@ use Rattle.wire.specs.declared.queue.TheConstants.{NODES}
 use Rattle.protocol.specs.declared.reply.Reply.TheVariants.{Down}
 use Rattle.world.specs.ReplyView.{reply_view}
 use Rattle.world.specs.declared.event.Event.{Event}
+use Rattle.world.specs.declared.event.Event.TheVariants as event_is
+use Rattle.protocol.specs.declared.event.Deed.{Deed}
+use Rattle.protocol.specs.declared.event.PlainEvent.{PlainEvent}
+use Rattle.protocol.specs.declared.event.PlainEvent.TheVariants as plain_is
 use Rattle.world.specs.ReplyView.{Reply}
 use Rattle.kahn_net.specs.Syntax.{network_of}
 use Rattle.kahn_net.specs.Nodes.{node_count}
@@ -43,6 +47,12 @@ use Rattle.world.proofs.Events.{acted_came, installed_came, moved_put, released_
 use Rattle.world.proofs.Planned.{deed_came, quiet_came}
 use Rattle.world.proofs.station.Station.act.Goals as goal
 
+-- a deed of a node, as the three matches found it
+deed_seen : {e : Event} {plain : PlainEvent} {deed what : Deed} {k : ℕ} → e ≡ event_is.Plain plain
+    → plain ≡ plain_is.ByNode k deed → deed ≡ what → event_view e ≡ ByNode k what
+deed_seen {k = k} is by what =
+    ap event_view is ∙ (ap plain_view by ∙ ap (λ (d : Deed). ByNode k d) what)
+
 -- ---- what each event asks for
 
 pub install-requires : goal.install-requires
@@ -51,7 +61,7 @@ install-requires g c = λ out.
     let was = station_view g.O.Outlet.taken g.O.Outlet.failures c.args.self.now in
     let done = done_view c.in-Install.done in
     subst (λ (n : Net). TakesTurn (network_of n.program).channels done.job.process done.taken done.sent was.node.mode)
-    (sym c.deref-in-Install.ensures)
+    (sym c.deref.ensures)
     (takes_turn (network_of net.program) c.args.inputs.now.value net.valid c.requires.sure.fits was c.requires.sound.inv
     done c.in-Install.done.turn out)
 
@@ -92,17 +102,17 @@ deliver-requires g c =
     let was = station_view g.O.Outlet.taken g.O.Outlet.failures c.args.self.now in
     let setting =
     setting_in (network_of net.program) c.args.inputs.now.value (traffic_of c.args.wire.now) c.args.round c.args.room in
-    let is = ap (λ (n : Net). network_of n.program) (sym c.deref.ensures) in
+    let is = ap (λ (n : Net). network_of n.program) (sym c.deref-in-Deliver.ensures) in
     record {
-      to = subst (λ (e : Event). event_node (event_view e) < NODES) c.in-Deliver.is c.requires.node;
+      to = subst (λ (e : EventView). event_node e < NODES) (deed_seen c.in-Plain.is c.in-ByNode.is c.in-Deliver.is) c.requires.node;
       like = like_now (network_of net.program) c.args.inputs.now.value net.valid c.requires.sure.fits was
           c.requires.sound.inv;
       listed = c.requires.sound.joined.kept.listed ∙ ap node_count is;
       bounded = c.requires.sound.inv.kept.bounded;
       right = arrives_heard setting c.requires.sure was c.requires.sound c.in-ByNode.node c.in-Deliver.place
-          (network_of c.deref.result.now.program) is;
+          (network_of c.deref-in-Deliver.result.now.program) is;
       allowed = arrives_allowed setting c.requires.sure was c.requires.sound c.in-ByNode.node c.in-Deliver.place
-          (network_of c.deref.result.now.program) is;
+          (network_of c.deref-in-Deliver.result.now.program) is;
     }
 
 pub release-requires : goal.release-requires
@@ -140,8 +150,8 @@ returns-in-Deliver-clause-come g c =
     (slice_get (flights_to (traffic_of c.args.wire.now) c.in-ByNode.node) c.in-Deliver.place) in
     deed_came setting fits (event_view c.args.event.now) was _ (traffic_of c.deliver.new.wire) c.deliver.result
     c.in-ByNode.node (view.Deliver c.in-Deliver.place)
-    (deliver_plan (network_of c.deref.result.now.program) c.in-Deliver.place found was) (deed_seen _ _ c.in-Plain.is c.in-ByNode.is c.in-Deliver.is)
-    (ap (λ (n : Net). deliver_plan (network_of n.program) c.in-Deliver.place found was) c.deref.ensures)
+    (deliver_plan (network_of c.deref-in-Deliver.result.now.program) c.in-Deliver.place found was) (deed_seen c.in-Plain.is c.in-ByNode.is c.in-Deliver.is)
+    (ap (λ (n : Net). deliver_plan (network_of n.program) c.in-Deliver.place found was) c.deref-in-Deliver.ensures)
     c.deliver.ensures.come
 
 pub returns-in-Grant-clause-come : goal.returns-in-Grant-clause-come
@@ -155,7 +165,7 @@ returns-in-Grant-clause-come g c =
     let fits = fits_in (g.C.SlotCell.slot_capacity (cell_in c.args.self.now.node.store)) in
     quiet_came setting fits (event_view c.args.event.now) was _ (traffic_of c.args.wire.now) c.grant.result
     _ view.Grant _
-    (deed_seen _ _ c.in-Plain.is c.in-ByNode.is c.in-Grant.is)
+    (deed_seen c.in-Plain.is c.in-ByNode.is c.in-Grant.is)
     (ap (λ (i : List (List ℤ)). grant_plan (node_job setting.net i setting.room was.node) c.args.round was)
     c.deref-in-Grant.ensures)
     refl refl (λ came. grant_sends (node_job setting.net setting.inputs setting.room was.node) was.node came)
@@ -175,7 +185,7 @@ returns-in-Install-clause-come g c =
     (subst (λ (n : Net). IfOk c.install.result
     (λ (r : Reply). IsInstalled n.program.channels.items (done_view c.in-Install.done)
     was (reply_view r) (station_view g.O.Outlet.taken g.O.Outlet.failures c.install.new.self)))
-    c.deref-in-Install.ensures
+    c.deref.ensures
     c.install.ensures.step)
 
 pub returns-in-Send-clause-come : goal.returns-in-Send-clause-come
@@ -188,7 +198,7 @@ returns-in-Send-clause-come g c =
     c.args.round c.args.room in
     let fits = fits_in (g.C.SlotCell.slot_capacity (cell_in c.args.self.now.node.store)) in
     deed_came setting fits (event_view c.args.event.now) was _ (traffic_of c.send.new.wire) c.send.result _ view.Send
-    (send_plan (network_of c.deref-in-Send.result.now.program) c.args.round was) (deed_seen _ _ c.in-Plain.is c.in-ByNode.is c.in-Send.is)
+    (send_plan (network_of c.deref-in-Send.result.now.program) c.args.round was) (deed_seen c.in-Plain.is c.in-ByNode.is c.in-Send.is)
     (ap (λ (n : Net). send_plan (network_of n.program) c.args.round was) c.deref-in-Send.ensures)
     (c.send.ensures.come _)
 
@@ -202,7 +212,7 @@ returns-in-Start-clause-come g c =
     c.args.round c.args.room in
     let fits = fits_in (g.C.SlotCell.slot_capacity (cell_in c.args.self.now.node.store)) in
     deed_came setting fits (event_view c.args.event.now) was _ (traffic_of c.start.new.wire) c.start.result _ view.Start
-    (start_plan (network_of c.deref-in-Start.result.now.program) c.args.round was) (deed_seen _ _ c.in-Plain.is c.in-ByNode.is c.in-Start.is)
+    (start_plan (network_of c.deref-in-Start.result.now.program) c.args.round was) (deed_seen c.in-Plain.is c.in-ByNode.is c.in-Start.is)
     (ap (λ (n : Net). start_plan (network_of n.program) c.args.round was) c.deref-in-Start.ensures)
     (c.start.ensures.come _)
 
@@ -217,7 +227,7 @@ returns-in-Decide-clause-come g c =
     let fits = fits_in (g.C.SlotCell.slot_capacity (cell_in c.args.self.now.node.store)) in
     deed_came setting fits (event_view c.args.event.now) was _ (traffic_of c.decide.new.wire) c.decide.result
     _ view.Decide
-    (decide_plan was) (deed_seen _ _ c.in-Plain.is c.in-ByNode.is c.in-Decide.is) refl (c.decide.ensures.come _)
+    (decide_plan was) (deed_seen c.in-Plain.is c.in-ByNode.is c.in-Decide.is) refl (c.decide.ensures.come _)
 
 pub returns-in-Release-clause-come : goal.returns-in-Release-clause-come
 returns-in-Release-clause-come g c =
@@ -242,7 +252,7 @@ returns-in-Crash-clause-come g c =
     let fits = fits_in (g.C.SlotCell.slot_capacity (cell_in c.args.self.now.node.store)) in
     let restart = round_later c.args.round c.in-Crash.rounds in
     quiet_came setting fits (event_view c.args.event.now) was _ (traffic_of c.args.wire.now) (Ok c.crash.result) _
-    (view.Crash c.in-Crash.fill c.in-Crash.rounds) (crash_plan restart was) (deed_seen _ _ c.in-Plain.is c.in-ByNode.is c.in-Crash.is) refl refl refl
+    (view.Crash c.in-Crash.fill c.in-Crash.rounds) (crash_plan restart was) (deed_seen c.in-Plain.is c.in-ByNode.is c.in-Crash.is) refl refl refl
     (λ came. crash_sends restart was.node came) c.crash.ensures.step
 
 pub returns-in-Recover-clause-come : goal.returns-in-Recover-clause-come
@@ -255,7 +265,7 @@ returns-in-Recover-clause-come g c =
     c.args.round c.args.room in
     let fits = fits_in (g.C.SlotCell.slot_capacity (cell_in c.args.self.now.node.store)) in
     quiet_came setting fits (event_view c.args.event.now) was _ (traffic_of c.args.wire.now) c.recover.result _
-    view.Recover (recover_plan (network_of c.deref-in-Recover.result.now.program) was) (deed_seen _ _ c.in-Plain.is c.in-ByNode.is c.in-Recover.is)
+    view.Recover (recover_plan (network_of c.deref-in-Recover.result.now.program) was) (deed_seen c.in-Plain.is c.in-ByNode.is c.in-Recover.is)
     (ap (λ (n : Net). recover_plan (network_of n.program) was) c.deref-in-Recover.ensures)
     refl refl
     (λ came. recover_sends (network_of c.args.net.now.value.program) was.number was.node came) c.recover.ensures.step
@@ -271,7 +281,7 @@ returns-in-Arm-clause-come g c =
     let fits = fits_in (g.C.SlotCell.slot_capacity (cell_in c.args.self.now.node.store)) in
     quiet_came setting fits (event_view c.args.event.now) was _ (traffic_of c.args.wire.now) c.arm.result _
     (view.Arm c.in-Arm.fault c.in-Arm.rounds) (arm_plan c.in-Arm.fault.call c.in-Arm.rounds was)
-    (deed_seen _ _ c.in-Plain.is c.in-ByNode.is c.in-Arm.is) refl refl refl
+    (deed_seen c.in-Plain.is c.in-ByNode.is c.in-Arm.is) refl refl refl
     (λ came. becoming_sends (with_armed c.in-Arm.fault.call c.in-Arm.rounds was.node) came) c.arm.ensures.step
 
 pub returns-in-Idle-clause-come : goal.returns-in-Idle-clause-come
@@ -285,7 +295,7 @@ returns-in-Idle-clause-come g c =
     let fits = fits_in (g.C.SlotCell.slot_capacity (cell_in c.args.self.now.node.store)) in
     quiet_came setting fits (event_view c.args.event.now) was _ (traffic_of c.args.wire.now) (Ok c.idle.result)
     _ view.Idle
-    (idle_plan c.args.round was) (deed_seen _ _ c.in-Plain.is c.in-ByNode.is c.in-Idle.is) refl refl refl (λ came. becoming_sends was.node came)
+    (idle_plan c.args.round was) (deed_seen c.in-Plain.is c.in-ByNode.is c.in-Idle.is) refl refl refl (λ came. becoming_sends was.node came)
     c.idle.ensures.step
 
 pub returns-in-ByNetwork-clause-come : goal.returns-in-ByNetwork-clause-come
@@ -315,7 +325,7 @@ returns-in-Deliver-clause-moved g c =
     let fits = fits_in (g.C.SlotCell.slot_capacity (cell_in c.args.self.now.node.store)) in
     let found = due_bytes c.args.round
     (slice_get (flights_to (traffic_of c.args.wire.now) c.in-ByNode.node) c.in-Deliver.place) in
-    let seen = deed_seen _ _ c.in-Plain.is c.in-ByNode.is c.in-Deliver.is in
+    let seen = deed_seen c.in-Plain.is c.in-ByNode.is c.in-Deliver.is in
     subst (λ (e : EventView). HasMoved g.C.StableCell.moment g.C.SlotCell.left_since_whole
     (cell_in c.args.self.now.node.store)
     (cell_in c.deliver.new.self.node.store) was.node.kept (next_kept setting e was)
@@ -328,7 +338,7 @@ returns-in-Deliver-clause-moved g c =
     (outlet_views g.O.Outlet.taken g.O.Outlet.failures c.deliver.new.self.outputs.items) _
     c.deliver.ensures.later c.deliver.ensures.outputs
     (ap (λ (n : Net). next_record (deliver_plan (network_of n.program) c.in-Deliver.place found was).prospect
-    was.node.kept) c.deref.ensures) c.deliver.ensures.leaves)
+    was.node.kept) c.deref-in-Deliver.ensures) c.deliver.ensures.leaves)
 
 pub returns-in-Start-clause-moved : goal.returns-in-Start-clause-moved
 returns-in-Start-clause-moved g c =
@@ -339,7 +349,7 @@ returns-in-Start-clause-moved g c =
     setting_in (network_of c.args.net.now.value.program) c.args.inputs.now.value (traffic_of c.args.wire.now)
     c.args.round c.args.room in
     let fits = fits_in (g.C.SlotCell.slot_capacity (cell_in c.args.self.now.node.store)) in
-    let seen = deed_seen _ _ c.in-Plain.is c.in-ByNode.is c.in-Start.is in
+    let seen = deed_seen c.in-Plain.is c.in-ByNode.is c.in-Start.is in
     subst (λ (e : EventView). HasMoved g.C.StableCell.moment g.C.SlotCell.left_since_whole
     (cell_in c.args.self.now.node.store)
     (cell_in c.start.new.self.node.store) was.node.kept (next_kept setting e was)
