@@ -42,9 +42,12 @@ pub(crate) fn is_idle(event: &Event) -> bool
     ensures { result ≡ is_idle (event_view event.now) }
 {
     match event {
-        Event::Plain(PlainEvent::ByNode {
-            deed: Deed::Idle, ..
-        }) => true,
+        Event::Plain(
+            PlainEvent::ByNode {
+                deed: Deed::Idle,
+                ..
+            },
+        ) => true,
         _ => false,
     }
 }

@@ -46,7 +46,10 @@ pub enum NetworkAct {
 #[derive(Clone, Copy, Debug, PartialEq, Eq)]
 pub enum PlainEvent {
     /// A node does something, or something is done to it.
-    ByNode { node: u8, deed: Deed },
+    ByNode {
+        node: u8,
+        deed: Deed,
+    },
     /// One item of an output that a permanent checkpoint covers leaves the node.
     Release(u8),
     /// The network does something to the packet at this place, from 0, of those in flight to the node. What is armed looks at no

@@ -30,7 +30,12 @@ fn delivered_to(event: &Event) -> Option<u8>
     ensures { result ≡ delivered_to (event_view event.now) }
 {
     match event {
-        Event::Plain(PlainEvent::ByNode { node, deed: Deed::Deliver { .. } }) => Some(*node),
+        Event::Plain(
+            PlainEvent::ByNode {
+                node,
+                deed: Deed::Deliver { .. },
+            },
+        ) => Some(*node),
         _ => None,
     }
 }

@@ -75,9 +75,12 @@ fn is_idle(event: &Event) -> bool
     ensures { result ≡ true → IsIdle (event_view event.now) }
 {
     match event {
-        Event::Plain(PlainEvent::ByNode {
-            deed: Deed::Idle, ..
-        }) => true,
+        Event::Plain(
+            PlainEvent::ByNode {
+                deed: Deed::Idle,
+                ..
+            },
+        ) => true,
         _ => false,
     }
 }

@@ -21,7 +21,8 @@ use proc_step::Job;
 use replay::{ArmedCrash, KeptReply, Maker, RunEvent, ScriptedEvent, Silence};
 use runtime::{
     ArmedWorld, Blanks, Bounds, DriverPost, DriverSeat, Entry, FaultAnswer, Floor, Gate, History,
-    Hub, KeptEvent, Line, NodeSeat, OpenGate, Post, Run, TurnAnswer, keep_reply, run_threads, run_world, work,
+    Hub, KeptEvent, Line, NodeSeat, OpenGate, Post, Run, TurnAnswer, keep_reply, run_threads,
+    run_world, work,
 };
 use sector_disk::{ArmedFault, Disk, MemDisk, SECTOR_BYTES};
 use std::alloc::{AllocError, Global};

@@ -85,10 +85,12 @@ fn event_word(event: &Event) -> &'static str {
 /// The place from which an event delivers a packet, if it delivers one.
 fn delivery_place(event: &Event) -> Option<usize> {
     match event {
-        Event::Plain(PlainEvent::ByNode {
-            deed: Deed::Deliver { place },
-            ..
-        }) => Some(*place),
+        Event::Plain(
+            PlainEvent::ByNode {
+                deed: Deed::Deliver { place },
+                ..
+            },
+        ) => Some(*place),
         _ => None,
     }
 }
