@@ -13,7 +13,7 @@ use proc_step::Job;
 use sector_disk::MemDisk;
 use std::alloc::{AllocError, Global};
 use std::sync::Arc;
-use world::{Event, Reply, SECTORS, World, list_outputs, node_count};
+use world::{Deed, Event, Reply, SECTORS, World, list_outputs, node_count};
 
 const NET: &str = "kahn 1; input i; chan c; output o;
 process first on 0 { var a; var v; loop { v = get i; a = a + v; put a to c; } }
@@ -94,11 +94,7 @@ fn run(alloc: Global, crash: Option<Crash>) -> anyhow::Result<(Sums, u32)> {
         ) = &crash
         {
             if *before == event {
-                let crash = Event::Crash {
-                    node: *node,
-                    fill: 0,
-                    rounds: 2,
-                };
+                let crash = Event::by_node(*node, Deed::Crash { fill: 0, rounds: 2 });
                 apply(alloc, &mut world, crash)?;
             }
         }

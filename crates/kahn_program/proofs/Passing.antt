@@ -24,10 +24,12 @@ use Rattle.protocol.specs.Node.NodeView.{NodeView, running_of}
 use Rattle.protocol.specs.Node.Verdicts.{may_decide}
 use Rattle.protocol.specs.World.Choice.{choice, choice_of, deliver_or, due_place, flying_to, has_more, has_turn, may_recover}
 use Rattle.protocol.specs.World.Choice.{own_choice}
-use Rattle.protocol.specs.World.EventView.{EventView, ByNode, Crash, Deliver, Idle, Release, event_node}
-use Rattle.protocol.specs.World.EventView as event
+use Rattle.protocol.specs.World.EventView.{EventView, ByNode, Release, event_node}
+use Rattle.protocol.specs.declared.event.Deed.TheVariants.{Crash, Deliver, Idle}
+use Rattle.protocol.specs.declared.event.Deed.TheVariants as event
 use Rattle.protocol.specs.World.Invariant.{WorldInvariant}
-use Rattle.protocol.specs.World.ReplyView.{ReplyView, Granted, Idled, NotDue}
+use Rattle.protocol.specs.World.ReplyView.{ReplyView}
+use Rattle.protocol.specs.declared.reply.Reply.TheVariants.{Granted, Idled, NotDue}
 use Rattle.protocol.specs.World.StationView.{StationView}
 use Rattle.protocol.specs.World.Steps.{WorldView, Setting, IsStep, IsActAt, IsActOf, IsPlanned, are_done_with, next_release}
 use Rattle.protocol.specs.World.Steps.{idle_plan, moved_to, round_after, setting_of, traffic_after}
@@ -42,7 +44,7 @@ use Rattle.replay.specs.Armed.{ArmedView, EndsWith, IsWorldStep, crash_after, cr
 use Rattle.replay.specs.Armed.{first_crash, has_come, is_for}
 use Rattle.replay.specs.declared.kept.ArmedCrash.{ArmedCrash}
 use Rattle.replay.proofs.Choices.{choice_at_home}
-use Rattle.replay.specs.declared.plain.PlainEvent.{PlainEvent}
+use Rattle.replay.specs.declared.kept.RunEvent.{RunEvent}
 use Rattle.kahn_program.specs.Turning.{Follows, IsDriven, IsNodeTurn, Progress, progress, run_rooms}
 use Rattle.kahn_program.specs.Resting.{AllRest, Rests, RestsAt, is_grant, is_idle, none_rest, rest_after}
 
@@ -587,12 +589,12 @@ noted_behind old between new event answer node resting true false passed inv cho
     (λ yes turn. rests event old between answer node inv chosen (sym idle ∙ turn) step round))
 
 -- What is noted behind a line, or none, holds: where none came all is as it was.
-pub noted_line : (event : Option PlainEvent) (old new : ArmedView) (passed now : ℕ) (resting later : List Bool)
+pub noted_line : (event : Option RunEvent) (old new : ArmedView) (passed now : ℕ) (resting later : List Bool)
     → IsDriven event (progress old passed) (progress new now) → later ≡ cond (eqb now passed) resting none_rest
     → AllRest resting old.world → AllRest later new.world
 noted_line event old new passed now resting later driven is all = at (eqb now passed) refl is
   where
-    came : (event : Option PlainEvent) → IsDriven event (progress old passed) (progress new now) → now ≡ passed
+    came : (event : Option RunEvent) → IsDriven event (progress old passed) (progress new now) → now ≡ passed
         → new ≡ old
     came None same none = ap (λ (p : Progress). p.armed) same
     came (Some event) line none = let more : now ≡ passed + 1 = line.2 in absurd (omega (arith, more, none))

@@ -36,14 +36,14 @@ use Rattle.protocol.specs.declared.limits.TheConstants.{DEFAULT_ROOM}
 use Rattle.replay.specs.Armed.{ArmedEvent, ArmedView, IsArmedStep}
 use Rattle.replay.specs.Replay.{Happening, LeadsTo}
 use Rattle.replay.specs.declared.kept.ScriptedEvent.{ScriptedEvent}
-use Rattle.replay.specs.declared.plain.PlainEvent.{PlainEvent}
+use Rattle.replay.specs.declared.kept.RunEvent.{RunEvent}
 use Rattle.protocol.specs.World.ReplyView.{ReplyView}
 use Rattle.world.specs.ReplyView.{reply_view}
 use Rattle.world.specs.WorldView.{capacities, rooms, station_view}
 use Rattle.world.specs.OpeningWorld.{opening_length, HasNoRoom, IsOpeningRefusal, IsWorldRefusal}
 use Rattle.gate_cell.specs.declared.TheConstants.{SECTORS}
-use Rattle.world.specs.declared.event.Reply.{Reply}
-use Rattle.world.specs.declared.event.Reply.TheVariants.{Granted}
+use Rattle.world.specs.ReplyView.{Reply}
+use Rattle.protocol.specs.declared.reply.Reply.TheVariants.{Granted}
 use Rattle.world.specs.declared.output.Output.{Output}
 use Rattle.world.specs.declared.station.Station.{Station}
 use Rattle.kahn_program.specs.Turning.{turn_node, CameTo, first_world, Follows, HavePassed, IsDriven, IsWholeTurn}
@@ -163,7 +163,7 @@ pub hub_refused_so : (failure : Failure) (fault : HubFault) → failure ≡ hub_
 hub_refused_so failure fault same = subst (IsStoreFailure false) (sym same) (hub_refused fault)
 
 -- one line more
-pub more_lines : (script : List ScriptedEvent) (lines : ℕ) (first before now : Progress) (event : Option PlainEvent)
+pub more_lines : (script : List ScriptedEvent) (lines : ℕ) (first before now : Progress) (event : Option RunEvent)
     → HavePassed script lines first before → event ≡ next_event script before → IsSome event
     → IsDriven event before now → HavePassed script (lines + 1) first now
 more_lines script lines first before now None came is some driven = absurd (cc)
@@ -173,7 +173,7 @@ more_lines script lines first before now (Some event) came is some driven =
 
 -- the same, where the lines are counted by what is passed
 pub more_passed : (script : List ScriptedEvent) (first : Progress) (old new : ArmedView) (passed now : ℕ)
-    (event : Option PlainEvent) → HavePassed script passed first (progress old passed)
+    (event : Option RunEvent) → HavePassed script passed first (progress old passed)
     → event ≡ next_event script (progress old passed) → IsSome event
     → IsDriven event (progress old passed) (progress new now) → HavePassed script now first (progress new now)
 more_passed script first old new passed now None came is some driven = absurd (cc)

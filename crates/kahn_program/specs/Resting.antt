@@ -3,8 +3,10 @@ use Rattle.std.specs.Prelude.{◌≡◌, ℕ, ℤ, Bool, true, false, List, leng
 use Rattle.kahn_net.specs.Syntax.{Network}
 use Rattle.kahn_net.specs.declared.limits.TheConstants.{MAX_NODES}
 use Rattle.protocol.specs.World.Choice.{may_recover, own_choice}
-use Rattle.protocol.specs.World.EventView.{EventView, ByNode, Idle}
-use Rattle.protocol.specs.World.ReplyView.{ReplyView, Granted}
+use Rattle.protocol.specs.World.EventView.{EventView, ByNode}
+use Rattle.protocol.specs.declared.event.Deed.TheVariants.{Idle}
+use Rattle.protocol.specs.World.ReplyView.{ReplyView}
+use Rattle.protocol.specs.declared.reply.Reply.TheVariants.{Granted}
 use Rattle.protocol.specs.World.StationView.{StationView}
 use Rattle.protocol.specs.World.Steps.{WorldView}
 use Rattle.protocol.specs.World.Turns.{turns_of}

@@ -13,7 +13,8 @@ use Rattle.protocol.specs.World.EventView.{Install}
 use Rattle.protocol.specs.World.OpeningWorld.{opening_world}
 use Rattle.protocol.specs.World.Quiet.{are_quiet}
 use Rattle.protocol.specs.World.Released.{released_of}
-use Rattle.protocol.specs.World.ReplyView.{ReplyView, Granted}
+use Rattle.protocol.specs.World.ReplyView.{ReplyView}
+use Rattle.protocol.specs.declared.reply.Reply.TheVariants.{Granted}
 use Rattle.protocol.specs.World.Sound.{output_channels}
 use Rattle.protocol.specs.World.StationView.{OutletView, StationView}
 use Rattle.protocol.specs.World.Steps.{WorldView, with_room}
@@ -23,9 +24,9 @@ use Rattle.ckpt_codec.specs.declared.lengths.TheConstants.{MAX_RETAINED_ITEMS}
 use Rattle.gate_cell.specs.declared.TheConstants.{SECTORS}
 use Rattle.replay.specs.Armed.{ArmedEvent, ArmedView, IsArmedStep, OfWorld, armed_at_first, with_world}
 use Rattle.kahn_program.specs.declared.turning.TheConstants.{MAX_TURNS}
-use Rattle.replay.specs.Plain.{plain_view}
+use Rattle.replay.specs.Plain.{run_view}
 use Rattle.replay.specs.declared.kept.ScriptedEvent.{ScriptedEvent}
-use Rattle.replay.specs.declared.plain.PlainEvent.{PlainEvent}
+use Rattle.replay.specs.declared.kept.RunEvent.{RunEvent}
 
 -- the room of the slots of each cell of a run: that of a disk of so many sectors
 abbrev pub IsRunRoom : ℕ → Type 0
@@ -73,25 +74,25 @@ abbrev pub progress : ArmedView → ℕ → Progress
 progress armed passed = record { armed = armed; passed = passed }
 
 -- the event of a line, if there is one and it is due
-abbrev pub due_event : ℕ → Option ScriptedEvent → Option PlainEvent
+abbrev pub due_event : ℕ → Option ScriptedEvent → Option RunEvent
 due_event round None = None
 due_event round (Some line) = if nat_le line.round round then Some line.event else None
 
-abbrev pub next_event : List ScriptedEvent → Progress → Option PlainEvent
+abbrev pub next_event : List ScriptedEvent → Progress → Option RunEvent
 next_event script now = due_event now.armed.world.round (slice_get script now.passed)
 
 -- this event of a line happens, if there is one
-abbrev pub IsDriven : Option PlainEvent → Progress → Progress → Type 0
+abbrev pub IsDriven : Option RunEvent → Progress → Progress → Type 0
 IsDriven None old new = new ≡ old
 IsDriven (Some event) old new =
-    (answer : ReplyView) × IsRunStep (plain_view event) old.armed answer new.armed × (new.passed ≡ old.passed + 1)
+    (answer : ReplyView) × IsRunStep (run_view event) old.armed answer new.armed × (new.passed ≡ old.passed + 1)
 
 -- so many lines are passed, each of which is due
 abbrev pub HavePassed : List ScriptedEvent → ℕ → Progress → Progress → Type 0
 HavePassed script zero first now = now ≡ first
 HavePassed script (suc lines) first now =
     (before : Progress) × HavePassed script lines first before
-    × ((event : PlainEvent) × (next_event script before ≡ Some event) × IsDriven (Some event) before now)
+    × ((event : RunEvent) × (next_event script before ≡ Some event) × IsDriven (Some event) before now)
 
 -- all that are due at first
 pub record HasBegun (script : List ScriptedEvent) (first now : Progress) : Type 0 where
@@ -104,7 +105,7 @@ abbrev pub turn_node : ℕ → ℕ → ℕ
 turn_node nodes turn = if nat_lt 0 nodes then turn % nodes else 0
 
 -- the line that comes before a turn of this node: one before each turn of node 0, if it is due
-abbrev pub line_before : List ScriptedEvent → ℕ → Progress → Option PlainEvent
+abbrev pub line_before : List ScriptedEvent → ℕ → Progress → Option RunEvent
 line_before script node now = if node == 0 then next_event script now else None
 
 -- So many turns lead from one world of so many nodes to another, and the line before the next turn is passed; none is taken

@@ -13,7 +13,7 @@ ghost use Rattle.kahn_program.specs.Turning.{IsNodeTurn};
 
 use crate::turning::RunArmed;
 use kahn_net::MAX_NODES;
-use world::{Event, Reply};
+use world::{Deed, Event, PlainEvent, Reply};
 
 /// Of which nodes it is noted that they rest: they let a turn pass in this round, and nothing has happened to them since but that
 /// packets may be in flight to them.
@@ -42,7 +42,12 @@ pub(crate) fn is_idle(event: &Event) -> bool
     ensures { result ≡ is_idle (event_view event.now) }
 {
     match event {
-        Event::Idle(_) => true,
+        Event::Plain(
+            PlainEvent::ByNode {
+                deed: Deed::Idle,
+                ..
+            },
+        ) => true,
         _ => false,
     }
 }

@@ -19,7 +19,7 @@ use gate_cell::SplitCell;
 use kahn_net::{Channel, MAX_NODES};
 use outlet::ListOutlet;
 use proc_step::Job;
-use replay::{PlainEvent, ScriptedEvent};
+use replay::{RunEvent, ScriptedEvent};
 use runtime::ArmedWorld;
 use sector_disk::MemDisk;
 use std::alloc::{AllocError, Global};
@@ -138,7 +138,7 @@ fn take_turn(
 }
 
 /// The event of the script's next line, if there is one and it is due.
-fn next_event(script: &[ScriptedEvent], passed: usize, round: u64) -> Option<PlainEvent>
+fn next_event(script: &[ScriptedEvent], passed: usize, round: u64) -> Option<RunEvent>
     ensures event { result ≡ due_event round (slice_get script.now passed) }
     ensures few { IsSome result → passed < length script.now }
 {
@@ -160,7 +160,7 @@ fn drive(
     armed: &mut RunArmed,
     script: &[ScriptedEvent],
     passed: usize,
-    event: Option<PlainEvent>,
+    event: Option<RunEvent>,
 ) -> Result<usize, AllocError>
     requires room { AllByRecursion IsRunRoom (capacities armed.old.world.stations.items) }
     requires few { IsSome event → passed < length script.now }

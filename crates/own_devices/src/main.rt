@@ -26,7 +26,7 @@ use outlet::Outlet;
 use sector_disk::MemDisk;
 use std::alloc::{AllocError, Global};
 use std::sync::Arc;
-use world::{Event, Output, Reply, World, list_outputs, node_count};
+use world::{Deed, Event, Output, Reply, World, list_outputs, node_count};
 
 /// The sum of the items so far goes to the first output, and each item to the second.
 const NET: &str = "kahn 1; input i; output total; output same;
@@ -124,11 +124,7 @@ fn step(rt: &HostRuntime, world: &mut OwnWorld) -> anyhow::Result<()> {
 
 /// The node crashes: what it had in memory is gone. It may be recovered a round later.
 fn crash() -> Event {
-    Event::Crash {
-        node: 0,
-        fill: 0,
-        rounds: 1,
-    }
+    Event::by_node(0, Deed::Crash { fill: 0, rounds: 1 })
 }
 
 /// Goes on until the world is complete. It crashes before the turn `CRASHES_AT`, where it is to.

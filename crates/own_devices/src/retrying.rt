@@ -5,7 +5,7 @@ use anyhow::bail;
 use proc_step::{Done, Job};
 use std::alloc::Global;
 use std::sync::Arc;
-use world::{Event, Reply};
+use world::{Deed, Event, PlainEvent, Reply};
 
 /// What is to be seen of a world from without, with no memory.
 #[derive(Clone, Copy)]
@@ -17,15 +17,22 @@ struct Seen {
     same: usize,
 }
 
+fn name_of_deed(deed: &Deed) -> &'static str {
+    match deed {
+        Deed::Grant => "grant",
+        Deed::Start => "start",
+        Deed::Decide => "decide",
+        Deed::Recover => "recover",
+        Deed::Send => "send",
+        Deed::Idle => "idle",
+        _ => "another",
+    }
+}
+
 fn name_of(event: &Event) -> &'static str {
     match event {
-        Event::Grant(_) => "grant",
-        Event::Start(_) => "start",
-        Event::Decide(_) => "decide",
-        Event::Release(_) => "release",
-        Event::Recover(_) => "recover",
-        Event::Send(_) => "send",
-        Event::Idle(_) => "idle",
+        Event::Plain(PlainEvent::ByNode { deed, .. }) => name_of_deed(deed),
+        Event::Plain(PlainEvent::Release(_)) => "release",
         _ => "another",
     }
 }

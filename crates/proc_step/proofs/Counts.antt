@@ -1,6 +1,6 @@
 -- What a turn took and sent, channel by channel.
 use Rattle.std.proofs.Common.{◌≡◌, ◌≢◌, ◌⊎◌, inl, inr, ℕ, zero, suc, ◌-◌, ◌<◌, ◌≤◌, Bool, true, false, cond, eqb, List}
-use Rattle.std.proofs.Common.{ℤ, [], ◌∷◌, ◌++◌, length, refl, sym, ap, ◌∙◌, append_assoc, arith}
+use Rattle.std.proofs.Common.{ℤ, [], ◌∷◌, ◌++◌, length, refl, sym, ap, ◌∙◌, append_assoc, append-nil, arith}
 use Rattle.std.specs.Prelude.{slice_index}
 use Rattle.std.proofs.lemmas.List.{length-append, length-set, get_or_past, get_or-replicate, length-replicate}
 use Rattle.std.proofs.lemmas.Bool.{cases_lt}
@@ -86,8 +86,10 @@ counted_more taken pushed whole items left all rests all' rests' a b p h =
     ∙ (ap (λ (x : List (List ℤ)). taken ++ taken_of x (left ∷ rests')) (sym a)
     ∙ (ap (λ (x : List (List ℤ)). taken ++ taken_of all x) (sym b) ∙ h)))
 
--- and the others are fewer still
-pub fewer_later : (items left : List ℤ) (all rests all' rests' : List (List ℤ)) → all ≡ items ∷ all'
-    → rests ≡ left ∷ rests' → ((c : ℕ) → length (history_of rests c) ≤ length (history_of all c)) → (c : ℕ)
-    → length (history_of rests' c) ≤ length (history_of all' c)
-fewer_later items left all rests all' rests' a b h c = rw (a, b) at (h (suc c))
+-- none more where either list is through
+pub counted_all : {P Q : Type 0} (taken whole : List ℕ) (all rests : List (List ℤ)) → (P → length all ≡ 0)
+    → (Q → length rests ≡ 0) → P ⊎ Q → taken ++ taken_of all rests ≡ whole → taken ≡ whole
+counted_all taken whole [] rests f g through h = sym (append-nil taken) ∙ h
+counted_all taken whole (x ∷ all) [] f g through h = sym (append-nil taken) ∙ h
+counted_all taken whole (x ∷ all) (y ∷ rests) f g (inl p) h = absurd (omega (arith, f p))
+counted_all taken whole (x ∷ all) (y ∷ rests) f g (inr q) h = absurd (omega (arith, g q))

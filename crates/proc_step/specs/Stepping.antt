@@ -1,5 +1,6 @@
--- What instructions do to a turn.
-use Rattle.std.specs.Prelude.{◌≡◌, ◌+◌, ℕ, ℤ, List, Some}
+-- What instructions do to the machine of a turn.
+use Rattle.std.specs.Prelude.{◌≡◌, ◌+◌, ℕ, ℤ, List, Option, Some, None, length}
+use mathlib.Core.List.{reverse}
 use Rattle.kahn_net.specs.Statements.{Step, Trace, after_step}
 use Rattle.kahn_net.specs.Puts.{put_by}
 use Rattle.kahn_net.specs.Resuming.{left_by}
@@ -8,47 +9,49 @@ use Rattle.proc_code.specs.Machine.{Continuation, perform, Runs}
 use Rattle.proc_step.specs.Turns.{CanBeMade}
 use Rattle.proc_step.specs.Parts.{Part}
 use Rattle.proc_step.specs.declared.machine.Flow.{Flow}
-use Rattle.proc_step.specs.declared.machine.Next.{Next}
-use Rattle.proc_step.specs.declared.machine.Next.TheVariants.{Goes, Stops}
+use Rattle.proc_step.specs.declared.machine.Machine.{Machine}
 
--- The machine came to another place: by no act, so that nothing was taken and nothing sent, or by one that could be
--- made.
-pub data Moved (i : Instruction) (place : ℕ) (s : List ℤ) (l : List ℕ) (v : List ℤ) (u : List (List ℤ))
-    (room : List ℕ) (sent : List (List ℤ)) (to : ℕ) (s' : List ℤ) (l' : List ℕ) (v' : List ℤ) (u' sent' : List (List ℤ)) : Type 0 where
-  Quietly : ((go : Continuation) → perform (Some i) go place s l v u ≡ go to s' l' v' u') → u' ≡ u → sent' ≡ sent
-      → Moved i place s l v u room sent to s' l' v' u' sent'
-  Acting : (step : Step)
-      → ((go : Continuation) → perform (Some i) go place s l v u ≡ after_step step (go to s' l' v' u'))
-      → CanBeMade step.act room u sent → u' ≡ left_by step.act u → sent' ≡ put_by step.act sent
-      → Moved i place s l v u room sent to s' l' v' u' sent'
+-- the trace from where a machine is
+abbrev pub trace_at : Continuation → Machine → Trace
+trace_at go m = go m.place (reverse m.stack.items) m.left.items m.variables.items m.unread.items
 
--- what an instruction did: it came to another place, or the process stopped before its next act
-abbrev pub Stepped : Instruction → ℕ → List ℤ → List ℕ → List ℤ → List (List ℤ) → List ℕ → List (List ℤ) → Next → List ℤ
-    → List ℕ → List ℤ → List (List ℤ) → List (List ℤ) → Type 0
-Stepped i place s l v u room sent (Goes to) s' l' v' u' sent' = Moved i place s l v u room sent to s' l' v' u' sent'
-Stepped i place s l v u room sent (Stops flow) s' l' v' u' sent' =
-    (go : Continuation) → Part (perform (Some i) go place s l v u) room u sent flow l' v' u' sent'
+-- in at most so many instructions the code makes this trace from there
+abbrev pub RunsTo : List Instruction → ℕ → Machine → Trace → Type 0
+RunsTo code most m t =
+    Runs code most m.place (reverse m.stack.items) m.left.items m.variables.items m.unread.items (λ _. t)
 
--- whatever part of the one is made from here, a part of the other was made from there
-abbrev pub LeadsTo : Trace → List (List ℤ) → List (List ℤ) → Trace → List (List ℤ) → List (List ℤ) → List ℕ → Type 0
-LeadsTo t u s whole u0 s0 room =
-    (flow : Flow) (l' : List ℕ) (v' : List ℤ) (u' s' : List (List ℤ)) → Part t room u s flow l' v' u' s'
-    → Part whole room u0 s0 flow l' v' u' s'
+-- The machine went on: by no act, so that nothing was taken and nothing sent, or by one that could be made.
+pub data Moved (i : Instruction) (room : List ℕ) (m m' : Machine) : Type 0 where
+  Quietly : ((go : Continuation) → trace_at (perform (Some i) go) m ≡ trace_at go m')
+      → m'.unread.items ≡ m.unread.items → m'.sent.items ≡ m.sent.items → Moved i room m m'
+  Acting : (step : Step) → ((go : Continuation) → trace_at (perform (Some i) go) m ≡ after_step step (trace_at go m'))
+      → CanBeMade step.act room m.unread.items m.sent.items → m'.unread.items ≡ left_by step.act m.unread.items
+      → m'.sent.items ≡ put_by step.act m.sent.items → Moved i room m m'
 
--- What remains of a turn: in at most so many instructions the code makes a trace from here, which leads to the whole.
-pub record Remains (code : List Instruction) (most : ℕ) (place : ℕ) (s : List ℤ) (l : List ℕ) (v : List ℤ) (u : List (List ℤ)) (room : List ℕ)
-    (sent : List (List ℤ)) (whole : Trace) (u0 sent0 : List (List ℤ)) : Type 0 where
+-- what an instruction did: the machine went on, or the process stopped before its next act
+abbrev pub Stepped : Instruction → List ℕ → Machine → Option Flow → Machine → Type 0
+Stepped i room m None m' = Moved i room m m'
+Stepped i room m (Some flow) m' =
+    (go : Continuation) → Part (trace_at (perform (Some i) go) m) room m.unread.items m.sent.items flow m'
+
+-- What remains of a turn: in at most so many instructions the code makes a trace from here, and whatever part of it is
+-- made, a part of the whole was made.
+pub record Remains (code : List Instruction) (most : ℕ) (room : List ℕ) (m : Machine) (whole : Trace)
+    (u0 sent0 : List (List ℤ)) : Type 0 where
   pub trace : Trace
-  pub runs : Runs code most place s l v u (λ go. trace)
-  pub leads : LeadsTo trace u sent whole u0 sent0 room
+  pub runs : RunsTo code most m trace
+  pub leads : (flow : Flow) (m' : Machine) → Part trace room m.unread.items m.sent.items flow m'
+      → Part whole room u0 sent0 flow m'
+
+-- the rest remains, or the process has stopped
+abbrev pub Leaves : List Instruction → ℕ → List ℕ → Option Flow → Machine → Trace → List (List ℤ) → List (List ℤ)
+    → Type 0
+Leaves code more room None m whole u0 sent0 = Remains code more room m whole u0 sent0
+Leaves code more room (Some flow) m whole u0 sent0 = Part whole room u0 sent0 flow m
 
 -- So many instructions were carried out, and the rest remains; or the process stopped before. Of whatever whole.
-abbrev pub WentOn : List Instruction → ℕ → ℕ → List ℤ → List ℕ → List ℤ → List (List ℤ) → List ℕ → List (List ℤ) → Next
-    → List ℤ → List ℕ → List ℤ → List (List ℤ) → List (List ℤ) → Type 0
-WentOn code done place s l v u room sent (Goes to) s' l' v' u' sent' =
-    (whole : Trace) (u0 sent0 : List (List ℤ)) (more : ℕ)
-    → Remains code (done + more) place s l v u room sent whole u0 sent0
-    → Remains code more to s' l' v' u' room sent' whole u0 sent0
-WentOn code done place s l v u room sent (Stops flow) s' l' v' u' sent' =
-    (whole : Trace) (u0 sent0 : List (List ℤ)) (more : ℕ)
-    → Remains code (done + more) place s l v u room sent whole u0 sent0 → Part whole room u0 sent0 flow l' v' u' sent'
+pub record WentOn (code : List Instruction) (done : ℕ) (room : List ℕ) (m : Machine) (stop : Option Flow) (m' : Machine)
+    : Type 0 where
+  pub rooms : length m'.sent.items ≡ length m.sent.items
+  pub went : (whole : Trace) (u0 sent0 : List (List ℤ)) (more : ℕ) → Remains code (done + more) room m whole u0 sent0
+      → Leaves code more room stop m' whole u0 sent0

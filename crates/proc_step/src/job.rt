@@ -74,9 +74,8 @@ impl Job {
             after.sent.items ∥₁) }
     {
         let net: &Net = &self.net;
-        let process = &net.program.processes[self.process];
         let code = &net.codes[self.process];
-        take_turn(alloc, process, code, &self.state, &self.items, &self.room)
+        take_turn(alloc, code, &self.state, &self.items, &self.room)
     }
 
     /// Makes the process's turn: as many of its acts as the items at hand and the room allow, until it finishes, or its

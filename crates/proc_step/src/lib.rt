@@ -8,7 +8,6 @@ mod machine;
 mod next;
 mod outcome;
 mod room;
-mod turn;
 
 pub use job::{Done, Job, JobFault};
 pub use kahn_net::{Mode, Place, ProcState};

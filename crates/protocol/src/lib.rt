@@ -6,14 +6,18 @@
 
 mod armed_restart;
 mod delivery;
+mod event;
 mod limits;
 mod links;
 mod outcome;
+mod reply;
 mod round_turns;
 
 pub use armed_restart::ArmedRestart;
 pub use delivery::Delivery;
+pub use event::{Deed, NetworkAct, PlainEvent};
 pub use limits::{DEFAULT_ROOM, MAX_GRANTS, MAX_INBOX_ITEMS, MAX_JOB_ITEMS, MIN_ROOM, WINDOW};
 pub use links::{Inbox, Outbox};
 pub use outcome::{Outcome, Refusal};
+pub use reply::{Leaving, Reply};
 pub use round_turns::RoundTurns;

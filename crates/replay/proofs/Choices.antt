@@ -11,7 +11,7 @@ use Rattle.protocol.specs.Node.Verdicts.{may_decide}
 use Rattle.protocol.specs.World.Choice.{choice, choice_of, deliver_or, due_place, has_sent, may_recover, own_choice}
 use Rattle.protocol.specs.World.Choice.{station_choice, wants_checkpoint}
 use Rattle.protocol.specs.World.EventView.{EventView, ByNode, Release, event_node}
-use Rattle.protocol.specs.World.EventView as event
+use Rattle.protocol.specs.declared.event.Deed.TheVariants as event
 use Rattle.protocol.specs.World.Invariant.{WorldInvariant}
 use Rattle.protocol.specs.World.StationView.{StationView}
 use Rattle.protocol.specs.World.Steps.{WorldView, next_release}

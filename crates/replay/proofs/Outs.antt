@@ -18,28 +18,29 @@ use Rattle.protocol.specs.declared.outcome.Outcome.{Outcome}
 use Rattle.protocol.specs.declared.outcome.Outcome.TheVariants as outcome
 use Rattle.protocol.specs.declared.outcome.Refusal.TheVariants.{TooLarge, Spent}
 use Rattle.protocol.specs.World.DoneView.{DoneView}
-use Rattle.protocol.specs.World.EventView.{Deed, EventView, ByNode, ByNetwork, Install, Release, event_node, node_in}
-use Rattle.protocol.specs.World.EventView as event
+use Rattle.protocol.specs.World.EventView.{EventView, ByNode, ByNetwork, Install, Release, event_node, node_in}
+use Rattle.protocol.specs.declared.event.Deed.{Deed}
+use Rattle.protocol.specs.declared.event.NetworkAct.{NetworkAct}
+use Rattle.protocol.specs.declared.event.Deed.TheVariants as event
 use Rattle.protocol.specs.World.Replies.{act_reply, answer_by, grant_reply, install_reply}
 use Rattle.protocol.specs.World.ReplyView.{ReplyView}
-use Rattle.protocol.specs.World.ReplyView as reply
+use Rattle.protocol.specs.declared.reply.Reply.TheVariants as reply
 use Rattle.protocol.specs.World.StationView.{StationView}
 use Rattle.protocol.specs.World.Steps.{IsAct, IsActOf, IsPlanned, IsRelease, IsStationStep, IsStep, Setting, WorldView, can_act}
 use Rattle.protocol.specs.World.Steps.{due_bytes, flight_at, next_release, plan_of, setting_of}
 use Rattle.replay.specs.Armed.{ArmedEvent, ArmedView, OfWorld, ArmCrash, IsArmedStep, IsWorldStep, EndsWith, crash_after}
 use Rattle.replay.specs.Armed.{delivered_to}
 use Rattle.replay.specs.Laws.{InstallsAreTold}
-use Rattle.replay.specs.Plain.{plain_view}
-use Rattle.replay.specs.declared.plain.PlainEvent.{PlainEvent}
-use Rattle.replay.specs.declared.plain.PlainEvent.TheVariants as plain
+use Rattle.replay.specs.Plain.{run_view}
+use Rattle.replay.specs.declared.kept.RunEvent.{RunEvent}
+use Rattle.replay.specs.declared.kept.RunEvent.TheVariants as run_is
+use Rattle.protocol.specs.declared.event.PlainEvent.TheVariants as plain_is
 use Rattle.replay.specs.Out.{Look, look_of, look_on, look_at, out_in, IsOutAt, RunsOn, IsInstallOf, IsGrantOf, IsOutBy}
 use Rattle.replay.specs.Out.{was_granted, still_out, JobsAreTold, InstallsFollowGrants}
 use Rattle.replay.specs.Replay.{Happening, Made, Silent, Widened, Happens, IsKeptOf, IsMade, IsReplay, KeptEventView, OfJob}
 use Rattle.replay.specs.Replay.{Plainly, at_first, and_then, passed_after}
-use Rattle.replay.specs.Replies.{kept_reply}
 use Rattle.replay.specs.declared.kept.ArmedCrash.{ArmedCrash}
-use Rattle.replay.specs.declared.kept.KeptReply.{KeptReply}
-use Rattle.replay.specs.declared.kept.KeptReply.TheVariants as kept
+use Rattle.replay.specs.Replies.{KeptReply, kept_reply}
 use Rattle.replay.specs.declared.kept.Maker.{Maker}
 use Rattle.replay.specs.declared.kept.ScriptedEvent.{ScriptedEvent}
 use Rattle.replay.proofs.Looks.{Goes, Stays, Loses, goes_same, remembers, made_goes, deliver_goes, send_goes, start_goes}
@@ -87,7 +88,7 @@ other_deed k n deed answer other = (λ job grants. other (same_deed grants.0), �
 of_release : (k n : ℕ) (answer : ReplyView) → Neither k (Release n) answer
 of_release k n answer = (λ job grants. let is = grants.0 in cc, λ job installs. let is = installs.1 in cc)
 
-of_network : (k n place : ℕ) (act : event.NetworkAct) (answer : ReplyView) → Neither k (ByNetwork n place act) answer
+of_network : (k n place : ℕ) (act : NetworkAct) (answer : ReplyView) → Neither k (ByNetwork n place act) answer
 of_network k n place act answer = (λ job grants. let is = grants.0 in cc, λ job installs. let is = installs.1 in cc)
 
 -- ---- a grant
@@ -434,7 +435,7 @@ armed_goes k fits (ArmCrash crash) old answer new step = (
 )
 
 -- an answer that is kept as that of an install is one
-kept_installed : (answer : ReplyView) → kept_reply answer ≡ kept.Installed → answer ≡ reply.Installed
+kept_installed : (answer : ReplyView) → kept_reply answer ≡ reply.Installed → answer ≡ reply.Installed
 kept_installed reply.Delivered is = absurd (cc)
 kept_installed reply.Dropped is = absurd (cc)
 kept_installed (reply.Granted job) is = absurd (cc)
@@ -444,7 +445,7 @@ kept_installed reply.Sent is = absurd (cc)
 kept_installed reply.Started is = absurd (cc)
 kept_installed reply.Decided is = absurd (cc)
 kept_installed (reply.Refused refusal) is = absurd (cc)
-kept_installed (reply.Released output number) is = absurd (cc)
+kept_installed (reply.Released left) is = absurd (cc)
 kept_installed reply.OutletFailed is = absurd (cc)
 kept_installed reply.Crashed is = absurd (cc)
 kept_installed reply.Recovered is = absurd (cc)
@@ -455,22 +456,11 @@ kept_installed reply.Idled is = absurd (cc)
 kept_installed reply.NotDue is = absurd (cc)
 
 -- an event that carries no turn isn't an install
-plain_install : (plain : PlainEvent) (done : DoneView) → ¬ (plain_view plain ≡ OfWorld (Install done))
-plain_install (plain.Deliver node place) done is = cc
-plain_install (plain.Grant node) done is = cc
-plain_install (plain.Send node) done is = cc
-plain_install (plain.Start node) done is = cc
-plain_install (plain.Decide node) done is = cc
-plain_install (plain.Release node) done is = cc
-plain_install (plain.Crash node fill rounds) done is = cc
-plain_install (plain.Recover node) done is = cc
-plain_install (plain.Arm node fault rounds) done is = cc
-plain_install (plain.Idle node) done is = cc
-plain_install (plain.Lose node place) done is = cc
-plain_install (plain.Repeat node place) done is = cc
-plain_install (plain.Delay node place rounds) done is = cc
-plain_install (plain.ArmPacket rule) done is = cc
-plain_install (plain.ArmCrash crash) done is = cc
+plain_install : (plain : RunEvent) (done : DoneView) → ¬ (run_view plain ≡ OfWorld (Install done))
+plain_install (run_is.World (plain_is.ByNode node deed)) done is = cc
+plain_install (run_is.World (plain_is.Release node)) done is = cc
+plain_install (run_is.World (plain_is.ByNetwork node place act)) done is = cc
+plain_install (run_is.ArmCrash crash) done is = cc
 
 -- an entry of an install is kept as one, and none else
 is_install : (k : ℕ) (job : JobView) (maker : Maker) (kept : KeptEventView) (said : KeptReply) (e : EventView) (answer : ReplyView)

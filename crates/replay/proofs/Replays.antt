@@ -3,7 +3,7 @@ use Rattle.std.proofs.Common.{◌≡◌, ◌∙◌, ℕ, Bool, List, [], ◌∷�
 use mathlib.Core.Logic.{∥∥₁_map}
 use Rattle.record.specs.RecordView.{RecordView}
 use Rattle.protocol.specs.World.EventView.{EventView, ByNode}
-use Rattle.protocol.specs.World.EventView as event
+use Rattle.protocol.specs.declared.event.Deed.TheVariants as event
 use Rattle.protocol.specs.World.Invariant.{WorldInvariant}
 use Rattle.protocol.specs.World.ReplyView.{ReplyView}
 use Rattle.protocol.specs.World.Steps.{WorldView}

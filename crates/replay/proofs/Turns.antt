@@ -7,7 +7,8 @@ use Rattle.protocol.specs.Node.NodeView.{NodeView}
 use Rattle.protocol.specs.World.DoneView.{DoneView}
 use Rattle.protocol.specs.World.EventView.{Install, event_node}
 use Rattle.protocol.specs.World.Replies.{install_reply}
-use Rattle.protocol.specs.World.ReplyView.{ReplyView, Installed, Discarded}
+use Rattle.protocol.specs.World.ReplyView.{ReplyView}
+use Rattle.protocol.specs.declared.reply.Reply.TheVariants.{Installed, Discarded}
 use Rattle.protocol.specs.World.StationView.{StationView}
 use Rattle.protocol.specs.World.Steps.{IsActOf, setting_of}
 use Rattle.replay.specs.Laws.{InstallsAreTold}

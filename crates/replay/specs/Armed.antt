@@ -5,10 +5,10 @@ use Rattle.std.specs.Prelude.{Option, Some, None, slice_get, slice_set}
 use Rattle.record.specs.RecordView.{RecordView}
 use Rattle.protocol.specs.Node.Modes.{next_number}
 use Rattle.protocol.specs.World.EventView.{EventView, ByNode}
-use Rattle.protocol.specs.World.EventView as event
+use Rattle.protocol.specs.declared.event.Deed.TheVariants as event
 use Rattle.protocol.specs.World.Replies.{has_happened}
 use Rattle.protocol.specs.World.ReplyView.{ReplyView}
-use Rattle.protocol.specs.World.ReplyView as reply
+use Rattle.protocol.specs.declared.reply.Reply.TheVariants as reply
 use Rattle.protocol.specs.World.Steps.{IsStep, WorldView}
 use Rattle.protocol.specs.World.Still.{widened}
 use Rattle.replay.specs.declared.kept.ArmedCrash.{ArmedCrash}

@@ -5,7 +5,8 @@ use Rattle.protocol.specs.Node.Installing.{IsOut}
 use Rattle.protocol.specs.World.DoneView.{DoneView}
 use Rattle.protocol.specs.World.EventView.{Install, event_node}
 use Rattle.protocol.specs.World.Invariant.{WorldInvariant}
-use Rattle.protocol.specs.World.ReplyView.{ReplyView, Installed, Discarded}
+use Rattle.protocol.specs.World.ReplyView.{ReplyView}
+use Rattle.protocol.specs.declared.reply.Reply.TheVariants.{Installed, Discarded}
 use Rattle.protocol.specs.World.StationView.{StationView}
 use Rattle.protocol.specs.World.Steps.{IsStep, WorldView}
 use Rattle.protocol.specs.World.Still.{wider}

@@ -6,16 +6,16 @@ use Rattle.protocol.specs.Node.JobView.{JobView}
 use Rattle.protocol.specs.Node.Modes.{is_running}
 use Rattle.protocol.specs.Node.NodeView.{NodeView, ModeView, Down, InDoubt, Runs}
 use Rattle.protocol.specs.World.DoneView.{DoneView}
-use Rattle.protocol.specs.World.EventView.{ByNode, Grant, Install, event_node, node_in}
+use Rattle.protocol.specs.World.EventView.{ByNode, Install, event_node, node_in}
+use Rattle.protocol.specs.declared.event.Deed.TheVariants.{Grant}
 use Rattle.protocol.specs.World.ReplyView.{ReplyView}
-use Rattle.protocol.specs.World.ReplyView as reply
+use Rattle.protocol.specs.declared.reply.Reply.TheVariants as reply
 use Rattle.protocol.specs.World.StationView.{StationView}
 use Rattle.protocol.specs.World.Steps.{WorldView}
 use Rattle.replay.specs.Armed.{ArmedView, IsArmedStep, OfWorld}
 use Rattle.replay.specs.Replay.{Happening, Made, Silent, Widened, Happens, IsMade, IsReplay, KeptEventView, OfJob, Plainly}
 use Rattle.replay.specs.Replay.{passed_after, passed_by}
-use Rattle.replay.specs.declared.kept.KeptReply.{KeptReply}
-use Rattle.replay.specs.declared.kept.KeptReply.TheVariants as kept
+use Rattle.replay.specs.Replies.{KeptReply}
 use Rattle.replay.specs.declared.kept.Maker.{Maker}
 use Rattle.replay.specs.declared.kept.ScriptedEvent.{ScriptedEvent}
 
@@ -56,7 +56,7 @@ RunsOn old new = (old.runs ≡ true) × (new.runs ≡ true) × (new.epoch ≡ ol
 -- what came back of this job was taken in at this node
 abbrev pub IsInstallOf : ℕ → JobView → Happening → Type 0
 IsInstallOf node job (Made maker (OfJob back) said) =
-    (back ≡ job) × (node_in job.code ≡ node) × (said ≡ kept.Installed)
+    (back ≡ job) × (node_in job.code ≡ node) × (said ≡ reply.Installed)
 IsInstallOf node job (Made maker (Plainly event) said) = ⊥
 IsInstallOf node job (Silent reason) = ⊥
 IsInstallOf node job Widened = ⊥

@@ -6,17 +6,16 @@ use Rattle.protocol.specs.Node.JobView.{JobView}
 use Rattle.protocol.specs.World.Choice.{choice}
 use Rattle.protocol.specs.World.DoneView.{DoneView}
 use Rattle.protocol.specs.World.EventView.{EventView, ByNode, Install, event_node}
-use Rattle.protocol.specs.World.EventView as deed
+use Rattle.protocol.specs.declared.event.Deed.TheVariants as deed
 use Rattle.protocol.specs.World.ReplyView.{ReplyView}
 use Rattle.protocol.specs.World.StationView.{StationView}
 use Rattle.protocol.specs.World.Steps.{WorldView}
 use Rattle.protocol.specs.World.Still.{stands_still}
 use Rattle.protocol.specs.World.Turns.{turns_of}
 use Rattle.replay.specs.Armed.{ArmedEvent, OfWorld, ArmedView, IsArmedStep, armed_at_first, armed_widened}
-use Rattle.replay.specs.Plain.{plain_view}
-use Rattle.replay.specs.Replies.{kept_reply}
-use Rattle.replay.specs.declared.plain.PlainEvent.{PlainEvent}
-use Rattle.replay.specs.declared.kept.KeptReply.{KeptReply}
+use Rattle.replay.specs.Plain.{run_view}
+use Rattle.replay.specs.declared.kept.RunEvent.{RunEvent}
+use Rattle.replay.specs.Replies.{KeptReply, kept_reply}
 use Rattle.replay.specs.declared.kept.Maker.{Maker}
 use Rattle.replay.specs.declared.kept.Maker.TheVariants.{Node, Driver}
 use Rattle.replay.specs.declared.kept.ScriptedEvent.{ScriptedEvent}
@@ -27,12 +26,12 @@ use Rattle.replay.specs.declared.kept.Silence.TheVariants.{Nothing, NotYet, NoMo
 
 -- an event as it is kept: of a turn that came back its job, on which it is the process's own
 pub data KeptEventView : Type 0 where
-  Plainly : (event : PlainEvent) → KeptEventView
+  Plainly : (event : RunEvent) → KeptEventView
   OfJob : (job : JobView) → KeptEventView
 
 -- the event of which that was kept
 abbrev pub IsKeptOf : KeptEventView → ArmedEvent → Type 0
-IsKeptOf (Plainly plain) event = event ≡ plain_view plain
+IsKeptOf (Plainly plain) event = event ≡ run_view plain
 IsKeptOf (OfJob job) event = (done : DoneView) × (event ≡ OfWorld (Install done)) × (done.job ≡ job)
 
 -- What happened: an event with its maker and its answer; that none was made; or that channels got more room, since the world
@@ -48,7 +47,7 @@ pub data Happening : Type 0 where
 -- the event of a script's line, from its round on
 abbrev pub IsScripted : Option ScriptedEvent → ℕ → ArmedEvent → Type 0
 IsScripted None round event = ⊥
-IsScripted (Some line) round event = (line.round ≤ round) × (event ≡ plain_view line.event)
+IsScripted (Some line) round event = (line.round ≤ round) × (event ≡ run_view line.event)
 
 -- a turn comes back to this node
 abbrev pub ComesBackTo : ℕ → ArmedEvent → Type 0

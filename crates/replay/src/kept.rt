@@ -1,7 +1,6 @@
 // What a history keeps, but for jobs.
 
-use crate::plain::PlainEvent;
-use protocol::Refusal;
+use protocol::{Leaving, PlainEvent, Reply};
 
 /// Who makes an event: a node in its turn, or the driver, who goes through the script.
 #[derive(Clone, Copy, Debug, PartialEq, Eq)]
@@ -11,27 +10,7 @@ pub enum Maker {
 }
 
 /// An answer as it is kept: of a grant without its job, which the world of before fixes, and of a release without its shares.
-#[derive(Clone, Copy, Debug, PartialEq, Eq)]
-pub enum KeptReply {
-    Delivered,
-    Dropped,
-    Granted,
-    Installed,
-    Discarded,
-    Sent,
-    Started,
-    Decided,
-    Refused(Refusal),
-    Released { output: u8, number: u64 },
-    OutletFailed,
-    Crashed,
-    Recovered,
-    InDoubt,
-    Down,
-    Acted,
-    Idled,
-    NotDue,
-}
+pub type KeptReply = Reply<(), Leaving>;
 
 /// Why no event was made.
 #[derive(Clone, Copy, Debug, PartialEq, Eq)]
@@ -57,9 +36,18 @@ pub struct ArmedCrash {
     pub rounds: u64,
 }
 
+/// An event of a run, other than that a turn comes back: of its world, or that a crash is armed, of which a world by itself knows
+/// nothing.
+#[derive(Clone, Copy, Debug, PartialEq, Eq)]
+pub enum RunEvent {
+    World(PlainEvent),
+    /// The node is to crash at the end of a delivery.
+    ArmCrash(ArmedCrash),
+}
+
 /// A line of a script: an event, and the round from which it is due.
 #[derive(Clone, Copy, Debug, PartialEq, Eq)]
 pub struct ScriptedEvent {
     pub round: u64,
-    pub event: PlainEvent,
+    pub event: RunEvent,
 }

@@ -4,8 +4,6 @@
 
 mod kept;
 mod laws;
-mod plain;
 
-pub use kept::{ArmedCrash, KeptReply, Maker, ScriptedEvent, Silence};
+pub use kept::{ArmedCrash, KeptReply, Maker, RunEvent, ScriptedEvent, Silence};
 pub use laws::{installs_law, replay_law, silence_law};
-pub use plain::PlainEvent;

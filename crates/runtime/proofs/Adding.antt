@@ -12,7 +12,7 @@ use Rattle.protocol.specs.World.Still.{stands_still}
 use Rattle.replay.specs.Armed.{ArmedEvent, ArmedView, IsArmedStep, armed_at_first, armed_widened}
 use Rattle.replay.specs.Replay.{Happening, Made, Silent, Widened, Happens, IsEventOf, IsReplay, IsScripted, IsSilence, LeadsTo}
 use Rattle.replay.specs.Replay.{at_first, and_then, passed_by}
-use Rattle.replay.specs.Plain.{plain_view}
+use Rattle.replay.specs.Plain.{run_view}
 use Rattle.replay.proofs.Silences.{silences_stay}
 use Rattle.replay.specs.declared.kept.Maker.{Maker}
 use Rattle.replay.specs.declared.kept.ScriptedEvent.{ScriptedEvent}
@@ -171,7 +171,7 @@ said_still fits script opening lines passed world reason (Some place) said found
 
 -- a line of the script that is due
 pub due_line : (script : List ScriptedEvent) (passed round : ℕ) (line : ScriptedEvent) (event : ArmedEvent)
-    → slice_get script passed ≡ Some line → line.round ≤ round → event ≡ plain_view line.event
+    → slice_get script passed ≡ Some line → line.round ≤ round → event ≡ run_view line.event
     → IsScripted (slice_get script passed) round event
 due_line script passed round line event is due same =
     subst (λ (found : Option ScriptedEvent). IsScripted found round event) (sym is) (due, same)

@@ -19,7 +19,7 @@ use Rattle.node.specs.contracts.running.Running.{the_field as running_field}
 use Rattle.node.specs.contracts.mode.Mode.{the_field as mode_field}
 use Rattle.node.specs.contracts.state.NodeState.{the_field as state_field}
 use Rattle.net_check.specs.contracts.net.Net.{the_row as net_row}
-use Rattle.replay.proofs.plain.PlainEvent.TheSendSync.{the_send as plain_s}
+use Rattle.replay.proofs.kept.RunEvent.TheSendSync.{the_send as run_s}
 use Rattle.runtime.specs.contracts.history.Entry.{the_field as entry_field}
 use Rattle.runtime.specs.contracts.history.Line.{the_row as line_row}
 
@@ -46,7 +46,7 @@ pub state_field_send : IsSend (state_field.row)
 state_field_send = search (sendable, crosses, armed_s, mode_field_send) depth 60 fits 100000
 
 entry_field_send : IsSend (entry_field.row)
-entry_field_send = search (sendable, crosses, job_send, job_sync, plain_s) depth 60 fits 100000
+entry_field_send = search (sendable, crosses, job_send, job_sync, run_s) depth 60 fits 100000
 
 pub line_send : IsSend line_row
 line_send = search (sendable, crosses, entry_field_send) depth 60 fits 100000

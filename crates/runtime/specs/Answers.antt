@@ -7,7 +7,7 @@ use Rattle.protocol.specs.World.Steps.{WorldView}
 use Rattle.protocol.specs.World.Still.{stands_still}
 use Rattle.replay.specs.Armed.{ArmedEvent, ArmedView}
 use Rattle.replay.specs.Replay.{Happening, IsMade, IsReplay, IsSilence, KeptEventView}
-use Rattle.replay.specs.declared.kept.KeptReply.{KeptReply}
+use Rattle.replay.specs.Replies.{KeptReply}
 use Rattle.replay.specs.declared.kept.Maker.{Maker}
 use Rattle.replay.specs.declared.kept.Maker.TheVariants.{Node, Driver}
 use Rattle.replay.specs.declared.kept.ScriptedEvent.{ScriptedEvent}

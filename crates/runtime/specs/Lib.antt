@@ -8,4 +8,3 @@ pub mod Answers
 pub mod Seats
 pub mod ArmedWorlds
 pub mod Books
-pub mod Scripts

@@ -3,19 +3,18 @@ ghost use Rattle.std.specs.Prelude.{◌≡◌, IfErr, IfOk, OnErr};
 ghost use Rattle.protocol.specs.World.EventView.{event_node};
 ghost use Rattle.protocol.specs.World.Replies.{IsGrantedAt, has_happened};
 ghost use Rattle.replay.specs.Armed.{ArmCrash, EndsWith, IsArmedStep, OfWorld, armed_at_first, crash_after, deliveries_after, delivered_to, first_crash, has_come, is_for, one_more};
-ghost use Rattle.replay.specs.Plain.{plain_view};
+ghost use Rattle.replay.specs.Plain.{run_view};
 ghost use Rattle.world.specs.EventView.{event_view};
 ghost use Rattle.world.specs.ReplyView.{reply_view};
 ghost use Rattle.world.specs.WholeView.{world_of};
 ghost use Rattle.world.specs.WorldView.{capacities, rooms};
 
-use crate::keeping::{Scripted, act_of};
 use gate_cell::SlotCell;
 use node::next_after;
 use outlet::Outlet;
-use replay::{ArmedCrash, PlainEvent};
+use replay::{ArmedCrash, RunEvent};
 use std::alloc::{AllocError, Global};
-use world::{Event, Refused, Reply, World};
+use world::{Deed, Event, PlainEvent, Refused, Reply, World};
 
 /// A world, how many deliveries each of its nodes has had, and the crashes that are armed for the ends of some. A delivery for
 /// which a crash is armed is two events of the world, the delivery and the crash, with nothing between them.
@@ -31,7 +30,12 @@ fn delivered_to(event: &Event) -> Option<u8>
     ensures { result ≡ delivered_to (event_view event.now) }
 {
     match event {
-        Event::Deliver { node, .. } => Some(*node),
+        Event::Plain(
+            PlainEvent::ByNode {
+                node,
+                deed: Deed::Deliver { .. },
+            },
+        ) => Some(*node),
         _ => None,
     }
 }
@@ -141,7 +145,7 @@ fn end<C: SlotCell, O: Outlet>(
         rounds,
         ..
     } = crash;
-    match world.apply(alloc, Event::Crash { node, fill, rounds }) {
+    match world.apply(alloc, Event::by_node(node, Deed::Crash { fill, rounds })) {
         Ok(reply) => reply,
         // A crash takes no memory, and isn't refused.
         Err(_) => said,
@@ -206,9 +210,9 @@ impl<C: SlotCell, O: Outlet> ArmedWorld<C, O> {
     }
 
     /// The event of a line of a script. Refuses for want of memory alone, and then nothing is changed.
-    pub fn play(&mut self, alloc: Global, event: PlainEvent) -> Result<Reply, AllocError>
+    pub fn play(&mut self, alloc: Global, event: RunEvent) -> Result<Reply, AllocError>
         ensures step { IfOk result (λ reply. IsArmedStep (rooms self.old.world.stations.items)
-            (plain_view event) (armed_view self.old) (reply_view reply) (armed_view self.new)) }
+            (run_view event) (armed_view self.old) (reply_view reply) (armed_view self.new)) }
         ensures same_rooms { rooms self.new.world.stations.items
             ≡ rooms self.old.world.stations.items }
         ensures same_capacities { capacities self.new.world.stations.items
@@ -217,12 +221,12 @@ impl<C: SlotCell, O: Outlet> ArmedWorld<C, O> {
             × (self.new.world.inputs ≡ self.old.world.inputs) }
         ensures refused { OnErr result (armed_view self.new ≡ armed_view self.old) }
     {
-        match act_of(event) {
-            Scripted::Event(event) => match self.apply(alloc, event) {
+        match event {
+            RunEvent::World(event) => match self.apply(alloc, Event::Plain(event)) {
                 Ok(reply) => Ok(reply),
                 Err(_) => Err(AllocError),
             },
-            Scripted::ArmCrash(crash) => self.arm(crash),
+            RunEvent::ArmCrash(crash) => self.arm(crash),
         }
     }
 }

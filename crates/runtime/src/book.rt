@@ -5,7 +5,7 @@ ghost use Rattle.protocol.specs.World.Quiet.{are_quiet};
 ghost use Rattle.protocol.specs.World.Still.{stands_still};
 ghost use Rattle.protocol.specs.World.Replies.{IsGrantedAt};
 ghost use Rattle.replay.specs.Armed.{OfWorld, armed_at_first};
-ghost use Rattle.replay.specs.Plain.{plain_view};
+ghost use Rattle.replay.specs.Plain.{run_view};
 ghost use Rattle.replay.specs.Replay.{IsEventOf, IsIdle, IsReplay, IsSilence, LeadsTo, has_idled};
 ghost use Rattle.replay.specs.declared.kept.Maker.TheVariants as who;
 ghost use Rattle.runtime.specs.ArmedWorlds.{armed_view};
@@ -34,9 +34,9 @@ use gate_cell::SlotCell;
 use kahn_net::MAX_COUNT;
 use outlet::Outlet;
 use proc_step::Done;
-use replay::{PlainEvent, ScriptedEvent, Silence};
+use replay::{RunEvent, ScriptedEvent, Silence};
 use std::alloc::Global;
-use world::{Event, Refused, Reply, World};
+use world::{Deed, Event, PlainEvent, Refused, Reply, World};
 
 /// A world with its script and its history, and how often its seats were answered.
 #[derive(Drop)]
@@ -75,7 +75,12 @@ fn is_idle(event: &Event) -> bool
     ensures { result ≡ true → IsIdle (event_view event.now) }
 {
     match event {
-        Event::Idle(_) => true,
+        Event::Plain(
+            PlainEvent::ByNode {
+                deed: Deed::Idle,
+                ..
+            },
+        ) => true,
         _ => false,
     }
 }
@@ -172,17 +177,17 @@ impl<C: SlotCell, O: Outlet, J: Run> Book<C, O, J> {
     fn play(
         &mut self,
         alloc: Global,
-        event: PlainEvent,
+        event: RunEvent,
         tally: &mut Tally<J>,
     ) -> Result<Reply, HubFault>
         requires part { 0 < tally_parts tally.old }
         requires own { IsEventOf J.script who.Driver self.old.passed
-            (world_of self.old.armed.world) (plain_view event) }
+            (world_of self.old.armed.world) (run_view event) }
         requires few { self.old.passed < length J.script }
         ensures parts { tally_parts tally.new ≡ tally_parts tally.old }
         ensures counted { OnOk result
             (tally_numbers tally.new ≡ counted kind.Entry (tally_numbers tally.old)) }
-        ensures added { IfOk result (λ reply. IsAdded who.Driver (plain_view event)
+        ensures added { IfOk result (λ reply. IsAdded who.Driver (run_view event)
             (reply_view reply) self.old.lines.items self.new.lines.items) }
         ensures told { IfOk result (λ reply. ∥ IsReplyIn J.rooms J.script J.opening who.Driver
             (reply_view reply) ∥₁) }

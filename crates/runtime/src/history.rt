@@ -1,14 +1,14 @@
 // The history of a run, line by line.
 
 use proc_step::Job;
-use replay::{KeptReply, Maker, PlainEvent, Silence};
+use replay::{KeptReply, Maker, RunEvent, Silence};
 use std::sync::Arc;
 
 /// An event as it is kept: of a turn that came back a share of its job, since what was taken and sent is the process's own turn
 /// on that.
 #[derive(Drop)]
 pub enum KeptEvent {
-    Plain(PlainEvent),
+    Plain(RunEvent),
     Install(Arc<Job>),
 }
 

@@ -27,6 +27,7 @@ pub use driving::{Bounds, drive};
 pub use gate::{Gate, OpenGate};
 pub use history::{Entry, History, KeptEvent, Line};
 pub use hub::Hub;
+pub use keeping::keep_reply;
 pub use playing::run_world;
 pub use seat::{DriverSeat, NodeSeat};
 pub use tally::{

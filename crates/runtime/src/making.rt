@@ -3,7 +3,7 @@ ghost use Rattle.std.specs.Prelude.{◌≡◌, IfErr, IfOk, OnErr};
 ghost use Rattle.protocol.specs.World.EventView.{event_node};
 ghost use Rattle.protocol.specs.World.Replies.{IsGrantedAt};
 ghost use Rattle.replay.specs.Armed.{IsArmedStep, OfWorld};
-ghost use Rattle.replay.specs.Plain.{plain_view};
+ghost use Rattle.replay.specs.Plain.{run_view};
 ghost use Rattle.replay.specs.declared.kept.Maker.TheVariants as who;
 ghost use Rattle.runtime.specs.ArmedWorlds.{armed_view};
 ghost use Rattle.runtime.specs.Lines.{IsAdded};
@@ -16,7 +16,7 @@ use crate::history::{Entry, KeptEvent, Line};
 use crate::keeping::{keep, keep_reply};
 use gate_cell::SlotCell;
 use outlet::Outlet;
-use replay::{Maker, PlainEvent};
+use replay::{Maker, RunEvent};
 use std::alloc::{AllocError, Global};
 use world::{Event, Refused, Reply};
 
@@ -62,12 +62,12 @@ pub(crate) fn make_scripted<C: SlotCell, O: Outlet>(
     alloc: Global,
     world: &mut ArmedWorld<C, O>,
     lines: &mut Vec<Line>,
-    event: PlainEvent,
+    event: RunEvent,
 ) -> Result<Reply, AllocError>
-    ensures added { IfOk result (λ reply. IsAdded who.Driver (plain_view event) (reply_view reply)
+    ensures added { IfOk result (λ reply. IsAdded who.Driver (run_view event) (reply_view reply)
         lines.old.items lines.new.items) }
     ensures step { IfOk result (λ reply. IsArmedStep (rooms world.old.world.stations.items)
-        (plain_view event) (armed_view world.old) (reply_view reply) (armed_view world.new)) }
+        (run_view event) (armed_view world.old) (reply_view reply) (armed_view world.new)) }
     ensures rooms { rooms world.new.world.stations.items ≡ rooms world.old.world.stations.items }
     ensures refused { OnErr result ((lines.new.items ≡ lines.old.items)
         × (armed_view world.new ≡ armed_view world.old)) }

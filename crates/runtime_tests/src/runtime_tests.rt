@@ -18,10 +18,11 @@ use net_check::{Inputs, Net, bind, check};
 use net_text::{parse, parse_inputs};
 use outlet::{ListOutlet, Outlet};
 use proc_step::Job;
-use replay::{ArmedCrash, KeptReply, Maker, PlainEvent, ScriptedEvent, Silence};
+use replay::{ArmedCrash, KeptReply, Maker, RunEvent, ScriptedEvent, Silence};
 use runtime::{
     ArmedWorld, Blanks, Bounds, DriverPost, DriverSeat, Entry, FaultAnswer, Floor, Gate, History,
-    Hub, KeptEvent, Line, NodeSeat, OpenGate, Post, Run, TurnAnswer, run_threads, run_world, work,
+    Hub, KeptEvent, Line, NodeSeat, OpenGate, Post, Run, TurnAnswer, keep_reply, run_threads,
+    run_world, work,
 };
 use sector_disk::{ArmedFault, Disk, MemDisk, SECTOR_BYTES};
 use std::alloc::{AllocError, Global};
@@ -33,7 +34,7 @@ use std::test::Fail;
 use std::thread::Threads;
 use std::{mem, thread};
 use wire::{Change, Rule};
-use world::{Event, Reply, SECTORS, World, list_outputs, node_count};
+use world::{Deed, Event, PlainEvent, Reply, SECTORS, World, list_outputs, node_count};
 
 pub const SUM_ON_TWO_NODES: &str =
     "kahn 1; input i; chan c; output o; process copy on 0 { var v; loop { v = get i; put v to c; } } process sum on 1 { var a; var v; loop { v = get c; a = a + v; put a to o; } }";
@@ -105,6 +106,11 @@ fn sum_world(alloc: Global) -> Result<SumWorld, Fail> {
     open_world(alloc, SUM_ON_TWO_NODES, "i: 1 2 3")
 }
 
+// A node does this, or this is done to it.
+fn at_node(node: u8, deed: Deed) -> RunEvent {
+    RunEvent::World(PlainEvent::ByNode { node, deed })
+}
+
 /// The first packet from node 0 is lost, and in round 1 node 1 crashes.
 fn script(alloc: Global) -> Result<Vec<ScriptedEvent>, Fail> {
     let rule = Rule {
@@ -116,15 +122,11 @@ fn script(alloc: Global) -> Result<Vec<ScriptedEvent>, Fail> {
     let lines = vec![in alloc;
         ScriptedEvent {
             round: 0,
-            event: PlainEvent::ArmPacket(rule),
+            event: RunEvent::World(PlainEvent::arm_packet(rule)),
         },
         ScriptedEvent {
             round: 1,
-            event: PlainEvent::Crash {
-                node: 1,
-                fill: 0,
-                rounds: 1,
-            },
+            event: at_node(1, Deed::Crash { fill: 0, rounds: 1 }),
         },
     ]?;
     Ok(lines)
@@ -475,7 +477,7 @@ fn replay(alloc: Global, armed: &mut SumArmed, history: &History) -> Option<u64>
 fn make_again(alloc: Global, armed: &mut SumArmed, entry: &Entry) -> bool {
     match &entry.event {
         KeptEvent::Plain(event) => match armed.play(alloc, *event) {
-            Ok(reply) => is_kept(&reply, entry.reply),
+            Ok(reply) => keep_reply(&reply) == entry.reply,
             Err(_) => false,
         },
         KeptEvent::Install(job) => install_again(alloc, armed, job, entry.reply),
@@ -490,37 +492,9 @@ fn install_again(alloc: Global, armed: &mut SumArmed, job: &Arc<Job>, kept: Kept
         return false;
     };
     match armed.apply(alloc, Event::Install(done)) {
-        Ok(reply) => is_kept(&reply, kept),
+        Ok(reply) => keep_reply(&reply) == kept,
         Err(_) => false,
     }
-}
-
-// Whether an answer was kept so.
-fn is_kept(reply: &Reply, kept: KeptReply) -> bool {
-    let again = match reply {
-        Reply::Delivered => KeptReply::Delivered,
-        Reply::Dropped => KeptReply::Dropped,
-        Reply::Granted(_) => KeptReply::Granted,
-        Reply::Installed => KeptReply::Installed,
-        Reply::Discarded => KeptReply::Discarded,
-        Reply::Sent => KeptReply::Sent,
-        Reply::Started => KeptReply::Started,
-        Reply::Decided => KeptReply::Decided,
-        Reply::Refused(refusal) => KeptReply::Refused(*refusal),
-        Reply::Released(freed) => KeptReply::Released {
-            output: freed.output,
-            number: freed.number,
-        },
-        Reply::OutletFailed => KeptReply::OutletFailed,
-        Reply::Crashed => KeptReply::Crashed,
-        Reply::Recovered => KeptReply::Recovered,
-        Reply::InDoubt => KeptReply::InDoubt,
-        Reply::Down => KeptReply::Down,
-        Reply::Acted => KeptReply::Acted,
-        Reply::Idled => KeptReply::Idled,
-        Reply::NotDue => KeptReply::NotDue,
-    };
-    again == kept
 }
 
 // All that a disk of so many sectors holds.
@@ -699,7 +673,7 @@ fn run_sum<G: Gate + Sync, R: Threads + Wait + Sync>(
 }
 
 // A line of round 0.
-fn at_first(alloc: Global, event: PlainEvent) -> Result<Vec<ScriptedEvent>, Fail> {
+fn at_first(alloc: Global, event: RunEvent) -> Result<Vec<ScriptedEvent>, Fail> {
     let lines = vec![in alloc; ScriptedEvent { round: 0, event }]?;
     Ok(lines)
 }
@@ -721,7 +695,7 @@ fn jobs_run_side_by_side(rt: HostRuntime) -> Result<(), Fail> {
     let alloc = rt.alloc();
     assert!(rt; holds_up(&rt, alloc, Vec::new(alloc))?.whole);
     // While node 0 is held up nothing is sent to node 1, so that this crash comes behind node 1's first job.
-    let crash = PlainEvent::ArmCrash(ArmedCrash {
+    let crash = RunEvent::ArmCrash(ArmedCrash {
         node: 1,
         delivery: 1,
         fill: 0,
@@ -735,12 +709,9 @@ fn jobs_run_side_by_side(rt: HostRuntime) -> Result<(), Fail> {
 }
 
 // The node's device fails at this call, and a crash then settles by this byte.
-fn stop(node: u8, call: u64, fill: u8) -> PlainEvent {
-    PlainEvent::Arm {
-        node,
-        fault: ArmedFault { call, fill },
-        rounds: 1,
-    }
+fn stop(node: u8, call: u64, fill: u8) -> RunEvent {
+    let fault = ArmedFault { call, fill };
+    at_node(node, Deed::Arm { fault, rounds: 1 })
 }
 
 const FILLS: [u8; 2] = [0, 1];
@@ -936,11 +907,7 @@ fn a_crash_while_a_job_is_out(rt: HostRuntime) -> Result<(), Fail> {
     let alloc = rt.alloc();
     // No node opens the gate: the driver does, once node 0 crashed.
     let gate = HeldGate::new(NODES);
-    let crash = PlainEvent::Crash {
-        node: 0,
-        fill: 0,
-        rounds: 1,
-    };
+    let crash = at_node(0, Deed::Crash { fill: 0, rounds: 1 });
     let ended = play_sum_with_crash(&rt, alloc, &gate, at_first(alloc, crash)?)?;
     let came = ended.came();
     let discarded = answered(&ended.history, KeptReply::Discarded);

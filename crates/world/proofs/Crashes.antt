@@ -5,7 +5,8 @@ use Rattle.record.specs.RecordView.{RecordView}
 use Rattle.protocol.specs.Node.Modes.{crashed, is_down}
 use Rattle.protocol.specs.Node.NodeView.{NodeView}
 use Rattle.protocol.specs.Node.Plans.{becoming, if_due}
-use Rattle.protocol.specs.World.ReplyView.{ReplyView, Crashed, NotDue}
+use Rattle.protocol.specs.World.ReplyView.{ReplyView}
+use Rattle.protocol.specs.declared.reply.Reply.TheVariants.{Crashed, NotDue}
 use Rattle.protocol.specs.World.StationView.{StationView}
 use Rattle.protocol.specs.World.Steps.{crash_plan, moved_to}
 use Rattle.world.specs.Coming.{ComesBy}

@@ -7,16 +7,17 @@ use Rattle.gate_cell.specs.Whole.{Whole}
 use Rattle.record.specs.RecordView.{RecordView}
 use Rattle.wire.specs.Traffic.{Traffic}
 use Rattle.protocol.specs.World.DoneView.{DoneView}
-use Rattle.protocol.specs.World.EventView.{EventView, ByNetwork, Install, NetworkAct, Release}
+use Rattle.protocol.specs.World.EventView.{EventView, ByNetwork, Install, Release}
+use Rattle.protocol.specs.declared.event.NetworkAct.{NetworkAct}
 use Rattle.protocol.specs.World.Pairs.{HasMoved, LeaveEitherSince}
 use Rattle.protocol.specs.World.Replies.{act_reply, has_happened}
-use Rattle.protocol.specs.World.ReplyView as reply
+use Rattle.protocol.specs.declared.reply.Reply.TheVariants as reply
 use Rattle.protocol.specs.World.StationView.{OutletView, StationView}
 use Rattle.protocol.specs.World.Steps.{IsInstalled, IsRelease, Setting, can_act, flight_at, next_release, traffic_acted}
 use Rattle.protocol.specs.declared.outcome.Outcome.TheVariants as outcome
 use Rattle.world.specs.Coming.{HasCome}
 use Rattle.world.specs.ReplyView.{reply_view}
-use Rattle.world.specs.declared.event.Reply.{Reply}
+use Rattle.world.specs.ReplyView.{Reply}
 
 either_way : (b : Bool) (traffic : Traffic) → traffic ≡ cond b traffic traffic
 either_way true traffic = refl

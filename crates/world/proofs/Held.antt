@@ -12,7 +12,7 @@ use Rattle.ckpt_store.specs.StoreView.{cell_in}
 use Rattle.ckpt_store.specs.declared.store.Store.{Store}
 use Rattle.node.specs.StoredView.{LeavesAsBefore}
 use Rattle.protocol.specs.World.EventView.{ByNetwork, ByNode, EventView, Install, Release}
-use Rattle.protocol.specs.World.EventView as event
+use Rattle.protocol.specs.declared.event.Deed.TheVariants as event
 use Rattle.protocol.specs.World.Replies.{LeavesCells, TakesMemory}
 use Rattle.world.specs.WorldView.{HoldsAsBefore, HoldsAsBeforeAt, IsCellUnchanged, LeavesWhatItFound, LeavesWhatItFoundAt}
 use Rattle.world.specs.declared.station.Station.{Station}

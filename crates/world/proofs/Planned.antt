@@ -26,10 +26,11 @@ use Rattle.protocol.specs.Node.Plans.{Prospect, Undue, Exhausted, Planned, becom
 use Rattle.protocol.specs.Node.Plans.{IsMade, IsPut}
 use Rattle.protocol.specs.Node.Recovering.{recover_prospect, restored, restored_mode}
 use Rattle.protocol.specs.declared.round_turns.RoundTurns.{RoundTurns}
-use Rattle.protocol.specs.World.EventView.{EventView, ByNode, Deed}
+use Rattle.protocol.specs.World.EventView.{EventView, ByNode}
+use Rattle.protocol.specs.declared.event.Deed.{Deed}
 use Rattle.protocol.specs.World.Replies.{answer_by, delivery_reply, grant_reply, has_happened}
 use Rattle.protocol.specs.World.ReplyView.{ReplyView}
-use Rattle.protocol.specs.World.ReplyView as reply
+use Rattle.protocol.specs.declared.reply.Reply.TheVariants as reply
 use Rattle.protocol.specs.World.StationView.{StationView}
 use Rattle.protocol.specs.World.Steps.{IsPlanned, Setting, StationPlan, deliver_plan, grant_plan, moved_to, plan_of}
 use Rattle.protocol.specs.World.Steps.{plan_sendings, sending_of, traffic_left, turns_by}
@@ -40,7 +41,7 @@ use Rattle.protocol.specs.declared.outcome.Outcome.TheVariants as outcome
 use Rattle.protocol.specs.declared.outcome.Refusal.TheVariants.{TooLarge, Spent}
 use Rattle.world.specs.Coming.{ComesBy, ComesHeard, ComesOut, HasCome, taken_by}
 use Rattle.world.specs.ReplyView.{reply_view}
-use Rattle.world.specs.declared.event.Reply.{Reply}
+use Rattle.world.specs.ReplyView.{Reply}
 
 pub silent_allowed : (packets : List Packet) → packets ≡ [] → All IsPacket packets
 silent_allowed packets none = subst (All IsPacket) (sym none) (All-nil IsPacket)

@@ -7,11 +7,12 @@ use Rattle.std.specs.declared.alloc.AllocError.{AllocError}
 use Rattle.gate_cell.specs.declared.cell.StableCell.{Ghosts as CellWords}
 use Rattle.gate_cell.specs.declared.slot_cell.SlotCell.{Ghosts as SlotWords}
 use Rattle.protocol.specs.World.EventView.{EventView}
-use Rattle.protocol.specs.World.ReplyView.{ReplyView, Down}
+use Rattle.protocol.specs.World.ReplyView.{ReplyView}
+use Rattle.protocol.specs.declared.reply.Reply.TheVariants.{Down}
 use Rattle.protocol.specs.WorldLaws.OutputLaws.{set_cases}
 use Rattle.world.specs.ReplyView.{reply_view}
 use Rattle.world.specs.WorldView.{LeavesDeviceAt, LeavesDeviceBy, RestartsAsArmed, RestartsAsArmedAt}
-use Rattle.world.specs.declared.event.Reply.{Reply}
+use Rattle.world.specs.ReplyView.{Reply}
 use Rattle.world.specs.declared.station.Station.{Station}
 
 module _ {C O : Type 0} {cell : CellWords C} {slots : SlotWords C} where

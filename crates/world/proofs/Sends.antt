@@ -12,7 +12,8 @@ use Rattle.protocol.specs.Node.NodeView.{NodeView}
 use Rattle.protocol.specs.Node.Plans.{IsMade, IsPut, Prospect, if_due, packets_by, room_for, telling}
 use Rattle.protocol.specs.Node.Telling.{turn_packets}
 use Rattle.protocol.specs.World.Replies.{has_happened}
-use Rattle.protocol.specs.World.ReplyView.{ReplyView, Sent}
+use Rattle.protocol.specs.World.ReplyView.{ReplyView}
+use Rattle.protocol.specs.declared.reply.Reply.TheVariants.{Sent}
 use Rattle.protocol.specs.World.StationView.{StationView}
 use Rattle.protocol.specs.World.Steps.{moved_to, send_plan, sending_of}
 use Rattle.protocol.specs.declared.outcome.Outcome.TheVariants as outcome

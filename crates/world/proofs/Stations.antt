@@ -34,7 +34,7 @@ use Rattle.protocol.specs.WorldLaws.StepKeeps.{station_keeps}
 use Rattle.protocol.specs.World.Steps.{Setting}
 use Rattle.protocol.specs.WorldLaws.PlanLaws.{IsSoundSetting, IsSoundStation}
 use Rattle.world.specs.WorldView.{station_view, IsGrown}
-use Rattle.world.specs.declared.event.Reply.{Reply}
+use Rattle.world.specs.ReplyView.{Reply}
 use Rattle.world.specs.declared.station.Station.{Station}
 use Rattle.world.proofs.Views.{same_outputs}
 

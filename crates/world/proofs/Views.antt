@@ -20,7 +20,8 @@ use Rattle.protocol.specs.World.StationView.{OutletView, StationView}
 use Rattle.world.specs.StationView.{outlet_view, outlet_views}
 use Rattle.protocol.specs.World.Steps.{next_release, setting_in, setting_of, IsHanded, IsRelease}
 use Rattle.protocol.specs.World.Steps.{IsActOf, IsStep, Setting, WorldView, round_after, traffic_after}
-use Rattle.protocol.specs.World.ReplyView.{NotDue, ReplyView}
+use Rattle.protocol.specs.World.ReplyView.{ReplyView}
+use Rattle.protocol.specs.declared.reply.Reply.TheVariants.{NotDue}
 use Rattle.protocol.specs.declared.outcome.Outcome.TheVariants as outcome
 use Rattle.world.specs.Coming.{HasActed, HasCome}
 use Rattle.world.specs.WorldView.{IsCellUnchanged}
@@ -31,7 +32,7 @@ use Rattle.gate_cell.specs.declared.cell.StableCell.{Ghosts as CellWords}
 use Rattle.gate_cell.specs.declared.slot_cell.SlotCell.{Ghosts as SlotWords}
 use Rattle.record.specs.RecordView.{RecordView}
 use Rattle.world.specs.declared.output.Output.{Output}
-use Rattle.world.specs.declared.event.Reply.{Reply}
+use Rattle.world.specs.ReplyView.{Reply}
 
 -- an outlet of the list, as it is seen
 pub outlet_at : {O : Type 0} (taken : O → List ℤ) (failures : O → ℕ) (outputs : List (Output O)) (j : ℕ) (x : Output O)

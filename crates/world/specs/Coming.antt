@@ -13,7 +13,7 @@ use Rattle.protocol.specs.Node.Plans.{Prospect, IsMade, IsPut, packets_by, room_
 use Rattle.protocol.specs.World.EventView.{EventView}
 use Rattle.protocol.specs.World.Replies.{answer_by, has_happened}
 use Rattle.protocol.specs.World.ReplyView.{ReplyView}
-use Rattle.protocol.specs.World.ReplyView as reply
+use Rattle.protocol.specs.declared.reply.Reply.TheVariants as reply
 use Rattle.protocol.specs.World.StationView.{StationView}
 use Rattle.protocol.specs.World.Steps.{IsAct, IsPlanned, IsStationStep, Setting, StationPlan, plan_sendings, traffic_after}
 use Rattle.protocol.specs.World.Steps.{moved_to, sending_of, traffic_left}

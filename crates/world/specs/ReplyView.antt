@@ -1,33 +1,26 @@
 -- Answers as data.
 use Rattle.std.specs.Prelude.{Option, Some, None, Result, Ok, Err}
-use Rattle.protocol.specs.World.ReplyView.{ReplyView, Delivered, Dropped, Granted, Installed, Discarded, Sent, Started}
-use Rattle.protocol.specs.World.ReplyView.{Decided, Refused, Released, OutletFailed, Crashed, Recovered, InDoubt, Down}
-use Rattle.protocol.specs.World.ReplyView.{Acted, Idled, NotDue}
+use Rattle.std.specs.declared.alloc.Global.{Global}
+use Rattle.std.specs.declared.sync.Arc.{Arc}
+use Rattle.proc_step.specs.declared.job.Job.{Job}
+use Rattle.protocol.specs.World.ReplyView.{ReplyView, leaving, reply_by}
+use Rattle.protocol.specs.declared.reply.Leaving.{Leaving}
+use Rattle.protocol.specs.declared.reply.Reply.{Reply as AnyReply}
 use Rattle.node.specs.JobView.{shared_view}
-use Rattle.world.specs.declared.event.Reply.{Reply}
-use Rattle.world.specs.declared.event.Reply.TheVariants as reply
+use Rattle.stream_eq.specs.declared.freed.Freed.{Freed}
+
+-- what a world answers
+abbrev pub Reply : Type 0
+Reply = AnyReply (Arc Job Global) Freed
+
+-- the item that left by its place
+abbrev pub leaving_of : Freed → Leaving
+leaving_of freed = leaving freed.output freed.number
 
 abbrev pub reply_view : Reply → ReplyView
-reply_view reply.Delivered = Delivered
-reply_view reply.Dropped = Dropped
-reply_view (reply.Granted job) = Granted (shared_view job)
-reply_view reply.Installed = Installed
-reply_view reply.Discarded = Discarded
-reply_view reply.Sent = Sent
-reply_view reply.Started = Started
-reply_view reply.Decided = Decided
-reply_view (reply.Refused refusal) = Refused refusal
-reply_view (reply.Released freed) = Released freed.output freed.number
-reply_view reply.OutletFailed = OutletFailed
-reply_view reply.Crashed = Crashed
-reply_view reply.Recovered = Recovered
-reply_view reply.InDoubt = InDoubt
-reply_view reply.Down = Down
-reply_view reply.Acted = Acted
-reply_view reply.Idled = Idled
-reply_view reply.NotDue = NotDue
+reply_view answer = reply_by shared_view leaving_of answer
 
 -- an answer, or none where memory was missing
 abbrev pub answer_view : {E : Type 0} → Result Reply E → Option ReplyView
-answer_view (Ok reply) = Some (reply_view reply)
+answer_view (Ok answer) = Some (reply_view answer)
 answer_view (Err e) = None

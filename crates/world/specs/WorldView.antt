@@ -16,7 +16,7 @@ use Rattle.net_check.specs.declared.net.Net.{Net}
 use Rattle.net_check.specs.declared.inputs.Inputs.{Inputs}
 use Rattle.world.specs.OutputView.{outputs_view}
 use Rattle.protocol.specs.World.EventView.{EventView, ByNode}
-use Rattle.protocol.specs.World.EventView as event
+use Rattle.protocol.specs.declared.event.Deed.TheVariants as event
 use Rattle.protocol.specs.World.Pairs.{HasGrown}
 use Rattle.protocol.specs.World.ReplyView.{ReplyView}
 use Rattle.protocol.specs.World.StationView.{StationView}

@@ -14,7 +14,7 @@ ghost use Rattle.world.specs.EventView.{event_view};
 ghost use Rattle.protocol.specs.World.Pairs.{HasMoved};
 ghost use Rattle.protocol.specs.World.RecoveryLine.{next_kept};
 ghost use Rattle.protocol.specs.World.Replies.{LeavesCells, TakesMemory};
-ghost use Rattle.protocol.specs.World.ReplyView.{Down};
+ghost use Rattle.protocol.specs.declared.reply.Reply.TheVariants.{Down};
 ghost use Rattle.world.specs.ReplyView.{answer_view, reply_view};
 ghost use Rattle.world.specs.StationView.{outlet_views};
 ghost use Rattle.protocol.specs.World.Steps.{idle_plan, send_plan, setting_in};
@@ -22,11 +22,12 @@ ghost use Rattle.protocol.specs.WorldLaws.PlanLaws.{IsSoundSetting, IsSoundStati
 ghost use Rattle.world.specs.WorldView.{IsCellUnchanged, LeavesDeviceBy, LeavesWhatItFound, RestartsAsArmed, station_view};
 
 use crate::event::{Event, Reply};
-use crate::network::{arm_packet, delay, lose, repeat, spell_all};
+use crate::network::{act_by_network, spell_all};
 use crate::station::Station;
 use gate_cell::SlotCell;
 use net_check::{Inputs, Net};
 use outlet::Outlet;
+use protocol::{Deed, PlainEvent};
 use std::alloc::{AllocError, Global};
 use std::sync::Arc;
 use wire::Wire;
@@ -130,25 +131,26 @@ impl<C: SlotCell, O: Outlet> Station<C, O> {
         ensures held { OnErr result (LeavesWhatItFound (event_view event.now) self.old self.new) }
     {
         match event {
-            Event::Deliver { node, place } => self.deliver(alloc, net, wire, *node, *place, round),
-            Event::Grant(_) => self.grant(alloc, net, inputs, room, round),
             Event::Install(done) => self.install(alloc, net, done),
-            Event::Send(_) => self.send(alloc, net, wire, round),
-            Event::Start(_) => self.start(alloc, net, wire, round),
-            Event::Decide(_) => self.decide(alloc, wire, round),
-            Event::Release(_) => self.release(net, inputs, round),
-            Event::Crash { fill, rounds, .. } => Ok(self.crash(round, *fill, *rounds)),
-            Event::Recover(_) => self.recover(alloc, net, round),
-            Event::Arm { fault, rounds, .. } => self.arm(*fault, *rounds, round),
-            Event::Idle(_) => Ok(self.idle(round)),
-            Event::Lose { node, place } => Ok(lose(wire, *node, *place)),
-            Event::Repeat { node, place } => repeat(alloc, wire, *node, *place),
-            Event::Delay {
-                node,
-                place,
-                rounds,
-            } => Ok(delay(wire, *node, *place, *rounds)),
-            Event::ArmPacket(rule) => arm_packet(wire, *rule),
+            Event::Plain(event) => match event {
+                PlainEvent::Release(_) => self.release(net, inputs, round),
+                PlainEvent::ByNode { node, deed } => match deed {
+                    Deed::Deliver { place } => {
+                        self.deliver(alloc, net, wire, *node, *place, round)
+                    }
+                    Deed::Grant => self.grant(alloc, net, inputs, room, round),
+                    Deed::Send => self.send(alloc, net, wire, round),
+                    Deed::Start => self.start(alloc, net, wire, round),
+                    Deed::Decide => self.decide(alloc, wire, round),
+                    Deed::Crash { fill, rounds } => Ok(self.crash(round, *fill, *rounds)),
+                    Deed::Recover => self.recover(alloc, net, round),
+                    Deed::Arm { fault, rounds } => self.arm(*fault, *rounds, round),
+                    Deed::Idle => Ok(self.idle(round)),
+                },
+                PlainEvent::ByNetwork { node, place, act } => {
+                    act_by_network(alloc, wire, *node, *place, *act)
+                }
+            },
         }
     }
 }

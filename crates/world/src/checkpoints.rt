@@ -18,7 +18,7 @@ ghost use Rattle.protocol.specs.Node.Starting.{IsLikeNow};
 ghost use Rattle.protocol.specs.Node.Verdicts.{decide_prospect};
 ghost use Rattle.protocol.specs.World.Pairs.{LeaveEitherSince};
 ghost use Rattle.protocol.specs.World.Replies.{AnswerLeaves, answer_by};
-ghost use Rattle.protocol.specs.World.ReplyView.{Down};
+ghost use Rattle.protocol.specs.declared.reply.Reply.TheVariants.{Down};
 ghost use Rattle.protocol.specs.World.Steps.{decide_plan, sending_of, start_plan, turns_by};
 ghost use Rattle.protocol.specs.declared.outcome.Outcome.{Outcome as OutcomeValue};
 ghost use Rattle.wire.specs.Traffic.{all_sent, traffic_of};

@@ -17,7 +17,7 @@ ghost use Rattle.protocol.specs.Node.Plans.{next_record, packets_by};
 ghost use Rattle.protocol.specs.Node.Starting.{IsLikeNow};
 ghost use Rattle.protocol.specs.World.Pairs.{LeaveEitherSince};
 ghost use Rattle.protocol.specs.World.Replies.{AnswerLeaves};
-ghost use Rattle.protocol.specs.World.ReplyView.{Down};
+ghost use Rattle.protocol.specs.declared.reply.Reply.TheVariants.{Down};
 ghost use Rattle.protocol.specs.World.Steps.{deliver_plan, due_bytes};
 ghost use Rattle.protocol.specs.WorldLaws.HeardLaws.{IsHeard};
 ghost use Rattle.protocol.specs.declared.outcome.Outcome.{Outcome as OutcomeValue};

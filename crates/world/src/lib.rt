@@ -33,7 +33,7 @@ pub use node::node_count;
 pub use opening::OpeningRefused;
 pub use output::Output;
 pub use outputs::{OutletMaker, list_outputs, outputs_of};
-pub use protocol::{DEFAULT_ROOM, MIN_ROOM, RoundTurns};
+pub use protocol::{DEFAULT_ROOM, Deed, MIN_ROOM, NetworkAct, PlainEvent, RoundTurns};
 pub use room::RoomOutOfRange;
 pub use station::Station;
 pub use stream_eq::Freed;

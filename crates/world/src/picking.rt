@@ -26,7 +26,7 @@ use gate_cell::SlotCell;
 use net_check::{Inputs, Net};
 use node::{Mode, NodeState};
 use outlet::Outlet;
-use protocol::MAX_GRANTS;
+use protocol::{Deed, MAX_GRANTS};
 use record::{Image, Record};
 use wire::Wire;
 
@@ -151,21 +151,21 @@ impl<C: SlotCell, O: Outlet> Station<C, O> {
     {
         let number = self.node.number;
         if self.next_release(round).is_some() {
-            return Event::Release(number);
+            return Event::release(number);
         }
         if self.has_grant(net, inputs, room, round) {
-            return Event::Grant(number);
+            return Event::by_node(number, Deed::Grant);
         }
         if self.may_decide() {
-            return Event::Decide(number);
+            return Event::by_node(number, Deed::Decide);
         }
         if self.wants_checkpoint(nodes, round) {
-            return Event::Start(number);
+            return Event::by_node(number, Deed::Start);
         }
         if self.may_send(round) {
-            return Event::Send(number);
+            return Event::by_node(number, Deed::Send);
         }
-        Event::Idle(number)
+        Event::by_node(number, Deed::Idle)
     }
 
     // The event that is next for its node.
@@ -184,10 +184,10 @@ impl<C: SlotCell, O: Outlet> Station<C, O> {
     {
         let node = self.node.number;
         if self.may_recover(round) {
-            return Event::Recover(node);
+            return Event::by_node(node, Deed::Recover);
         }
         match self.due_place(wire, round) {
-            Some(place) => Event::Deliver { node, place },
+            Some(place) => Event::by_node(node, Deed::Deliver { place }),
             None => self.pick_own(net, inputs, room, nodes, round),
         }
     }
@@ -208,7 +208,7 @@ impl<C: SlotCell, O: Outlet> World<C, O> {
                 self.stations.len(),
                 self.round,
             ),
-            None => Event::Idle(node),
+            None => Event::by_node(node, Deed::Idle),
         }
     }
 

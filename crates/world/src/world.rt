@@ -16,7 +16,7 @@ ghost use Rattle.world.specs.Coming.{HasActed};
 ghost use Rattle.world.specs.RecoveryLine.{StaysInLine, KeepsLine, HasOneLine};
 ghost use Rattle.protocol.specs.World.Replies.{IsDropped, IsGrantedAt, IsTooLarge, LeavesCells, TakesMemory};
 ghost use Rattle.world.specs.ReplyView.{answer_view, reply_view};
-ghost use Rattle.protocol.specs.World.ReplyView.{Down};
+ghost use Rattle.protocol.specs.declared.reply.Reply.TheVariants.{Down};
 ghost use Rattle.protocol.specs.World.Roomy.{HasFullRoom};
 ghost use Rattle.protocol.specs.World.Steps.{are_done_with, is_done_with, round_after, setting_in, IsStep};
 ghost use Rattle.world.specs.WorldView.{capacities, HoldsAsBeforeAt, IsCellUnchanged, IsGrown, LeavesDeviceAt, LeavesWhatItFoundAt, RestartsAsArmedAt, rooms, station_view, world_view};

@@ -1,7 +1,7 @@
 //! Replies, events, items and bytes, in words.
 
 use std::alloc::{AllocError, Global};
-use world::{Event, Reply, RoomOutOfRange};
+use world::{Deed, Event, NetworkAct, PlainEvent, Reply, RoomOutOfRange};
 
 /// The word of a reply without a number.
 fn reply_word(reply: &Reply) -> &'static str {
@@ -45,36 +45,66 @@ pub fn set_word(set: Result<(), RoomOutOfRange>) -> &'static str {
     }
 }
 
-/// The word of an event, and its node.
-fn event_word(event: &Event) -> (&'static str, u8) {
+/// The word of what a node does, or what is done to it.
+fn deed_word(deed: &Deed) -> &'static str {
+    match deed {
+        Deed::Deliver { .. } => "deliver",
+        Deed::Grant => "grant",
+        Deed::Send => "send",
+        Deed::Start => "start",
+        Deed::Decide => "decide",
+        Deed::Crash { .. } => "crash",
+        Deed::Recover => "recover",
+        Deed::Arm { .. } => "arm",
+        Deed::Idle => "idle",
+    }
+}
+
+/// The word of what the network does.
+fn network_word(act: &NetworkAct) -> &'static str {
+    match act {
+        NetworkAct::Lose => "lose",
+        NetworkAct::Repeat => "repeat",
+        NetworkAct::Delay { .. } => "delay",
+        NetworkAct::ArmPacket { .. } => "arm packet",
+    }
+}
+
+/// The word of an event.
+fn event_word(event: &Event) -> &'static str {
     match event {
-        Event::Deliver { node, .. } => ("deliver", *node),
-        Event::Grant(node) => ("grant", *node),
-        Event::Install(done) => ("install", done.job.node()),
-        Event::Send(node) => ("send", *node),
-        Event::Start(node) => ("start", *node),
-        Event::Decide(node) => ("decide", *node),
-        Event::Release(node) => ("release", *node),
-        Event::Crash { node, .. } => ("crash", *node),
-        Event::Recover(node) => ("recover", *node),
-        Event::Arm { node, .. } => ("arm", *node),
-        Event::Idle(node) => ("idle", *node),
-        Event::Lose { node, .. } => ("lose", *node),
-        Event::Repeat { node, .. } => ("repeat", *node),
-        Event::Delay { node, .. } => ("delay", *node),
-        Event::ArmPacket(rule) => ("arm packet", rule.to),
+        Event::Install(_) => "install",
+        Event::Plain(event) => match event {
+            PlainEvent::ByNode { deed, .. } => deed_word(deed),
+            PlainEvent::Release(_) => "release",
+            PlainEvent::ByNetwork { act, .. } => network_word(act),
+        },
+    }
+}
+
+/// The place from which an event delivers a packet, if it delivers one.
+fn delivery_place(event: &Event) -> Option<usize> {
+    match event {
+        Event::Plain(
+            PlainEvent::ByNode {
+                deed: Deed::Deliver { place },
+                ..
+            },
+        ) => Some(*place),
+        _ => None,
     }
 }
 
 /// An event that is next for this node.
 pub fn event_text(alloc: Global, event: &Event, asked: u8) -> Result<String, AllocError> {
-    let (word, node) = event_word(event);
+    let word = event_word(event);
+    let node = event.node();
     if node != asked {
         return format!(in alloc; "{word} of node {node}");
     }
-    match event {
-        Event::Deliver { place, .. } => format!(in alloc; "{word} {place}"),
-        _ => String::from_str(alloc, word),
+    match delivery_place(event) {
+        Some(place) => format!(in alloc; "{word} {place}"),
+        None => String::from_str(alloc, word),
     }
 }
 

@@ -11,7 +11,7 @@ use case_table::listed;
 use proc_step::{Done, Job};
 use std::alloc::{AllocError, Global};
 use std::sync::Arc;
-use world::{Event, Reply};
+use world::{Deed, Event, NetworkAct, Reply};
 
 /// The most times that each node goes on in a `run`.
 const MAX_TURNS: u64 = 100_000;
@@ -61,7 +61,7 @@ fn take_turn(alloc: Global, world: &mut CaseWorld, node: u8) -> anyhow::Result<(
 
 /// A job is granted, and what comes of it is brought back.
 fn take_job(alloc: Global, world: &mut CaseWorld, node: u8) -> anyhow::Result<()> {
-    let Reply::Granted(job) = apply(alloc, world, Event::Grant(node))? else {
+    let Reply::Granted(job) = apply(alloc, world, Event::by_node(node, Deed::Grant))? else {
         anyhow::bail!("no job is granted");
     };
     let done = done_of(alloc, job)?;
@@ -81,7 +81,7 @@ fn foreign_done(
     let Ok(mut world) = open_world(alloc, net, inputs, settings)? else {
         anyhow::bail!("no other world was made");
     };
-    match apply(alloc, &mut world, Event::Grant(0))? {
+    match apply(alloc, &mut world, Event::by_node(0, Deed::Grant))? {
         Reply::Granted(job) => done_of(alloc, job),
         _ => anyhow::bail!("the other world grants no job"),
     }
@@ -97,14 +97,10 @@ fn next_number(seed: u64) -> u64 {
 fn chosen_act(number: u64, node: u8) -> Option<Event> {
     let place = (number >> 40 & 7) as usize;
     match number >> 50 & 15 {
-        0 => Some(Event::Lose { node, place }),
-        1 => Some(Event::Repeat { node, place }),
-        2 => Some(Event::Delay {
-            node,
-            place,
-            rounds: 1,
-        }),
-        3 => Some(Event::Deliver { node, place }),
+        0 => Some(Event::by_network(node, place, NetworkAct::Lose)),
+        1 => Some(Event::by_network(node, place, NetworkAct::Repeat)),
+        2 => Some(Event::by_network(node, place, NetworkAct::Delay { rounds: 1 })),
+        3 => Some(Event::by_node(node, Deed::Deliver { place })),
         _ => None,
     }
 }

@@ -4,7 +4,7 @@ use case_table::{byte, number, size};
 use sector_disk::ArmedFault;
 use std::alloc::Global;
 use wire::{Change, Rule};
-use world::Event;
+use world::{Deed, Event, NetworkAct, PlainEvent};
 
 /// Which job's outcome is brought back.
 #[derive(Drop)]
@@ -77,57 +77,60 @@ impl Step {
     }
 }
 
-/// An event of a node.
-fn node_event(words: &[&str]) -> anyhow::Result<Option<Event>> {
-    let event = match words {
-        ["grant", node] => Event::Grant(byte(node)?),
-        ["send", node] => Event::Send(byte(node)?),
-        ["start", node] => Event::Start(byte(node)?),
-        ["decide", node] => Event::Decide(byte(node)?),
-        ["release", node] => Event::Release(byte(node)?),
-        ["recover", node] => Event::Recover(byte(node)?),
-        ["idle", node] => Event::Idle(byte(node)?),
-        ["crash", node, "fill", fill, "rounds", rounds] => Event::Crash {
-            node: byte(node)?,
-            fill: byte(fill)?,
-            rounds: number(rounds)?,
-        },
-        ["arm", node, "call", call, "fill", fill, "rounds", rounds] => Event::Arm {
-            node: byte(node)?,
-            fault: ArmedFault {
+/// What a node does, or what is done to it.
+fn deed_of(words: &[&str]) -> anyhow::Result<Option<(u8, Deed)>> {
+    let (node, deed) = match words {
+        ["grant", node] => (node, Deed::Grant),
+        ["send", node] => (node, Deed::Send),
+        ["start", node] => (node, Deed::Start),
+        ["decide", node] => (node, Deed::Decide),
+        ["recover", node] => (node, Deed::Recover),
+        ["idle", node] => (node, Deed::Idle),
+        ["deliver", node, place] => {
+            let place = size(place)?;
+            (node, Deed::Deliver { place })
+        }
+        ["crash", node, "fill", fill, "rounds", rounds] => {
+            let fill = byte(fill)?;
+            let rounds = number(rounds)?;
+            (node, Deed::Crash { fill, rounds })
+        }
+        ["arm", node, "call", call, "fill", fill, "rounds", rounds] => {
+            let fault = ArmedFault {
                 call: number(call)?,
                 fill: byte(fill)?,
-            },
-            rounds: number(rounds)?,
-        },
+            };
+            let rounds = number(rounds)?;
+            (node, Deed::Arm { fault, rounds })
+        }
         _ => return Ok(None),
     };
-    Ok(Some(event))
+    Ok(Some((byte(node)?, deed)))
 }
 
-/// An event of a packet.
+/// An event of a node.
+fn node_event(words: &[&str]) -> anyhow::Result<Option<Event>> {
+    if let ["release", node] = words {
+        return Ok(Some(Event::release(byte(node)?)));
+    }
+    match deed_of(words)? {
+        Some((node, deed)) => Ok(Some(Event::by_node(node, deed))),
+        None => Ok(None),
+    }
+}
+
+/// An event of a packet in flight.
 fn packet_event(words: &[&str]) -> anyhow::Result<Option<Event>> {
-    let event = match words {
-        ["deliver", node, place] => Event::Deliver {
-            node: byte(node)?,
-            place: size(place)?,
-        },
-        ["lose", node, place] => Event::Lose {
-            node: byte(node)?,
-            place: size(place)?,
-        },
-        ["repeat", node, place] => Event::Repeat {
-            node: byte(node)?,
-            place: size(place)?,
-        },
-        ["delay", node, place, "rounds", rounds] => Event::Delay {
-            node: byte(node)?,
-            place: size(place)?,
-            rounds: number(rounds)?,
-        },
+    let (node, place, act) = match words {
+        ["lose", node, place] => (node, place, NetworkAct::Lose),
+        ["repeat", node, place] => (node, place, NetworkAct::Repeat),
+        ["delay", node, place, "rounds", rounds] => {
+            let rounds = number(rounds)?;
+            (node, place, NetworkAct::Delay { rounds })
+        }
         _ => return Ok(None),
     };
-    Ok(Some(event))
+    Ok(Some(Event::by_network(byte(node)?, size(place)?, act)))
 }
 
 /// A rule for a packet that is still to be sent.
@@ -162,7 +165,7 @@ fn rule_event(words: &[&str]) -> anyhow::Result<Option<Event>> {
         ] => { rule_of(nth, from, to, Change::Delay(number(rounds)?))? }
         _ => return Ok(None),
     };
-    Ok(Some(Event::ArmPacket(rule)))
+    Ok(Some(Event::Plain(PlainEvent::arm_packet(rule))))
 }
 
 /// A question.

@@ -40,8 +40,8 @@ use Rattle.protocol.specs.Node.NodeView.{running_of}
 use Rattle.protocol.specs.Node.NodeView.{on_mode}
 use Rattle.protocol.specs.Node.Plans.{Prospect, Undue, Exhausted, Planned, IsMade, if_due}
 use Rattle.protocol.specs.World.DoneView.{DoneView}
-use Rattle.protocol.specs.World.EventView.{NetworkAct}
-use Rattle.protocol.specs.World.EventView as event
+use Rattle.protocol.specs.declared.event.NetworkAct.{NetworkAct}
+use Rattle.protocol.specs.declared.event.NetworkAct.TheVariants as act_is
 use Rattle.protocol.specs.World.Invariant.{AreSound, IsNumbered, StationInvariant}
 use Rattle.protocol.specs.World.RecoveryLine.{net_seen, outlets_seen}
 use Rattle.protocol.specs.World.Replies.{answer_by, has_happened}
@@ -90,11 +90,11 @@ left_carries traffic k (Some place) sent carries = gone_holds (λ to. SaysWhatWa
 
 pub acted_carries : (act : NetworkAct) (traffic : Traffic) (k place : ℕ) (sent : List Packet) → Carries traffic sent
     → Carries (traffic_acted act traffic k place) sent
-acted_carries event.Lose traffic k place sent carries = gone_holds (λ to. SaysWhatWasSent sent) traffic k place carries
-acted_carries event.Repeat traffic k place sent carries = repeated_holds (λ to. SaysWhatWasSent sent) traffic k place carries
-acted_carries (event.Delay rounds) traffic k place sent carries =
+acted_carries act_is.Lose traffic k place sent carries = gone_holds (λ to. SaysWhatWasSent sent) traffic k place carries
+acted_carries act_is.Repeat traffic k place sent carries = repeated_holds (λ to. SaysWhatWasSent sent) traffic k place carries
+acted_carries (act_is.Delay rounds) traffic k place sent carries =
     delayed_holds (λ to. SaysWhatWasSent sent) traffic k place rounds carries
-acted_carries (event.ArmPacket from nth change) traffic k place sent carries = carries
+acted_carries (act_is.ArmPacket from nth change) traffic k place sent carries = carries
 
 module _ (net : Network) (stations : List StationView) (k : ℕ) (old : StationView)
     (there : slice_get stations k ≡ Some old) (traffic : Traffic) where

@@ -43,8 +43,8 @@ use Rattle.protocol.specs.Node.Plans.{Prospect, Undue, Exhausted, Planned, IsMad
 use Rattle.protocol.specs.Node.Plans.{becoming, if_due, putting, telling, unless_spent}
 use Rattle.protocol.specs.Node.Recovering.{crash_prospect, recover_prospect, restored, restored_with}
 use Rattle.protocol.specs.Node.Trimming.{cut_at}
-use Rattle.protocol.specs.World.EventView.{Deed}
-use Rattle.protocol.specs.World.EventView as event
+use Rattle.protocol.specs.declared.event.Deed.{Deed}
+use Rattle.protocol.specs.declared.event.Deed.TheVariants as event
 use Rattle.protocol.specs.World.OpeningWorld.{stations_from}
 use Rattle.protocol.specs.World.StationView.{StationView}
 use Rattle.protocol.specs.World.DoneView.{DoneView}

@@ -12,7 +12,8 @@ use Rattle.protocol.specs.World.RecoveryLine.{AreEither}
 use Rattle.protocol.specs.Join.Runs.{HasRun, RunsOn}
 use Rattle.protocol.specs.Node.Plans.{next_record}
 use Rattle.protocol.specs.World.DoneView.{DoneView}
-use Rattle.protocol.specs.World.EventView.{Deed, NetworkAct}
+use Rattle.protocol.specs.declared.event.Deed.{Deed}
+use Rattle.protocol.specs.declared.event.NetworkAct.{NetworkAct}
 use Rattle.protocol.specs.World.Invariant.{AreSound, IsNumbered, StationInvariant}
 use Rattle.protocol.specs.World.OpeningWorld.{opening_stations}
 use Rattle.protocol.specs.World.RecoveryLine.{records_of}

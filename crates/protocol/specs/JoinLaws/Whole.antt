@@ -44,8 +44,8 @@ use Rattle.protocol.specs.Node.NodeView.{Down, InDoubt, ModeView, NodeView, Runs
 use Rattle.protocol.specs.Node.Plans.{Prospect}
 use Rattle.protocol.specs.Node.Recovering.{recover_prospect, restored_mode}
 use Rattle.protocol.specs.NodeLaws.NumberedLaws.{where_mark}
-use Rattle.protocol.specs.World.EventView.{Deed}
-use Rattle.protocol.specs.World.EventView as event
+use Rattle.protocol.specs.declared.event.Deed.{Deed}
+use Rattle.protocol.specs.declared.event.Deed.TheVariants as event
 use Rattle.protocol.specs.World.StationView.{StationView}
 use Rattle.protocol.specs.World.Replies.{back_reply, delivery_reply, grant_reply, has_happened}
 use Rattle.protocol.specs.World.Steps.{Setting, bytes_when, due_bytes, flight_at, noting}

@@ -18,7 +18,7 @@ use Rattle.protocol.specs.World.Turns.{turns_of}
 use Rattle.protocol.specs.World.StationView.{StationView}
 use Rattle.protocol.specs.World.Steps.{WorldView, next_release}
 use Rattle.protocol.specs.World.EventView.{EventView, ByNode, Release}
-use Rattle.protocol.specs.World.EventView as event
+use Rattle.protocol.specs.declared.event.Deed.TheVariants as event
 use Rattle.protocol.specs.declared.limits.TheConstants.{MAX_GRANTS}
 
 -- a count of one of these channels is above what it is in an earlier image

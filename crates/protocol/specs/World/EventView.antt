@@ -1,28 +1,13 @@
 -- Events without pointers.
 use Rattle.std.specs.Prelude.{ℕ, Option, Some, None}
 use Rattle.kahn_net.specs.Syntax.{Code}
-use Rattle.sector_disk.specs.declared.disk.ArmedFault.{ArmedFault}
 use Rattle.protocol.specs.World.DoneView.{DoneView}
-use Rattle.wire.specs.declared.rule.Change.{Change}
-
--- what a node does, or what is done to it, in one way: each deed has a plan
-pub data Deed : Type 0 where
-  Deliver : (place : ℕ) → Deed
-  Grant : Deed
-  Send : Deed
-  Start : Deed
-  Decide : Deed
-  Crash : (fill : ℕ) → (rounds : ℕ) → Deed
-  Recover : Deed
-  Arm : (fault : ArmedFault) → (rounds : ℕ) → Deed
-  Idle : Deed
-
--- what the network does to a packet in flight, or is to do to the nth one from a node, which is still to be sent
-pub data NetworkAct : Type 0 where
-  Lose : NetworkAct
-  Repeat : NetworkAct
-  Delay : (rounds : ℕ) → NetworkAct
-  ArmPacket : (from nth : ℕ) → (change : Change) → NetworkAct
+use Rattle.protocol.specs.declared.event.Deed.{Deed}
+use Rattle.protocol.specs.declared.event.NetworkAct.{NetworkAct}
+use Rattle.protocol.specs.declared.event.NetworkAct.TheVariants.{ArmPacket}
+use Rattle.protocol.specs.declared.event.PlainEvent.{PlainEvent}
+use Rattle.protocol.specs.declared.event.PlainEvent.TheVariants as plain
+use Rattle.wire.specs.declared.rule.Rule.{Rule}
 
 -- An event: a deed of a node; a turn that comes back; an item that leaves a node, if its outlet takes it; or an act of
 -- the network on the packet at a place of those in flight to a node (one that is armed looks at no place).
@@ -31,6 +16,16 @@ pub data EventView : Type 0 where
   Install : (done : DoneView) → EventView
   Release : (node : ℕ) → EventView
   ByNetwork : (node : ℕ) → (place : ℕ) → (act : NetworkAct) → EventView
+
+-- one that carries no turn
+abbrev pub plain_view : PlainEvent → EventView
+plain_view (plain.ByNode node deed) = ByNode node deed
+plain_view (plain.Release node) = Release node
+plain_view (plain.ByNetwork node place act) = ByNetwork node place act
+
+-- by which a rule is armed
+abbrev pub armed_by : Rule → PlainEvent
+armed_by rule = plain.ByNetwork rule.to 0 (ArmPacket rule.from rule.nth rule.change)
 
 -- the node of a process
 abbrev pub node_in : Option Code → ℕ

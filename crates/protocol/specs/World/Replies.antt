@@ -7,10 +7,13 @@ use Rattle.protocol.specs.declared.delivery.Delivery.TheVariants as delivery
 use Rattle.protocol.specs.declared.outcome.Outcome.{Outcome}
 use Rattle.protocol.specs.declared.outcome.Outcome.TheVariants as outcome
 use Rattle.protocol.specs.declared.outcome.Refusal.TheVariants.{TooLarge, Spent}
-use Rattle.protocol.specs.World.EventView.{Deed, NetworkAct, EventView, ByNode, ByNetwork, Install, Release, node_in}
-use Rattle.protocol.specs.World.EventView as event
+use Rattle.protocol.specs.World.EventView.{EventView, ByNode, ByNetwork, Install, Release, node_in}
+use Rattle.protocol.specs.declared.event.Deed.{Deed}
+use Rattle.protocol.specs.declared.event.NetworkAct.{NetworkAct}
+use Rattle.protocol.specs.declared.event.Deed.TheVariants as event
+use Rattle.protocol.specs.declared.event.NetworkAct.TheVariants as act_is
 use Rattle.protocol.specs.World.ReplyView.{ReplyView}
-use Rattle.protocol.specs.World.ReplyView as reply
+use Rattle.protocol.specs.declared.reply.Reply.TheVariants as reply
 
 -- ---- answers to events
 
@@ -98,8 +101,8 @@ DeedTakesMemory event.Idle = ⊥
 DeedTakesMemory deed = Unit {0}
 
 abbrev pub ActTakesMemory : NetworkAct → Type 0
-ActTakesMemory event.Repeat = Unit {0}
-ActTakesMemory (event.ArmPacket from nth change) = Unit {0}
+ActTakesMemory act_is.Repeat = Unit {0}
+ActTakesMemory (act_is.ArmPacket from nth change) = Unit {0}
 ActTakesMemory act = ⊥
 
 abbrev pub TakesMemory : EventView → Type 0

@@ -38,12 +38,15 @@ use Rattle.protocol.specs.declared.outcome.Outcome.TheVariants as outcome
 use Rattle.protocol.specs.declared.outcome.Refusal.TheVariants.{TooLarge}
 use Rattle.protocol.specs.declared.round_turns.RoundTurns.{RoundTurns}
 use Rattle.protocol.specs.World.DoneView.{DoneView, IsTurnOfJob}
-use Rattle.protocol.specs.World.EventView.{Deed, NetworkAct, EventView, ByNode, ByNetwork, Install, Release, event_node}
-use Rattle.protocol.specs.World.EventView as event
+use Rattle.protocol.specs.World.EventView.{EventView, ByNode, ByNetwork, Install, Release, event_node}
+use Rattle.protocol.specs.declared.event.Deed.{Deed}
+use Rattle.protocol.specs.declared.event.NetworkAct.{NetworkAct}
+use Rattle.protocol.specs.declared.event.Deed.TheVariants as event
+use Rattle.protocol.specs.declared.event.NetworkAct.TheVariants as act_is
 use Rattle.protocol.specs.World.Replies.{act_reply, answer_by, back_reply, delivery_reply, grant_reply, has_happened}
 use Rattle.protocol.specs.World.Replies.{install_reply}
-use Rattle.protocol.specs.World.ReplyView.{ReplyView}
-use Rattle.protocol.specs.World.ReplyView as reply
+use Rattle.protocol.specs.World.ReplyView.{ReplyView, leaving}
+use Rattle.protocol.specs.declared.reply.Reply.TheVariants as reply
 use Rattle.protocol.specs.World.StationView.{OutletView, StationView}
 use Rattle.protocol.specs.World.Turns.{turns_of, count_grant, count_start, count_send, count_idle}
 
@@ -240,7 +243,7 @@ next_release round station =
 pub record IsHanded (round : ℕ) (log : Option LogState) (outlet : OutletView) (answer : ReplyView)
     (later : OutletView) : Type 0 where
   pub channel : later.channel ≡ outlet.channel
-  pub came : ((answer ≡ reply.Released outlet.channel (length later.taken))
+  pub came : ((answer ≡ reply.Released (leaving outlet.channel (length later.taken)))
       × TookNext log outlet.taken later.taken × (length later.taken ≡ length outlet.taken + 1)
       × (later.failed ≡ outlet.failed) × (later.failures ≡ outlet.failures))
       ⊎ ((answer ≡ reply.OutletFailed)
@@ -272,7 +275,7 @@ IsRelease round (Some place) old answer new = IsReleaseAt round place old answer
 
 -- an act on a packet needs one there; for one that is still to be sent nothing is missing
 abbrev pub can_act : NetworkAct → Option Flight → Bool
-can_act (event.ArmPacket from nth change) flight = true
+can_act (act_is.ArmPacket from nth change) flight = true
 can_act act flight = is_some flight
 
 -- an event of this station, or of the network at it; a deed comes out in this way
@@ -341,10 +344,10 @@ traffic_left traffic k None = traffic
 traffic_left traffic k (Some place) = traffic_without traffic k place
 
 abbrev pub traffic_acted : NetworkAct → Traffic → ℕ → ℕ → Traffic
-traffic_acted event.Lose traffic k place = traffic_without traffic k place
-traffic_acted event.Repeat traffic k place = traffic_repeated traffic k place
-traffic_acted (event.Delay rounds) traffic k place = traffic_delayed traffic k place rounds
-traffic_acted (event.ArmPacket from nth change) traffic k place =
+traffic_acted act_is.Lose traffic k place = traffic_without traffic k place
+traffic_acted act_is.Repeat traffic k place = traffic_repeated traffic k place
+traffic_acted (act_is.Delay rounds) traffic k place = traffic_delayed traffic k place rounds
+traffic_acted (act_is.ArmPacket from nth change) traffic k place =
     traffic_armed traffic (record { from = from; to = k; nth = nth; change = change })
 
 -- what an event that happens sends

@@ -17,8 +17,8 @@ use Rattle.protocol.specs.World.Agreeing.{NothingFailed, StepsAgree}
 use Rattle.protocol.specs.World.DoneView.{DoneView}
 use Rattle.protocol.specs.World.EventView.{ByNetwork, ByNode, EventView, Install, Release, event_node}
 use Rattle.protocol.specs.World.Replies.{answer_by, install_reply}
-use Rattle.protocol.specs.World.ReplyView.{ReplyView}
-use Rattle.protocol.specs.World.ReplyView as reply
+use Rattle.protocol.specs.World.ReplyView.{ReplyView, leaving}
+use Rattle.protocol.specs.declared.reply.Reply.TheVariants as reply
 use Rattle.protocol.specs.World.StationView.{OutletView, StationView}
 use Rattle.protocol.specs.World.Steps.{IsActOf, IsHanded, IsInstalled, IsPlanned, IsRelease, IsReleaseAt}
 use Rattle.protocol.specs.World.Steps.{IsStationStep, IsStep, Setting, StationPlan, WorldView, moved_to, next_release}
@@ -163,10 +163,10 @@ same_outlet x y a b c d =
 
 handed_comes : (round : ℕ) (log : Option LogState) (outlet : OutletView) (answer : ReplyView) (later : OutletView)
     → IsHanded round log outlet answer later → NothingFailed answer
-    → (answer ≡ reply.Released outlet.channel (length (took_at log outlet).taken)) × (later ≡ took_at log outlet)
+    → (answer ≡ reply.Released (leaving outlet.channel (length (took_at log outlet).taken))) × (later ≡ took_at log outlet)
 handed_comes round log outlet answer later handed nothing = elim handed.came [
   | inl took ↦ (
-    took.0 ∙ ap (λ (t : List ℤ). reply.Released outlet.channel (length t)) took.1,
+    took.0 ∙ ap (λ (t : List ℤ). reply.Released (leaving outlet.channel (length t))) took.1,
     same_outlet later (took_at log outlet) handed.channel took.1 took.3 took.4,
   )
   | inr failed ↦ absurd (subst NothingFailed failed.0 nothing)
@@ -186,8 +186,8 @@ released_comes round (Some place) old answer other one two first second nothing 
     second.handed none in
     let log = λ (outlet : OutletView). current_log outlet.channel old.node.mode in (
       x.0
-          ∙ (ap (λ (outlet : OutletView). reply.Released outlet.channel
-          (length (took_at (current_log outlet.channel old.node.mode) outlet).taken)) outlets ∙ sym y.0),
+          ∙ (ap (λ (outlet : OutletView). reply.Released (leaving outlet.channel
+          (length (took_at (current_log outlet.channel old.node.mode) outlet).taken))) outlets ∙ sym y.0),
       first.same
           ∙ (ap (λ (later : OutletView). released_to first.outlet place later old) x.1
           ∙ (ap (λ (outlet : OutletView). released_to outlet place

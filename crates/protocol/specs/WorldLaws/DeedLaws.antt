@@ -33,12 +33,13 @@ use Rattle.protocol.specs.Node.Verdicts.{decide_prospect, may_decide}
 use Rattle.protocol.specs.declared.outcome.Outcome.{Outcome}
 use Rattle.protocol.specs.declared.outcome.Outcome.TheVariants as outcome
 use Rattle.protocol.specs.declared.outcome.Refusal.TheVariants.{Spent, TooLarge}
-use Rattle.protocol.specs.World.EventView.{Deed, ByNode, ByNetwork, Install, Release}
-use Rattle.protocol.specs.World.EventView as event
+use Rattle.protocol.specs.World.EventView.{ByNode, ByNetwork, Install, Release}
+use Rattle.protocol.specs.declared.event.Deed.{Deed}
+use Rattle.protocol.specs.declared.event.Deed.TheVariants as event
 use Rattle.protocol.specs.World.InFlight.{OnlyNodesThatAreUpSend}
 use Rattle.protocol.specs.World.Replies.{back_reply, delivery_reply, grant_reply}
 use Rattle.protocol.specs.World.ReplyView.{ReplyView}
-use Rattle.protocol.specs.World.ReplyView as reply
+use Rattle.protocol.specs.declared.reply.Reply.TheVariants as reply
 use Rattle.protocol.specs.World.StationView.{StationView}
 use Rattle.protocol.specs.World.Steps.{Setting, bytes_when, deliver_plan, due_bytes, flight_at, plan_of, sending_of}
 use Rattle.protocol.specs.World.Traffic.{BytesAreSound, SpellsSound, TrafficIsSound}

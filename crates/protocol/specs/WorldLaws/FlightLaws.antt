@@ -13,8 +13,9 @@ use Rattle.wire.specs.Wire.{nth_in}
 use Rattle.wire.specs.declared.queue.Flight.{Flight}
 use Rattle.wire.specs.declared.queue.TheConstants.{NODES}
 use Rattle.wire.specs.declared.sending.Sending.{Sending}
-use Rattle.protocol.specs.World.EventView.{EventView, NetworkAct, ByNode, ByNetwork, Install, Release, event_node}
-use Rattle.protocol.specs.World.EventView as event
+use Rattle.protocol.specs.World.EventView.{EventView, ByNode, ByNetwork, Install, Release, event_node}
+use Rattle.protocol.specs.declared.event.NetworkAct.{NetworkAct}
+use Rattle.protocol.specs.declared.event.NetworkAct.TheVariants as act_is
 use Rattle.protocol.specs.World.InFlight.{AllInFlight, AllSent, EachWasSent, NothingAtFirst, NothingIsMadeUp}
 use Rattle.protocol.specs.World.Replies.{has_happened}
 use Rattle.protocol.specs.World.StationView.{StationView}
@@ -120,10 +121,10 @@ left_passes test traffic k (Some place) all = gone_holds (Passes test) traffic k
 
 acted_passes : (test : ℕ → List ℕ → Bool) (act : NetworkAct) (traffic : Traffic) (k place : ℕ)
     → AllInFlight test traffic → AllInFlight test (traffic_acted act traffic k place)
-acted_passes test event.Lose traffic k place all = gone_holds (Passes test) traffic k place all
-acted_passes test event.Repeat traffic k place all = repeated_holds (Passes test) traffic k place all
-acted_passes test (event.Delay rounds) traffic k place all = delayed_holds (Passes test) traffic k place rounds all
-acted_passes test (event.ArmPacket from nth change) traffic k place all = all
+acted_passes test act_is.Lose traffic k place all = gone_holds (Passes test) traffic k place all
+acted_passes test act_is.Repeat traffic k place all = repeated_holds (Passes test) traffic k place all
+acted_passes test (act_is.Delay rounds) traffic k place all = delayed_holds (Passes test) traffic k place rounds all
+acted_passes test (act_is.ArmPacket from nth change) traffic k place all = all
 
 then_passes : (test : ℕ → List ℕ → Bool) (setting : Setting) (e : EventView) (station : Option StationView)
     → AllInFlight test setting.traffic → AllInFlight test (traffic_then setting e station)

@@ -20,13 +20,14 @@ use Rattle.protocol.specs.declared.delivery.Delivery.TheVariants as delivery
 use Rattle.protocol.specs.declared.outcome.Outcome.{Outcome}
 use Rattle.protocol.specs.declared.outcome.Outcome.TheVariants as outcome
 use Rattle.protocol.specs.declared.outcome.Refusal.TheVariants.{TooLarge, Spent}
-use Rattle.protocol.specs.World.EventView.{Deed, EventView, ByNode, ByNetwork, Install, Release, event_node, node_in}
-use Rattle.protocol.specs.World.EventView as event
+use Rattle.protocol.specs.World.EventView.{EventView, ByNode, ByNetwork, Install, Release, event_node, node_in}
+use Rattle.protocol.specs.declared.event.Deed.{Deed}
+use Rattle.protocol.specs.declared.event.Deed.TheVariants as event
 use Rattle.protocol.specs.World.Invariant.{StationInvariant, WorldInvariant}
 use Rattle.protocol.specs.World.Replies.{act_reply, answer_by, back_reply, delivery_reply, grant_reply, install_reply}
 use Rattle.protocol.specs.World.Replies.{IsGrantedAt}
 use Rattle.protocol.specs.World.ReplyView.{ReplyView}
-use Rattle.protocol.specs.World.ReplyView as reply
+use Rattle.protocol.specs.declared.reply.Reply.TheVariants as reply
 use Rattle.protocol.specs.World.StationView.{StationView}
 use Rattle.protocol.specs.World.Steps.{IsActOf, IsRelease, IsStationStep, IsStep, Setting, WorldView, deliver_plan}
 use Rattle.protocol.specs.World.Steps.{can_act, due_bytes, flight_at, next_release, plan_of, setting_of}

@@ -11,7 +11,7 @@ use Rattle.protocol.specs.JoinLaws.Whole.{deeds_keep_the_line, lines_are_sound, 
 use Rattle.protocol.specs.JoinLaws.Lines.{none_other}
 use Rattle.protocol.specs.Node.Starting.{IsBehind}
 use Rattle.protocol.specs.World.EventView.{EventView, ByNode, ByNetwork, Install, Release, event_node}
-use Rattle.protocol.specs.World.EventView as event
+use Rattle.protocol.specs.declared.event.Deed.TheVariants as event
 use Rattle.protocol.specs.World.Invariant.{AreSound, IsNumbered, WorldInvariant}
 use Rattle.protocol.specs.World.InLine.{AreInLine}
 use Rattle.protocol.specs.World.RecoveryLine.{AreEither, LinesFollow, next_for, next_kept, records_of}

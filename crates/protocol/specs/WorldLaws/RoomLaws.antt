@@ -24,13 +24,14 @@ use Rattle.protocol.specs.Node.Plans.{Prospect, Undue, Exhausted, Planned, IsPut
 use Rattle.protocol.specs.declared.outcome.Outcome.{Outcome}
 use Rattle.protocol.specs.declared.outcome.Outcome.TheVariants as outcome
 use Rattle.protocol.specs.declared.outcome.Refusal.TheVariants.{TooLarge, Spent}
-use Rattle.protocol.specs.World.EventView.{Deed, EventView, ByNode, ByNetwork, Install, Release}
-use Rattle.protocol.specs.World.EventView as event
+use Rattle.protocol.specs.World.EventView.{EventView, ByNode, ByNetwork, Install, Release}
+use Rattle.protocol.specs.declared.event.Deed.{Deed}
+use Rattle.protocol.specs.declared.event.Deed.TheVariants as event
 use Rattle.protocol.specs.World.Invariant.{WorldInvariant}
 use Rattle.protocol.specs.World.Replies.{act_reply, answer_by, back_reply, delivery_reply, grant_reply, install_reply}
 use Rattle.protocol.specs.World.Replies.{IsTooLarge}
-use Rattle.protocol.specs.World.ReplyView.{ReplyView}
-use Rattle.protocol.specs.World.ReplyView as reply
+use Rattle.protocol.specs.World.ReplyView.{ReplyView, leaving}
+use Rattle.protocol.specs.declared.reply.Reply.TheVariants as reply
 use Rattle.protocol.specs.World.Roomy.{HasFullRoom}
 use Rattle.protocol.specs.World.StationView.{StationView}
 use Rattle.protocol.specs.World.Steps.{IsAct, IsActOf, IsRelease, IsStationStep, Setting, WorldView, deliver_plan}
@@ -92,7 +93,7 @@ release_fits : (round : ℕ) (place : Option ℕ) (old : StationView) (answer : 
     → IsRelease round place old answer new → ¬ (IsTooLarge answer)
 release_fits round None old answer new step = is_not reply.NotDue answer step.0 (λ large. cc)
 release_fits round (Some place) old answer new step =
-    ⊎_elim (λ left. is_not (reply.Released step.outlet.channel (length step.later.taken)) answer left.0 (λ large. cc))
+    ⊎_elim (λ left. is_not (reply.Released (leaving step.outlet.channel (length step.later.taken))) answer left.0 (λ large. cc))
     (λ failed. is_not reply.OutletFailed answer failed.0 (λ large. cc)) step.handed.came
 
 -- ---- events

@@ -34,8 +34,9 @@ use Rattle.protocol.specs.declared.outcome.Outcome.{Outcome}
 use Rattle.protocol.specs.declared.outcome.Outcome.TheVariants as outcome
 use Rattle.protocol.specs.declared.outcome.Refusal.TheVariants.{TooLarge, Spent}
 use Rattle.protocol.specs.World.DoneView.{DoneView, IsTurnOfJob}
-use Rattle.protocol.specs.World.EventView.{NetworkAct, EventView, ByNode, ByNetwork, Install, Release, event_node}
-use Rattle.protocol.specs.World.EventView as event
+use Rattle.protocol.specs.World.EventView.{EventView, ByNode, ByNetwork, Install, Release, event_node}
+use Rattle.protocol.specs.declared.event.NetworkAct.{NetworkAct}
+use Rattle.protocol.specs.declared.event.NetworkAct.TheVariants as act_is
 use Rattle.protocol.specs.Join.Joined.{IsJoined}
 use Rattle.protocol.specs.JoinLaws.Promises.{StandsIn}
 use Rattle.protocol.specs.Join.Runs.{HasRun, RunsOn}
@@ -49,7 +50,7 @@ use Rattle.protocol.specs.World.OutputView.{OutputView}
 use Rattle.protocol.specs.World.RecordSound.{ImageIsSound, RecordIsSound}
 use Rattle.protocol.specs.World.Replies.{has_happened}
 use Rattle.protocol.specs.World.ReplyView.{ReplyView}
-use Rattle.protocol.specs.World.ReplyView as reply
+use Rattle.protocol.specs.declared.reply.Reply.TheVariants as reply
 use Rattle.protocol.specs.World.Sound.{IsSound}
 use Rattle.protocol.specs.World.StationView.{StationView}
 use Rattle.protocol.specs.World.Steps.{IsActOf, IsAct, IsRelease, IsReleaseAt, IsStationStep, IsStep, Setting}
@@ -386,10 +387,10 @@ module _ (net : Network) (inputs : List (List ℤ)) where
 
   acted_sound : (act : NetworkAct) (traffic : Traffic) (k place : ℕ) → TrafficIsSound net inputs traffic
       → TrafficIsSound net inputs (traffic_acted act traffic k place)
-  acted_sound event.Lose traffic k place flying = gone_sound net inputs traffic k place flying
-  acted_sound event.Repeat traffic k place flying = repeated_sound net inputs traffic k place flying
-  acted_sound (event.Delay rounds) traffic k place flying = delayed_sound net inputs traffic k place rounds flying
-  acted_sound (event.ArmPacket from nth change) traffic k place flying = flying
+  acted_sound act_is.Lose traffic k place flying = gone_sound net inputs traffic k place flying
+  acted_sound act_is.Repeat traffic k place flying = repeated_sound net inputs traffic k place flying
+  acted_sound (act_is.Delay rounds) traffic k place flying = delayed_sound net inputs traffic k place rounds flying
+  acted_sound (act_is.ArmPacket from nth change) traffic k place flying = flying
 
 -- whatever happens to it
 module _ (setting : Setting) (sure : IsSoundSetting setting) (place : ℕ) (came : Outcome) (old : List StationView)

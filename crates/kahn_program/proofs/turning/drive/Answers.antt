@@ -1,6 +1,6 @@
 use Rattle.std.proofs.Common.{◌+◌, Option, refl, subst, sym}
-use Rattle.replay.specs.Plain.{plain_view}
-use Rattle.replay.specs.declared.plain.PlainEvent.{PlainEvent}
+use Rattle.replay.specs.Plain.{run_view}
+use Rattle.replay.specs.declared.kept.RunEvent.{RunEvent}
 use Rattle.runtime.specs.ArmedWorlds.{armed_view}
 use Rattle.world.specs.ReplyView.{reply_view}
 use Rattle.kahn_program.specs.Turning.{IsDriven, progress}
@@ -12,10 +12,10 @@ returns-in_ok-play-in-Some-clause-driven c =
     let old = c.args.armed.now in
     let new = c.play.new.self in
     let answer = reply_view c.in_ok-play-in-Some.field-0 in
-    subst (λ (event : Option PlainEvent). IsDriven event (progress (armed_view old) c.args.passed)
+    subst (λ (event : Option RunEvent). IsDriven event (progress (armed_view old) c.args.passed)
     (progress (armed_view new) (c.args.passed + 1))) (sym c.in-Some.is) (
       answer,
-      in_room (λ taken. taken) (λ outlet. 0) old.world.stations.items (plain_view c.in-Some.event) (armed_view old)
+      in_room (λ taken. taken) (λ outlet. 0) old.world.stations.items (run_view c.in-Some.event) (armed_view old)
           (armed_view new) answer c.requires.room refl c.in_ok-play-in-Some.ensures.step,
       refl,
     )

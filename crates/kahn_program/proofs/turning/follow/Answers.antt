@@ -5,7 +5,7 @@ use Rattle.replay.specs.Armed.{OfWorld}
 use Rattle.runtime.specs.ArmedWorlds.{armed_view}
 use Rattle.world.specs.DoneView.{done_view}
 use Rattle.world.specs.ReplyView.{reply_view}
-use Rattle.world.specs.declared.event.Reply.{Reply}
+use Rattle.world.specs.ReplyView.{Reply}
 use Rattle.kahn_program.specs.Turning.{Follows}
 use Rattle.kahn_program.proofs.Turns.{in_room, nothing_follows}
 use Rattle.kahn_program.proofs.turning.follow.Goals as goal

@@ -6,5 +6,9 @@ use Rattle.world.specs.DoneView.{done_view}
 use Rattle.runtime.proofs.keeping.keep.Goals as goal
 
 -- of a turn that came back, the share is of its job
-pub returns-in-Install : goal.returns-in-Install
-returns-in-Install c = (done_view c.in-Install.done, ap (λ event. OfWorld (event_view event)) c.in-Install.is, ap job_view (sym c.in_ok-try_clone-in-Install.ensures))
+pub returns-in_ok-try_clone-in-Install : goal.returns-in_ok-try_clone-in-Install
+returns-in_ok-try_clone-in-Install c = (
+  done_view c.in-Install.done,
+  ap (λ event. OfWorld (event_view event)) c.in-Install.is,
+  ap job_view (sym c.in_ok-try_clone-in-Install.ensures),
+)

@@ -4,7 +4,7 @@ use Rattle.protocol.specs.World.Replies.{IsGrantedAt}
 use Rattle.runtime.specs.Answers.{IsGrantedIn}
 use Rattle.runtime.specs.declared.answer.TurnAnswer.{TurnAnswer}
 use Rattle.world.specs.ReplyView.{reply_view}
-use Rattle.world.specs.declared.event.Reply.{Reply}
+use Rattle.world.specs.ReplyView.{Reply}
 use Rattle.runtime.proofs.working.take_turns.Goals as goal
 
 -- a job that the seat is granted is of a process of its node

@@ -8,6 +8,7 @@ pub invariant_of-result : goal.invariant_of-result
 invariant_of-result c =
     let after = c.in-Ok.after in
     record {
-      turn = subst (λ (job : Job). ∥ IsOwnTurn job.net.value.program job.process job.state job.items.items job.room.items
+      turn = subst
+          (λ (job : Job). ∥ IsOwnTurn job.net.value.program job.process job.state job.items.items job.room.items
           after.state after.taken.items after.sent.items ∥₁) c.deref.ensures c.in-Ok.ensures;
     }

@@ -1,12 +1,16 @@
-use Rattle.std.proofs.Common.{rules, ◌≡◌, ◌<◌, Err, Result, ℤ, List, Ok, refl, sym, subst, ap, ◌∙◌}
+use Rattle.std.proofs.Common.{rules, ◌≡◌, ◌<◌, Err, Result, ℕ, ℤ, List, Ok, refl, sym, subst, ap, ◌∙◌}
 use Rattle.std.proofs.Common.{arith}
 use Rattle.std.specs.Prelude.{All, IfOk, slice_get}
 use Rattle.std.specs.declared.alloc.AllocError.{AllocError}
 use Rattle.wire.specs.declared.queue.TheConstants.{NODES}
-use Rattle.protocol.specs.World.ReplyView.{Down}
+use Rattle.protocol.specs.declared.reply.Reply.TheVariants.{Down}
 use Rattle.world.specs.ReplyView.{reply_view}
 use Rattle.world.specs.declared.event.Event.{Event}
-use Rattle.world.specs.declared.event.Reply.{Reply}
+use Rattle.world.specs.declared.event.Event.TheVariants as event_is
+use Rattle.protocol.specs.declared.event.Deed.{Deed}
+use Rattle.protocol.specs.declared.event.PlainEvent.{PlainEvent}
+use Rattle.protocol.specs.declared.event.PlainEvent.TheVariants as plain_is
+use Rattle.world.specs.ReplyView.{Reply}
 use Rattle.kahn_net.specs.Syntax.{network_of}
 use Rattle.kahn_net.specs.Nodes.{node_count}
 use Rattle.datagram.specs.PacketText.{IsPacket}
@@ -22,8 +26,8 @@ use Rattle.protocol.specs.Node.Plans.{next_record, packets_by}
 use Rattle.protocol.specs.Node.Sending.{IsWritable}
 use Rattle.protocol.specs.Node.Telling.{turn_packets}
 use Rattle.protocol.specs.NodeLaws.PlaceLaws.{nodes_few}
-use Rattle.protocol.specs.World.EventView.{EventView}
-use Rattle.protocol.specs.World.EventView as view
+use Rattle.protocol.specs.World.EventView.{ByNode, EventView, event_node, plain_view}
+use Rattle.protocol.specs.declared.event.Deed.TheVariants as view
 use Rattle.protocol.specs.World.Pairs.{HasMoved}
 use Rattle.protocol.specs.World.RecoveryLine.{next_kept}
 use Rattle.protocol.specs.World.Steps.{crash_plan, decide_plan, deliver_plan, due_bytes, grant_plan, idle_plan}
@@ -43,6 +47,12 @@ use Rattle.world.proofs.Events.{acted_came, installed_came, moved_put, released_
 use Rattle.world.proofs.Planned.{deed_came, quiet_came}
 use Rattle.world.proofs.station.Station.act.Goals as goal
 
+-- a deed of a node, as the three matches found it
+deed_seen : {e : Event} {plain : PlainEvent} {deed what : Deed} {k : ℕ} → e ≡ event_is.Plain plain
+    → plain ≡ plain_is.ByNode k deed → deed ≡ what → event_view e ≡ ByNode k what
+deed_seen {k = k} is by what =
+    ap event_view is ∙ (ap plain_view by ∙ ap (λ (d : Deed). ByNode k d) what)
+
 -- ---- what each event asks for
 
 pub install-requires : goal.install-requires
@@ -51,7 +61,7 @@ install-requires g c = λ out.
     let was = station_view g.O.Outlet.taken g.O.Outlet.failures c.args.self.now in
     let done = done_view c.in-Install.done in
     subst (λ (n : Net). TakesTurn (network_of n.program).channels done.job.process done.taken done.sent was.node.mode)
-    (sym c.deref-in-Install.ensures)
+    (sym c.deref.ensures)
     (takes_turn (network_of net.program) c.args.inputs.now.value net.valid c.requires.sure.fits was c.requires.sound.inv
     done c.in-Install.done.turn out)
 
@@ -92,17 +102,17 @@ deliver-requires g c =
     let was = station_view g.O.Outlet.taken g.O.Outlet.failures c.args.self.now in
     let setting =
     setting_in (network_of net.program) c.args.inputs.now.value (traffic_of c.args.wire.now) c.args.round c.args.room in
-    let is = ap (λ (n : Net). network_of n.program) (sym c.deref.ensures) in
+    let is = ap (λ (n : Net). network_of n.program) (sym c.deref-in-Deliver.ensures) in
     record {
-      to = subst (λ (e : Event). view.event_node (event_view e) < NODES) c.in-Deliver.is c.requires.node;
+      to = subst (λ (e : EventView). event_node e < NODES) (deed_seen c.in-Plain.is c.in-ByNode.is c.in-Deliver.is) c.requires.node;
       like = like_now (network_of net.program) c.args.inputs.now.value net.valid c.requires.sure.fits was
           c.requires.sound.inv;
       listed = c.requires.sound.joined.kept.listed ∙ ap node_count is;
       bounded = c.requires.sound.inv.kept.bounded;
-      right = arrives_heard setting c.requires.sure was c.requires.sound c.in-Deliver.node c.in-Deliver.place
-          (network_of c.deref.result.now.program) is;
-      allowed = arrives_allowed setting c.requires.sure was c.requires.sound c.in-Deliver.node c.in-Deliver.place
-          (network_of c.deref.result.now.program) is;
+      right = arrives_heard setting c.requires.sure was c.requires.sound c.in-ByNode.node c.in-Deliver.place
+          (network_of c.deref-in-Deliver.result.now.program) is;
+      allowed = arrives_allowed setting c.requires.sure was c.requires.sound c.in-ByNode.node c.in-Deliver.place
+          (network_of c.deref-in-Deliver.result.now.program) is;
     }
 
 pub release-requires : goal.release-requires
@@ -137,11 +147,11 @@ returns-in-Deliver-clause-come g c =
     c.args.round c.args.room in
     let fits = fits_in (g.C.SlotCell.slot_capacity (cell_in c.args.self.now.node.store)) in
     let found = due_bytes c.args.round
-    (slice_get (flights_to (traffic_of c.args.wire.now) c.in-Deliver.node) c.in-Deliver.place) in
+    (slice_get (flights_to (traffic_of c.args.wire.now) c.in-ByNode.node) c.in-Deliver.place) in
     deed_came setting fits (event_view c.args.event.now) was _ (traffic_of c.deliver.new.wire) c.deliver.result
-    c.in-Deliver.node (view.Deliver c.in-Deliver.place)
-    (deliver_plan (network_of c.deref.result.now.program) c.in-Deliver.place found was) (ap event_view c.in-Deliver.is)
-    (ap (λ (n : Net). deliver_plan (network_of n.program) c.in-Deliver.place found was) c.deref.ensures)
+    c.in-ByNode.node (view.Deliver c.in-Deliver.place)
+    (deliver_plan (network_of c.deref-in-Deliver.result.now.program) c.in-Deliver.place found was) (deed_seen c.in-Plain.is c.in-ByNode.is c.in-Deliver.is)
+    (ap (λ (n : Net). deliver_plan (network_of n.program) c.in-Deliver.place found was) c.deref-in-Deliver.ensures)
     c.deliver.ensures.come
 
 pub returns-in-Grant-clause-come : goal.returns-in-Grant-clause-come
@@ -155,7 +165,7 @@ returns-in-Grant-clause-come g c =
     let fits = fits_in (g.C.SlotCell.slot_capacity (cell_in c.args.self.now.node.store)) in
     quiet_came setting fits (event_view c.args.event.now) was _ (traffic_of c.args.wire.now) c.grant.result
     _ view.Grant _
-    (ap event_view c.in-Grant.is)
+    (deed_seen c.in-Plain.is c.in-ByNode.is c.in-Grant.is)
     (ap (λ (i : List (List ℤ)). grant_plan (node_job setting.net i setting.room was.node) c.args.round was)
     c.deref-in-Grant.ensures)
     refl refl (λ came. grant_sends (node_job setting.net setting.inputs setting.room was.node) was.node came)
@@ -175,7 +185,7 @@ returns-in-Install-clause-come g c =
     (subst (λ (n : Net). IfOk c.install.result
     (λ (r : Reply). IsInstalled n.program.channels.items (done_view c.in-Install.done)
     was (reply_view r) (station_view g.O.Outlet.taken g.O.Outlet.failures c.install.new.self)))
-    c.deref-in-Install.ensures
+    c.deref.ensures
     c.install.ensures.step)
 
 pub returns-in-Send-clause-come : goal.returns-in-Send-clause-come
@@ -188,7 +198,7 @@ returns-in-Send-clause-come g c =
     c.args.round c.args.room in
     let fits = fits_in (g.C.SlotCell.slot_capacity (cell_in c.args.self.now.node.store)) in
     deed_came setting fits (event_view c.args.event.now) was _ (traffic_of c.send.new.wire) c.send.result _ view.Send
-    (send_plan (network_of c.deref-in-Send.result.now.program) c.args.round was) (ap event_view c.in-Send.is)
+    (send_plan (network_of c.deref-in-Send.result.now.program) c.args.round was) (deed_seen c.in-Plain.is c.in-ByNode.is c.in-Send.is)
     (ap (λ (n : Net). send_plan (network_of n.program) c.args.round was) c.deref-in-Send.ensures)
     (c.send.ensures.come _)
 
@@ -202,7 +212,7 @@ returns-in-Start-clause-come g c =
     c.args.round c.args.room in
     let fits = fits_in (g.C.SlotCell.slot_capacity (cell_in c.args.self.now.node.store)) in
     deed_came setting fits (event_view c.args.event.now) was _ (traffic_of c.start.new.wire) c.start.result _ view.Start
-    (start_plan (network_of c.deref-in-Start.result.now.program) c.args.round was) (ap event_view c.in-Start.is)
+    (start_plan (network_of c.deref-in-Start.result.now.program) c.args.round was) (deed_seen c.in-Plain.is c.in-ByNode.is c.in-Start.is)
     (ap (λ (n : Net). start_plan (network_of n.program) c.args.round was) c.deref-in-Start.ensures)
     (c.start.ensures.come _)
 
@@ -217,7 +227,7 @@ returns-in-Decide-clause-come g c =
     let fits = fits_in (g.C.SlotCell.slot_capacity (cell_in c.args.self.now.node.store)) in
     deed_came setting fits (event_view c.args.event.now) was _ (traffic_of c.decide.new.wire) c.decide.result
     _ view.Decide
-    (decide_plan was) (ap event_view c.in-Decide.is) refl (c.decide.ensures.come _)
+    (decide_plan was) (deed_seen c.in-Plain.is c.in-ByNode.is c.in-Decide.is) refl (c.decide.ensures.come _)
 
 pub returns-in-Release-clause-come : goal.returns-in-Release-clause-come
 returns-in-Release-clause-come g c =
@@ -229,7 +239,7 @@ returns-in-Release-clause-come g c =
     c.args.round c.args.room in
     let fits = fits_in (g.C.SlotCell.slot_capacity (cell_in c.args.self.now.node.store)) in
     released_came setting fits (event_view c.args.event.now) was _ (traffic_of c.args.wire.now) c.release.result _
-    (ap event_view c.in-Release.is) refl c.release.ensures.step
+    (ap event_view c.in-Plain.is ∙ ap plain_view c.in-Release.is) refl c.release.ensures.step
 
 pub returns-in-Crash-clause-come : goal.returns-in-Crash-clause-come
 returns-in-Crash-clause-come g c =
@@ -242,7 +252,7 @@ returns-in-Crash-clause-come g c =
     let fits = fits_in (g.C.SlotCell.slot_capacity (cell_in c.args.self.now.node.store)) in
     let restart = round_later c.args.round c.in-Crash.rounds in
     quiet_came setting fits (event_view c.args.event.now) was _ (traffic_of c.args.wire.now) (Ok c.crash.result) _
-    (view.Crash c.in-Crash.fill c.in-Crash.rounds) (crash_plan restart was) (ap event_view c.in-Crash.is) refl refl refl
+    (view.Crash c.in-Crash.fill c.in-Crash.rounds) (crash_plan restart was) (deed_seen c.in-Plain.is c.in-ByNode.is c.in-Crash.is) refl refl refl
     (λ came. crash_sends restart was.node came) c.crash.ensures.step
 
 pub returns-in-Recover-clause-come : goal.returns-in-Recover-clause-come
@@ -255,7 +265,7 @@ returns-in-Recover-clause-come g c =
     c.args.round c.args.room in
     let fits = fits_in (g.C.SlotCell.slot_capacity (cell_in c.args.self.now.node.store)) in
     quiet_came setting fits (event_view c.args.event.now) was _ (traffic_of c.args.wire.now) c.recover.result _
-    view.Recover (recover_plan (network_of c.deref-in-Recover.result.now.program) was) (ap event_view c.in-Recover.is)
+    view.Recover (recover_plan (network_of c.deref-in-Recover.result.now.program) was) (deed_seen c.in-Plain.is c.in-ByNode.is c.in-Recover.is)
     (ap (λ (n : Net). recover_plan (network_of n.program) was) c.deref-in-Recover.ensures)
     refl refl
     (λ came. recover_sends (network_of c.args.net.now.value.program) was.number was.node came) c.recover.ensures.step
@@ -271,7 +281,7 @@ returns-in-Arm-clause-come g c =
     let fits = fits_in (g.C.SlotCell.slot_capacity (cell_in c.args.self.now.node.store)) in
     quiet_came setting fits (event_view c.args.event.now) was _ (traffic_of c.args.wire.now) c.arm.result _
     (view.Arm c.in-Arm.fault c.in-Arm.rounds) (arm_plan c.in-Arm.fault.call c.in-Arm.rounds was)
-    (ap event_view c.in-Arm.is) refl refl refl
+    (deed_seen c.in-Plain.is c.in-ByNode.is c.in-Arm.is) refl refl refl
     (λ came. becoming_sends (with_armed c.in-Arm.fault.call c.in-Arm.rounds was.node) came) c.arm.ensures.step
 
 pub returns-in-Idle-clause-come : goal.returns-in-Idle-clause-come
@@ -285,11 +295,11 @@ returns-in-Idle-clause-come g c =
     let fits = fits_in (g.C.SlotCell.slot_capacity (cell_in c.args.self.now.node.store)) in
     quiet_came setting fits (event_view c.args.event.now) was _ (traffic_of c.args.wire.now) (Ok c.idle.result)
     _ view.Idle
-    (idle_plan c.args.round was) (ap event_view c.in-Idle.is) refl refl refl (λ came. becoming_sends was.node came)
+    (idle_plan c.args.round was) (deed_seen c.in-Plain.is c.in-ByNode.is c.in-Idle.is) refl refl refl (λ came. becoming_sends was.node came)
     c.idle.ensures.step
 
-pub returns-in-Lose-clause-come : goal.returns-in-Lose-clause-come
-returns-in-Lose-clause-come g c =
+pub returns-in-ByNetwork-clause-come : goal.returns-in-ByNetwork-clause-come
+returns-in-ByNetwork-clause-come g c =
     let was =
     station_view {cell = g.C.StableCell} {slots = g.C.SlotCell} g.O.Outlet.taken g.O.Outlet.failures
     c.args.self.now in
@@ -297,49 +307,10 @@ returns-in-Lose-clause-come g c =
     setting_in (network_of c.args.net.now.value.program) c.args.inputs.now.value (traffic_of c.args.wire.now)
     c.args.round c.args.room in
     let fits = fits_in (g.C.SlotCell.slot_capacity (cell_in c.args.self.now.node.store)) in
-    acted_came setting fits (event_view c.args.event.now) was was (traffic_of c.lose.new.wire) (Ok c.lose.result)
-    c.in-Lose.node c.in-Lose.place view.Lose (ap event_view c.in-Lose.is) refl c.lose.ensures.reply
-    c.lose.ensures.traffic
-
-pub returns-in-Repeat-clause-come : goal.returns-in-Repeat-clause-come
-returns-in-Repeat-clause-come g c =
-    let was =
-    station_view {cell = g.C.StableCell} {slots = g.C.SlotCell} g.O.Outlet.taken g.O.Outlet.failures
-    c.args.self.now in
-    let setting =
-    setting_in (network_of c.args.net.now.value.program) c.args.inputs.now.value (traffic_of c.args.wire.now)
-    c.args.round c.args.room in
-    let fits = fits_in (g.C.SlotCell.slot_capacity (cell_in c.args.self.now.node.store)) in
-    acted_came setting fits (event_view c.args.event.now) was was (traffic_of c.repeat.new.wire) c.repeat.result
-    c.in-Repeat.node c.in-Repeat.place view.Repeat (ap event_view c.in-Repeat.is) refl c.repeat.ensures.reply
-    c.repeat.ensures.traffic
-
-pub returns-in-Delay-clause-come : goal.returns-in-Delay-clause-come
-returns-in-Delay-clause-come g c =
-    let was =
-    station_view {cell = g.C.StableCell} {slots = g.C.SlotCell} g.O.Outlet.taken g.O.Outlet.failures
-    c.args.self.now in
-    let setting =
-    setting_in (network_of c.args.net.now.value.program) c.args.inputs.now.value (traffic_of c.args.wire.now)
-    c.args.round c.args.room in
-    let fits = fits_in (g.C.SlotCell.slot_capacity (cell_in c.args.self.now.node.store)) in
-    acted_came setting fits (event_view c.args.event.now) was was (traffic_of c.delay.new.wire) (Ok c.delay.result)
-    c.in-Delay.node c.in-Delay.place (view.Delay c.in-Delay.rounds) (ap event_view c.in-Delay.is) refl
-    c.delay.ensures.reply c.delay.ensures.traffic
-
-pub returns-in-ArmPacket-clause-come : goal.returns-in-ArmPacket-clause-come
-returns-in-ArmPacket-clause-come g c =
-    let was =
-    station_view {cell = g.C.StableCell} {slots = g.C.SlotCell} g.O.Outlet.taken g.O.Outlet.failures
-    c.args.self.now in
-    let setting =
-    setting_in (network_of c.args.net.now.value.program) c.args.inputs.now.value (traffic_of c.args.wire.now)
-    c.args.round c.args.room in
-    let fits = fits_in (g.C.SlotCell.slot_capacity (cell_in c.args.self.now.node.store)) in
-    let rule = c.in-ArmPacket.rule in
-    acted_came setting fits (event_view c.args.event.now) was was (traffic_of c.arm_packet.new.wire)
-    c.arm_packet.result rule.to 0 (view.ArmPacket rule.from rule.nth rule.change) (ap event_view c.in-ArmPacket.is) refl
-    c.arm_packet.ensures.reply c.arm_packet.ensures.traffic
+    acted_came setting fits (event_view c.args.event.now) was was (traffic_of c.act_by_network.new.wire)
+    c.act_by_network.result c.in-ByNetwork.node c.in-ByNetwork.place c.in-ByNetwork.act
+    (ap event_view c.in-Plain.is ∙ ap plain_view c.in-ByNetwork.is) refl c.act_by_network.ensures.reply
+    c.act_by_network.ensures.traffic
 
 -- ---- the cell, and what has left
 
@@ -353,8 +324,8 @@ returns-in-Deliver-clause-moved g c =
     c.args.round c.args.room in
     let fits = fits_in (g.C.SlotCell.slot_capacity (cell_in c.args.self.now.node.store)) in
     let found = due_bytes c.args.round
-    (slice_get (flights_to (traffic_of c.args.wire.now) c.in-Deliver.node) c.in-Deliver.place) in
-    let seen = ap event_view c.in-Deliver.is in
+    (slice_get (flights_to (traffic_of c.args.wire.now) c.in-ByNode.node) c.in-Deliver.place) in
+    let seen = deed_seen c.in-Plain.is c.in-ByNode.is c.in-Deliver.is in
     subst (λ (e : EventView). HasMoved g.C.StableCell.moment g.C.SlotCell.left_since_whole
     (cell_in c.args.self.now.node.store)
     (cell_in c.deliver.new.self.node.store) was.node.kept (next_kept setting e was)
@@ -362,12 +333,12 @@ returns-in-Deliver-clause-moved g c =
     (outlet_views g.O.Outlet.taken g.O.Outlet.failures c.deliver.new.self.outputs.items)) (sym seen)
     (moved_put g.C.StableCell.moment g.C.SlotCell.left_since_whole (cell_in c.args.self.now.node.store)
     (cell_in c.deliver.new.self.node.store) was.node.kept
-    (next_kept setting (view.ByNode c.in-Deliver.node (view.Deliver c.in-Deliver.place)) was)
+    (next_kept setting (ByNode c.in-ByNode.node (view.Deliver c.in-Deliver.place)) was)
     (outlet_views g.O.Outlet.taken g.O.Outlet.failures c.args.self.now.outputs.items)
     (outlet_views g.O.Outlet.taken g.O.Outlet.failures c.deliver.new.self.outputs.items) _
     c.deliver.ensures.later c.deliver.ensures.outputs
     (ap (λ (n : Net). next_record (deliver_plan (network_of n.program) c.in-Deliver.place found was).prospect
-    was.node.kept) c.deref.ensures) c.deliver.ensures.leaves)
+    was.node.kept) c.deref-in-Deliver.ensures) c.deliver.ensures.leaves)
 
 pub returns-in-Start-clause-moved : goal.returns-in-Start-clause-moved
 returns-in-Start-clause-moved g c =
@@ -378,14 +349,14 @@ returns-in-Start-clause-moved g c =
     setting_in (network_of c.args.net.now.value.program) c.args.inputs.now.value (traffic_of c.args.wire.now)
     c.args.round c.args.room in
     let fits = fits_in (g.C.SlotCell.slot_capacity (cell_in c.args.self.now.node.store)) in
-    let seen = ap event_view c.in-Start.is in
+    let seen = deed_seen c.in-Plain.is c.in-ByNode.is c.in-Start.is in
     subst (λ (e : EventView). HasMoved g.C.StableCell.moment g.C.SlotCell.left_since_whole
     (cell_in c.args.self.now.node.store)
     (cell_in c.start.new.self.node.store) was.node.kept (next_kept setting e was)
     (outlet_views g.O.Outlet.taken g.O.Outlet.failures c.args.self.now.outputs.items)
     (outlet_views g.O.Outlet.taken g.O.Outlet.failures c.start.new.self.outputs.items)) (sym seen)
     (moved_put g.C.StableCell.moment g.C.SlotCell.left_since_whole (cell_in c.args.self.now.node.store)
-    (cell_in c.start.new.self.node.store) was.node.kept (next_kept setting (view.ByNode 0 view.Start) was)
+    (cell_in c.start.new.self.node.store) was.node.kept (next_kept setting (ByNode 0 view.Start) was)
     (outlet_views g.O.Outlet.taken g.O.Outlet.failures c.args.self.now.outputs.items)
     (outlet_views g.O.Outlet.taken g.O.Outlet.failures c.start.new.self.outputs.items) _
     c.start.ensures.later c.start.ensures.outputs

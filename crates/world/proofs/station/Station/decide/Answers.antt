@@ -8,7 +8,7 @@ use Rattle.node.specs.Putting.{IsPutEvent}
 use Rattle.node.specs.StoredView.{LeavesNext}
 use Rattle.protocol.specs.Node.Verdicts.{decide_prospect}
 use Rattle.protocol.specs.Node.Plans.{Prospect, next_record, packets_by}
-use Rattle.protocol.specs.World.ReplyView.{Refused, Decided}
+use Rattle.protocol.specs.declared.reply.Reply.TheVariants.{Refused, Decided}
 use Rattle.protocol.specs.World.StationView.{StationView}
 use Rattle.protocol.specs.World.Steps.{sending_of}
 use Rattle.protocol.specs.declared.outcome.Outcome.{Outcome}

@@ -5,7 +5,7 @@ use Rattle.ckpt_store.specs.Spelling.{fits_in}
 use Rattle.ckpt_store.specs.StoreView.{cell_in}
 use Rattle.wire.specs.declared.queue.Flight.{Flight}
 use Rattle.world.specs.ReplyView.{reply_view}
-use Rattle.world.specs.declared.event.Reply.{Reply}
+use Rattle.world.specs.ReplyView.{Reply}
 use Rattle.world.proofs.Ready.{flying_seen}
 use Rattle.kahn_net.specs.Syntax.{network_of}
 use Rattle.wire.specs.Traffic.{traffic_of}

@@ -6,7 +6,8 @@ use Rattle.node.specs.NodeView.{mode_view}
 use Rattle.protocol.specs.Node.ArmedRestarts.{restart_after}
 use Rattle.protocol.specs.World.Replies.{answer_by, back_reply}
 use Rattle.protocol.specs.Node.Plans.{packets_by}
-use Rattle.protocol.specs.World.ReplyView.{ReplyView, Refused}
+use Rattle.protocol.specs.World.ReplyView.{ReplyView}
+use Rattle.protocol.specs.declared.reply.Reply.TheVariants.{Refused}
 use Rattle.protocol.specs.declared.outcome.Refusal.TheVariants.{TooLarge}
 use Rattle.protocol.specs.World.Steps.{recover_plan}
 use Rattle.protocol.specs.WorldLaws.DeedLaws.{recover_sends}

@@ -2,7 +2,7 @@ use Rattle.std.proofs.Common.{ℕ, Option, refl, sym, ap, subst}
 use Rattle.ckpt_store.specs.StoreView.{cell_in}
 use Rattle.ckpt_store.specs.declared.store.Store.{Store}
 use Rattle.node.specs.NodeOf.{view_of}
-use Rattle.protocol.specs.World.ReplyView as reply
+use Rattle.protocol.specs.declared.reply.Reply.TheVariants as reply
 use Rattle.world.specs.StationView.{outlet_view}
 use Rattle.protocol.specs.World.Steps.{IsRelease}
 use Rattle.world.specs.WorldView.{station_view}

@@ -12,7 +12,7 @@ use Rattle.node.specs.Putting.{IsPutEvent}
 use Rattle.node.specs.StoredView.{LeavesNext}
 use Rattle.protocol.specs.Node.Beginning.{start_prospect}
 use Rattle.protocol.specs.Node.Plans.{Prospect, next_record, packets_by}
-use Rattle.protocol.specs.World.ReplyView.{Refused, Started}
+use Rattle.protocol.specs.declared.reply.Reply.TheVariants.{Refused, Started}
 use Rattle.protocol.specs.World.StationView.{StationView}
 use Rattle.protocol.specs.World.Steps.{sending_of}
 use Rattle.protocol.specs.declared.outcome.Outcome.{Outcome}

@@ -11,7 +11,7 @@ use Rattle.world.specs.ReplyView.{reply_view}
 use Rattle.protocol.specs.WorldLaws.DropLaws.{never_dropped}
 use Rattle.protocol.specs.WorldLaws.HomeLaws.{granted_at_home}
 use Rattle.protocol.specs.WorldLaws.RoomLaws.{never_too_large, rooms_of}
-use Rattle.protocol.specs.World.ReplyView.{NotDue}
+use Rattle.protocol.specs.declared.reply.Reply.TheVariants.{NotDue}
 use Rattle.protocol.specs.World.StationView.{StationView}
 use Rattle.protocol.specs.declared.outcome.Outcome.TheVariants as outcome
 use Rattle.protocol.specs.World.Steps.{round_after, setting_in}

@@ -45,5 +45,6 @@ returns-in-None g c =
     let view = station_view {cell = g.C.StableCell} {slots = g.C.SlotCell} g.O.Outlet.taken g.O.Outlet.failures in
     let past : length was.stations.items ≤ c.args.node = search rules in
     let many = length-map was.stations.items view in
-    sym (ap (choice_of (world_of was) c.args.node)
+    c.by_node.ensures
+    ∙ sym (ap (choice_of (world_of was) c.args.node)
     (slice_get_past (map view was.stations.items) c.args.node (omega (arith, past, many))))

@@ -1,0 +1,47 @@
+use Rattle.std.proofs.Common.{◌++◌, ◌∷◌, ◌<◌, [], List, ℤ, set, length, w64, FitsSigned, rules, ap, sym, subst, ◌∙◌}
+use Rattle.std.proofs.Common.{arith}
+use mathlib.Core.List.{reverse}
+use Rattle.std.specs.Prelude.{slice_index}
+use Rattle.std.specs.Vec.{with_items}
+use Rattle.std.proofs.lemmas.Int.{to_z-of_z}
+use Rattle.std.proofs.lemmas.List.{with_items_is}
+use Rattle.kahn_net.specs.Streams.{history_of}
+use Rattle.proc_code.specs.Machine.{top}
+use Rattle.proc_step.proofs.Machines.{get_moves, put_moves}
+use Rattle.proc_step.proofs.machine.Machine.perform.Goals as goal
+
+pub returns-in-Some : goal.returns-in-Some
+returns-in-Some c =
+    let m = c.args.self.now in
+    let x = c.in-Get.variable in
+    let channel = c.in-Get.channel in
+    let h = c.in-Some.ensures.some in
+    let f : FitsSigned w64 c.in-Some.item = search rules in
+    let unread = c.deref_mut-in-Get.ensures.value in
+    get_moves c.args.instruction x channel c.in-Get.site c.args.room.now m c.in-Some.item h.0
+    (with_items m.variables c.set_variable-in-Get.new.variables) (with_items m.unread c.take_item.new.unread)
+    c.in-Get.is (ap (λ (l : List (List ℤ)). history_of l channel) (sym unread) ∙ h.1)
+    (with_items_is m.unread _ (omega (arith, c.take_item.auto.unread, c.deref_mut-in-Get.ensures.len))
+    ∙ (h.2 ∙ ap (λ (l : List (List ℤ)). set l channel h.0) unread))
+    (with_items_is m.variables _
+    (omega (arith, c.set_variable-in-Get.auto.variables, c.deref_mut-in-Get-2.ensures.len))
+    ∙ c.set_variable-in-Get.ensures
+    ∙ (ap (λ (v : ℤ). set c.deref_mut-in-Get-2.result.now x v) (to_z-of_z w64 _ f)
+    ∙ ap (λ (l : List ℤ). set l x c.in-Some.item) c.deref_mut-in-Get-2.ensures.value))
+
+pub returns-in_ok-send-in-Put : goal.returns-in_ok-send-in-Put
+returns-in_ok-send-in-Put c =
+    let m = c.args.self.now in
+    let channel = c.in-Put.channel in
+    let f : FitsSigned w64 c.pop-item.result = search rules in
+    let same = to_z-of_z w64 _ f ∙ c.pop-item.ensures.value in
+    let before = c.deref_mut-in-Put.result.now in
+    put_moves c.args.instruction channel c.in-Put.site c.args.room.now m c.pop-item.new.stack
+    (with_items m.sent c.send.new.sent) c.in-Put.is
+    (subst (λ (l : List (List ℤ)). length (history_of l channel) < slice_index c.args.room.now channel)
+    c.deref-in-Put.ensures.value (c.has_room.ensures.0 c.if-not-has_room.false))
+    (with_items_is m.sent _ (omega (arith, c.send.auto.sent, c.deref_mut-in-Put.ensures.len))
+    ∙ c.in_ok-send-in-Put.ensures
+    ∙ (ap (λ (v : ℤ). set before channel (history_of before channel ++ v ∷ [])) same
+    ∙ ap (λ (l : List (List ℤ)). set l channel (history_of l channel ++ top (reverse m.stack.items) ∷ []))
+    c.deref_mut-in-Put.ensures.value)) c.pop-item.ensures.rest
