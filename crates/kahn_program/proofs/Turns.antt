@@ -30,7 +30,7 @@ use Rattle.protocol.specs.World.OpeningWorld.{opening_outlet, opening_stations, 
 use Rattle.world.specs.OpeningWorld.{IsUnused}
 use Rattle.protocol.specs.World.Sound.{output_channels}
 use Rattle.protocol.specs.World.StationView.{OutletView}
-use Rattle.world.specs.StationView.{outlet_view, outlet_views}
+use Rattle.station.specs.StationView.{outlet_view, outlet_views}
 use Rattle.protocol.specs.World.Steps.{WorldView, with_room}
 use Rattle.protocol.specs.declared.limits.TheConstants.{DEFAULT_ROOM}
 use Rattle.replay.specs.Armed.{ArmedEvent, ArmedView, IsArmedStep}
@@ -38,14 +38,15 @@ use Rattle.replay.specs.Replay.{Happening, LeadsTo}
 use Rattle.replay.specs.declared.kept.ScriptedEvent.{ScriptedEvent}
 use Rattle.replay.specs.declared.kept.RunEvent.{RunEvent}
 use Rattle.protocol.specs.World.ReplyView.{ReplyView}
-use Rattle.world.specs.ReplyView.{reply_view}
-use Rattle.world.specs.WorldView.{capacities, rooms, station_view}
+use Rattle.station.specs.ReplyView.{reply_view}
+use Rattle.world.specs.WorldView.{capacities, rooms}
+use Rattle.station.specs.StationView.{station_view}
 use Rattle.world.specs.OpeningWorld.{opening_length, HasNoRoom, IsOpeningRefusal, IsWorldRefusal}
 use Rattle.gate_cell.specs.declared.TheConstants.{SECTORS}
-use Rattle.world.specs.ReplyView.{Reply}
+use Rattle.station.specs.ReplyView.{Reply}
 use Rattle.protocol.specs.declared.reply.Reply.TheVariants.{Granted}
-use Rattle.world.specs.declared.output.Output.{Output}
-use Rattle.world.specs.declared.station.Station.{Station}
+use Rattle.station.specs.declared.output.Output.{Output}
+use Rattle.station.specs.declared.station.Station.{Station}
 use Rattle.kahn_program.specs.Turning.{turn_node, CameTo, first_world, Follows, HavePassed, IsDriven, IsWholeTurn}
 use Rattle.kahn_program.specs.Turning.{IsRunRoom, IsRunStep, Progress, line_before, nearest_room}
 use Rattle.kahn_program.specs.Turning.{next_event, progress, run_rooms, unused_outlet}

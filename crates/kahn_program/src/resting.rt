@@ -5,8 +5,8 @@
 
 ghost use Rattle.std.specs.Prelude.{◌≡◌, ◌==◌, ◌&&◌, if◌then◌else◌, not, IsTrue};
 ghost use Rattle.runtime.specs.ArmedWorlds.{armed_view};
-ghost use Rattle.world.specs.EventView.{event_view};
-ghost use Rattle.world.specs.ReplyView.{reply_view};
+ghost use Rattle.station.specs.EventView.{event_view};
+ghost use Rattle.station.specs.ReplyView.{reply_view};
 ghost use Rattle.world.specs.WholeView.{world_of};
 ghost use Rattle.kahn_program.specs.Resting.{AllRest, is_grant, is_idle, none_rest, rest_after};
 ghost use Rattle.kahn_program.specs.Turning.{IsNodeTurn};

@@ -7,7 +7,7 @@ ghost use Rattle.protocol.specs.World.Sound.{output_channels};
 ghost use Rattle.runtime.specs.ArmedWorlds.{armed_view};
 ghost use Rattle.protocol.specs.World.Still.{given_room};
 ghost use Rattle.replay.specs.Armed.{with_world};
-ghost use Rattle.world.specs.ReplyView.{reply_view};
+ghost use Rattle.station.specs.ReplyView.{reply_view};
 ghost use Rattle.world.specs.WholeView.{world_of};
 ghost use Rattle.world.specs.WorldView.{capacities};
 ghost use Rattle.kahn_program.specs.Resting.{AllRest};

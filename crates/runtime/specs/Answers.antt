@@ -24,7 +24,7 @@ use Rattle.runtime.specs.declared.answer.HubFault.{HubFault}
 use Rattle.runtime.specs.declared.answer.HubFault.TheVariants.{NoMemory, PastNumber}
 use Rattle.runtime.specs.declared.tally.Counted.{Counted}
 use Rattle.runtime.specs.declared.tally.Counted.TheVariants as counted
-use Rattle.world.specs.ReplyView.{reply_view}
+use Rattle.station.specs.ReplyView.{reply_view}
 
 -- as what an answer counts
 abbrev pub turn_kind : TurnAnswer → Counted

@@ -4,8 +4,8 @@ ghost use Rattle.protocol.specs.World.EventView.{event_node};
 ghost use Rattle.protocol.specs.World.Replies.{IsGrantedAt, has_happened};
 ghost use Rattle.replay.specs.Armed.{ArmCrash, EndsWith, IsArmedStep, OfWorld, armed_at_first, crash_after, deliveries_after, delivered_to, first_crash, has_come, is_for, one_more};
 ghost use Rattle.replay.specs.Plain.{run_view};
-ghost use Rattle.world.specs.EventView.{event_view};
-ghost use Rattle.world.specs.ReplyView.{reply_view};
+ghost use Rattle.station.specs.EventView.{event_view};
+ghost use Rattle.station.specs.ReplyView.{reply_view};
 ghost use Rattle.world.specs.WholeView.{world_of};
 ghost use Rattle.world.specs.WorldView.{capacities, rooms};
 

@@ -11,11 +11,11 @@ ghost use Rattle.runtime.specs.Numbers.{added, counted};
 ghost use Rattle.runtime.specs.Seats.{AreOfNodes, numbers_of_seats};
 ghost use Rattle.runtime.specs.Tallies.{tally_numbers};
 ghost use Rattle.runtime.specs.declared.tally.Counted.TheVariants as kind;
-ghost use Rattle.world.specs.DoneView.{done_view};
-ghost use Rattle.world.specs.ReplyView.{reply_view};
+ghost use Rattle.station.specs.DoneView.{done_view};
+ghost use Rattle.station.specs.ReplyView.{reply_view};
 ghost use Rattle.world.specs.WholeView.{world_of};
 ghost use Rattle.world.specs.WorldView.{rooms};
-ghost use Rattle.world.specs.declared.event.Event.TheVariants as event;
+ghost use Rattle.station.specs.declared.event.Event.TheVariants as event;
 
 use crate::answer::{FaultAnswer, HeldBack, HubFault, Status, TurnAnswer};
 use crate::armed::ArmedWorld;

@@ -4,8 +4,8 @@ ghost use Rattle.replay.specs.Armed.{OfWorld};
 ghost use Rattle.replay.specs.Replay.{IsKeptOf};
 ghost use Rattle.replay.specs.Replies.{kept_reply};
 ghost use Rattle.runtime.specs.Lines.{kept_view};
-ghost use Rattle.world.specs.EventView.{event_view};
-ghost use Rattle.world.specs.ReplyView.{reply_view};
+ghost use Rattle.station.specs.EventView.{event_view};
+ghost use Rattle.station.specs.ReplyView.{reply_view};
 
 use crate::history::KeptEvent;
 use protocol::Leaving;

@@ -7,8 +7,8 @@ ghost use Rattle.replay.specs.Plain.{run_view};
 ghost use Rattle.replay.specs.declared.kept.Maker.TheVariants as who;
 ghost use Rattle.runtime.specs.ArmedWorlds.{armed_view};
 ghost use Rattle.runtime.specs.Lines.{IsAdded};
-ghost use Rattle.world.specs.EventView.{event_view};
-ghost use Rattle.world.specs.ReplyView.{reply_view};
+ghost use Rattle.station.specs.EventView.{event_view};
+ghost use Rattle.station.specs.ReplyView.{reply_view};
 ghost use Rattle.world.specs.WorldView.{rooms};
 
 use crate::armed::ArmedWorld;

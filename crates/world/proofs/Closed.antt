@@ -13,10 +13,10 @@ use Rattle.protocol.specs.World.StationView.{StationView}
 use Rattle.protocol.specs.World.Steps.{WorldView}
 use Rattle.protocol.specs.WorldLaws.ClosedLaws.{joined, AreOutputsFrom, closed_channels}
 use Rattle.world.specs.Closing.{all_outputs}
-use Rattle.world.specs.StationView.{outlet_views}
-use Rattle.world.specs.WorldView.{station_view}
-use Rattle.world.specs.declared.output.Output.{Output}
-use Rattle.world.specs.declared.station.Station.{Station}
+use Rattle.station.specs.StationView.{outlet_views}
+use Rattle.station.specs.StationView.{station_view}
+use Rattle.station.specs.declared.output.Output.{Output}
+use Rattle.station.specs.declared.station.Station.{Station}
 
 shown_channels : {O : Type 0} (taken : O → List ℤ) (failures : O → ℕ) (outputs : List (Output O))
     → map (λ (output : OutputView). output.channel) (outputs_of (outlet_views taken failures outputs))

@@ -14,8 +14,9 @@ use Rattle.node.specs.StoredView.{LeavesAsBefore}
 use Rattle.protocol.specs.World.EventView.{ByNetwork, ByNode, EventView, Install, Release}
 use Rattle.protocol.specs.declared.event.Deed.TheVariants as event
 use Rattle.protocol.specs.World.Replies.{LeavesCells, TakesMemory}
-use Rattle.world.specs.WorldView.{HoldsAsBefore, HoldsAsBeforeAt, IsCellUnchanged, LeavesWhatItFound, LeavesWhatItFoundAt}
-use Rattle.world.specs.declared.station.Station.{Station}
+use Rattle.world.specs.WorldView.{HoldsAsBefore, HoldsAsBeforeAt, LeavesWhatItFoundAt}
+use Rattle.station.specs.Leaving.{IsCellUnchanged, LeavesWhatItFound}
+use Rattle.station.specs.declared.station.Station.{Station}
 use Rattle.world.proofs.Restarts.{holds_there}
 
 -- what holds of two lists place by place holds at each place

@@ -1,4 +1,3 @@
-mod Cells
 mod Closed
 mod Lines
 mod Openings
@@ -6,15 +5,7 @@ mod OpenedStations
 mod OpeningStores
 mod Views
 mod Stations
-mod Planned
-mod Events
 mod Showing
-mod Rests
 mod Places
-mod Packets
-mod Ready
-mod Crashes
-mod Sends
-mod Arriving
 mod Restarts
 mod Held

@@ -18,9 +18,9 @@ use Rattle.protocol.specs.World.Steps.{IsAct, Setting, WorldView, setting_of}
 use Rattle.protocol.specs.WorldLaws.LineLaws.{act_in_line, line_goes_on}
 use Rattle.protocol.specs.declared.outcome.Outcome.{Outcome}
 use Rattle.world.specs.RecoveryLine.{MayBeLeft, AreLeftSince, KeepsLine, HasOneLine, StaysInLine}
-use Rattle.world.specs.WorldView.{station_view}
-use Rattle.world.specs.declared.station.Station.{Station}
-use Rattle.world.proofs.Cells.{own_alone, own_spelled}
+use Rattle.station.specs.StationView.{station_view}
+use Rattle.station.specs.declared.station.Station.{Station}
+use Rattle.station.proofs.Cells.{own_alone, own_spelled}
 
 module _ {C O : Type 0} {cell : CellWords C} {slots : SlotWords C} (taken : O → List ℤ) (failures : O → ℕ)
     (setting : Setting)

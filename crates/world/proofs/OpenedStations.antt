@@ -32,19 +32,20 @@ use Rattle.protocol.specs.World.Sound.{is_output, output_channels}
 use Rattle.protocol.specs.World.StationView.{OutletView, StationView}
 use Rattle.protocol.specs.WorldLaws.OpenLaws.{world_opened}
 use Rattle.protocol.specs.WorldLaws.OutputLaws.{output_once}
-use Rattle.world.specs.OpeningWorld.{armed_on, calls_on, fresh, own_outputs, opening_length, AllNumbered, HasRoom, HaveRoom, HaveOutlets}
+use Rattle.world.specs.OpeningWorld.{armed_on, calls_on, own_outputs, opening_length, AllNumbered, HasRoom, HaveRoom, HaveOutlets}
+use Rattle.station.specs.OutputView.{fresh}
 use Rattle.world.specs.OpeningWorld.{IsOpened, IsOpenedNode, IsOpeningRefusal, IsUnused, IsWorldRefusal}
 use Rattle.world.specs.OpeningWorld.{LeaveOnlyRecords}
 use Rattle.world.specs.OpeningWorld.{version_for, AreFormatted, StandsInVersion, IsVersion, AreVersions}
 use Rattle.world.specs.OpeningWorld.{IsNotOpened, IsDiskBack, SomeFailed, AreHandedBack}
-use Rattle.world.specs.StationView.{outlet_view, outlet_views}
-use Rattle.world.specs.WorldView.{station_view}
+use Rattle.station.specs.StationView.{outlet_view, outlet_views}
+use Rattle.station.specs.StationView.{station_view}
 use Rattle.protocol.specs.World.Steps.{WorldView}
 use Rattle.world.proofs.Openings.{fresh_views, opened_listed, opened_nothing, opened_station}
 use Rattle.protocol.specs.World.Turns.{no_turns}
 use Rattle.protocol.specs.declared.limits.TheConstants.{DEFAULT_ROOM}
-use Rattle.world.specs.declared.output.Output.{Output}
-use Rattle.world.specs.declared.station.Station.{Station}
+use Rattle.station.specs.declared.output.Output.{Output}
+use Rattle.station.specs.declared.station.Station.{Station}
 
 -- one place more
 pub numbered_more : {A B : Type 0} (P : ℕ → A → B → Type 0) (number : ℕ) (xs : List A) (ys : List B) (x : A) (y : B)

@@ -16,10 +16,11 @@ use Rattle.protocol.specs.World.Sound.{goes_outside, output_channels}
 use Rattle.protocol.specs.WorldLaws.OpenLaws.{NothingLeft}
 use Rattle.std.specs.List.{AllByRecursion}
 use Rattle.protocol.specs.World.OpeningWorld.{opening_outlet, opening_station}
-use Rattle.world.specs.OpeningWorld.{fresh, IsUnused}
+use Rattle.station.specs.OutputView.{fresh}
+use Rattle.world.specs.OpeningWorld.{IsUnused}
 use Rattle.protocol.specs.World.StationView.{OutletView, StationView}
-use Rattle.world.specs.StationView.{outlet_view, outlet_views}
-use Rattle.world.specs.declared.output.Output.{Output}
+use Rattle.station.specs.StationView.{outlet_view, outlet_views}
+use Rattle.station.specs.declared.output.Output.{Output}
 
 one_listed : (b : Bool) (number : ℕ) (rest : List ℕ)
     → (if b then number ∷ [] else []) ++ rest ≡ (if b then number ∷ rest else rest)

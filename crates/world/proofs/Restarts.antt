@@ -10,10 +10,11 @@ use Rattle.protocol.specs.World.EventView.{EventView}
 use Rattle.protocol.specs.World.ReplyView.{ReplyView}
 use Rattle.protocol.specs.declared.reply.Reply.TheVariants.{Down}
 use Rattle.protocol.specs.WorldLaws.OutputLaws.{set_cases}
-use Rattle.world.specs.ReplyView.{reply_view}
-use Rattle.world.specs.WorldView.{LeavesDeviceAt, LeavesDeviceBy, RestartsAsArmed, RestartsAsArmedAt}
-use Rattle.world.specs.ReplyView.{Reply}
-use Rattle.world.specs.declared.station.Station.{Station}
+use Rattle.station.specs.ReplyView.{reply_view}
+use Rattle.world.specs.WorldView.{LeavesDeviceAt, RestartsAsArmedAt}
+use Rattle.station.specs.Leaving.{LeavesDeviceBy, RestartsAsArmed}
+use Rattle.station.specs.ReplyView.{Reply}
+use Rattle.station.specs.declared.station.Station.{Station}
 
 module _ {C O : Type 0} {cell : CellWords C} {slots : SlotWords C} where
   -- what is set at a place of a list stands there

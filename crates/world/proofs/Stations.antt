@@ -8,7 +8,7 @@ use Rattle.std.specs.declared.alloc.AllocError.{AllocError}
 use Rattle.kahn_net.specs.Syntax.{Network}
 use Rattle.record.specs.RecordView.{RecordView}
 use Rattle.ckpt_store.specs.StoreView.{cell_in, record_in}
-use Rattle.world.proofs.Cells.{leaves_own, own_left}
+use Rattle.station.proofs.Cells.{leaves_own, own_left}
 use Rattle.gate_cell.specs.declared.cell.StableCell.{Ghosts as CellWords}
 use Rattle.gate_cell.specs.declared.slot_cell.SlotCell.{Ghosts as SlotWords}
 use Rattle.gate_cell.specs.Whole.{Whole}
@@ -19,23 +19,24 @@ use Rattle.protocol.specs.World.Invariant.{outputs_of, AreSound, StationInvarian
 use Rattle.protocol.specs.WorldLaws.LineLaws.{next_ahead}
 use Rattle.protocol.specs.WorldLaws.OutputLaws.{map_at}
 use Rattle.protocol.specs.World.OutputView.{OutputView}
-use Rattle.world.specs.OutputView.{outputs_view}
+use Rattle.station.specs.OutputView.{outputs_view}
 use Rattle.protocol.specs.WorldLaws.PairLaws.{pairs_refl, pairs_set}
 use Rattle.protocol.specs.World.Covered.{LeavesEither}
 use Rattle.protocol.specs.World.Pairs.{HasMoved, HasGrown}
 use Rattle.protocol.specs.World.RecoveryLine.{next_for, next_kept}
 use Rattle.world.specs.RecoveryLine.{StaysInLine}
 use Rattle.wire.specs.Traffic.{Traffic}
-use Rattle.world.specs.Coming.{HasCome}
-use Rattle.world.specs.ReplyView.{reply_view}
+use Rattle.station.specs.Coming.{HasCome}
+use Rattle.station.specs.ReplyView.{reply_view}
 use Rattle.protocol.specs.World.StationView.{StationView}
-use Rattle.world.specs.StationView.{outlet_views}
+use Rattle.station.specs.StationView.{outlet_views}
 use Rattle.protocol.specs.WorldLaws.StepKeeps.{station_keeps}
 use Rattle.protocol.specs.World.Steps.{Setting}
 use Rattle.protocol.specs.WorldLaws.PlanLaws.{IsSoundSetting, IsSoundStation}
-use Rattle.world.specs.WorldView.{station_view, IsGrown}
-use Rattle.world.specs.ReplyView.{Reply}
-use Rattle.world.specs.declared.station.Station.{Station}
+use Rattle.station.specs.StationView.{station_view}
+use Rattle.world.specs.WorldView.{IsGrown}
+use Rattle.station.specs.ReplyView.{Reply}
+use Rattle.station.specs.declared.station.Station.{Station}
 use Rattle.world.proofs.Views.{same_outputs}
 
 module _ (setting : Setting) (sure : IsSoundSetting setting) (room : RecordView → Bool) (event : EventView) where

@@ -7,8 +7,8 @@ use Rattle.gate_cell.specs.declared.cell.StableCell.{Ghosts as CellWords}
 use Rattle.gate_cell.specs.declared.slot_cell.SlotCell.{Ghosts as SlotWords}
 use Rattle.gate_cell.specs.declared.split.SplitCell.{SplitCell}
 use Rattle.ckpt_store.specs.StoreView.{cell_in}
-use Rattle.world.specs.declared.output.Output.{Output}
-use Rattle.world.specs.declared.station.Station.{Station}
+use Rattle.station.specs.declared.output.Output.{Output}
+use Rattle.station.specs.declared.station.Station.{Station}
 
 -- the disk on which a station's record lies
 abbrev pub disk_of : {D O : Type 0} {disk : DiskWords D} {cell : CellWords (SplitCell D disk)} {slots : SlotWords (SplitCell D disk)}

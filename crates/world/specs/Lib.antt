@@ -1,11 +1,6 @@
-pub mod OutputView
-pub mod DoneView
-pub mod EventView
-pub mod ReplyView
-pub mod StationView
 pub mod WorldView
 pub mod WholeView
-pub mod Coming
+pub mod Acting
 pub mod RecoveryLine
 pub mod OpeningWorld
 pub mod Closing

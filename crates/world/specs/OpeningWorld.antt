@@ -22,19 +22,16 @@ use Rattle.ckpt_store.specs.declared.fault.StoreFault.{StoreFault}
 use Rattle.ckpt_store.specs.declared.fault.StoreFault.TheVariants.{NoMemory, Device, TooLarge, Reopen, Truncated}
 use Rattle.ckpt_store.specs.declared.fault.StoreFault.TheVariants.{Version, Malformed, HoldsOther, PastNumber, NotHeld}
 use Rattle.ckpt_store.specs.declared.fault.StoreFault.TheVariants.{Unsettled, Spent}
-use Rattle.world.specs.declared.output.Output.{Output}
-use Rattle.world.specs.declared.station.Station.{Station}
+use Rattle.station.specs.declared.output.Output.{Output}
+use Rattle.station.specs.declared.station.Station.{Station}
 use Rattle.node.specs.NodeOf.{view_of}
 use Rattle.node.specs.declared.node.Node.{Node}
 use Rattle.protocol.specs.Node.Opening.{opening_node, opening_record}
 use Rattle.protocol.specs.World.OpeningWorld.{outlets_on, opening_station}
 use Rattle.protocol.specs.World.Sound.{is_output}
-use Rattle.world.specs.StationView.{outlet_views}
-use Rattle.world.specs.WorldView.{station_view, HasOutlets}
-
--- an output of which no failure is remembered
-abbrev pub fresh : {O : Type 0} → Output O → Output O
-fresh output = record { channel = output.channel; outlet = output.outlet; failed = None }
+use Rattle.station.specs.StationView.{outlet_views}
+use Rattle.station.specs.StationView.{station_view}
+use Rattle.world.specs.WorldView.{HasOutlets}
 
 -- its outlet took nothing
 abbrev pub IsUnused : {O : Type 0} → (O → List ℤ) → Output O → Type 0

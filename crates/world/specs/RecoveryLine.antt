@@ -15,8 +15,8 @@ use Rattle.protocol.specs.World.EventView.{EventView}
 use Rattle.protocol.specs.World.InLine.{AreInLine}
 use Rattle.protocol.specs.World.RecoveryLine.{next_for, records_seen, records_of}
 use Rattle.protocol.specs.World.Steps.{Setting}
-use Rattle.world.specs.WorldView.{station_view}
-use Rattle.world.specs.declared.station.Station.{Station}
+use Rattle.station.specs.StationView.{station_view}
+use Rattle.station.specs.declared.station.Station.{Station}
 
 -- One choice for each station of what a crash leaves of its cell. Each is at a moment of its own since `old`: no clock
 -- orders the moments of two cells.

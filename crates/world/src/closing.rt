@@ -5,12 +5,11 @@ ghost use Rattle.kahn_net.specs.Syntax.{network_of};
 ghost use Rattle.protocol.specs.World.Sound.{output_channels};
 ghost use Rattle.world.specs.Closing.{all_outputs, disk_of, disks_of};
 
-use crate::output::Output;
-use crate::station::Station;
 use crate::world::World;
 use gate_cell::SplitCell;
 use outlet::Outlet;
 use sector_disk::Disk;
+use station::{Output, Station};
 use std::alloc::{AllocError, Global};
 
 // Adds these outputs.

@@ -17,18 +17,16 @@ ghost use Rattle.protocol.specs.Node.Opening.{opening_record};
 ghost use Rattle.protocol.specs.World.Headline.{AreApproximated};
 ghost use Rattle.protocol.specs.World.OpeningWorld.{opening_world};
 ghost use Rattle.protocol.specs.World.Sound.{is_output, output_channels};
-ghost use Rattle.protocol.specs.World.Turns.{no_turns};
-ghost use Rattle.world.specs.OpeningWorld.{armed_on, calls_on, fresh, own_outputs, AllNumbered, HasRoom, HaveRoom, HaveOutlets};
+ghost use Rattle.world.specs.OpeningWorld.{armed_on, calls_on, own_outputs, AllNumbered, HasRoom, HaveRoom, HaveOutlets};
+ghost use Rattle.station.specs.OutputView.{fresh};
 ghost use Rattle.world.specs.OpeningWorld.{IsOpened, IsOpenedNode, IsUnused, LeaveOnlyRecords};
 ghost use Rattle.world.specs.OpeningWorld.{AreHandedBack, IsNotOpened, IsOpeningRefusal, IsWorldRefusal};
 ghost use Rattle.world.specs.OpeningWorld.{version_for, AreFormatted, AreVersions, AreVersionsFor, IsVersion, StandsInVersion};
-ghost use Rattle.world.specs.StationView.{outlet_views};
+ghost use Rattle.station.specs.StationView.{outlet_views};
 ghost use Rattle.world.specs.WholeView.{world_of};
 ghost use Rattle.world.specs.WorldView.{capacities};
 ghost use Rattle.kahn_net.specs.declared.limits.TheConstants.{MAX_NODES};
 
-use crate::output::Output;
-use crate::station::Station;
 use crate::world::World;
 use ckpt_codec::{FIRST_VERSION, VERSION, spelled_image_length, write_header_in, write_image};
 use ckpt_store::{Store, StoreFault};
@@ -37,21 +35,13 @@ use kahn_net::Port;
 use net_check::{Inputs, Net};
 use node::{Node, is_here, opening_record};
 use outlet::Outlet;
-use protocol::{DEFAULT_ROOM, RoundTurns};
+use protocol::DEFAULT_ROOM;
 use record::{Image, Record};
 use sector_disk::Disk;
+use station::{Output, Station};
 use std::alloc::Global;
 use std::sync::Arc;
 use wire::Wire;
-
-impl<O: Outlet> Output<O> {
-    // No failure of its outlet is remembered.
-    fn forget_failure(&mut self)
-        ensures { self.new ≡ fresh self.old }
-    {
-        self.failed = None;
-    }
-}
 
 fn forget_failures<O: Outlet>(outputs: &mut Vec<Output<O>>)
     ensures { outputs.new.items ≡ map fresh outputs.old.items }
@@ -220,21 +210,6 @@ fn open_node<D: Disk>(
             disk: store.close().close(),
             fault: StoreFault::NoMemory,
         }),
-    }
-}
-
-impl<C: SlotCell, O: Outlet> Station<C, O> {
-    // The station of a node before its first event.
-    fn new(node: Node<C>, outputs: Vec<Output<O>>) -> Station<C, O>
-        ensures node { result.node ≡ node }
-        ensures outputs { result.outputs ≡ outputs }
-        ensures turns { result.turns ≡ no_turns 0 }
-    {
-        Station {
-            node,
-            outputs,
-            turns: RoundTurns::new(0),
-        }
     }
 }
 

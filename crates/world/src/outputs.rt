@@ -6,10 +6,10 @@ ghost use Rattle.protocol.specs.World.Sound.{goes_outside, output_channels};
 ghost use Rattle.world.specs.OpeningWorld.{HasNotFailed, IsMade, IsUnused};
 ghost use Rattle.kahn_net.specs.declared.limits.TheConstants.{MAX_CHANNELS};
 
-use crate::output::Output;
 use kahn_net::{Channel, Port};
 use net_check::Net;
 use outlet::{ListOutlet, Outlet};
+use station::Output;
 use std::alloc::{AllocError, Global};
 
 /// What makes the outlets of a world.

@@ -1,196 +1,26 @@
-// Which event is next for a node.
-ghost use Rattle.std.specs.Prelude.{◌≡◌, ◌<◌, ◌||◌, ◌&&◌, nat_lt, not, is_some, option_map};
-ghost use Rattle.kahn_net.specs.Syntax.{network_of};
-ghost use Rattle.record.specs.Ends.{received_of, sent_of};
-ghost use Rattle.protocol.specs.Node.Choosing.{node_job};
-ghost use Rattle.node.specs.NodeOf.{view_of};
-ghost use Rattle.protocol.specs.Node.NodeView.{running_of};
-ghost use Rattle.node.specs.NodeView.{node_view};
-ghost use Rattle.protocol.specs.Node.Beginning.{live_in};
-ghost use Rattle.protocol.specs.Node.Verdicts.{may_decide};
-ghost use Rattle.protocol.specs.Node.Modes.{is_down};
-ghost use Rattle.protocol.specs.World.Choice.{counts_rose, has_more, has_sent, has_turn, due_place, flying_to, may_recover, own_choice, station_choice, wants_checkpoint, choice};
-ghost use Rattle.protocol.specs.World.Turns.{turns_of};
-ghost use Rattle.world.specs.EventView.{event_view};
-ghost use Rattle.world.specs.WholeView.{world_of};
-ghost use Rattle.wire.specs.Traffic.{traffic_of};
+// Which event is next for a node, and what is in flight to it.
+ghost use Rattle.std.specs.Prelude.{◌≡◌, option_map, slice_get};
+ghost use Rattle.protocol.specs.World.Choice.{flying_to, choice};
+ghost use Rattle.station.specs.EventView.{event_view};
+ghost use Rattle.wire.specs.Traffic.{flights_to, traffic_of};
 ghost use Rattle.wire.specs.declared.queue.TheConstants.{NODES};
-ghost use Rattle.world.specs.WorldView.{station_view};
+ghost use Rattle.world.specs.WholeView.{world_of};
 
-use crate::event::Event;
-use crate::network::{first_due, packet_at};
-use crate::station::Station;
 use crate::world::World;
-use decide_core::may_decide;
 use gate_cell::SlotCell;
-use net_check::{Inputs, Net};
-use node::{Mode, NodeState};
 use outlet::Outlet;
-use protocol::{Deed, MAX_GRANTS};
-use record::{Image, Record};
+use protocol::Deed;
+use station::Event;
 use wire::Wire;
 
-// Whether a count of this channel is above what it is in an earlier image.
-fn has_risen(now: &Image, before: &Image, channel: u8) -> bool
-    ensures { result ≡ (nat_lt (received_of before.now channel) (received_of now.now channel)
-        || nat_lt (sent_of before.now channel) (sent_of now.now channel)) }
+// The bytes of the packet at a place, if there is one.
+fn packet_at(wire: &Wire, to: u8, place: usize) -> Option<&[u8]>
+    requires { to < NODES }
+    ensures { option_map (λ bytes. bytes.now) result
+        ≡ option_map (λ flight. flight.packet)
+        (slice_get (flights_to (traffic_of wire.now) to) place) }
 {
-    now.received(channel) > before.received(channel) || now.sent(channel) > before.sent(channel)
-}
-
-// Whether some count of an image is above what it is in an earlier one.
-pub(crate) fn has_more(now: &Image, before: &Image) -> bool
-    ensures { result ≡ counts_rose now.now before.now now.now.ends }
-{
-    for saved in &now.ends {
-        if has_risen(now, before, saved.channel) {
-            return true;
-        }
-    }
-    false
-}
-
-// Whether it is this node's turn in this round to begin a checkpoint.
-fn has_turn(nodes: usize, round: u64, number: u8) -> bool
-    ensures { result ≡ has_turn nodes round number }
-{
-    nodes > 0 && round % (nodes as u64) == u64::from(number)
-}
-
-// Whether a node that may begin a checkpoint has something new to keep.
-fn has_new(state: &NodeState, kept: &Record) -> bool
-    ensures { result ≡ has_more (running_of (node_view kept.now state.now)) }
-{
-    match &state.mode {
-        Mode::Running(running) => has_more(&running.current, &kept.permanent),
-        Mode::Down | Mode::InDoubt => false,
-    }
-}
-
-impl<C: SlotCell, O: Outlet> Station<C, O> {
-    // Whether its node is down and may be recovered by now.
-    fn may_recover(&self, round: u64) -> bool
-        ensures { result ≡ may_recover round (station_view O.taken O.failures self.now) }
-    {
-        let state = &self.node.state;
-        state.is_down() && state.restart <= round
-    }
-
-    // Whether a job is next where a channel has so much room: a process is ready, and fewer were granted in this round than
-    // may be.
-    fn has_grant(&self, net: &Net, inputs: &Inputs, room: usize, round: u64) -> bool
-        ensures { result ≡ (nat_lt (turns_of round self.now.turns).granted MAX_GRANTS
-            && is_some (node_job (network_of net.now.program) inputs.now room
-            (view_of self.now.node))) }
-    {
-        self.turns.of(round).granted < MAX_GRANTS && self.node.has_job(net, inputs, room)
-    }
-
-    // Whether its node may decide the checkpoint for which it collects answers.
-    fn may_decide(&self) -> bool
-        ensures { result ≡ may_decide self.now.node.number (view_of self.now.node).kept
-            (live_in (view_of self.now.node).mode) }
-    {
-        let node = &self.node;
-        match node.store.record() {
-            Ok(kept) => may_decide(node.number, kept, node.state.live()),
-            Err(_) => false,
-        }
-    }
-
-    // Whether its node is the one whose turn it is to begin a checkpoint in this round, and has something new to keep.
-    fn wants_checkpoint(&self, nodes: usize, round: u64) -> bool
-        ensures { result ≡ wants_checkpoint nodes round
-            (station_view O.taken O.failures self.now) }
-    {
-        let node = &self.node;
-        match node.store.record() {
-            Ok(kept) => {
-                has_turn(nodes, round, node.number)
-                    && !self.turns.of(round).started
-                    && node.state.can_start(kept)
-                    && has_new(&node.state, kept)
-            }
-            Err(_) => false,
-        }
-    }
-
-    // Whether its node, which is up, is to send: it hasn't in this round, or held a tentative image when it did, and doesn't now.
-    fn may_send(&self, round: u64) -> bool
-        ensures { result ≡ (not (is_down (view_of self.now.node).mode)
-            && not (has_sent round (station_view O.taken O.failures self.now))) }
-    {
-        let node = &self.node;
-        let turns = self.turns.of(round);
-        match node.store.record() {
-            Ok(kept) => {
-                !node.state.is_down()
-                    && !(turns.sent && !(turns.sent_holding && kept.tentative.is_none()))
-            }
-            Err(_) => false,
-        }
-    }
-
-    // The place of the first packet that is due to its node, if that is up.
-    fn due_place(&self, wire: &Wire, round: u64) -> Option<usize>
-        requires { self.now.node.number < NODES }
-        ensures { result ≡ due_place (traffic_of wire.now) round
-            (station_view O.taken O.failures self.now) }
-    {
-        let node = &self.node;
-        if node.state.is_down() {
-            return None;
-        }
-        first_due(wire, node.number, round)
-    }
-
-    // The event that is next for its node, where no packet is due to it.
-    fn pick_own(&self, net: &Net, inputs: &Inputs, room: usize, nodes: usize, round: u64) -> Event
-        ensures { event_view result ≡ own_choice (network_of net.now.program) inputs.now room
-            nodes round (station_view O.taken O.failures self.now) }
-    {
-        let number = self.node.number;
-        if self.next_release(round).is_some() {
-            return Event::release(number);
-        }
-        if self.has_grant(net, inputs, room, round) {
-            return Event::by_node(number, Deed::Grant);
-        }
-        if self.may_decide() {
-            return Event::by_node(number, Deed::Decide);
-        }
-        if self.wants_checkpoint(nodes, round) {
-            return Event::by_node(number, Deed::Start);
-        }
-        if self.may_send(round) {
-            return Event::by_node(number, Deed::Send);
-        }
-        Event::by_node(number, Deed::Idle)
-    }
-
-    // The event that is next for its node.
-    fn pick(
-        &self,
-        net: &Net,
-        inputs: &Inputs,
-        room: usize,
-        wire: &Wire,
-        nodes: usize,
-        round: u64,
-    ) -> Event
-        requires { self.now.node.number < NODES }
-        ensures { event_view result ≡ station_choice (network_of net.now.program) inputs.now room
-            (traffic_of wire.now) nodes round (station_view O.taken O.failures self.now) }
-    {
-        let node = self.node.number;
-        if self.may_recover(round) {
-            return Event::by_node(node, Deed::Recover);
-        }
-        match self.due_place(wire, round) {
-            Some(place) => Event::by_node(node, Deed::Deliver { place }),
-            None => self.pick_own(net, inputs, room, nodes, round),
-        }
-    }
+    wire.packet(to, place)
 }
 
 impl<C: SlotCell, O: Outlet> World<C, O> {

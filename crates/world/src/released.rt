@@ -1,15 +1,15 @@
 // What has left the system.
 ghost use Rattle.std.specs.Prelude.{◌≡◌, ◌==◌, find, option_copied, option_map};
 ghost use Rattle.protocol.specs.World.StationView.{OutletView};
-ghost use Rattle.world.specs.StationView.{outlet_views};
+ghost use Rattle.station.specs.StationView.{outlet_views};
 ghost use Rattle.kahn_net.specs.Syntax.{network_of};
 ghost use Rattle.protocol.specs.World.Released.{released_of, IsPutAtHome, IsStreamOf};
 ghost use Rattle.world.specs.WholeView.{world_of};
 
-use crate::output::Output;
 use crate::world::World;
 use gate_cell::SlotCell;
 use outlet::Outlet;
+use station::Output;
 
 // The items that have left by the output of this channel, where it is one of these.
 fn released_by<O: Outlet>(outputs: &[Output<O>], channel: u8) -> Option<&[i64]>

@@ -4,7 +4,7 @@ ghost use Rattle.std.specs.List.{AllZip};
 ghost use Rattle.kahn_net.specs.Fits.{Fits};
 ghost use Rattle.kahn_net.specs.Syntax.{network_of};
 ghost use Rattle.protocol.specs.World.EventView.{event_node};
-ghost use Rattle.world.specs.EventView.{event_view};
+ghost use Rattle.station.specs.EventView.{event_view};
 ghost use Rattle.protocol.specs.World.Coordination.{AreCoordinated};
 ghost use Rattle.protocol.specs.World.Headline.{AreApproximated};
 ghost use Rattle.kahn_net.specs.Nodes.{node_count};
@@ -12,21 +12,22 @@ ghost use Rattle.protocol.specs.World.Invariant.{AreJoined, AreSound, IsNumbered
 ghost use Rattle.protocol.specs.World.Pairs.{AreSameElsewhere};
 ghost use Rattle.protocol.specs.World.Traffic.{TrafficIsSound};
 ghost use Rattle.wire.specs.Traffic.{traffic_of};
-ghost use Rattle.world.specs.Coming.{HasActed};
+ghost use Rattle.world.specs.Acting.{HasActed};
 ghost use Rattle.world.specs.RecoveryLine.{StaysInLine, KeepsLine, HasOneLine};
 ghost use Rattle.protocol.specs.World.Replies.{IsDropped, IsGrantedAt, IsTooLarge, LeavesCells, TakesMemory};
-ghost use Rattle.world.specs.ReplyView.{answer_view, reply_view};
+ghost use Rattle.station.specs.ReplyView.{answer_view, reply_view};
 ghost use Rattle.protocol.specs.declared.reply.Reply.TheVariants.{Down};
 ghost use Rattle.protocol.specs.World.Roomy.{HasFullRoom};
-ghost use Rattle.protocol.specs.World.Steps.{are_done_with, is_done_with, round_after, setting_in, IsStep};
-ghost use Rattle.world.specs.WorldView.{capacities, HoldsAsBeforeAt, IsCellUnchanged, IsGrown, LeavesDeviceAt, LeavesWhatItFoundAt, RestartsAsArmedAt, rooms, station_view, world_view};
+ghost use Rattle.protocol.specs.World.Steps.{are_done_with, round_after, setting_in, IsStep};
+ghost use Rattle.world.specs.WorldView.{capacities, HoldsAsBeforeAt, IsGrown, LeavesDeviceAt, LeavesWhatItFoundAt, RestartsAsArmedAt, rooms, world_view};
+ghost use Rattle.station.specs.Leaving.{IsCellUnchanged};
+ghost use Rattle.station.specs.StationView.{station_view};
 
-use crate::event::{Event, Refused, Reply};
-use crate::station::Station;
 use gate_cell::SlotCell;
 use net_check::{Inputs, Net};
 use node::next_after;
 use outlet::Outlet;
+use station::{Event, Refused, Reply, Station};
 use std::alloc::{AllocError, Global};
 use std::sync::Arc;
 use wire::Wire;
@@ -106,16 +107,6 @@ fn act_at<C: SlotCell, O: Outlet>(
         return Ok(Reply::NotDue);
     }
     stations[number].act(alloc, net, inputs, wire, round, room, event)
-}
-
-impl<C: SlotCell, O: Outlet> Station<C, O> {
-    // Whether the round need not wait for this node: it has idled, or it is down and not to be recovered yet.
-    fn is_done_with(&self, round: u64) -> bool
-        ensures { result ≡ is_done_with round (station_view O.taken O.failures self.now) }
-    {
-        let node = &self.node;
-        self.turns.of(round).idled || (node.state.is_down() && node.state.restart > round)
-    }
 }
 
 fn are_done_with<C: SlotCell, O: Outlet>(stations: &[Station<C, O>], round: u64) -> bool

@@ -3,9 +3,9 @@ use Rattle.node.specs.JobView.{shared_view}
 use Rattle.protocol.specs.World.EventView.{Install}
 use Rattle.replay.specs.Armed.{OfWorld}
 use Rattle.runtime.specs.ArmedWorlds.{armed_view}
-use Rattle.world.specs.DoneView.{done_view}
-use Rattle.world.specs.ReplyView.{reply_view}
-use Rattle.world.specs.ReplyView.{Reply}
+use Rattle.station.specs.DoneView.{done_view}
+use Rattle.station.specs.ReplyView.{reply_view}
+use Rattle.station.specs.ReplyView.{Reply}
 use Rattle.kahn_program.specs.Turning.{Follows}
 use Rattle.kahn_program.proofs.Turns.{in_room, nothing_follows}
 use Rattle.kahn_program.proofs.turning.follow.Goals as goal

@@ -4,8 +4,8 @@ use Rattle.protocol.specs.World.Choice.{choice}
 use Rattle.protocol.specs.World.EventView.{EventView}
 use Rattle.replay.specs.Armed.{IsArmedStep, OfWorld}
 use Rattle.runtime.specs.ArmedWorlds.{armed_view}
-use Rattle.world.specs.EventView.{event_view}
-use Rattle.world.specs.ReplyView.{reply_view}
+use Rattle.station.specs.EventView.{event_view}
+use Rattle.station.specs.ReplyView.{reply_view}
 use Rattle.world.specs.WholeView.{world_of}
 use Rattle.world.specs.WorldView.{rooms}
 use Rattle.kahn_program.proofs.Passing.{noted_after}

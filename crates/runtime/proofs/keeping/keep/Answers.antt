@@ -1,8 +1,8 @@
 use Rattle.std.proofs.Common.{ap, sym}
 use Rattle.node.specs.JobView.{job_view}
 use Rattle.replay.specs.Armed.{OfWorld}
-use Rattle.world.specs.EventView.{event_view}
-use Rattle.world.specs.DoneView.{done_view}
+use Rattle.station.specs.EventView.{event_view}
+use Rattle.station.specs.DoneView.{done_view}
 use Rattle.runtime.proofs.keeping.keep.Goals as goal
 
 -- of a turn that came back, the share is of its job

@@ -2,7 +2,7 @@ use denote.Param.Send.{sendable}
 use Rattle.std.proofs.Crossing.{crosses}
 use Rattle.ckpt_store.proofs.store.Store.TheSendSync.{the_field_send as store_t}
 use Rattle.wire.proofs.wire.Wire.TheSendSync.{the_send as wire_s}
-use Rattle.world.proofs.output.Output.TheSendSync.{the_field_send as output_t}
+use Rattle.station.proofs.output.Output.TheSendSync.{the_field_send as output_t}
 use Rattle.protocol.proofs.round_turns.RoundTurns.TheSendSync.{the_field_send as turns_t}
 use Rattle.net_check.proofs.inputs.Inputs.TheSendSync.{the_send as inputs_s, the_sync as inputs_y}
 use Rattle.marks.proofs.marks.Marks.TheSendSync.{the_field_sync as marks_z}

@@ -3,8 +3,8 @@ use Rattle.node.specs.JobView.{shared_view}
 use Rattle.protocol.specs.World.Replies.{IsGrantedAt}
 use Rattle.runtime.specs.Answers.{IsGrantedIn}
 use Rattle.runtime.specs.declared.answer.TurnAnswer.{TurnAnswer}
-use Rattle.world.specs.ReplyView.{reply_view}
-use Rattle.world.specs.ReplyView.{Reply}
+use Rattle.station.specs.ReplyView.{reply_view}
+use Rattle.station.specs.ReplyView.{Reply}
 use Rattle.runtime.proofs.working.take_turns.Goals as goal
 
 -- a job that the seat is granted is of a process of its node

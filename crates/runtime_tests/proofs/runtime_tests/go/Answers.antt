@@ -1,8 +1,8 @@
 use Rattle.std.proofs.Common.{◌∙◌, refl, sym, subst}
 use Rattle.node.specs.JobView.{shared_view}
 use Rattle.protocol.specs.World.Replies.{IsGrantedAt}
-use Rattle.world.specs.ReplyView.{reply_view}
-use Rattle.world.specs.ReplyView.{Reply}
+use Rattle.station.specs.ReplyView.{reply_view}
+use Rattle.station.specs.ReplyView.{Reply}
 use Rattle.runtime.specs.Answers.{IsGrantedIn}
 use Rattle.runtime.specs.declared.answer.TurnAnswer.{TurnAnswer}
 use Rattle.runtime_tests.proofs.runtime_tests.go.Goals as goal

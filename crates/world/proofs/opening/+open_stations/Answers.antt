@@ -9,7 +9,8 @@ use Rattle.protocol.specs.NodeLaws.PlaceLaws.{nodes_few}
 use Rattle.world.proofs.OpenedStations.{none_opened, last_back, before_back, world_refused, last_refused}
 use Rattle.world.proofs.OpenedStations.{before_refused, station_opened, stations_more, others_left, nothing_before}
 use Rattle.world.proofs.OpenedStations.{fewer_left, version_valid}
-use Rattle.world.specs.OpeningWorld.{fresh, own_outputs, IsVersion}
+use Rattle.station.specs.OutputView.{fresh}
+use Rattle.world.specs.OpeningWorld.{own_outputs, IsVersion}
 use Rattle.world.proofs.opening.+open_stations.Goals as goal
 
 pub overflow_cast-number : goal.overflow_cast-number

@@ -1,6 +1,6 @@
 use Rattle.std.proofs.Common.{rules, ap, sym, ◌∙◌}
 use Rattle.record.specs.Laws.Walks.{changed_next}
-use Rattle.world.specs.OpeningWorld.{fresh}
+use Rattle.station.specs.OutputView.{fresh}
 use Rattle.world.proofs.opening.forget_failures.Goals as goal
 
 pub loop-output-preserved : goal.loop-output-preserved

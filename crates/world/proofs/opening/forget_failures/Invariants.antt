@@ -1,5 +1,5 @@
 use Rattle.std.proofs.Common.{◌≡◌, ◌++◌, map, take, drop}
-use Rattle.world.specs.OpeningWorld.{fresh}
+use Rattle.station.specs.OutputView.{fresh}
 use Rattle.world.proofs.opening.forget_failures.Given as goal
 
 abbrev pub invariant-loop-output : goal.invariant-loop-output

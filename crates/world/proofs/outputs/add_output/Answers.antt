@@ -2,7 +2,7 @@ use Rattle.std.proofs.Common.{List, refl, sym, subst}
 use Rattle.std.specs.List.{AllByRecursion}
 use Rattle.world.specs.OpeningWorld.{HasNotFailed, IsMade, IsUnused}
 use Rattle.protocol.specs.WorldLaws.PairLaws.{every_more}
-use Rattle.world.specs.declared.output.Output.{Output}
+use Rattle.station.specs.declared.output.Output.{Output}
 use Rattle.world.proofs.outputs.add_output.Goals as goal
 
 pub returns-in_ok-push-clause-empty : goal.returns-in_ok-push-clause-empty

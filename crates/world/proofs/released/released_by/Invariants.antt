@@ -1,7 +1,7 @@
 use Rattle.std.proofs.Common.{◌≡◌, drop}
 use Rattle.std.specs.Prelude.{◌==◌, find}
 use Rattle.protocol.specs.World.StationView.{OutletView}
-use Rattle.world.specs.StationView.{outlet_views}
+use Rattle.station.specs.StationView.{outlet_views}
 use Rattle.world.proofs.released.released_by.Given as goal
 
 -- the output is among those that weren't looked at yet

@@ -2,7 +2,7 @@ use Rattle.std.proofs.Common.{◌≡◌, drop, map}
 use Rattle.std.specs.List.{list_any}
 use Rattle.kahn_net.specs.Syntax.{network_of}
 use Rattle.protocol.specs.World.Still.{wants_room}
-use Rattle.world.specs.WorldView.{station_view}
+use Rattle.station.specs.StationView.{station_view}
 use Rattle.world.proofs.still.one_wants_room.Given as goal
 
 -- one wants room where one does of those that weren't looked at yet

@@ -1,6 +1,6 @@
 use Rattle.std.proofs.Common.{◌≡◌, drop, map}
 use Rattle.protocol.specs.World.Steps.{are_done_with}
-use Rattle.world.specs.WorldView.{station_view}
+use Rattle.station.specs.StationView.{station_view}
 use Rattle.world.proofs.world.are_done_with.Given as goal
 
 -- the round waits for none of those that were looked at

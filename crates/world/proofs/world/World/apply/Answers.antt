@@ -2,12 +2,12 @@ use Rattle.std.proofs.Common.{List, [], map, refl, ap, sym, subst, ◌∙◌}
 use Rattle.kahn_net.specs.Syntax.{network_of}
 use Rattle.ckpt_store.specs.Spelling.{fits_in}
 use Rattle.ckpt_store.specs.StoreView.{cell_in}
-use Rattle.world.specs.EventView.{event_view}
+use Rattle.station.specs.EventView.{event_view}
 use Rattle.protocol.specs.World.Headline.{AreApproximated}
 use Rattle.protocol.specs.World.Coordination.{AreCoordinated}
 use Rattle.protocol.specs.WorldLaws.CoordinationLaws.{coordinated_still, events_are_coordinated}
 use Rattle.protocol.specs.WorldLaws.PrefixLaws.{released_prefix}
-use Rattle.world.specs.ReplyView.{reply_view}
+use Rattle.station.specs.ReplyView.{reply_view}
 use Rattle.protocol.specs.WorldLaws.DropLaws.{never_dropped}
 use Rattle.protocol.specs.WorldLaws.HomeLaws.{granted_at_home}
 use Rattle.protocol.specs.WorldLaws.RoomLaws.{never_too_large, rooms_of}
@@ -18,8 +18,9 @@ use Rattle.protocol.specs.World.Steps.{round_after, setting_in}
 use Rattle.protocol.specs.WorldLaws.StepKeeps.{step_keeps}
 use Rattle.wire.specs.Traffic.{Traffic, traffic_of}
 use Rattle.world.specs.WholeView.{world_of}
-use Rattle.world.specs.WorldView.{rooms, station_view, world_view}
-use Rattle.world.specs.declared.station.Station.{Station}
+use Rattle.world.specs.WorldView.{rooms, world_view}
+use Rattle.station.specs.StationView.{station_view}
+use Rattle.station.specs.declared.station.Station.{Station}
 use Rattle.protocol.specs.World.EventView.{event_node}
 use Rattle.world.proofs.Held.{held_at}
 use Rattle.world.proofs.Lines.{keeps_line, one_line}

@@ -8,8 +8,8 @@ use Rattle.protocol.specs.World.Quiet.{is_quiet_at}
 use Rattle.protocol.specs.World.StationView.{StationView}
 use Rattle.protocol.specs.WorldLaws.QuietLaws.{quiet_is_whole}
 use Rattle.world.specs.WholeView.{world_of}
-use Rattle.world.specs.WorldView.{station_view}
-use Rattle.world.specs.declared.station.Station.{Station}
+use Rattle.station.specs.StationView.{station_view}
+use Rattle.station.specs.declared.station.Station.{Station}
 use Rattle.world.proofs.world.World.complete.Goals as goal
 
 pub returns-clause-whole : goal.returns-clause-whole

@@ -6,7 +6,8 @@ use Rattle.protocol.specs.World.Invariant.{outputs_of}
 use Rattle.protocol.specs.World.Quiet.{are_quiet, is_quiet_at}
 use Rattle.protocol.specs.World.StationView.{StationView}
 use Rattle.wire.specs.Traffic.{traffic_of}
-use Rattle.world.specs.WorldView.{station_view, world_view}
+use Rattle.station.specs.StationView.{station_view}
+use Rattle.world.specs.WorldView.{world_view}
 use Rattle.world.proofs.world.World.complete.Given as goal
 
 -- all are quiet where those are that weren't looked at yet

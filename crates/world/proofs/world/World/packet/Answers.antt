@@ -1,7 +1,7 @@
 use Rattle.std.proofs.Common.{rules, ◌<◌, length, arith}
 use Rattle.std.proofs.lemmas.List.{length-map}
 use Rattle.world.specs.WholeView.{world_of}
-use Rattle.world.specs.WorldView.{station_view}
+use Rattle.station.specs.StationView.{station_view}
 use Rattle.world.proofs.Places.{few_places}
 use Rattle.world.proofs.world.World.packet.Goals as goal
 

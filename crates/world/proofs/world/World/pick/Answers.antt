@@ -6,7 +6,7 @@ use Rattle.net_check.specs.declared.net.Net.{Net}
 use Rattle.protocol.specs.World.Choice.{choice_of, station_choice}
 use Rattle.wire.specs.Traffic.{traffic_of}
 use Rattle.world.specs.WholeView.{world_of}
-use Rattle.world.specs.WorldView.{station_view}
+use Rattle.station.specs.StationView.{station_view}
 use Rattle.world.proofs.Places.{number_few}
 use Rattle.world.proofs.Views.{seen_at}
 use Rattle.world.proofs.world.World.pick.Goals as goal

@@ -1,6 +1,6 @@
 use Rattle.std.proofs.Common.{◌∙◌, ap}
-use Rattle.world.specs.StationView.{outlet_views}
-use Rattle.world.specs.WorldView.{station_view}
+use Rattle.station.specs.StationView.{outlet_views}
+use Rattle.station.specs.StationView.{station_view}
 use Rattle.world.proofs.Showing.{shown_here, shown_later}
 use Rattle.world.proofs.world.World.stream.Goals as goal
 

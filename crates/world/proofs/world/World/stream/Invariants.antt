@@ -1,6 +1,6 @@
 use Rattle.std.proofs.Common.{◌≡◌, drop, map}
 use Rattle.protocol.specs.World.Released.{released_of}
-use Rattle.world.specs.WorldView.{station_view}
+use Rattle.station.specs.StationView.{station_view}
 use Rattle.world.proofs.world.World.stream.Given as goal
 
 -- the output is of a station that wasn't looked at yet

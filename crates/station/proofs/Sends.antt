@@ -1,0 +1,55 @@
+-- What a node says in its turn is sent.
+use Rattle.std.proofs.Common.{◌≡◌, ℕ, Bool, false, cond, List, All, map, refl, sym, ap, subst, ◌∙◌}
+use Rattle.std.specs.Prelude.{not}
+use Rattle.datagram.specs.PacketText.{IsPacket}
+use Rattle.datagram.specs.declared.packet.Packet.{Packet}
+use Rattle.kahn_net.specs.Syntax.{Network}
+use Rattle.record.specs.RecordView.{RecordView}
+use Rattle.wire.specs.Traffic.{Traffic, all_sent}
+use Rattle.protocol.specs.Node.ArmedRestarts.{restart_after}
+use Rattle.protocol.specs.Node.Modes.{is_down}
+use Rattle.protocol.specs.Node.NodeView.{NodeView}
+use Rattle.protocol.specs.Node.Plans.{IsMade, IsPut, Prospect, if_due, packets_by, room_for, telling}
+use Rattle.protocol.specs.Node.Telling.{turn_packets}
+use Rattle.protocol.specs.World.Replies.{has_happened}
+use Rattle.protocol.specs.World.ReplyView.{ReplyView}
+use Rattle.protocol.specs.declared.reply.Reply.TheVariants.{Sent}
+use Rattle.protocol.specs.World.StationView.{StationView}
+use Rattle.protocol.specs.World.Steps.{moved_to, send_plan, sending_of}
+use Rattle.protocol.specs.declared.outcome.Outcome.TheVariants as outcome
+use Rattle.station.specs.Coming.{ComesOut}
+
+module _ (fits : RecordView → Bool) (round : ℕ) (net : Network) (old new : StationView) (answer : ReplyView)
+    (before after : Traffic) (packets : List Packet) where
+  pub sends : is_down old.node.mode ≡ false
+      → packets ≡ turn_packets net old.number old.node.kept old.node.mode → All IsPacket packets → answer ≡ Sent
+      → new ≡ moved_to old.node old.failures (send_plan net round old).turns old
+      → after ≡ all_sent round (map sending_of packets) before → (k : ℕ)
+      → ComesOut fits round (send_plan net round old) old answer new k before after
+  sends up are allowed answers same sent k =
+      let plan = send_plan net round old in
+      let tells = telling (turn_packets net old.number old.node.kept old.node.mode) old.node in
+      let is : tells ≡ plan.prospect = ap (λ (d : Bool). if_due (not d) tells) (sym up) in
+      let said : packets ≡ packets_by plan.prospect outcome.Made =
+      are ∙ ap (λ (p : Prospect). packets_by p outcome.Made) is in
+      record {
+        came = outcome.Made;
+        step = record {
+          call = 0;
+          step = subst
+              (λ (p : Prospect). IsMade (restart_after old.node.armed 0 round) p old.node outcome.Made new.node) is
+              (ap (λ (s : StationView). s.node) same);
+          put = subst (λ (p : Prospect). IsPut (room_for fits p) old.failures new.failures outcome.Made) is
+              (refl, ap (λ (s : StationView). s.failures) same);
+          answers = answers;
+          allowed = subst (All IsPacket) said allowed;
+          same = same
+              ∙ (ap (λ (n : NodeView). moved_to n old.failures plan.turns old)
+              (sym (ap (λ (s : StationView). s.node) same))
+              ∙ ap (λ (f : ℕ). moved_to new.node f plan.turns old) (sym (ap (λ (s : StationView). s.failures) same)));
+        };
+        traffic = sent
+            ∙ (ap (λ (list : List Packet). all_sent round (map sending_of list) before) said
+            ∙ ap (λ (r : ReplyView). cond (has_happened r)
+            (all_sent round (map sending_of (packets_by plan.prospect outcome.Made)) before) before) (sym answers));
+      }

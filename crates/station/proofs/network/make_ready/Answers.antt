@@ -1,0 +1,30 @@
+use Rattle.std.proofs.Common.{List, sym, subst}
+use Rattle.std.specs.Prelude.{All}
+use Rattle.wire.specs.Staging.{IsStaged}
+use Rattle.wire.specs.Traffic.{AreNodes, Traffic, traffic_of}
+use Rattle.wire.specs.declared.sending.Sending.{Sending}
+use Rattle.wire.proofs.Ready.{same_room}
+use Rattle.station.proofs.Packets.{are_nodes}
+use Rattle.station.proofs.network.make_ready.Goals as goal
+
+pub stage-requires : goal.stage-requires
+stage-requires c =
+    are_nodes c.args.packets.now c.in_ok-sendings.sendings.items c.in_ok-sendings.ensures.sendings
+    c.in_ok-sendings.ensures.allowed
+
+pub returns-then-is_empty-clause-more : goal.returns-then-is_empty-clause-more
+returns-then-is_empty-clause-more c = same_room c.args.wire.now.queues
+
+pub returns-clause-ready : goal.returns-clause-ready
+returns-clause-ready c =
+    let packets = c.args.packets.now in
+    let batch = c.in_ok-batch.batch in
+    let spelled = c.in_ok-sendings.ensures.sendings in
+    record {
+      nodes = subst (All AreNodes) spelled
+          (are_nodes packets c.in_ok-sendings.sendings.items spelled c.in_ok-sendings.ensures.allowed);
+      staged = subst (λ (list : List Sending). IsStaged (traffic_of c.make_room.new.self) c.args.round list batch) spelled
+          (subst (λ (t : Traffic). IsStaged t c.args.round c.in_ok-sendings.sendings.items batch)
+          (sym c.make_room.ensures.traffic) c.in_ok-batch.ensures.ready);
+      room = c.in_ok-make_room.ensures.room;
+    }

@@ -1,0 +1,80 @@
+use Rattle.std.proofs.Common.{Ok, Result, ap, map, refl, subst, sym, ◌∙◌}
+use Rattle.std.specs.Prelude.{All}
+use Rattle.std.specs.declared.alloc.AllocError.{AllocError}
+use Rattle.ckpt_store.specs.StoreView.{cell_in}
+use Rattle.datagram.specs.PacketText.{IsPacket}
+use Rattle.node.specs.NodeOf.{view_of}
+use Rattle.node.specs.Putting.{IsPutEvent}
+use Rattle.node.specs.StoredView.{LeavesNext}
+use Rattle.protocol.specs.Node.Verdicts.{decide_prospect}
+use Rattle.protocol.specs.Node.Plans.{Prospect, next_record, packets_by}
+use Rattle.protocol.specs.declared.reply.Reply.TheVariants.{Refused, Decided}
+use Rattle.protocol.specs.World.StationView.{StationView}
+use Rattle.protocol.specs.World.Steps.{sending_of}
+use Rattle.protocol.specs.declared.outcome.Outcome.{Outcome}
+use Rattle.protocol.specs.declared.outcome.Refusal.TheVariants.{TooLarge}
+use Rattle.wire.specs.Traffic.{all_sent, traffic_of}
+use Rattle.station.specs.StationView.{outlet_views}
+use Rattle.station.specs.StationView.{station_view}
+use Rattle.station.proofs.Cells.{through, untouched}
+use Rattle.station.proofs.Planned.{own_traffic, seen_moved, turns_kept, undue_silent}
+use Rattle.station.proofs.station.Station.decide.Goals as goal
+
+pub carry_out-requires-clause-allowed : goal.carry_out-requires-clause-allowed
+carry_out-requires-clause-allowed g c = λ came.
+    subst (λ (p : Prospect). All IsPacket (packets_by p came)) (sym c.in_ok-prospect.ensures.view)
+    (c.requires.allowed came)
+
+pub returns-in_err-prospect-clause-leaves : goal.returns-in_err-prospect-clause-leaves
+returns-in_err-prospect-clause-leaves g c =
+    let was = c.args.self.now in
+    untouched g.C.StableCell g.C.SlotCell g.met.C.SlotCell.only_now_whole was.node.store was.node.kept.settled _
+
+pub returns-in_err-outcome-clause-leaves : goal.returns-in_err-outcome-clause-leaves
+returns-in_err-outcome-clause-leaves g c =
+    let was = c.args.self.now in
+    through g.C.StableCell g.C.SlotCell was.node.store c.carry_out.new.self.node.store was.node.kept.settled
+    _ (subst (λ (p : Prospect). LeavesNext (next_record p (view_of was.node).kept) was.node.store
+    c.carry_out.new.self.node.store) c.in_ok-prospect.ensures.view c.carry_out.ensures.event.any_moment)
+
+pub returns-clause-leaves : goal.returns-clause-leaves
+returns-clause-leaves g c =
+    let was = c.args.self.now in
+    through g.C.StableCell g.C.SlotCell was.node.store c.carry_out.new.self.node.store was.node.kept.settled
+    _ (subst (λ (p : Prospect). LeavesNext (next_record p (view_of was.node).kept) was.node.store
+    c.carry_out.new.self.node.store) c.in_ok-prospect.ensures.view c.carry_out.ensures.event.any_moment)
+
+pub returns-clause-come : goal.returns-clause-come
+returns-clause-come g c = λ k.
+    let was = c.args.self.now in
+    let now = c.carry_out.new.self in
+    let cell = g.C.StableCell in
+    let seen = station_view g.O.Outlet.taken g.O.Outlet.failures was in
+    let came = c.in_ok-outcome.outcome in
+    let answer : Result Outcome AllocError = Ok came in
+    let prospect = decide_prospect was.node.number (view_of was.node) in
+    let event : IsPutEvent prospect c.args.round (view_of was.node) (view_of now.node) was.node.store now.node.store answer =
+    subst (λ (p : Prospect). IsPutEvent p c.args.round (view_of was.node) (view_of now.node) was.node.store now.node.store
+    answer) c.in_ok-prospect.ensures.view c.in_ok-outcome.ensures.event in
+    record {
+      came = came;
+      step = record {
+        call = cell.failed_call (cell_in now.node.store);
+        step = event.step;
+        put = event.put;
+        answers = c.answer_by.ensures;
+        allowed = c.requires.allowed came;
+        same = ap (λ outputs. let view : StationView = record {
+          number = now.node.number;
+          node = view_of now.node;
+          failures = cell.failure_count (cell_in now.node.store);
+          outlets = outlet_views g.O.Outlet.taken g.O.Outlet.failures outputs.items;
+          turns = now.turns;
+        } in view) c.carry_out.ensures.same.1.0
+            ∙ seen_moved seen _ _ _ _ _ c.carry_out.ensures.same.0 (c.carry_out.ensures.same.1.1 ∙ turns_kept was.turns came);
+      };
+      traffic = own_traffic c.args.round prospect came Decided (Refused TooLarge) _ (traffic_of c.args.wire.now)
+          (traffic_of c.carry_out.new.wire) c.answer_by.ensures refl refl (undue_silent prospect)
+          (c.in_ok-outcome.ensures.traffic ∙ ap (λ (p : Prospect). all_sent c.args.round (map sending_of (packets_by p came))
+          (traffic_of c.args.wire.now)) c.in_ok-prospect.ensures.view);
+    }

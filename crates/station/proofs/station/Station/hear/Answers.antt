@@ -1,0 +1,100 @@
+use Rattle.std.proofs.Common.{Ok, Result, ap, map, refl, subst, sym, ◌∙◌}
+use Rattle.std.specs.Prelude.{All}
+use Rattle.std.specs.declared.alloc.AllocError.{AllocError}
+use Rattle.kahn_net.specs.Syntax.{network_of}
+use Rattle.ckpt_store.specs.StoreView.{cell_in}
+use Rattle.datagram.specs.PacketText.{IsPacket}
+use Rattle.node.specs.NodeOf.{view_of}
+use Rattle.node.specs.Planned.{prospect_view}
+use Rattle.node.specs.Putting.{IsPutEvent}
+use Rattle.node.specs.StoredView.{LeavesNext}
+use Rattle.protocol.specs.Node.Hearing.{hear_prospect}
+use Rattle.protocol.specs.Node.Plans.{Prospect, next_record, packets_by}
+use Rattle.protocol.specs.World.Steps.{sending_of}
+use Rattle.protocol.specs.declared.outcome.Outcome.{Outcome}
+use Rattle.wire.specs.Traffic.{all_sent, traffic_of}
+use Rattle.station.specs.Coming.{taken_by}
+use Rattle.station.specs.StationView.{station_view}
+use Rattle.station.proofs.Cells.{through, untouched}
+use Rattle.station.proofs.Planned.{seen_moved}
+use Rattle.station.proofs.Ready.{heard_sent, still_there}
+use Rattle.station.proofs.station.Station.hear.Goals as goal
+
+pub plan_packet-requires : goal.plan_packet-requires
+plan_packet-requires g c = record {
+  up = c.requires.up;
+  like = c.requires.like;
+  bounded = c.requires.bounded;
+  right = c.requires.right.names;
+  allowed = c.requires.right.allowed;
+  here = c.requires.right.here;
+  listed = c.requires.listed;
+}
+
+pub ready_for-requires : goal.ready_for-requires
+ready_for-requires g c = λ came.
+    subst (λ (p : Prospect). All IsPacket (packets_by p came)) (sym c.in_ok-prospect.ensures.view)
+    (c.requires.allowed came)
+
+pub take_by-requires : goal.take_by-requires
+take_by-requires g c = record {
+  node = c.requires.to;
+  there = still_there c.args.wire.now c.ready_for.new.wire c.args.to c.args.place c.ready_for.ensures.same
+      c.requires.there;
+  made = c.in_ok-ready.ensures.made.room;
+  declined = c.in_ok-ready.ensures.declined.room;
+}
+
+pub returns-in_err-prospect-clause-leaves : goal.returns-in_err-prospect-clause-leaves
+returns-in_err-prospect-clause-leaves g c =
+    let was = c.args.self.now in
+    untouched g.C.StableCell g.C.SlotCell g.met.C.SlotCell.only_now_whole was.node.store was.node.kept.settled _
+
+pub returns-in_err-ready-clause-leaves : goal.returns-in_err-ready-clause-leaves
+returns-in_err-ready-clause-leaves g c =
+    let was = c.args.self.now in
+    untouched g.C.StableCell g.C.SlotCell g.met.C.SlotCell.only_now_whole was.node.store was.node.kept.settled _
+
+pub returns-in_err-outcome-clause-leaves : goal.returns-in_err-outcome-clause-leaves
+returns-in_err-outcome-clause-leaves g c =
+    let was = c.args.self.now in
+    through g.C.StableCell g.C.SlotCell was.node.store c.carry_out.new.self.store was.node.kept.settled
+    _ (subst (λ (p : Prospect). LeavesNext (next_record p (view_of was.node).kept) was.node.store
+    c.carry_out.new.self.store) c.in_ok-prospect.ensures.view c.carry_out.ensures.event.any_moment)
+
+pub returns-clause-leaves : goal.returns-clause-leaves
+returns-clause-leaves g c =
+    let was = c.args.self.now in
+    through g.C.StableCell g.C.SlotCell was.node.store c.carry_out.new.self.store was.node.kept.settled
+    _ (subst (λ (p : Prospect). LeavesNext (next_record p (view_of was.node).kept) was.node.store
+    c.carry_out.new.self.store) c.in_ok-prospect.ensures.view c.carry_out.ensures.event.any_moment)
+
+pub returns-clause-come : goal.returns-clause-come
+returns-clause-come g c =
+    let was = c.args.self.now in
+    let now = c.carry_out.new.self in
+    let cell = g.C.StableCell in
+    let seen = station_view g.O.Outlet.taken g.O.Outlet.failures was in
+    let came = c.in_ok-outcome.outcome in
+    let answer : Result Outcome AllocError = Ok came in
+    let packet = c.args.packet.now in
+    let ready = c.in_ok-ready.ensures in
+    let planned = prospect_view (view_of was.node) c.in_ok-prospect.prospect in
+    let prospect = hear_prospect (network_of c.args.net.now.program) was.node.number packet.from packet.body (view_of was.node) in
+    let event : IsPutEvent prospect c.args.round (view_of was.node) (view_of now) was.node.store now.store answer =
+    subst (λ (p : Prospect). IsPutEvent p c.args.round (view_of was.node) (view_of now) was.node.store now.store answer)
+    c.in_ok-prospect.ensures.view c.in_ok-outcome.ensures.event in
+    record {
+      call = cell.failed_call (cell_in now.store);
+      came = came;
+      step = event.step;
+      put = event.put;
+      answers = c.answer_by.ensures;
+      allowed = c.requires.allowed came;
+      same = seen_moved seen _ _ _ _ _ c.carry_out.ensures.same_number refl;
+      traffic = heard_sent c.args.round planned came c.args.to c.args.place (traffic_of c.ready_for.new.wire)
+          (traffic_of c.args.wire.now) (traffic_of c.take_by.new.wire) c.ready_for.ensures.same
+          (c.take_by.ensures c.args.round _ _ ready.made.nodes ready.declined.nodes ready.made.staged ready.declined.staged)
+          ∙ ap (λ (p : Prospect). all_sent c.args.round (map sending_of (packets_by p came))
+          (taken_by came (traffic_of c.args.wire.now) c.args.to c.args.place)) c.in_ok-prospect.ensures.view;
+    }

@@ -1,0 +1,25 @@
+use Rattle.std.proofs.Common.{rules, ◌≡◌, false, refl}
+use Rattle.kahn_net.specs.Syntax.{network_of}
+use Rattle.ckpt_store.specs.Spelling.{fits_in}
+use Rattle.ckpt_store.specs.StoreView.{cell_in}
+use Rattle.protocol.specs.Node.Modes.{is_down}
+use Rattle.wire.specs.Traffic.{traffic_of}
+use Rattle.station.specs.StationView.{station_view}
+use Rattle.station.proofs.Packets.{are_nodes}
+use Rattle.station.proofs.Sends.{sends}
+use Rattle.station.proofs.station.Station.send.Goals as goal
+
+pub send_all-requires : goal.send_all-requires
+send_all-requires g c =
+    are_nodes c.as_slice.result.now c.in_ok-sendings.sendings.items c.in_ok-sendings.ensures.sendings
+    c.in_ok-sendings.ensures.allowed
+
+pub returns-clause-come : goal.returns-clause-come
+returns-clause-come g c = λ k.
+    let was = c.args.self.now in
+    let seen = station_view {cell = g.C.StableCell} {slots = g.C.SlotCell} g.O.Outlet.taken g.O.Outlet.failures was in
+    let up : is_down seen.node.mode ≡ false = search rules in
+    let packets = c.in_ok-packets.packets.items in
+    sends (fits_in (g.C.SlotCell.slot_capacity (cell_in was.node.store))) c.args.round (network_of c.args.net.now.program)
+    seen _ _ (traffic_of c.args.wire.now) (traffic_of c.send_all.new.self) packets up c.in_ok-packets.ensures
+    (search rules) refl (search rules) (search rules) k

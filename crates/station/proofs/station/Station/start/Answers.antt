@@ -1,0 +1,88 @@
+use Rattle.std.proofs.Common.{rules, ◌≡◌, Ok, Result, ap, map, refl, subst, sym, ◌∙◌}
+use Rattle.std.specs.Prelude.{All}
+use Rattle.std.specs.declared.alloc.AllocError.{AllocError}
+use Rattle.ckpt_store.specs.StoreView.{cell_in}
+use Rattle.datagram.specs.PacketText.{IsPacket}
+use Rattle.kahn_net.specs.Syntax.{network_of}
+use Rattle.protocol.specs.World.Steps.{turns_by}
+use Rattle.protocol.specs.World.Turns.{turns_of, count_start}
+use Rattle.protocol.specs.declared.round_turns.RoundTurns.{RoundTurns}
+use Rattle.node.specs.NodeOf.{view_of}
+use Rattle.node.specs.Putting.{IsPutEvent}
+use Rattle.node.specs.StoredView.{LeavesNext}
+use Rattle.protocol.specs.Node.Beginning.{start_prospect}
+use Rattle.protocol.specs.Node.Plans.{Prospect, next_record, packets_by}
+use Rattle.protocol.specs.declared.reply.Reply.TheVariants.{Refused, Started}
+use Rattle.protocol.specs.World.StationView.{StationView}
+use Rattle.protocol.specs.World.Steps.{sending_of}
+use Rattle.protocol.specs.declared.outcome.Outcome.{Outcome}
+use Rattle.protocol.specs.declared.outcome.Refusal.TheVariants.{TooLarge}
+use Rattle.wire.specs.Traffic.{all_sent, traffic_of}
+use Rattle.station.specs.StationView.{outlet_views}
+use Rattle.station.specs.StationView.{station_view}
+use Rattle.station.proofs.Cells.{through, untouched}
+use Rattle.station.proofs.Planned.{own_traffic, seen_moved, undue_silent}
+use Rattle.station.proofs.station.Station.start.Goals as goal
+
+pub carry_out-requires-clause-allowed : goal.carry_out-requires-clause-allowed
+carry_out-requires-clause-allowed g c = λ came.
+    subst (λ (p : Prospect). All IsPacket (packets_by p came)) (sym c.in_ok-prospect.ensures.view)
+    (c.requires.allowed came)
+
+pub returns-in_err-prospect-clause-leaves : goal.returns-in_err-prospect-clause-leaves
+returns-in_err-prospect-clause-leaves g c =
+    let was = c.args.self.now in
+    untouched g.C.StableCell g.C.SlotCell g.met.C.SlotCell.only_now_whole was.node.store was.node.kept.settled _
+
+pub returns-in_err-outcome-clause-leaves : goal.returns-in_err-outcome-clause-leaves
+returns-in_err-outcome-clause-leaves g c =
+    let was = c.args.self.now in
+    through g.C.StableCell g.C.SlotCell was.node.store c.carry_out.new.self.node.store was.node.kept.settled
+    _ (subst (λ (p : Prospect). LeavesNext (next_record p (view_of was.node).kept) was.node.store
+    c.carry_out.new.self.node.store) c.in_ok-prospect.ensures.view c.carry_out.ensures.event.any_moment)
+
+pub returns-clause-leaves : goal.returns-clause-leaves
+returns-clause-leaves g c =
+    let was = c.args.self.now in
+    through g.C.StableCell g.C.SlotCell was.node.store c.carry_out.new.self.node.store was.node.kept.settled
+    _ (subst (λ (p : Prospect). LeavesNext (next_record p (view_of was.node).kept) was.node.store
+    c.carry_out.new.self.node.store) c.in_ok-prospect.ensures.view c.carry_out.ensures.event.any_moment)
+
+pub returns-clause-come : goal.returns-clause-come
+returns-clause-come g c = λ k.
+    let was = c.args.self.now in
+    let now = c.carry_out.new.self in
+    let cell = g.C.StableCell in
+    let seen = station_view g.O.Outlet.taken g.O.Outlet.failures was in
+    let came = c.in_ok-outcome.outcome in
+    let answer : Result Outcome AllocError = Ok came in
+    let prospect = start_prospect (network_of c.args.net.now.program) was.node.number (view_of was.node) in
+    let event : IsPutEvent prospect c.args.round (view_of was.node) (view_of now.node) was.node.store now.node.store answer =
+    subst (λ (p : Prospect). IsPutEvent p c.args.round (view_of was.node) (view_of now.node) was.node.store now.node.store
+    answer) c.in_ok-prospect.ensures.view c.in_ok-outcome.ensures.event in
+    let noted : c.with_start-noted.result ≡ count_start (turns_of c.args.round now.turns) = search rules in
+    record {
+      came = came;
+      step = record {
+        call = cell.failed_call (cell_in now.node.store);
+        step = event.step;
+        put = event.put;
+        answers = c.answer_by.ensures;
+        allowed = c.requires.allowed came;
+        same = ap (λ outputs. let view : StationView = record {
+          number = now.node.number;
+          node = view_of now.node;
+          failures = cell.failure_count (cell_in now.node.store);
+          outlets = outlet_views g.O.Outlet.taken g.O.Outlet.failures outputs.items;
+          turns = c.note.new.turns;
+        } in view) c.carry_out.ensures.same.1.0
+            ∙ seen_moved seen _ _ _ _ _ c.carry_out.ensures.same.0 (c.note.ensures
+            ∙ (ap (λ (noted : RoundTurns). turns_by noted now.turns came) noted
+            ∙ ap (λ (turns : RoundTurns). turns_by (count_start (turns_of c.args.round turns)) turns came)
+            c.carry_out.ensures.same.1.1));
+      };
+      traffic = own_traffic c.args.round prospect came Started (Refused TooLarge) _ (traffic_of c.args.wire.now)
+          (traffic_of c.carry_out.new.wire) c.answer_by.ensures refl refl (undue_silent prospect)
+          (c.in_ok-outcome.ensures.traffic ∙ ap (λ (p : Prospect). all_sent c.args.round (map sending_of (packets_by p came))
+          (traffic_of c.args.wire.now)) c.in_ok-prospect.ensures.view);
+    }

@@ -1,0 +1,9 @@
+-- Events as data.
+use Rattle.protocol.specs.World.EventView.{EventView, Install, plain_view}
+use Rattle.station.specs.DoneView.{done_view}
+use Rattle.station.specs.declared.event.Event.{Event}
+use Rattle.station.specs.declared.event.Event.TheVariants as event
+
+abbrev pub event_view : Event → EventView
+event_view (event.Plain plain) = plain_view plain
+event_view (event.Install done) = Install (done_view done)

@@ -1,0 +1,7 @@
+pub mod OutputView
+pub mod DoneView
+pub mod EventView
+pub mod ReplyView
+pub mod StationView
+pub mod Leaving
+pub mod Coming

@@ -1,0 +1,14 @@
+-- Outputs as data: each one's channel, and the items that left there.
+use Rattle.std.specs.Prelude.{ℤ, List, None, map}
+use Rattle.protocol.specs.World.OutputView.{OutputView}
+use Rattle.station.specs.declared.output.Output.{Output}
+
+abbrev pub output_view : {O : Type 0} → (O → List ℤ) → Output O → OutputView
+output_view taken output = record { channel = output.channel; taken = taken output.outlet }
+
+abbrev pub outputs_view : {O : Type 0} → (O → List ℤ) → List (Output O) → List OutputView
+outputs_view taken outputs = map (output_view taken) outputs
+
+-- an output of which no failure is remembered
+abbrev pub fresh : {O : Type 0} → Output O → Output O
+fresh output = record { channel = output.channel; outlet = output.outlet; failed = None }

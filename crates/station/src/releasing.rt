@@ -1,0 +1,151 @@
+// A station's outputs: one item leaves the system.
+ghost use Rattle.std.specs.Prelude.{◌≡◌, ◌<◌, ◌+◌, ℕ, length, IfSome, IfOk, OnErr, Some, slice_get};
+ghost use Rattle.kahn_net.specs.Syntax.{network_of};
+ghost use Rattle.node.specs.NodeOf.{view_of};
+ghost use Rattle.protocol.specs.Node.Trimming.{HasNext, current_log, trimmed_node};
+ghost use Rattle.stream_eq.specs.Reached.{HistoryReaches};
+ghost use Rattle.station.specs.ReplyView.{reply_view};
+ghost use Rattle.protocol.specs.World.StationView.{OutletView};
+ghost use Rattle.station.specs.StationView.{outlet_view, outlet_views};
+ghost use Rattle.protocol.specs.World.Steps.{has_failed_in, is_waiting, first_waiting, next_release, IsHanded, IsRelease};
+ghost use Rattle.station.specs.StationView.{station_view};
+
+use crate::event::Reply;
+use crate::output::Output;
+use crate::station::Station;
+use gate_cell::SlotCell;
+use net_check::{Inputs, Net};
+use node::Node;
+use outlet::{Outlet, OutletFault};
+use record::Record;
+use std::alloc::AllocError;
+use std::sync::Arc;
+use stream_eq::Freed;
+
+// Whether an outlet failed in this round.
+fn has_failed_in(failed: Option<u64>, round: u64) -> bool
+    ensures { result ≡ has_failed_in round failed }
+{
+    match failed {
+        Some(failed) => failed == round,
+        None => false,
+    }
+}
+
+// Whether the permanent image covers an item that an outlet hasn't taken, and the outlet didn't fail in this round.
+fn is_waiting<O: Outlet>(kept: &Record, output: &Output<O>, round: u64) -> bool
+    ensures { result ≡ is_waiting kept.now round (outlet_view O.taken O.failures output.now) }
+{
+    !has_failed_in(output.failed, round)
+        && output.outlet.len() < kept.permanent.sent(output.channel)
+}
+
+// The first output with an item that the permanent image covers and that its outlet hasn't taken, if its outlet didn't
+// fail in this round.
+pub(crate) fn next_output<O: Outlet>(
+    kept: &Record,
+    outputs: &[Output<O>],
+    round: u64,
+) -> Option<usize>
+    ensures within { IfSome result (λ j. j < length outputs.now) }
+    ensures first { result ≡ first_waiting kept.now round 0
+        (outlet_views O.taken O.failures outputs.now) }
+{
+    for (j, output) in outputs.iter().enumerate() {
+        if is_waiting(kept, output, round) {
+            return Some(j);
+        }
+    }
+    None
+}
+
+// Lets the next item of an output leave, which some approximation has. The shares for the answer come first, since they
+// may be refused.
+fn release_at<C: SlotCell, O: Outlet>(
+    net: &Arc<Net>,
+    inputs: &Arc<Inputs>,
+    node: &mut Node<C>,
+    output: &mut Output<O>,
+    round: u64,
+) -> Result<Reply, AllocError>
+    requires next { HasNext (current_log output.old.channel (view_of node.old).mode)
+        (length (O.taken output.old.outlet)) }
+    requires reached { HistoryReaches (network_of net.now.value.program) inputs.now.value
+        output.old.channel (length (O.taken output.old.outlet) + 1) }
+    ensures refused { OnErr result
+        ((view_of node.new ≡ view_of node.old)
+        × (outlet_view O.taken O.failures output.new ≡ outlet_view O.taken O.failures output.old)) }
+    ensures trimmed { IfOk result
+        (λ reply. view_of node.new ≡ trimmed_node output.old.channel
+        (length (O.taken output.new.outlet)) (view_of node.old)) }
+    ensures same { (node.new.store ≡ node.old.store) × (node.new.number ≡ node.old.number) }
+    ensures handed { IfOk result
+        (λ reply. IsHanded round (current_log output.old.channel (view_of node.old).mode)
+        (outlet_view O.taken O.failures output.old) (reply_view reply)
+        (outlet_view O.taken O.failures output.new)) }
+{
+    let channel = output.channel;
+    let net = Arc::try_clone(net)?;
+    let inputs = Arc::try_clone(inputs)?;
+    match node.release(channel, &mut output.outlet) {
+        Ok(()) => Ok(Reply::Released(Freed {
+            net,
+            inputs,
+            output: channel,
+            number: output.outlet.len(),
+        })),
+        Err(OutletFault::NoMemory) => Err(AllocError),
+        Err(OutletFault::Failed) => {
+            output.failed = Some(round);
+            Ok(Reply::OutletFailed)
+        }
+    }
+}
+
+impl<C: SlotCell, O: Outlet> Station<C, O> {
+    /// The place of the output by which the next item would leave, if the node runs.
+    pub(crate) fn next_release(&self, round: u64) -> Option<usize>
+        ensures within { IfSome result (λ j. j < length self.now.outputs.items) }
+        ensures next { result ≡ next_release round (station_view O.taken O.failures self.now) }
+    {
+        let node = &self.node;
+        if !node.state.is_running() {
+            return None;
+        }
+        match node.store.record() {
+            Ok(kept) => next_output(kept, &self.outputs, round),
+            Err(_) => None,
+        }
+    }
+
+    /// Lets one item leave, which its log has, and some approximation, where an outlet waits for it.
+    pub(crate) fn release(
+        &mut self,
+        net: &Arc<Net>,
+        inputs: &Arc<Inputs>,
+        round: u64,
+    ) -> Result<Reply, AllocError>
+        requires next { (place : ℕ) (outlet : OutletView)
+            → next_release round (station_view O.taken O.failures self.old) ≡ Some place
+            → slice_get (outlet_views O.taken O.failures self.old.outputs.items) place ≡ Some outlet
+            → HasNext (current_log outlet.channel (view_of self.old.node).mode)
+            (length outlet.taken) }
+        requires reached { (place : ℕ) (outlet : OutletView)
+            → next_release round (station_view O.taken O.failures self.old) ≡ Some place
+            → slice_get (outlet_views O.taken O.failures self.old.outputs.items) place ≡ Some outlet
+            → HistoryReaches (network_of net.now.value.program) inputs.now.value outlet.channel
+            (length outlet.taken + 1) }
+        ensures cell { self.new.node.store ≡ self.old.node.store }
+        ensures refused { OnErr result
+            (station_view O.taken O.failures self.new ≡ station_view O.taken O.failures self.old) }
+        ensures step { IfOk result
+            (λ reply. IsRelease round (next_release round (station_view O.taken O.failures self.old))
+            (station_view O.taken O.failures self.old) (reply_view reply)
+            (station_view O.taken O.failures self.new)) }
+    {
+        let Some(j) = self.next_release(round) else {
+            return Ok(Reply::NotDue);
+        };
+        release_at(net, inputs, &mut self.node, &mut self.outputs[j], round)
+    }
+}
