@@ -1,5 +1,5 @@
 // Which event is next for a node, and what is in flight to it.
-ghost use Rattle.std.specs.Prelude.{◌≡◌, option_map, slice_get};
+ghost use Rattle.std.specs.Prelude.{◌≡◌, ◌<◌, option_map, slice_get};
 ghost use Rattle.protocol.specs.World.Choice.{flying_to, choice};
 ghost use Rattle.station.specs.EventView.{event_view};
 ghost use Rattle.wire.specs.Traffic.{flights_to, traffic_of};
