@@ -18,13 +18,13 @@ ghost use Rattle.record.specs.RecordView.{RecordView};
 
 use crate::mode::Mode;
 use crate::plan::{Change, Effect, Plan, Prospect, Said};
-use crate::running::Running;
 use crate::state::NodeState;
 use ckpt_store::{Store, StoreFault};
 use decide_core::{Initiator, may_decide};
 use gate_cell::SlotCell;
 use kahn_net::MAX_COUNT;
 use net_check::Net;
+use node_memory::Running;
 use protocol::{Outcome, Refusal};
 use record::{Image, Record};
 use rollback_core::Restored;

@@ -21,7 +21,7 @@ ghost use Rattle.kahn_net.specs.Nodes.{node_count};
 ghost use Rattle.node.specs.Planned.{CanBeMade, prospect_view};
 ghost use Rattle.node.specs.Said.{MayBeDecided};
 ghost use Rattle.protocol.specs.Node.Installing.{IsInstall, IsOut, TakesTurn};
-ghost use Rattle.node.specs.JobView.{job_view, shared_view};
+ghost use Rattle.node_memory.specs.JobView.{job_view, shared_view};
 ghost use Rattle.node.specs.NodeView.{mode_view};
 ghost use Rattle.protocol.specs.Node.Opening.{running_from};
 ghost use Rattle.protocol.specs.Node.Modes.{crashed, is_down};

@@ -1,6 +1,6 @@
 use Rattle.std.proofs.Common.{ap, sym, subst}
 use Rattle.protocol.specs.Node.Installing.{IsOut, TakesTurn}
-use Rattle.node.specs.JobView.{job_view}
+use Rattle.node_memory.specs.JobView.{job_view}
 use Rattle.protocol.specs.Node.NodeView.{ModeView}
 use Rattle.node.specs.NodeView.{mode_view}
 use Rattle.node.proofs.state.NodeState.install.Goals as goal

@@ -1,0 +1,3 @@
+pub mod JobView
+pub mod RunningView
+pub mod Searching
