@@ -64,8 +64,8 @@ fn hand_next<O: Outlet>(image: &Image, channel: u8, outlet: &mut O) -> Result<()
     }
 }
 
-// Hands an outlet the item of a channel that comes next for it, and lets the log go of what the outlet has.
-pub(crate) fn release_next<O: Outlet>(
+/// Hands an outlet the item of a channel that comes next for it, and lets the log go of what the outlet has.
+pub fn release_next<O: Outlet>(
     image: &mut Image,
     channel: u8,
     outlet: &mut O,
