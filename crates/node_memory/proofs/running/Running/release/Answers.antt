@@ -1,0 +1,2 @@
+use Rattle.node_memory.proofs.Handing.{handed_to}
+use Rattle.node_memory.proofs.running.Running.release.Goals as goal
