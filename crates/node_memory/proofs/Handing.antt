@@ -16,7 +16,8 @@ use Rattle.node_memory.specs.Handing.{IsHandedTo}
 
 module _ (log : LogState) (next : ℕ) (old new : List ℤ) (is : next ≡ length old)
     (can : CanRelease log (length old) (length old + 1)) where
-  released : List ℤ
+  -- what is released
+  abbrev pub released : List ℤ
   released = released_items log (length old) (next + 1)
 
   one : released ≡ items_at log (length old)

@@ -231,13 +231,12 @@ impl Running {
         if taken >= log.end() {
             return Ok(());
         }
-        match release(outlet, log, taken + 1) {
-            Err(OutletFault::NoMemory) => Err(OutletFault::NoMemory),
-            released => {
-                self.current.trim(channel, outlet.len());
-                released
-            }
+        let released = release(outlet, log, taken + 1);
+        if let Err(OutletFault::NoMemory) = &released {
+            return released;
         }
+        self.current.trim(channel, outlet.len());
+        released
     }
 
     /// Hears what a packet says of a channel: an item goes to its inbox, and an acknowledgement to its window. Anything else
