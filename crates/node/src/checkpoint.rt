@@ -129,9 +129,21 @@ pub(crate) fn carry_on(alloc: Global, then: Then, state: &mut NodeState)
                 running.live = live;
             }
         }
-        Then::Covers { number, channel } => state.on_covered(number, channel),
-        Then::Cuts { channel, count } => state.cut(channel, count),
-        Then::Notes { channel, epoch } => state.note_epoch(channel, epoch),
+        Then::Covers { number, channel } => {
+            if let Mode::Running(running) = &mut state.mode {
+                running.on_covered(number, channel);
+            }
+        }
+        Then::Cuts { channel, count } => {
+            if let Mode::Running(running) = &mut state.mode {
+                running.cut(channel, count);
+            }
+        }
+        Then::Notes { channel, epoch } => {
+            if let Mode::Running(running) = &mut state.mode {
+                running.note_epoch(channel, epoch);
+            }
+        }
         Then::Runs(None) => {}
         Then::Runs(Some(restored)) => {
             if let Mode::InDoubt = &state.mode {

@@ -1,16 +1,15 @@
 // The job that a process of a node is given.
 ghost use Rattle.std.specs.Prelude.{◌≡◌, ◌≤◌, ◌<◌, IfOk, length, take, drop, option_copied};
 ghost use Rattle.kahn_net.specs.Syntax.{network_of};
-ghost use Rattle.kahn_net.specs.States.{standing_of};
 ghost use Rattle.node_memory.specs.JobView.{job_view};
 ghost use Rattle.protocol.specs.Node.Granting.{inbox_log, is_process, next_in_log, next_items, items_from, room_in, room_from, job_for, source_of};
 ghost use Rattle.kahn_net.specs.declared.limits.TheConstants.{MAX_CHANNELS};
 
-use kahn_net::{Channel, History, MAX_COUNT, Port, ProcState};
+use kahn_net::{Channel, History, MAX_COUNT, Port};
 use net_check::{Inputs, Net};
 use proc_step::Job;
 use protocol::{Inbox, MAX_JOB_ITEMS};
-use record::Image;
+use record::{Image, SavedProcess};
 use retained::Log;
 use std::alloc::{AllocError, Global};
 use std::sync::Arc;
@@ -167,21 +166,20 @@ pub(crate) fn make_job(
     inputs: &Inputs,
     image: &Image,
     inboxes: &[Inbox],
-    process: usize,
-    state: &ProcState,
+    saved: &SavedProcess,
     version: u64,
 ) -> Result<Job, AllocError>
-    requires { process < length net.now.value.program.processes.items }
-    ensures job { IfOk result
-        (λ job. job_view job ≡ job_for share
-        (network_of net.now.value.program) inputs.now image.now inboxes.now process
-        (standing_of state.now) version) }
+    requires { saved.now.number < length net.now.value.program.processes.items }
+    ensures { IfOk result (λ job. job_view job
+        ≡ job_for share (network_of net.now.value.program) inputs.now image.now inboxes.now
+        saved.now.number saved.now.standing version) }
 {
+    let process = usize::from(saved.number);
     Ok(Job {
         net: Arc::try_clone(net)?,
         process,
         version,
-        state: state.copy(alloc)?,
+        state: saved.state.copy(alloc)?,
         items: copy_items(
             alloc,
             &net.program.channels,

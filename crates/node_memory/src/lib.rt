@@ -9,13 +9,11 @@ mod delivering;
 mod granting;
 mod installing;
 mod popping;
-mod releasing;
 mod running;
 mod sending;
 mod sharing;
 mod telling;
 
-pub use releasing::release_next;
 pub use running::Running;
 pub use sharing::share_law;
 pub use telling::add_verdicts;

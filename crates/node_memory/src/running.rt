@@ -4,14 +4,15 @@ ghost use Rattle.std.specs.Prelude.{◌≡◌, ◌↔◌, ◌<◌, ◌≤◌, if
 ghost use Rattle.kahn_net.specs.Syntax.{network_of};
 ghost use Rattle.kahn_net.specs.States.{standing_of};
 ghost use Rattle.protocol.specs.Node.Choosing.{granted, may_grant, next_job, next_process};
-ghost use Rattle.protocol.specs.Node.Granting.{job_for};
 ghost use Rattle.protocol.specs.Node.Collecting.{hearing_covered};
 ghost use Rattle.protocol.specs.Node.Delivering.{hearing};
 ghost use Rattle.protocol.specs.Node.GoingBack.{noting_undone, set_back_from};
 ghost use Rattle.protocol.specs.Node.Recovering.{IsRestorable};
 ghost use Rattle.protocol.specs.Node.NodeView.{Runs};
 ghost use Rattle.protocol.specs.Node.Telling.{turn_packets};
-ghost use Rattle.protocol.specs.Node.Trimming.{cut_at};
+ghost use Rattle.protocol.specs.Node.Trimming.{HasNext, cut_at};
+ghost use Rattle.record.specs.Ends.{log_of};
+ghost use Rattle.node_memory.specs.Handing.{IsHandedTo};
 ghost use Rattle.protocol.specs.Node.Installing.{ImageTakes, IsTaken};
 ghost use Rattle.node_memory.specs.JobView.{job_view, shared_view};
 ghost use Rattle.rollback_core.specs.RestoredView.{restored_view};
@@ -27,6 +28,7 @@ use datagram::{Body, Packet};
 use decide_core::Initiator;
 use kahn_net::{Channel, MAX_COUNT};
 use net_check::{Inputs, Net};
+use outlet::{Outlet, OutletFault, release};
 use proc_step::{Done, Job};
 use protocol::{Inbox, Outbox};
 use record::{Image, Record, SavedProcess};
@@ -124,34 +126,6 @@ impl Running {
             .is_some()
     }
 
-    // The job of a process that stands there, where each log has places up to this share.
-    fn make_job(
-        &self,
-        alloc: Global,
-        share: usize,
-        net: &Arc<Net>,
-        inputs: &Inputs,
-        saved: &SavedProcess,
-        version: u64,
-    ) -> Result<Job, AllocError>
-        requires { saved.now.number < length net.now.value.program.processes.items }
-        ensures { IfOk result (λ job. job_view job
-            ≡ job_for share (network_of net.now.value.program) inputs.now self.now.current
-            self.now.inboxes.items saved.now.number saved.now.standing version) }
-    {
-        make_job(
-            alloc,
-            share,
-            net,
-            inputs,
-            &self.current,
-            &self.inboxes,
-            usize::from(saved.number),
-            &saved.state,
-            version,
-        )
-    }
-
     /// Grants a job to the ready process that is next: its state, the items at hand and the room, where a channel has so
     /// much. A share is kept to compare with what comes back. `None` where no job can be granted. Refuses for want of
     /// memory alone.
@@ -176,10 +150,17 @@ impl Running {
         let Some(saved) = self.next_process(net, inputs, share, kept, version) else {
             return Ok(None);
         };
-        let job = Arc::new(
+        let job = make_job(
             alloc,
-            self.make_job(alloc, share, net, inputs, saved, version)?,
+            share,
+            net,
+            inputs,
+            &self.current,
+            &self.inboxes,
+            saved,
+            version,
         )?;
+        let job = Arc::new(alloc, job)?;
         let out = Arc::try_clone(&job)?;
         self.last = Some(out.process as u8);
         self.out = Some(out);
@@ -230,6 +211,32 @@ impl Running {
         )?;
         self.out = None;
         Ok(true)
+    }
+
+    /// Hands an outlet the item of this channel that comes next for it, and lets the log go of what the outlet has. Refuses with
+    /// `NoMemory` (1), and then nothing is changed, and with `Failed` (60), where the outlet took the item or didn't.
+    pub fn release<O: Outlet>(&mut self, channel: u8, outlet: &mut O) -> Result<(), OutletFault>
+        requires { HasNext (log_of self.old.current channel) (length (O.taken outlet.old)) }
+        ensures handed { IsHandedTo (log_of self.old.current channel) (O.taken outlet.old)
+            (O.taken outlet.new) (O.failures outlet.old) (O.failures outlet.new) result }
+        ensures no_memory { IsErrOf result OutletFault.NoMemory
+            → running_view self.new ≡ running_view self.old }
+        ensures trimmed { ¬ (IsErrOf result OutletFault.NoMemory) → running_view self.new
+            ≡ cut_at channel (length (O.taken outlet.new)) (running_view self.old) }
+    {
+        let Some(log) = self.current.log(channel) else {
+            return Ok(());
+        };
+        let taken = outlet.len();
+        if taken >= log.end() {
+            return Ok(());
+        }
+        let released = release(outlet, log, taken + 1);
+        if let Err(OutletFault::NoMemory) = &released {
+            return released;
+        }
+        self.current.trim(channel, outlet.len());
+        released
     }
 
     /// Hears what a packet says of a channel: an item goes to its inbox, and an acknowledgement to its window. Anything else
