@@ -18,7 +18,7 @@ ghost use Rattle.record.specs.RecordView.{RecordView};
 
 use crate::mode::Mode;
 use crate::plan::{Change, Effect, Plan, Prospect, Said};
-use crate::state::NodeState;
+use crate::state::{NodeState, next_after};
 use ckpt_store::{Store, StoreFault};
 use decide_core::{Initiator, may_decide};
 use gate_cell::SlotCell;
@@ -155,7 +155,12 @@ pub(crate) fn carry_on(alloc: Global, then: Then, state: &mut NodeState)
             own,
             channel,
             epoch,
-        } => state.go_back(alloc, image, own, channel, epoch),
+        } => {
+            state.version = next_after(state.version);
+            if let Mode::Running(running) = &mut state.mode {
+                running.go_back(alloc, image, own, channel, epoch);
+            }
+        }
     }
 }
 

@@ -1,12 +1,9 @@
 //! What a node has beside its record.
-ghost use Rattle.kahn_net.specs.declared.limits.TheConstants.{MAX_COUNT};
-ghost use Rattle.std.specs.Prelude.{◌≡◌, ◌≤◌, OnErr, OnOk, option_copied};
+ghost use Rattle.std.specs.Prelude.{◌≡◌, OnErr, OnOk, option_copied};
 ghost use Rattle.record.specs.RecordView.{RecordView};
 ghost use Rattle.protocol.specs.Node.ArmedRestarts.{restart_after};
 ghost use Rattle.protocol.specs.Node.Delivering.{hearing};
 ghost use Rattle.protocol.specs.Node.Beginning.{live_in, may_start};
-ghost use Rattle.protocol.specs.Node.GoingBack.{set_back_from};
-ghost use Rattle.protocol.specs.Node.Recovering.{IsRestorable};
 ghost use Rattle.protocol.specs.Node.NodeView.{on_running};
 ghost use Rattle.node.specs.Said.{current_in, inboxes_in};
 ghost use Rattle.protocol.specs.Node.Modes.{crashed, is_down, is_running, next_number};
@@ -18,7 +15,7 @@ use decide_core::Initiator;
 use kahn_net::MAX_COUNT;
 use protocol::{ArmedRestart, Inbox};
 use record::{Image, MAX_DECISIONS, Record};
-use std::alloc::{AllocError, Global};
+use std::alloc::AllocError;
 
 /// The next number, round or version. It stops at the greatest.
 pub fn next_after(number: u64) -> u64
@@ -45,7 +42,6 @@ pub struct NodeState {
 }
 
 impl NodeState {
-    ghost use Rattle.protocol.specs.Node.NodeView.{on_mode};
     ghost use Rattle.node.specs.NodeView.{mode_view, node_view};
 
     /// It is neither down nor in doubt.
@@ -108,29 +104,6 @@ impl NodeState {
         match &mut self.mode {
             Mode::Running(running) => running.hear(body),
             Mode::Down | Mode::InDoubt => Ok(()),
-        }
-    }
-
-    // Goes back to this image, in this epoch of its own, if it runs. Its version rises.
-    pub(crate) fn go_back(
-        &mut self,
-        alloc: Global,
-        image: Image,
-        own: u64,
-        channel: u16,
-        epoch: u64,
-    )
-        requires counts { IsRestorable image }
-        requires own { own ≤ MAX_COUNT }
-        ensures mode { mode_view self.new.mode
-            ≡ on_mode (set_back_from image own channel epoch) (mode_view self.old.mode) }
-        ensures version { self.new.version ≡ next_number self.old.version }
-        ensures same { (self.new.restart ≡ self.old.restart)
-            × (self.new.armed ≡ self.old.armed) }
-    {
-        self.version = next_after(self.version);
-        if let Mode::Running(running) = &mut self.mode {
-            running.go_back(alloc, image, own, channel, epoch);
         }
     }
 
