@@ -11,10 +11,3 @@ mod Memory
 mod Starts
 mod Verdicts
 mod Asks
-mod Handing
-mod Slices
-mod Dues
-mod Installs
-mod Pops
-mod Choices
-mod Searching

@@ -1,22 +1,10 @@
 -- A node as data, its store aside.
-use Rattle.std.specs.Prelude.{option_map}
 use Rattle.record.specs.RecordView.{RecordView}
-use Rattle.protocol.specs.Node.NodeView.{NodeView, ModeView, Down, InDoubt, Runs, RunningView}
-use Rattle.node.specs.JobView.{shared_view}
+use Rattle.protocol.specs.Node.NodeView.{NodeView, ModeView, Down, InDoubt, Runs}
+use Rattle.node_memory.specs.RunningView.{running_view}
 use Rattle.node.specs.declared.mode.Mode.{Mode}
 use Rattle.node.specs.declared.mode.Mode.TheVariants as mode
-use Rattle.node.specs.declared.running.Running.{Running}
 use Rattle.node.specs.declared.state.NodeState.{NodeState}
-
-abbrev pub running_view : Running → RunningView
-running_view running = record {
-  current = running.current;
-  out = option_map shared_view running.out;
-  last = running.last;
-  inboxes = running.inboxes.items;
-  outboxes = running.outboxes.items;
-  live = running.live;
-}
 
 abbrev pub mode_view : Mode → ModeView
 mode_view mode.Down = Down

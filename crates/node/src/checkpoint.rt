@@ -18,13 +18,13 @@ ghost use Rattle.record.specs.RecordView.{RecordView};
 
 use crate::mode::Mode;
 use crate::plan::{Change, Effect, Plan, Prospect, Said};
-use crate::running::Running;
-use crate::state::NodeState;
+use crate::state::{NodeState, next_after};
 use ckpt_store::{Store, StoreFault};
 use decide_core::{Initiator, may_decide};
 use gate_cell::SlotCell;
 use kahn_net::MAX_COUNT;
 use net_check::Net;
+use node_memory::Running;
 use protocol::{Outcome, Refusal};
 use record::{Image, Record};
 use rollback_core::Restored;
@@ -129,9 +129,21 @@ pub(crate) fn carry_on(alloc: Global, then: Then, state: &mut NodeState)
                 running.live = live;
             }
         }
-        Then::Covers { number, channel } => state.on_covered(number, channel),
-        Then::Cuts { channel, count } => state.cut(channel, count),
-        Then::Notes { channel, epoch } => state.note_epoch(channel, epoch),
+        Then::Covers { number, channel } => {
+            if let Mode::Running(running) = &mut state.mode {
+                running.on_covered(number, channel);
+            }
+        }
+        Then::Cuts { channel, count } => {
+            if let Mode::Running(running) = &mut state.mode {
+                running.cut(channel, count);
+            }
+        }
+        Then::Notes { channel, epoch } => {
+            if let Mode::Running(running) = &mut state.mode {
+                running.note_epoch(channel, epoch);
+            }
+        }
         Then::Runs(None) => {}
         Then::Runs(Some(restored)) => {
             if let Mode::InDoubt = &state.mode {
@@ -143,7 +155,12 @@ pub(crate) fn carry_on(alloc: Global, then: Then, state: &mut NodeState)
             own,
             channel,
             epoch,
-        } => state.go_back(alloc, image, own, channel, epoch),
+        } => {
+            state.version = next_after(state.version);
+            if let Mode::Running(running) = &mut state.mode {
+                running.go_back(alloc, image, own, channel, epoch);
+            }
+        }
     }
 }
 

@@ -8,7 +8,6 @@ ghost use Rattle.protocol.specs.Node.Addresses.{names_right};
 ghost use Rattle.protocol.specs.Node.Answering.{ask_prospect};
 ghost use Rattle.protocol.specs.Node.Beginning.{in_front};
 ghost use Rattle.protocol.specs.Node.Collecting.{refused_prospect, took_prospect};
-ghost use Rattle.protocol.specs.Node.Delivering.{packet_for};
 ghost use Rattle.protocol.specs.Node.Hearing.{hear_prospect};
 ghost use Rattle.protocol.specs.Node.Modes.{is_down};
 ghost use Rattle.protocol.specs.Node.Plans.{Planned};
@@ -32,31 +31,12 @@ use crate::mode::Mode;
 use crate::plan::{Change, Effect, Plan, Said};
 use crate::state::NodeState;
 use ckpt_core::{AskAnswer, Question, answer_to_ask, holds, refusal, say_answer, settled};
-use datagram::{Body, Need, Needs, Packet, PacketFault, Reason, read_packet};
+use datagram::{Body, Need, Needs, Packet, Reason};
 use decide_core::{TookAnswer, answer_to_took, loses, names, verdict_of};
-use layout::names_right;
 use net_check::Net;
 use record::{Image, Record};
 use rollback_core::{Restored, UndoneAnswer, answer_to_undone, restore};
 use std::alloc::{AllocError, Global};
-
-/// The packet for this node that these bytes spell, if they spell one.
-pub(crate) fn read_for(
-    alloc: Global,
-    net: &Net,
-    home: u8,
-    bytes: &[u8],
-) -> Result<Option<Packet>, AllocError>
-    ensures { IfOk result
-        (λ found. found ≡ packet_for (network_of net.now.program) home bytes.now) }
-{
-    match read_packet(alloc, bytes) {
-        Ok(packet) if packet.to == home && names_right(net, &packet) => Ok(Some(packet)),
-        Ok(_) => Ok(None),
-        Err(PacketFault::NoMemory) => Err(AllocError),
-        Err(PacketFault::BadPacket) => Ok(None),
-    }
-}
 
 // A list of this packet, or of none.
 fn list_of(alloc: Global, packet: Option<Packet>) -> Result<Vec<Packet>, AllocError>

@@ -1,6 +1,6 @@
 //! In what mode a node is.
 
-use crate::running::Running;
+use node_memory::Running;
 
 /// A node is down, in doubt, or runs.
 #[derive(Drop)]

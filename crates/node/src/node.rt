@@ -1,10 +1,7 @@
 //! A node, and its events.
-ghost use Rattle.std.specs.Prelude.{◌≡◌, ◌⊎◌, ◌+◌, ◌<◌, ◌≤◌, ◌++◌, [], ◌∷◌, ℤ, List, false, true, not, length, IfErr, IfOk, IsErrOf, IsSome, IsTrue, None, OnErr, OnOk, Some, is_some, option_map};
-ghost use Rattle.kahn_net.specs.Streams.{IsPrefix};
+ghost use Rattle.std.specs.Prelude.{◌≡◌, ◌<◌, ◌≤◌, ◌++◌, [], ◌∷◌, false, true, not, length, IfErr, IfOk, IsErrOf, IsSome, IsTrue, None, OnErr, OnOk, is_some, option_map};
 ghost use Rattle.kahn_net.specs.States.{standing_of};
 ghost use Rattle.kahn_net.specs.Syntax.{network_of};
-ghost use Rattle.retained.specs.LogState.{LogState, IsLogOf};
-ghost use Rattle.outlet.specs.Faults.{failures_after};
 ghost use Rattle.ckpt_codec.specs.SizeLaws.{IsRecordWithin};
 ghost use Rattle.ckpt_codec.specs.declared.lengths.TheConstants.{MAX_RETAINED_ITEMS};
 ghost use Rattle.ckpt_store.specs.StoreView.{cell_in, known_in, record_in};
@@ -21,7 +18,8 @@ ghost use Rattle.kahn_net.specs.Nodes.{node_count};
 ghost use Rattle.node.specs.Planned.{CanBeMade, prospect_view};
 ghost use Rattle.node.specs.Said.{MayBeDecided};
 ghost use Rattle.protocol.specs.Node.Installing.{IsInstall, IsOut, TakesTurn};
-ghost use Rattle.node.specs.JobView.{job_view, shared_view};
+ghost use Rattle.node_memory.specs.Handing.{IsHandedTo};
+ghost use Rattle.node_memory.specs.JobView.{job_view, shared_view};
 ghost use Rattle.node.specs.NodeView.{mode_view};
 ghost use Rattle.protocol.specs.Node.Opening.{running_from};
 ghost use Rattle.protocol.specs.Node.Modes.{crashed, is_down};
@@ -30,10 +28,11 @@ ghost use Rattle.protocol.specs.Node.Recovering.{recover_prospect};
 ghost use Rattle.protocol.specs.Node.Starting.{IsLikeNow};
 ghost use Rattle.node.specs.Putting.{IsPutEvent};
 ghost use Rattle.node.specs.StoredView.{HasRecord, LeavesAsBefore, LeavesDevice};
-ghost use Rattle.protocol.specs.Node.Trimming.{HasNext, TookNext, current_log, trimmed_node};
+ghost use Rattle.protocol.specs.Node.Trimming.{HasNext, current_log, trimmed_node};
 
 use crate::checkpoint::{plan_decide, plan_start};
-use crate::hearing::{plan_packet, read_for};
+use crate::doubt::packets_in_doubt;
+use crate::hearing::plan_packet;
 use crate::mode::Mode;
 use crate::opening::open_state;
 use crate::plan::{Prospect, carry_out};
@@ -41,9 +40,10 @@ use crate::preparing::{arm, recount};
 use crate::recover::{come_back, crash};
 use crate::state::NodeState;
 use ckpt_store::Store;
-use datagram::Packet;
+use datagram::{Packet, PacketFault, read_packet};
 use gate_cell::SlotCell;
 use kahn_net::Channel;
+use layout::names_right;
 use net_check::{Inputs, Net};
 use outlet::{Outlet, OutletFault};
 use proc_step::{Done, Job};
@@ -102,9 +102,14 @@ impl<C: SlotCell> Node<C> {
         ensures { result ≡ is_some
             (node_job (network_of net.now.program) inputs.now room (view_of self.now)) }
     {
-        match self.store.record() {
-            Ok(kept) => self.state.has_job(net, inputs, room, kept),
-            Err(_) => false,
+        let Ok(kept) = self.store.record() else {
+            return false;
+        };
+        match &self.state.mode {
+            Mode::Running(running) => {
+                running.has_job(net, inputs, room, kept, self.state.version)
+            }
+            Mode::Down | Mode::InDoubt => false,
         }
     }
 
@@ -126,9 +131,13 @@ impl<C: SlotCell> Node<C> {
         ensures err { OnErr result (view_of self.new ≡ view_of self.old) }
         ensures same { (self.new.store ≡ self.old.store) × (self.new.number ≡ self.old.number) }
     {
-        match self.store.record() {
-            Ok(kept) => self.state.grant(alloc, net, inputs, room, kept),
-            Err(_) => Ok(None),
+        let Ok(kept) = self.store.record() else {
+            return Ok(None);
+        };
+        let version = self.state.version;
+        match &mut self.state.mode {
+            Mode::Running(running) => running.grant(alloc, net, inputs, room, kept, version),
+            Mode::Down | Mode::InDoubt => Ok(None),
         }
     }
 
@@ -150,7 +159,10 @@ impl<C: SlotCell> Node<C> {
         ensures full { ¬ (IsErrOf result LogFault.Full) }
         ensures same { (self.new.store ≡ self.old.store) × (self.new.number ≡ self.old.number) }
     {
-        self.state.install(alloc, channels, done)
+        match &mut self.state.mode {
+            Mode::Running(running) => running.install(alloc, channels, done),
+            Mode::Down | Mode::InDoubt => Ok(false),
+        }
     }
 
     /// The packet for this node that these bytes spell, if they spell one in which each name is right. Refuses for want of
@@ -159,7 +171,12 @@ impl<C: SlotCell> Node<C> {
         ensures { IfOk result (λ packet. packet
             ≡ packet_for (network_of net.now.program) self.now.number bytes.now) }
     {
-        read_for(alloc, net, self.number, bytes)
+        match read_packet(alloc, bytes) {
+            Ok(packet) if packet.to == self.number && names_right(net, &packet) => Ok(Some(packet)),
+            Ok(_) => Ok(None),
+            Err(PacketFault::NoMemory) => Err(AllocError),
+            Err(PacketFault::BadPacket) => Ok(None),
+        }
     }
 
     /// How the node, which is up, hears a packet for it: what becomes of it, and what it says. Changes nothing, and refuses for want of
@@ -201,9 +218,13 @@ impl<C: SlotCell> Node<C> {
             (network_of net.now.program) self.now.number (view_of self.now).kept
             (view_of self.now).mode) }
     {
-        match self.store.record() {
-            Ok(kept) => self.state.packets(alloc, net, self.number, kept),
-            Err(_) => Err(AllocError),
+        let Ok(kept) = self.store.record() else {
+            return Err(AllocError);
+        };
+        match &self.state.mode {
+            Mode::Running(running) => running.packets(alloc, net, self.number, kept),
+            Mode::InDoubt => packets_in_doubt(alloc, net, self.number, kept),
+            Mode::Down => Ok(Vec::new(alloc)),
         }
     }
 
@@ -344,28 +365,17 @@ impl<C: SlotCell> Node<C> {
     pub fn release<O: Outlet>(&mut self, channel: u8, outlet: &mut O) -> Result<(), OutletFault>
         requires { HasNext (current_log channel (view_of self.old).mode)
             (length (O.taken outlet.old)) }
-        ensures ok { OnOk result (length (O.taken outlet.new) ≡ length (O.taken outlet.old) + 1) }
-        ensures no_memory { IsErrOf result OutletFault.NoMemory
-            → (O.taken outlet.new ≡ O.taken outlet.old) × (view_of self.new ≡ view_of self.old) }
-        ensures failed { IsErrOf result OutletFault.Failed
-            → (length (O.taken outlet.new) ≡ length (O.taken outlet.old))
-            ⊎ (length (O.taken outlet.new) ≡ length (O.taken outlet.old) + 1) }
+        ensures handed { IsHandedTo (current_log channel (view_of self.old).mode)
+            (O.taken outlet.old) (O.taken outlet.new) (O.failures outlet.old)
+            (O.failures outlet.new) result }
+        ensures no_memory { IsErrOf result OutletFault.NoMemory → view_of self.new ≡ view_of self.old }
         ensures trimmed { ¬ (IsErrOf result OutletFault.NoMemory) → view_of self.new
             ≡ trimmed_node channel (length (O.taken outlet.new)) (view_of self.old) }
-        ensures item { OnOk result (TookNext (current_log channel (view_of self.old).mode)
-            (O.taken outlet.old) (O.taken outlet.new)) }
-        ensures failed_item { IsErrOf result OutletFault.Failed
-            → (O.taken outlet.new ≡ O.taken outlet.old)
-            ⊎ (TookNext (current_log channel (view_of self.old).mode) (O.taken outlet.old)
-            (O.taken outlet.new)) }
-        ensures begins { IsPrefix (O.taken outlet.old) (O.taken outlet.new) }
-        ensures history { (log : LogState)
-            (history : List ℤ) → current_log channel (view_of self.old).mode ≡ Some log
-            → IsLogOf log history → IsPrefix (O.taken outlet.old) history
-            → IsPrefix (O.taken outlet.new) history }
-        ensures count { O.failures outlet.new ≡ failures_after result (O.failures outlet.old) }
         ensures same { (self.new.store ≡ self.old.store) × (self.new.number ≡ self.old.number) }
     {
-        self.state.release(channel, outlet)
+        match &mut self.state.mode {
+            Mode::Running(running) => running.release(channel, outlet),
+            Mode::Down | Mode::InDoubt => Ok(()),
+        }
     }
 }

@@ -7,11 +7,11 @@ ghost use Rattle.node.specs.NodeView.{node_view};
 ghost use Rattle.kahn_net.specs.declared.limits.TheConstants.{MAX_CHANNELS, MAX_PROCESSES};
 
 use crate::mode::Mode as NodeMode;
-use crate::running::Running;
 use crate::state::NodeState;
 use kahn_net::{Channel, Mode, ProcState, Process};
 use layout::{is_here, is_incoming, is_outgoing};
 use net_check::Net;
+use node_memory::Running;
 use protocol::{Inbox, Outbox, WINDOW};
 use record::{End, Image, Record, SavedEnd, SavedProcess};
 use retained::Log;

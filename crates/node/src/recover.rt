@@ -12,12 +12,12 @@ ghost use Rattle.node.specs.StoredView.{HasRecord, IsRaised, LeavesAsBefore, Lea
 
 use crate::checkpoint::end_put;
 use crate::mode::Mode;
-use crate::running::Running;
 use crate::state::NodeState;
 use ckpt_store::{Store, StoreFault};
 use gate_cell::SlotCell;
 use kahn_net::MAX_COUNT;
 use net_check::Net;
+use node_memory::Running;
 use protocol::Outcome;
 use rollback_core::{Recovery, recover};
 use std::alloc::{AllocError, Global};

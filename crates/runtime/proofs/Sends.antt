@@ -15,7 +15,7 @@ use Rattle.kahn_net.proofs.program.Expr.TheLaws.TheKnot.{send-Expr, sync-Expr}
 use Rattle.kahn_net.proofs.program.Statement.TheLaws.TheKnot.{send-Statement, sync-Statement}
 use Rattle.decide_core.proofs.initiator.Initiator.TheSendSync.{the_send as initiator_s}
 use Rattle.proc_step.specs.contracts.job.Job.{the_row as job_row}
-use Rattle.node.specs.contracts.running.Running.{the_field as running_field}
+use Rattle.node_memory.specs.contracts.running.Running.{the_field as running_field}
 use Rattle.node.specs.contracts.mode.Mode.{the_field as mode_field}
 use Rattle.node.specs.contracts.state.NodeState.{the_field as state_field}
 use Rattle.net_check.specs.contracts.net.Net.{the_row as net_row}

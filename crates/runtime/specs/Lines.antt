@@ -1,6 +1,6 @@
 -- A history as data.
 use Rattle.std.specs.Prelude.{◌≡◌, ℕ, ◌+◌, true, List, [], ◌∷◌, ◌++◌, drop, map, Some, slice_get}
-use Rattle.node.specs.JobView.{shared_view}
+use Rattle.node_memory.specs.JobView.{shared_view}
 use Rattle.protocol.specs.World.ReplyView.{ReplyView}
 use Rattle.replay.specs.Armed.{ArmedEvent}
 use Rattle.replay.specs.Laws.{no_event}

@@ -1,6 +1,6 @@
 // What a node's thread does at the hub.
 ghost use Rattle.std.specs.Prelude.{◌≡◌};
-ghost use Rattle.node.specs.JobView.{shared_view};
+ghost use Rattle.node_memory.specs.JobView.{shared_view};
 ghost use Rattle.protocol.specs.World.EventView.{node_in};
 
 use crate::answer::{HubFault, TurnAnswer};

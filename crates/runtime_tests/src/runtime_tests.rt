@@ -4,7 +4,7 @@ ghost use Rattle.std.specs.Prelude.{◌≡◌, ◌+◌, ◌*◌, ◌^◌, ◌<�
 ghost use Rattle.kahn_net.specs.Fits.{Fits};
 ghost use Rattle.kahn_net.specs.Syntax.{network_of};
 ghost use Rattle.marks.specs.Seats.{table_of};
-ghost use Rattle.node.specs.JobView.{shared_view};
+ghost use Rattle.node_memory.specs.JobView.{shared_view};
 ghost use Rattle.protocol.specs.World.EventView.{node_in};
 ghost use Rattle.runtime.specs.BlankNames.{HaveParts, names_of};
 ghost use Rattle.sector_disk.specs.declared.TheConstants.{SECTOR_BYTES};

@@ -15,7 +15,7 @@ use Rattle.record.specs.Moves.{with_epoch}
 use Rattle.record.specs.RecordView.{RecordView}
 use Rattle.protocol.specs.Node.ArmedRestarts.{restart_after}
 use Rattle.proc_step.specs.declared.job.Job.{Job}
-use Rattle.node.specs.JobView.{shared_view}
+use Rattle.node_memory.specs.JobView.{shared_view}
 use Rattle.protocol.specs.Node.Choosing.{granted, with_grant}
 use Rattle.protocol.specs.Node.Delivering.{delivery_of, packet_for}
 use Rattle.protocol.specs.Node.Hearing.{deliver_prospect, hear_prospect, told_prospect}

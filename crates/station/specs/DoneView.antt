@@ -2,7 +2,7 @@
 use Rattle.kahn_net.specs.States.{standing_of}
 use Rattle.proc_step.specs.declared.job.Done.{Done}
 use Rattle.protocol.specs.World.DoneView.{DoneView}
-use Rattle.node.specs.JobView.{job_view}
+use Rattle.node_memory.specs.JobView.{job_view}
 
 abbrev pub done_view : Done → DoneView
 done_view done =

@@ -6,7 +6,7 @@ use Rattle.proc_step.specs.declared.job.Job.{Job}
 use Rattle.protocol.specs.World.ReplyView.{ReplyView, leaving, reply_by}
 use Rattle.protocol.specs.declared.reply.Leaving.{Leaving}
 use Rattle.protocol.specs.declared.reply.Reply.{Reply as AnyReply}
-use Rattle.node.specs.JobView.{shared_view}
+use Rattle.node_memory.specs.JobView.{shared_view}
 use Rattle.stream_eq.specs.declared.freed.Freed.{Freed}
 
 -- what a world answers

@@ -4,7 +4,7 @@ ghost use Rattle.kahn_net.specs.Syntax.{network_of};
 ghost use Rattle.ckpt_store.specs.Spelling.{fits_in};
 ghost use Rattle.ckpt_store.specs.StoreView.{cell_in};
 ghost use Rattle.node.specs.NodeOf.{view_of};
-ghost use Rattle.node.specs.JobView.{job_view, shared_view};
+ghost use Rattle.node_memory.specs.JobView.{job_view, shared_view};
 ghost use Rattle.protocol.specs.Node.Choosing.{node_job};
 ghost use Rattle.protocol.specs.Node.Installing.{IsOut, TakesTurn};
 ghost use Rattle.station.specs.DoneView.{done_view};

@@ -1,5 +1,5 @@
 use Rattle.std.proofs.Common.{refl, sym, subst, ap}
-use Rattle.node.specs.JobView.{shared_view}
+use Rattle.node_memory.specs.JobView.{shared_view}
 use Rattle.protocol.specs.World.EventView.{Install}
 use Rattle.replay.specs.Armed.{OfWorld}
 use Rattle.runtime.specs.ArmedWorlds.{armed_view}

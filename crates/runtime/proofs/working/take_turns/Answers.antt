@@ -1,5 +1,5 @@
 use Rattle.std.proofs.Common.{◌∙◌, refl, sym, subst}
-use Rattle.node.specs.JobView.{shared_view}
+use Rattle.node_memory.specs.JobView.{shared_view}
 use Rattle.protocol.specs.World.Replies.{IsGrantedAt}
 use Rattle.runtime.specs.Answers.{IsGrantedIn}
 use Rattle.runtime.specs.declared.answer.TurnAnswer.{TurnAnswer}

@@ -1,5 +1,5 @@
 use Rattle.std.proofs.Common.{◌∙◌, refl, sym, subst}
-use Rattle.node.specs.JobView.{shared_view}
+use Rattle.node_memory.specs.JobView.{shared_view}
 use Rattle.protocol.specs.World.Replies.{IsGrantedAt}
 use Rattle.station.specs.ReplyView.{reply_view}
 use Rattle.station.specs.ReplyView.{Reply}

@@ -10,7 +10,7 @@ invariant_of-result g c =
     let output = c.args.output.now in
     let net : c.in_ok-net.net.value ≡ c.args.net.now.value = search rules in
     let inputs : c.in_ok-inputs.inputs.value ≡ c.args.inputs.now.value = search rules in
-    let long : c.len.result ≡ length (g.O.Outlet.taken output.outlet) + 1 = c.len.ensures ∙ c.in-Ok.ensures.ok in
+    let long : c.len.result ≡ length (g.O.Outlet.taken output.outlet) + 1 = c.len.ensures ∙ c.in-Ok.ensures.handed.ok in
     record {
       reached =
           subst (λ (n : ℕ). HistoryReaches (network_of c.in_ok-net.net.value.program) c.in_ok-inputs.inputs.value

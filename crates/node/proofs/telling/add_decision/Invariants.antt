@@ -1,8 +1,0 @@
-use Rattle.std.proofs.Common.{◌≡◌, ◌++◌, drop, map}
-use Rattle.protocol.specs.Node.Verdicts.{commit_to}
-use Rattle.node.proofs.telling.add_decision.Given as goal
-
-abbrev pub invariant-loop-node : goal.invariant-loop-node
-invariant-loop-node l =
-    l.packets.items ++ map (commit_to l.home l.decision.number) (drop l.node-index l.node-items)
-    ≡ l.fn.packets.items ++ map (commit_to l.home l.decision.number) l.node-items

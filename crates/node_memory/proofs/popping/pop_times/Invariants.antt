@@ -1,0 +1,6 @@
+use Rattle.std.proofs.Common.{◌≡◌}
+use Rattle.window_link.specs.Windows.{popped_times}
+use Rattle.node_memory.proofs.popping.pop_times.Given as goal
+
+abbrev pub invariant-loop : goal.invariant-loop
+invariant-loop l = l.window ≡ popped_times l.counter l.initial.window

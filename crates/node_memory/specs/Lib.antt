@@ -1,0 +1,4 @@
+pub mod Handing
+pub mod JobView
+pub mod RunningView
+pub mod Searching
