@@ -1,4 +1,3 @@
-pub mod Posting
 pub mod Passing
 pub mod Seen
 pub mod Staged

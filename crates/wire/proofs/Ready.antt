@@ -1,18 +1,17 @@
 -- What was made ready to be sent, and the room for it.
-use Rattle.std.proofs.Common.{◌≡◌, ℕ, zero, suc, ◌<◌, ◌≤◌, List, [], ◌∷◌, length, map, refl, sym, ap, subst, ◌∙◌, arith}
+use Rattle.std.proofs.Common.{◌≡◌, ℕ, zero, suc, ◌<◌, ◌≤◌, List, [], ◌∷◌, length, map, refl, sym, ap, ◌∙◌, arith}
 use Rattle.std.proofs.Common.{unwrap_or, slice_get, All, get_or}
 use Rattle.std.specs.Prelude.{remove, slice_set}
 use Rattle.std.specs.List.{AllZip}
 use Rattle.std.proofs.lemmas.List.{get_or_default, length-map, map-set}
 use Rattle.std.proofs.lemmas.Option.{unwrap_or-slice_get}
 use Rattle.wire.specs.declared.queue.TheConstants.{NODES}
-use Rattle.wire.specs.declared.rule.Rule.{Rule}
 use Rattle.wire.specs.declared.sending.Sending.{Sending}
 use Rattle.wire.specs.Queue.{QueueState, without}
 use Rattle.wire.specs.Wire.{WireState, queue_at}
-use Rattle.wire.specs.Traffic.{QueueTraffic, Traffic, AreNodes, queue_traffic, queues_traffic, all_sent, with_traffic}
+use Rattle.wire.specs.Traffic.{QueueTraffic, Traffic, AreNodes, all_sent}
 use Rattle.wire.specs.Traffic.{traffic_at, traffic_without}
-use Rattle.wire.specs.Staging.{all_joined, behind, unsent, HasRoom, HasNoLessRoom, IsStaged, ruled}
+use Rattle.wire.specs.Staging.{behind, unsent, HasRoom, HasNoLessRoom, IsStaged, ruled}
 use Rattle.wire.proofs.Staged.{all_sent_behind, nothing_behind}
 
 -- each queue with itself

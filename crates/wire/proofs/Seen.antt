@@ -1,15 +1,14 @@
 -- A wire without the memory of its queues.
-use Rattle.std.proofs.Common.{◌≡◌, ℕ, ◌<◌, List, [], ◌++◌, length, get_or, Option, Some, None, Result, Ok, Err}
+use Rattle.std.proofs.Common.{◌≡◌, ℕ, ◌<◌, List, [], length, get_or, Option, Some, None, Result, Ok, Err}
 use Rattle.std.proofs.Common.{unwrap_or, option_map, slice_get, refl, sym, ap, ◌∙◌}
 use Rattle.std.specs.Prelude.{slice_set, remove, OnOk, OnErr}
 use Rattle.std.proofs.lemmas.List.{get_or_default, map-set, set-get_or}
 use Rattle.std.proofs.lemmas.Option.{slice_get-map, unwrap_or-slice_get}
 use Rattle.wire.specs.declared.rule.Rule.{Rule}
-use Rattle.wire.specs.Rules.{fate_of}
-use Rattle.wire.specs.Queue.{QueueState, without, with_delay, with_copy, counted, flights_of}
-use Rattle.wire.specs.Wire.{WireState, queue_at, with_queue, with_room, nth_of}
-use Rattle.wire.specs.Traffic.{QueueTraffic, Traffic, queue_traffic, traffic_of, traffic_at, with_traffic, queue_sent}
-use Rattle.wire.specs.Traffic.{traffic_without, traffic_delayed, traffic_repeated, traffic_sent}
+use Rattle.wire.specs.Queue.{QueueState, without, with_delay, with_copy}
+use Rattle.wire.specs.Wire.{WireState, queue_at, with_queue, with_room}
+use Rattle.wire.specs.Traffic.{QueueTraffic, Traffic, queue_traffic, traffic_of, traffic_at, with_traffic}
+use Rattle.wire.specs.Traffic.{traffic_without, traffic_delayed, traffic_repeated}
 
 abbrev pub wire_of : List QueueState → List Rule → WireState
 wire_of queues rules = record { queues = queues; rules = rules }
@@ -88,23 +87,6 @@ seen_repeated old new to place room is =
     let queue = queue_at old to in
     seen_made (λ (q : QueueTraffic). record { flights = with_copy q.flights place; counts = q.counts }) old new to
     (record { flights = with_copy queue.flights place; counts = queue.counts; room = room }) is refl
-
-pub seen_sent : (old new : WireState) (from to : ℕ) (packet : List ℕ) (round room : ℕ)
-    → new ≡ with_queue old to (record {
-      flights =
-          (queue_at old to).flights
-          ++ flights_of (fate_of old.rules from to (nth_of (queue_at old to) from 0)) packet round;
-      counts = counted (queue_at old to).counts from;
-      room = room;
-    })
-    → traffic_of new ≡ traffic_sent from to packet round (traffic_of old)
-seen_sent old new from to packet round room is =
-    let queue = queue_at old to in
-    seen_made (queue_sent old.rules from to packet round) old new to (record {
-      flights = queue.flights ++ flights_of (fate_of old.rules from to (nth_of queue from 0)) packet round;
-      counts = counted queue.counts from;
-      room = room;
-    }) is refl
 
 -- what is made of the queue at a node's place is made of the node's queue
 pub seen_there : (make : QueueState → QueueState) (queues : List QueueState) (rules : List Rule) (old : WireState)

@@ -43,12 +43,6 @@ with_copy flights place = flights ++ option_to_list (slice_get flights place)
 abbrev pub flights_of : Fate → List ℕ → ℕ → List Flight
 flights_of fate packet round = replicate fate.copies (flight packet (capped (round + fate.delay)))
 
--- a packet that is ready: from which node, to which, and what is put in flight
-pub record LetterState : Type 0 where
-  pub from : ℕ
-  pub to : ℕ
-  pub flights : List Flight
-
 -- each packet in flight passes a test
 abbrev pub AllPackets : (List ℕ → Bool) → List Flight → Type 0
 AllPackets test flights = All (λ f. IsTrue (test f.packet)) flights

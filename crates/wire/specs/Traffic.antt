@@ -62,7 +62,7 @@ traffic_armed traffic rule = record { queues = traffic.queues; rules = traffic.r
 
 -- what is put in flight of the next packet from a node to another, by what these have sent
 abbrev pub next_flights : List Rule → List ℕ → ℕ → ℕ → List ℕ → ℕ → List Flight
-next_flights rules counts from to packet round = flights_of (fate_of rules from to (nth_in counts from 0)) packet round
+next_flights rules counts from to packet round = flights_of (fate_of rules from to (nth_in counts from)) packet round
 
 -- a packet was sent to the node of this queue
 abbrev pub queue_sent : List Rule → ℕ → ℕ → List ℕ → ℕ → QueueTraffic → QueueTraffic

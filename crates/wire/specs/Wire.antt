@@ -33,12 +33,9 @@ with_room wire node room =
     let queue = queue_at wire node in
     with_queue wire node (record { flights = queue.flights; counts = queue.counts; room = room })
 
--- which packet from a node the one is that is sent after so many others, where these were sent before
-abbrev pub nth_in : List ℕ → ℕ → ℕ → ℕ
-nth_in counts from ahead = capped (capped (slice_index counts from + ahead) + 1)
-
-abbrev pub nth_of : QueueState → ℕ → ℕ → ℕ
-nth_of queue from ahead = nth_in queue.counts from ahead
+-- which packet from a node the next one is, from 1, where these were sent before
+abbrev pub nth_in : List ℕ → ℕ → ℕ
+nth_in counts from = capped (slice_index counts from + 1)
 
 abbrev pub is_due_at : ℕ → Option Flight → Bool
 is_due_at round None = false

@@ -33,13 +33,6 @@ impl Bytes {
         self.bytes.as_slice()
     }
 
-    /// The bytes, given away.
-    pub fn into_vec(self) -> Vec<u8>
-        ensures { result.items ≡ self }
-    {
-        self.bytes
-    }
-
     /// The same bytes once more, in memory of their own.
     pub fn copy(&self, alloc: Global) -> Result<Bytes, AllocError>
         ensures { IfOk result (λ copy. copy ≡ self.now) }

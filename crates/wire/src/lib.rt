@@ -1,8 +1,8 @@
 //! The network between nodes: packets in flight, in the order in which they were sent, each with the round in which it is
 //! due, and the rules that were armed for packets still to be sent.
 //!
-//! A packet that is sent goes last in the queue of the node that it is for. From there it is taken, lost, repeated or
-//! delayed by its place. Nothing is in flight that wasn't sent.
+//! A packet that is sent goes last in the queue of the node that it is for. From there it is lost, repeated or delayed
+//! by its place; one that comes to the node is lost too. Nothing is in flight that wasn't sent.
 #![tactic(auto)]
 
 mod bytes;
@@ -15,7 +15,7 @@ mod wire;
 
 pub use bytes::Bytes;
 pub use laws::nothing_is_made_up;
-pub use queue::{Flight, Letter, NODES};
+pub use queue::{Flight, NODES};
 pub use rule::{Change, Rule};
 pub use sending::Sending;
 pub use staging::Batch;

@@ -1,11 +1,11 @@
 // The packets in flight to one node.
-ghost use Rattle.std.specs.Prelude.{◌≡◌, ◌+◌, ◌-◌, ◌≤◌, ◌<◌, ◌++◌, [], length, slice_get, slice_index, option_map, replicate, Some, IfOk, OnOk, OnErr};
+ghost use Rattle.std.specs.Prelude.{◌≡◌, ◌+◌, ◌-◌, ◌≤◌, ◌<◌, ◌++◌, [], length, slice_get, slice_index, option_map, replicate, Some, OnOk, OnErr};
 ghost use Rattle.std.specs.List.{position_from};
 ghost use Rattle.std.specs.VecDeque.{deque_len, deque_capacity};
-ghost use Rattle.wire.specs.Queue.{flight, flights_of, is_due, without, with_delay, with_copy, counted};
+ghost use Rattle.wire.specs.Queue.{flight, is_due, without, with_delay, with_copy, counted};
 
 use crate::bytes::Bytes;
-use crate::rule::{Fate, Rule, capped_sum, fate_by};
+use crate::rule::{Rule, capped_sum, fate_by};
 use crate::sending::Sending;
 use std::alloc::{AllocError, Global};
 use std::collections::VecDeque;
@@ -44,26 +44,6 @@ impl Model for Queue {
     } };
 }
 
-/// A packet that is ready to be sent: where from and to, and what is to be put in flight.
-#[derive(Drop)]
-pub struct Letter {
-    from: u8,
-    to: u8,
-    flights: VecDeque<Flight>,
-}
-
-impl Model for Letter {
-    ghost use Rattle.wire.specs.Queue.{LetterState};
-
-    ghost Value = { LetterState };
-
-    ghost view = { λ letter. record {
-      from = letter.from;
-      to = letter.to;
-      flights = letter.flights.items;
-    } };
-}
-
 // Puts so many of a packet last, the given one behind its copies. Where it refuses, some copies may stand there.
 fn put_copies(
     alloc: Global,
@@ -94,55 +74,6 @@ fn put_last(flights: &mut VecDeque<Flight>, mut more: VecDeque<Flight>)
     ensures len { deque_len flights.new ≡ deque_len flights.old + deque_len more }
 {
     let _ = flights.append(&mut more);
-}
-
-impl Letter {
-    pub(crate) fn new(
-        alloc: Global,
-        from: u8,
-        to: u8,
-        packet: Bytes,
-        fate: Fate,
-        round: u64,
-    ) -> Result<Letter, AllocError>
-        ensures { IfOk result (λ letter. letter ≡ record {
-          from = from;
-          to = to;
-          flights = flights_of fate packet round;
-        }) }
-    {
-        let due = capped_sum(round, fate.delay);
-        let mut flights = VecDeque::new(alloc);
-        put_copies(alloc, &mut flights, packet, fate.copies, due)?;
-        Ok(Letter { from, to, flights })
-    }
-
-    /// The node that sends it.
-    pub fn from(&self) -> u8
-        ensures { result ≡ self.now.from }
-    {
-        self.from
-    }
-
-    /// The node that it is for.
-    pub fn to(&self) -> u8
-        ensures { result ≡ self.now.to }
-    {
-        self.to
-    }
-
-    /// How many packets are to be put in flight.
-    pub fn places(&self) -> usize
-        ensures { result ≡ length self.now.flights }
-    {
-        self.flights.len()
-    }
-
-    pub(crate) fn into_flights(self) -> VecDeque<Flight>
-        ensures { result.items ≡ self.flights }
-    {
-        self.flights
-    }
 }
 
 impl Queue {
@@ -246,36 +177,6 @@ impl Queue {
         Ok(())
     }
 
-    // Puts a letter's packets last, where there is room, and counts it.
-    pub(crate) fn post(&mut self, from: u8, letter: Letter)
-        requires node { from < NODES }
-        requires room { length letter.flights ≤ self.old.room }
-        ensures posted { self.new ≡ record {
-          flights = self.old.flights ++ letter.flights;
-          counts = counted self.old.counts from;
-          room = self.new.room;
-        } }
-        ensures left { self.old.room ≤ self.new.room + length letter.flights }
-    {
-        put_last(&mut self.flights, letter.into_flights());
-        self.note_sent(from);
-    }
-
-    // Makes room for a letter's packets, and posts it.
-    pub(crate) fn send(&mut self, from: u8, letter: Letter) -> Result<(), AllocError>
-        requires { from < NODES }
-        ensures ok { OnOk result (self.new ≡ record {
-          flights = self.old.flights ++ letter.flights;
-          counts = counted self.old.counts from;
-          room = self.new.room;
-        }) }
-        ensures err { OnErr result (self.new ≡ record (self.old) { room = self.new.room }) }
-    {
-        self.reserve(letter.places())?;
-        self.post(from, letter);
-        Ok(())
-    }
-
     // Puts a copy of a packet last.
     pub(crate) fn repeat(&mut self, alloc: Global, place: usize) -> Result<(), AllocError>
         requires { place < length self.old.flights }
@@ -323,7 +224,7 @@ impl Queue {
     // Which packet from a node the next one is, from 1.
     fn next_number(&self, from: u8) -> u64
         requires { from < NODES }
-        ensures { result ≡ nth_in self.now.counts from 0 }
+        ensures { result ≡ nth_in self.now.counts from }
     {
         capped_sum(self.count(from), 1)
     }

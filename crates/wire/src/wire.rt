@@ -1,16 +1,14 @@
 // All that is in flight.
-ghost use Rattle.std.specs.Prelude.{◌≡◌, ◌+◌, ◌≤◌, ◌<◌, ◌++◌, [], ◌∷◌, ℕ, List, All, replicate, length, slice_get, option_map, Some, IfOk, OnOk, OnErr};
+ghost use Rattle.std.specs.Prelude.{◌≡◌, ◌<◌, ◌++◌, [], ◌∷◌, ℕ, List, All, replicate, length, slice_get, option_map, IfOk, OnOk, OnErr};
 ghost use Rattle.std.specs.List.{AllZip, position_from};
 ghost use Rattle.wire.specs.Staging.{behind, ruled, HasNoLessRoom, HasRoom, IsStaged};
 ghost use Rattle.wire.specs.declared.sending.Sending.{Sending as SendingValue};
-ghost use Rattle.wire.specs.Rules.{fate_of};
-ghost use Rattle.wire.specs.Queue.{is_due, flights_of, without, with_delay, with_copy, counted};
-ghost use Rattle.wire.specs.Wire.{queue_at, in_flight, room_for, with_queue, with_room, nth_of, is_due_at};
-ghost use Rattle.wire.specs.Traffic.{AreNodes, empty_queue, queues_traffic, traffic_of, opening_traffic, traffic_without, traffic_delayed, traffic_repeated, traffic_armed, traffic_sent, all_sent};
+ghost use Rattle.wire.specs.Queue.{is_due, without, with_delay, with_copy};
+ghost use Rattle.wire.specs.Wire.{queue_at, in_flight, room_for, with_queue, with_room, is_due_at};
+ghost use Rattle.wire.specs.Traffic.{AreNodes, empty_queue, queues_traffic, traffic_of, opening_traffic, traffic_without, traffic_delayed, traffic_repeated, traffic_armed, all_sent};
 
-use crate::bytes::Bytes;
-use crate::queue::{Letter, NODES, Queue};
-use crate::rule::{Rule, capped_sum, fate_by};
+use crate::queue::{NODES, Queue};
+use crate::rule::Rule;
 use crate::sending::Sending;
 use crate::staging::{Batch, join_all, post_all, reserve_all, staged};
 use std::alloc::{AllocError, Global};
@@ -90,19 +88,6 @@ impl Wire {
         self.queues[to as usize].is_due(place, round)
     }
 
-    /// Takes the packet at a place out, for the node.
-    pub fn take(&mut self, to: u8, place: usize) -> Vec<u8>
-        requires node { to < NODES }
-        requires there { place < length (in_flight self.old to) }
-        ensures packet { option_map (λ f. f.packet) (slice_get (in_flight self.old to) place)
-            ≡ Some result.items }
-        ensures left { self.new ≡ with_queue self.old to (without (queue_at self.old to) place) }
-        ensures traffic { traffic_of self.new ≡ traffic_without (traffic_of self.old) to place }
-    {
-        let queue = &mut self.queues[to as usize];
-        queue.take(place).packet.into_vec()
-    }
-
     /// The packet at a place is gone.
     pub fn lose(&mut self, to: u8, place: usize)
         requires node { to < NODES }
@@ -159,108 +144,6 @@ impl Wire {
     {
         self.rules.push(rule)?;
         Ok(())
-    }
-
-    /// A packet made ready to be sent in this round, with what the rules make of it: the next one from this node to that, or
-    /// the one `ahead` packets later, where others are sent before it.
-    pub fn letter(
-        &self,
-        alloc: Global,
-        from: u8,
-        to: u8,
-        ahead: u64,
-        packet: Vec<u8>,
-        round: u64,
-    ) -> Result<Letter, AllocError>
-        requires sender { from < NODES }
-        requires receiver { to < NODES }
-        ensures { let nth = nth_of (queue_at self.now to) from ahead in
-            IfOk result (λ letter. letter ≡ record {
-              from = from;
-              to = to;
-              flights = flights_of (fate_of self.now.rules from to nth) packet.items round;
-            }) }
-    {
-        let count = self.queues[to as usize].count(from);
-        let nth = capped_sum(capped_sum(count, ahead), 1);
-        let fate = fate_by(&self.rules, from, to, nth);
-        Letter::new(alloc, from, to, Bytes::new(packet), fate, round)
-    }
-
-    /// Makes room for so many packets more to a node, so that `post` needs no memory for them. Changes nothing else.
-    pub fn reserve(&mut self, to: u8, places: usize) -> Result<(), AllocError>
-        requires { to < NODES }
-        ensures same { self.new ≡ with_room self.old to (room_for self.new to) }
-        ensures more { room_for self.old to ≤ room_for self.new to }
-        ensures ok { OnOk result (places ≤ room_for self.new to) }
-    {
-        let queue = &mut self.queues[to as usize];
-        queue.reserve(places)
-    }
-
-    /// Sends a letter, for which there is room: its packets go last in the queue of their node.
-    pub fn post(&mut self, letter: Letter)
-        requires sender { letter.from < NODES }
-        requires receiver { letter.to < NODES }
-        requires room { length letter.flights ≤ room_for self.old letter.to }
-        ensures posted { let queue = queue_at self.old letter.to in
-            self.new ≡ with_queue self.old letter.to (record {
-              flights = queue.flights ++ letter.flights;
-              counts = counted queue.counts letter.from;
-              room = room_for self.new letter.to;
-            }) }
-        ensures left { room_for self.old letter.to
-            ≤ room_for self.new letter.to + length letter.flights }
-    {
-        let (from, to) = (letter.from(), letter.to());
-        let queue = &mut self.queues[to as usize];
-        queue.post(from, letter);
-    }
-
-    // Makes room for a letter's packets, and posts it.
-    fn send_letter(&mut self, letter: Letter) -> Result<(), AllocError>
-        requires sender { letter.from < NODES }
-        requires receiver { letter.to < NODES }
-        ensures ok { let queue = queue_at self.old letter.to in
-            OnOk result (self.new ≡ with_queue self.old letter.to (record {
-              flights = queue.flights ++ letter.flights;
-              counts = counted queue.counts letter.from;
-              room = room_for self.new letter.to;
-            })) }
-        ensures err { OnErr result (self.new
-            ≡ with_room self.old letter.to (room_for self.new letter.to)) }
-    {
-        let (from, to) = (letter.from(), letter.to());
-        let queue = &mut self.queues[to as usize];
-        queue.send(from, letter)
-    }
-
-    /// Sends a packet in this round, as the rules have it. Takes its memory first, and refuses for want of memory
-    /// alone: then the same is in flight as before.
-    pub fn send(
-        &mut self,
-        alloc: Global,
-        from: u8,
-        to: u8,
-        packet: Vec<u8>,
-        round: u64,
-    ) -> Result<(), AllocError>
-        requires sender { from < NODES }
-        requires receiver { to < NODES }
-        ensures ok { let queue = queue_at self.old to in
-            let fate = fate_of self.old.rules from to (nth_of queue from 0) in
-            OnOk result (self.new ≡ with_queue self.old to (record {
-              flights = queue.flights ++ flights_of fate packet.items round;
-              counts = counted queue.counts from;
-              room = room_for self.new to;
-            })) }
-        ensures err { OnErr result (self.new ≡ with_room self.old to (room_for self.new to)) }
-        ensures traffic { OnOk result (traffic_of self.new
-            ≡ traffic_sent from to packet.items round (traffic_of self.old)) }
-        ensures refused { OnErr result (traffic_of self.new ≡ traffic_of self.old) }
-    {
-        let letter = self.letter(alloc, from, to, 0, packet, round)?;
-        self.send_letter(letter)
     }
 
     /// Sends these packets in this round, one after the other, as the rules have it: all of them or none. Takes all memory

@@ -9,10 +9,26 @@ use std::process::Abort;
 use std::test::Fail;
 use wire::{Bytes, Change, Rule, Sending, Wire};
 
+/// Adds a packet of one byte to those that are to be sent.
+fn add(alloc: Global, packets: &mut Vec<Sending>, from: u8, to: u8, byte: u8) -> Result<(), Fail>
+    requires nodes { (from < 16) × (to < 16) }
+    requires so_far { All AreNodes packets.old.items }
+    ensures { OnOk result (All AreNodes packets.new.items) }
+{
+    let packet = Vec::from_slice(alloc, &[byte])?;
+    packets.push(Sending {
+        from,
+        to,
+        packet: Bytes::new(packet),
+    })?;
+    Ok(())
+}
+
 /// Sends a packet of one byte from node 0 to node 1.
 fn send(alloc: Global, wire: &mut Wire, byte: u8, round: u64) -> Result<(), Fail> {
-    let packet = Vec::from_slice(alloc, &[byte])?;
-    wire.send(alloc, 0, 1, packet, round)?;
+    let mut packets = Vec::new(alloc);
+    add(alloc, &mut packets, 0, 1, byte)?;
+    wire.send_all(alloc, packets, round)?;
     Ok(())
 }
 
@@ -55,14 +71,6 @@ fn arm(wire: &mut Wire, changes: &[(u64, Change)]) -> Result<(), Fail> {
     Ok(())
 }
 
-/// The byte of the packet that is taken from a place of those in flight to node 1.
-fn take(wire: &mut Wire, place: usize) -> Option<u8> {
-    if place >= wire.len(1) {
-        return None;
-    }
-    wire.take(1, place).pop()
-}
-
 fn lose(rt: &impl Abort, wire: &mut Wire, place: usize) {
     if place < wire.len(1) {
         wire.lose(1, place);
@@ -97,8 +105,8 @@ fn acts_of_the_network_on(rt: &impl Abort, alloc: Global, wire: &mut Wire) -> Re
     first_due(rt, wire, 0, Some(1), "the second");
     repeat(rt, alloc, wire, 0)?;
     in_flight(rt, wire, b"\x0a\x0b\x0c\x0a", "repeated");
-    same(rt, take(wire, 1), Some(11), "taken");
-    in_flight(rt, wire, b"\x0a\x0c\x0a", "two and a copy");
+    lose(rt, wire, 1);
+    in_flight(rt, wire, b"\x0a\x0c\x0a", "two and a copy are left");
     first_due(rt, wire, 0, None, "none");
     first_due(rt, wire, 1, Some(1), "the third");
     lose(rt, wire, 1);
@@ -130,7 +138,7 @@ fn rules_on(rt: &impl Abort, alloc: Global, wire: &mut Wire) -> Result<(), Fail>
     arm(wire, &changes)?;
     send_each(alloc, wire, &[(1, 0), (2, 0), (3, 0), (4, 1), (5, 1)])?;
     in_flight(rt, wire, b"\x01\x04\x04\x05", "by the rules");
-    same(rt, take(wire, 0), Some(1), "the first");
+    lose(rt, wire, 0);
     first_due(rt, wire, 5, None, "five rounds later at least");
     first_due(rt, wire, 6, Some(0), "five rounds later");
     lose(rt, wire, 0);
@@ -147,17 +155,22 @@ fn rules(rt: HostRuntime) -> Result<(), Fail> {
     rules_on(&rt, alloc, &mut wire)
 }
 
-/// Makes the second packet that node 0 sends to node 1 before it sends the first. It is repeated.
-fn send_second_first(rt: &impl Abort, alloc: Global, wire: &mut Wire) -> Result<(), Fail> {
-    arm(wire, &[(2, Change::Repeat)])?;
-    let packet = Vec::from_slice(alloc, &[21])?;
-    let second = wire.letter(alloc, 0, 1, 1, packet, 0)?;
-    same(rt, second.places(), 2, "the second is repeated");
-    wire.reserve(1, 3)?;
+/// Packets are made ready, a packet comes in between, and then they go.
+fn made_ready_before_on(rt: &impl Abort, alloc: Global, wire: &mut Wire) -> Result<(), Fail> {
+    arm(wire, &[(3, Change::Repeat)])?;
     send(alloc, wire, 20, 0)?;
-    wire.reserve(1, second.places())?;
-    wire.post(second);
-    in_flight(rt, wire, b"\x14\x15\x15", "in order");
+    let batch = wire.stage(alloc, four_packets(alloc)?, 0)?;
+    wire.make_room(&batch)?;
+    in_flight(rt, wire, b"\x14", "nothing is sent yet");
+    if wire.len(1) > 0 {
+        wire.lose_and_send(1, 0, batch);
+    }
+    in_flight(
+        rt,
+        wire,
+        b"\x15\x1e\x16\x16",
+        "in order, the third of node 0 twice",
+    );
     Ok(())
 }
 
@@ -165,22 +178,7 @@ fn send_second_first(rt: &impl Abort, alloc: Global, wire: &mut Wire) -> Result<
 fn made_ready_before(rt: HostRuntime) -> Result<(), Fail> {
     let alloc = rt.alloc();
     let mut wire = Wire::new(alloc)?;
-    send_second_first(&rt, alloc, &mut wire)
-}
-
-/// Adds a packet of one byte to those that are to be sent.
-fn add(alloc: Global, packets: &mut Vec<Sending>, from: u8, to: u8, byte: u8) -> Result<(), Fail>
-    requires nodes { (from < 16) × (to < 16) }
-    requires so_far { All AreNodes packets.old.items }
-    ensures { OnOk result (All AreNodes packets.new.items) }
-{
-    let packet = Vec::from_slice(alloc, &[byte])?;
-    packets.push(Sending {
-        from,
-        to,
-        packet: Bytes::new(packet),
-    })?;
-    Ok(())
+    made_ready_before_on(&rt, alloc, &mut wire)
 }
 
 /// Four packets, two of them from node 0 to node 1.

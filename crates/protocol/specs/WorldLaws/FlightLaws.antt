@@ -94,7 +94,7 @@ module _ (P : ℕ → List ℕ → Type 0) where
       → AllHold (traffic_sent from to packet round traffic)
   sent_holds from to packet round traffic all one =
       let queue : QueueTraffic = traffic_at traffic to in
-      let fate = fate_of traffic.rules from to (nth_in queue.counts from 0) in
+      let fate = fate_of traffic.rules from to (nth_in queue.counts from) in
       with_holds traffic to _ all (sent_passes (P to) queue.flights fate packet round (all to) one)
 
   -- and one after the other

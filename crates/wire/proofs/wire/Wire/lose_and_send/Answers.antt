@@ -1,7 +1,5 @@
-use Rattle.std.proofs.Common.{ℕ, ◌≡◌, ◌<◌, List, length, subst, sym, ap, ◌∙◌, arith}
+use Rattle.std.proofs.Common.{subst, sym, ap, ◌∙◌}
 use Rattle.std.specs.List.{AllZip}
-use Rattle.wire.specs.declared.sending.Sending.{Sending}
-use Rattle.wire.specs.Queue.{QueueState}
 use Rattle.wire.specs.Staging.{HasRoom, IsStaged}
 use Rattle.wire.specs.Traffic.{Traffic, all_sent}
 use Rattle.wire.specs.Wire.{WireState}

@@ -1,4 +1,4 @@
-use Rattle.std.proofs.Common.{◌≡◌, ◌∙◌, length}
+use Rattle.std.proofs.Common.{◌∙◌}
 use Rattle.std.proofs.lemmas.List.{length-map}
 use Rattle.wire.specs.Traffic.{queue_traffic, traffic_of}
 use Rattle.wire.proofs.Ready.{ready_sent}
