@@ -1,8 +1,8 @@
--- What tokens stand for.
+-- What a run's tokens and a seat's stand for.
 use Rattle.std.specs.Prelude.{ℕ}
 use Rattle.run_log.specs.Numbers.{Numbers, numbers}
-use Rattle.run_log.specs.declared.seat_count.SeatCount.{SeatCount}
 use Rattle.run_log.specs.declared.seat_count.RunCount.{RunCount}
+use Rattle.run_log.specs.declared.seat_count.SeatCount.{SeatCount}
 
 abbrev pub run_numbers : {ThisRun : Type 0} → RunCount ThisRun → Numbers
 run_numbers {ThisRun} totals =

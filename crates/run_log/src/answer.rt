@@ -10,7 +10,7 @@ pub enum TurnAnswer {
     Nothing,
     /// The world stood still for want of room, and channels have more now.
     Widened,
-    /// The hub is stopped: no turn and no line of the script makes an event any more, but a job that is out may come back.
+    /// The run is stopped: no turn and no line of the script makes an event any more, but a job that is out may come back.
     Stopped,
 }
 
@@ -22,7 +22,7 @@ pub enum FaultAnswer {
     NotYet,
     /// The script has no line left.
     NoMore,
-    /// The hub is stopped, as for a turn.
+    /// The run is stopped, as for a turn.
     Stopped,
 }
 

@@ -1,4 +1,4 @@
-// What lies under the hub's lock.
+// The log of a run, with the world to which it leads.
 ghost use Rattle.std.specs.Prelude.{◌≡◌, ◌||◌, ◌<◌, true, false, length, IfErr, IfOk, IsTrue, OnErr, OnOk};
 ghost use Rattle.protocol.specs.World.EventView.{event_node, Install};
 ghost use Rattle.protocol.specs.World.Quiet.{are_quiet};
@@ -15,7 +15,7 @@ ghost use Rattle.run_log.specs.Lines.{IsAdded, IsWidened, happenings};
 ghost use Rattle.run_log.specs.declared.answer.FaultAnswer.TheVariants as faults;
 ghost use Rattle.run_log.specs.declared.answer.TurnAnswer.TheVariants as turns;
 ghost use Rattle.run_log.specs.Numbers.{counted, no_numbers};
-ghost use Rattle.run_log.specs.SeatCounts.{seat_numbers, seat_parts, run_numbers};
+ghost use Rattle.run_log.specs.SeatCounts.{run_numbers, seat_numbers, seat_parts};
 ghost use Rattle.run_log.specs.declared.seat_count.Counted.TheVariants as kind;
 ghost use Rattle.world.specs.DoneView.{done_view};
 ghost use Rattle.world.specs.EventView.{event_view};
@@ -38,9 +38,9 @@ use replay::{RunEvent, ScriptedEvent, Silence};
 use std::alloc::Global;
 use world::{Deed, Event, PlainEvent, Refused, Reply, World};
 
-/// A world with its script and its history, and how often its seats were answered.
+/// A world with its script and its history, and how often the seats were answered. Several threads share it under a lock.
 #[derive(Drop)]
-pub(crate) struct RunLog<C: SlotCell, O: Outlet, ThisRun: Run> {
+pub struct RunLog<C: SlotCell, O: Outlet, ThisRun: Run> {
     armed: ArmedWorld<C, O>,
     script: Vec<ScriptedEvent>,
     // How many lines of the script are passed.
@@ -98,7 +98,7 @@ fn has_idled<C: SlotCell, O: Outlet>(world: &World<C, O>, node: u8) -> bool
 impl<C: SlotCell, O: Outlet, ThisRun: Run> RunLog<C, O, ThisRun> {
     ghost use Rattle.run_log.specs.RunLogs.{IsSameLog};
 
-    /// A book of which nothing is written.
+    /// A log in which nothing is written yet.
     pub fn new(
         alloc: Global,
         armed: ArmedWorld<C, O>,
@@ -262,7 +262,7 @@ impl<C: SlotCell, O: Outlet, ThisRun: Run> RunLog<C, O, ThisRun> {
         Ok(())
     }
 
-    // The answer of a hub that is stopped.
+    // The answer of a run that is stopped.
     fn be_stopped(&mut self, count: &mut SeatCount<ThisRun>) -> Result<(), HubFault>
         requires part { 0 < seat_parts count.old }
         requires stopped { self.old.stopped ≡ true }

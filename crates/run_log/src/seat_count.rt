@@ -133,7 +133,7 @@ pub struct SeatCount<ThisRun: RunLedgers> {
 }
 
 impl<ThisRun: RunLedgers> RunCount<ThisRun> {
-    ghost use Rattle.run_log.specs.SeatCounts.{seat_numbers, seat_parts, run_numbers};
+    ghost use Rattle.run_log.specs.SeatCounts.{run_numbers, seat_numbers, seat_parts};
 
     /// How many events were made.
     pub fn made(&self) -> u64
@@ -188,7 +188,7 @@ pub struct UnusedLedgers {
 
 impl UnusedLedgers {
     ghost use Rattle.run_log.specs.LedgerNames.{HaveParts, names_of};
-    ghost use Rattle.run_log.specs.SeatCounts.{seat_numbers, seat_parts, run_numbers};
+    ghost use Rattle.run_log.specs.SeatCounts.{run_numbers, seat_numbers, seat_parts};
 
     /// Ledgers for so many seats.
     pub fn new(seats: u64) -> UnusedLedgers

@@ -13,7 +13,7 @@ ghosts-play-ThisRun-Run g a = record {
 }
 
 abbrev pub ghosts-play-ThisRun-RunLedgers : goal.ghosts-play-ThisRun-RunLedgers
-ghosts-play-ThisRun-RunLedgers g a = record { names = names_of a.blanks; seats = a.nodes + 1 }
+ghosts-play-ThisRun-RunLedgers g a = record { names = names_of a.ledgers; seats = a.nodes + 1 }
 
 abbrev pub ghosts-play-ItsMarks-MarksName : goal.ghosts-play-ItsMarks-MarksName
 ghosts-play-ItsMarks-MarksName g a = record { table = table_of a.opened }
