@@ -50,8 +50,8 @@ use Rattle.station.specs.declared.station.Station.{Station}
 use Rattle.kahn_program.specs.Turning.{turn_node, CameTo, first_world, Follows, HavePassed, IsDriven, IsWholeTurn}
 use Rattle.kahn_program.specs.Turning.{IsRunRoom, IsRunStep, Progress, line_before, nearest_room}
 use Rattle.kahn_program.specs.Turning.{next_event, progress, run_rooms, unused_outlet}
-use Rattle.runtime.specs.declared.answer.HubFault.{HubFault}
-use Rattle.runtime.specs.declared.answer.HubFault.TheVariants as hub
+use Rattle.run_log.specs.declared.answer.HubFault.{HubFault}
+use Rattle.run_log.specs.declared.answer.HubFault.TheVariants as hub
 use Rattle.kahn_program.specs.Runnable.{HasFailedAtOnce, IsStoreFailure, hub_failure, store_failure}
 use Rattle.kahn_program.specs.declared.failure.Failure.{Failure}
 use Rattle.kahn_program.specs.Runs.{IsEnd, IsReplayed}

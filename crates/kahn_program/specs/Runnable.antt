@@ -9,8 +9,8 @@ use Rattle.stream_eq.specs.Limits.{HasLongHistory}
 use Rattle.ckpt_store.specs.StoreFault.{refusal_number}
 use Rattle.ckpt_store.specs.declared.fault.StoreFault.{StoreFault}
 use Rattle.ckpt_store.specs.declared.fault.StoreFault.TheVariants as fault
-use Rattle.runtime.specs.declared.answer.HubFault.{HubFault}
-use Rattle.runtime.specs.declared.answer.HubFault.TheVariants as hub
+use Rattle.run_log.specs.declared.answer.HubFault.{HubFault}
+use Rattle.run_log.specs.declared.answer.HubFault.TheVariants as hub
 use Rattle.world.specs.OpeningWorld.{SomeFailed}
 use Rattle.kahn_program.specs.declared.failure.Failure.{Failure}
 use Rattle.kahn_program.specs.declared.failure.Failure.TheVariants.{Line, Whole, NotText, Unreadable, Approximation}

@@ -29,7 +29,7 @@ use ckpt_store::StoreFault;
 use kahn_net::{Channel, Port};
 use net_check::{Inputs, Net};
 use replay::ScriptedEvent;
-use runtime::{Bounds, HubFault, OpenGate, run_world};
+use runtime::{Bounds, HubFault, NoWatch, run_world};
 use sector_disk::MemDisk;
 use std::alloc::{AllocError, Global};
 use std::sync::{Arc, Wait};
@@ -147,16 +147,7 @@ fn run_by_threads<R: Threads + Wait + Sync>(
         (world_of now)) }
     ensures err { IfErr result (IsStoreFailure false) }
 {
-    match run_world(
-        rt,
-        alloc,
-        net,
-        world,
-        script,
-        nodes as u8,
-        &OpenGate,
-        bounds,
-    ) {
+    match run_world(rt, alloc, net, world, script, nodes as u8, &NoWatch, bounds) {
         Ok((world, _)) => Ok(world),
         Err(fault) => Err(hub_failure(fault)),
     }

@@ -4,7 +4,7 @@
 //! would find the same, so a run notes who passed, and asks that node again when something has happened to it.
 
 ghost use Rattle.std.specs.Prelude.{◌≡◌, ◌==◌, ◌&&◌, if◌then◌else◌, not, IsTrue};
-ghost use Rattle.runtime.specs.ArmedWorlds.{armed_view};
+ghost use Rattle.run_log.specs.ArmedWorlds.{armed_view};
 ghost use Rattle.station.specs.EventView.{event_view};
 ghost use Rattle.station.specs.ReplyView.{reply_view};
 ghost use Rattle.world.specs.WholeView.{world_of};

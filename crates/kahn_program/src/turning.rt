@@ -4,7 +4,7 @@ ghost use Rattle.std.specs.Prelude.{◌≡◌, ◌==◌, ◌<◌, ◌≤◌, ◌
 ghost use Rattle.std.specs.List.{AllByRecursion};
 ghost use Rattle.kahn_net.specs.declared.limits.TheConstants.{MAX_CHANNELS, MAX_NODES};
 ghost use Rattle.protocol.specs.World.Sound.{output_channels};
-ghost use Rattle.runtime.specs.ArmedWorlds.{armed_view};
+ghost use Rattle.run_log.specs.ArmedWorlds.{armed_view};
 ghost use Rattle.protocol.specs.World.Still.{given_room};
 ghost use Rattle.replay.specs.Armed.{with_world};
 ghost use Rattle.station.specs.ReplyView.{reply_view};
@@ -20,7 +20,7 @@ use kahn_net::{Channel, MAX_NODES};
 use outlet::ListOutlet;
 use proc_step::Job;
 use replay::{RunEvent, ScriptedEvent};
-use runtime::ArmedWorld;
+use run_log::ArmedWorld;
 use sector_disk::MemDisk;
 use std::alloc::{AllocError, Global};
 use world::{Event, Reply};

@@ -1,4 +1,1 @@
-mod Raising
-mod Adding
-mod Arming
 pub mod Sends

@@ -20,8 +20,8 @@ use Rattle.node.specs.contracts.mode.Mode.{the_field as mode_field}
 use Rattle.node.specs.contracts.state.NodeState.{the_field as state_field}
 use Rattle.net_check.specs.contracts.net.Net.{the_row as net_row}
 use Rattle.replay.proofs.kept.RunEvent.TheSendSync.{the_send as run_s}
-use Rattle.runtime.specs.contracts.history.Entry.{the_field as entry_field}
-use Rattle.runtime.specs.contracts.history.Line.{the_row as line_row}
+use Rattle.run_log.specs.contracts.history.Entry.{the_field as entry_field}
+use Rattle.run_log.specs.contracts.history.Line.{the_row as line_row}
 
 pub net_send : IsSend net_row
 net_send = search (sendable, crosses, channel_s, operator_t, name_s, send-Expr, send-Statement) depth 60 fits 100000

@@ -1,13 +1,12 @@
 // What the driver's thread does at the hub.
 
-use crate::answer::{FaultAnswer, HubFault};
 use crate::hub::Hub;
 use crate::seat::DriverSeat;
-use crate::tally::Run;
 use gate_cell::SlotCell;
 use kahn_net::{Channel, Port};
 use marks::{Marks, MarksName, Seat};
 use outlet::Outlet;
+use run_log::{FaultAnswer, HubFault, Run};
 use std::alloc::Global;
 use std::sync::Wait;
 use std::thread;
@@ -20,10 +19,10 @@ pub struct Bounds {
 }
 
 // Whether the marks tell that so many items have left by each output.
-fn have_left<N: MarksName>(
+fn have_left<ItsMarks: MarksName>(
     channels: &[Channel],
-    marks: &Marks<N>,
-    seat: &mut Seat<N>,
+    marks: &Marks<ItsMarks>,
+    seat: &mut Seat<ItsMarks>,
     items: Option<u64>,
 ) -> bool {
     let Some(items) = items else {
@@ -43,11 +42,11 @@ fn have_left<N: MarksName>(
 }
 
 /// The events of the lines that are due before the nodes begin.
-pub(crate) fn begin<C: SlotCell, O: Outlet, J: Run, R: Wait>(
+pub(crate) fn begin<C: SlotCell, O: Outlet, ThisRun: Run, R: Wait>(
     rt: &R,
     alloc: Global,
-    hub: &Hub<C, O, J>,
-    seat: &mut DriverSeat<J>,
+    hub: &Hub<C, O, ThisRun>,
+    seat: &mut DriverSeat<ThisRun>,
 ) -> Result<(), HubFault> {
     for _ in rt.forever() {
         match hub.fault(rt, alloc, seat)? {
@@ -59,14 +58,14 @@ pub(crate) fn begin<C: SlotCell, O: Outlet, J: Run, R: Wait>(
 }
 
 // Goes through the script, until nothing is left to do or the run has come to its bounds.
-fn go_through<C: SlotCell, O: Outlet, J: Run, N: MarksName, R: Wait>(
+fn go_through<C: SlotCell, O: Outlet, ThisRun: Run, ItsMarks: MarksName, R: Wait>(
     rt: &R,
     alloc: Global,
-    hub: &Hub<C, O, J>,
-    seat: &mut DriverSeat<J>,
+    hub: &Hub<C, O, ThisRun>,
+    seat: &mut DriverSeat<ThisRun>,
     channels: &[Channel],
-    marks: &Marks<N>,
-    marks_seat: &mut Seat<N>,
+    marks: &Marks<ItsMarks>,
+    marks_seat: &mut Seat<ItsMarks>,
     bounds: Bounds,
 ) -> Result<(), HubFault> {
     for _ in rt.forever() {
@@ -87,14 +86,14 @@ fn go_through<C: SlotCell, O: Outlet, J: Run, N: MarksName, R: Wait>(
 
 /// The driver's work: the script's lines, each once its round has come, until nothing is left to do, the rounds are over or each
 /// output has the items that are asked for. It ends with the hub stopped.
-pub fn drive<C: SlotCell, O: Outlet, J: Run, N: MarksName, R: Wait>(
+pub fn drive<C: SlotCell, O: Outlet, ThisRun: Run, ItsMarks: MarksName, R: Wait>(
     rt: &R,
     alloc: Global,
-    hub: &Hub<C, O, J>,
-    seat: &mut DriverSeat<J>,
+    hub: &Hub<C, O, ThisRun>,
+    seat: &mut DriverSeat<ThisRun>,
     channels: &[Channel],
-    marks: &Marks<N>,
-    marks_seat: &mut Seat<N>,
+    marks: &Marks<ItsMarks>,
+    marks_seat: &mut Seat<ItsMarks>,
     bounds: Bounds,
 ) -> Result<(), HubFault> {
     let end = go_through(rt, alloc, hub, seat, channels, marks, marks_seat, bounds);

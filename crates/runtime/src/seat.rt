@@ -1,52 +1,55 @@
 // Seats: the right to act for a node, or for the script.
 ghost use Rattle.std.specs.Prelude.{◌≡◌, ◌+◌, vec_len};
-ghost use Rattle.runtime.specs.Numbers.{added, no_numbers};
-ghost use Rattle.runtime.specs.Tallies.{tally_numbers, tally_parts};
+ghost use Rattle.run_log.specs.Numbers.{added, no_numbers};
+ghost use Rattle.run_log.specs.SeatCounts.{seat_numbers, seat_parts};
 
-use crate::tally::{Counting, Tally};
+use run_log::{RunLedgers, SeatCount};
 
 /// The seat of a node: who has it takes the node's turns.
 #[derive(Drop)]
-pub struct NodeSeat<J: Counting> {
+pub struct NodeSeat<ThisRun: RunLedgers> {
     pub(crate) node: u8,
     pub(crate) made: u64,
-    pub(crate) tally: Tally<J>,
-    pub ghost one_part: { tally_parts tally ≡ 1 },
-    pub ghost counts: { made ≡ (tally_numbers tally).entries },
+    pub(crate) count: SeatCount<ThisRun>,
+    pub ghost one_part: { seat_parts count ≡ 1 },
+    pub ghost counts: { made ≡ (seat_numbers count).entries },
 }
 
 /// The driver's seat: who has it goes through the script.
 #[derive(Drop)]
-pub struct DriverSeat<J: Counting> {
+pub struct DriverSeat<ThisRun: RunLedgers> {
     pub(crate) made: u64,
-    pub(crate) tally: Tally<J>,
-    pub ghost one_part: { tally_parts tally ≡ 1 },
-    pub ghost counts: { made ≡ (tally_numbers tally).entries },
+    pub(crate) count: SeatCount<ThisRun>,
+    pub ghost one_part: { seat_parts count ≡ 1 },
+    pub ghost counts: { made ≡ (seat_numbers count).entries },
 }
 
 /// A seat of this node, which was answered nothing yet.
-pub(crate) fn node_seat<J: Counting>(node: u8, tally: Tally<J>) -> NodeSeat<J>
-    requires part { tally_parts tally ≡ 1 }
-    requires none { tally_numbers tally ≡ no_numbers }
-    ensures { (result.node ≡ node) × (result.tally ≡ tally) }
+pub(crate) fn node_seat<ThisRun: RunLedgers>(
+    node: u8,
+    count: SeatCount<ThisRun>,
+) -> NodeSeat<ThisRun>
+    requires part { seat_parts count ≡ 1 }
+    requires none { seat_numbers count ≡ no_numbers }
+    ensures { (result.node ≡ node) × (result.count ≡ count) }
 {
     NodeSeat {
         node,
         made: 0,
-        tally,
+        count,
     }
 }
 
 /// The driver's seat, which was answered nothing yet.
-pub(crate) fn driver_seat<J: Counting>(tally: Tally<J>) -> DriverSeat<J>
-    requires part { tally_parts tally ≡ 1 }
-    requires none { tally_numbers tally ≡ no_numbers }
-    ensures { result.tally ≡ tally }
+pub(crate) fn driver_seat<ThisRun: RunLedgers>(count: SeatCount<ThisRun>) -> DriverSeat<ThisRun>
+    requires part { seat_parts count ≡ 1 }
+    requires none { seat_numbers count ≡ no_numbers }
+    ensures { result.count ≡ count }
 {
-    DriverSeat { made: 0, tally }
+    DriverSeat { made: 0, count }
 }
 
-impl<J: Counting> NodeSeat<J> {
+impl<ThisRun: RunLedgers> NodeSeat<ThisRun> {
     /// The node.
     pub fn node(&self) -> u8
         ensures { result ≡ self.now.node }
@@ -56,32 +59,32 @@ impl<J: Counting> NodeSeat<J> {
 
     /// How many events this seat made. It waits for nobody.
     pub fn entries(&self) -> u64
-        ensures { result ≡ (tally_numbers self.now.tally).entries }
+        ensures { result ≡ (seat_numbers self.now.count).entries }
     {
         self.made
     }
 }
 
-impl<J: Counting> DriverSeat<J> {
+impl<ThisRun: RunLedgers> DriverSeat<ThisRun> {
     ghost use Rattle.runtime.specs.Seats.{numbers_of_seats};
 
     /// How many events this seat made. It waits for nobody.
     pub fn entries(&self) -> u64
-        ensures { result ≡ (tally_numbers self.now.tally).entries }
+        ensures { result ≡ (seat_numbers self.now.count).entries }
     {
         self.made
     }
 
     /// What this seat and these were answered, together.
-    pub(crate) fn with_all(self, seats: Vec<NodeSeat<J>>) -> Tally<J>
-        ensures parts { tally_parts result ≡ vec_len seats + 1 }
-        ensures numbers { tally_numbers result
-            ≡ added (numbers_of_seats seats.items) (tally_numbers self.tally) }
+    pub(crate) fn with_all(self, seats: Vec<NodeSeat<ThisRun>>) -> SeatCount<ThisRun>
+        ensures parts { seat_parts result ≡ vec_len seats + 1 }
+        ensures numbers { seat_numbers result
+            ≡ added (numbers_of_seats seats.items) (seat_numbers self.count) }
     {
-        let DriverSeat { tally: mut all, .. } = self;
+        let DriverSeat { count: mut all, .. } = self;
         for seat in seats {
-            let NodeSeat { tally, .. } = seat;
-            all.merge(tally);
+            let NodeSeat { count, .. } = seat;
+            all.merge(count);
         }
         all
     }

@@ -2,17 +2,16 @@
 ghost use Rattle.std.specs.Prelude.{◌≡◌, vec_len, IfOk};
 ghost use denote.Param.Send.{IsSend};
 
-use crate::answer::HubFault;
 use crate::driving::{Bounds, begin, drive};
-use crate::gate::Gate;
 use crate::hub::Hub;
+use crate::job_watch::JobWatch;
 use crate::seat::{DriverSeat, NodeSeat};
-use crate::tally::{Counting, Run};
 use crate::working::work;
 use gate_cell::SlotCell;
 use kahn_net::Channel;
 use marks::{Marks, MarksName, Seat};
 use outlet::Outlet;
+use run_log::{HubFault, Run, RunLedgers};
 use std::alloc::Global;
 use std::sync::Wait;
 use std::thread;
@@ -20,51 +19,51 @@ use std::thread::{JoinHandle, Scope, Threads};
 
 /// A node's seat at the hub, and its seat at the marks.
 #[derive(Drop)]
-pub struct Post<J: Counting, N: MarksName> {
-    pub seat: NodeSeat<J>,
-    pub marks: Seat<N>,
+pub struct NodeSeats<ThisRun: RunLedgers, ItsMarks: MarksName> {
+    pub seat: NodeSeat<ThisRun>,
+    pub marks: Seat<ItsMarks>,
 }
 
 /// The driver's.
 #[derive(Drop)]
-pub struct DriverPost<J: Counting, N: MarksName> {
-    pub seat: DriverSeat<J>,
-    pub marks: Seat<N>,
+pub struct DriverSeats<ThisRun: RunLedgers, ItsMarks: MarksName> {
+    pub seat: DriverSeat<ThisRun>,
+    pub marks: Seat<ItsMarks>,
 }
 
 /// What the threads of a run share.
 #[derive(Drop)]
-pub struct Floor<C: SlotCell, O: Outlet, J: Run, N: MarksName> {
-    pub hub: Hub<C, O, J>,
-    pub marks: Marks<N>,
+pub struct SharedRun<C: SlotCell, O: Outlet, ThisRun: Run, ItsMarks: MarksName> {
+    pub hub: Hub<C, O, ThisRun>,
+    pub marks: Marks<ItsMarks>,
 }
 
 // A seat that comes back, and how its work ended.
 #[derive(Drop)]
-struct Worked<J: Counting> {
-    seat: NodeSeat<J>,
+struct Worked<ThisRun: RunLedgers> {
+    seat: NodeSeat<ThisRun>,
     end: Result<(), HubFault>,
 }
 
-fn work_at_post<C: SlotCell, O: Outlet, J: Run, N: MarksName, G: Gate, R: Wait>(
+fn work_at_seats<C: SlotCell, O: Outlet, ThisRun: Run, ItsMarks: MarksName, W: JobWatch, R: Wait>(
     rt: &R,
     alloc: Global,
-    floor: &Floor<C, O, J, N>,
-    post: Post<J, N>,
-    gate: &G,
-) -> Worked<J> {
-    let Post {
+    shared: &SharedRun<C, O, ThisRun, ItsMarks>,
+    seats: NodeSeats<ThisRun, ItsMarks>,
+    watch: &W,
+) -> Worked<ThisRun> {
+    let NodeSeats {
         mut seat,
         marks: mut marks_seat,
-    } = post;
+    } = seats;
     let end = work(
         rt,
         alloc,
-        &floor.hub,
+        &shared.hub,
         &mut seat,
-        &floor.marks,
+        &shared.marks,
         &mut marks_seat,
-        gate,
+        watch,
     );
     Worked { seat, end }
 }
@@ -75,20 +74,20 @@ fn start<
     E,
     C: SlotCell + Send + 's,
     O: Outlet + Send + 's,
-    J: Run + Send + Sync + 's,
-    N: MarksName + Send + Sync + 's,
-    G: Gate + Sync + 's,
+    ThisRun: Run + Send + Sync + 's,
+    ItsMarks: MarksName + Send + Sync + 's,
+    W: JobWatch + Sync + 's,
     R: Wait + Sync + 's,
 >(
     rt: &'s R,
     alloc: Global,
     scope: &Scope<'s, E>,
-    floor: &'s Floor<C, O, J, N>,
-    post: Post<J, N>,
-    gate: &'s G,
-) -> Option<JoinHandle<Worked<J>>> {
+    shared: &'s SharedRun<C, O, ThisRun, ItsMarks>,
+    seats: NodeSeats<ThisRun, ItsMarks>,
+    watch: &'s W,
+) -> Option<JoinHandle<Worked<ThisRun>>> {
     scope
-        .spawn(move || work_at_post(rt, alloc, floor, post, gate))
+        .spawn(move || work_at_seats(rt, alloc, shared, seats, watch))
         .ok()
 }
 
@@ -98,48 +97,48 @@ fn start_all<
     E,
     C: SlotCell + Send + 's,
     O: Outlet + Send + 's,
-    J: Run + Send + Sync + 's,
-    N: MarksName + Send + Sync + 's,
-    G: Gate + Sync + 's,
+    ThisRun: Run + Send + Sync + 's,
+    ItsMarks: MarksName + Send + Sync + 's,
+    W: JobWatch + Sync + 's,
     R: Wait + Sync + 's,
 >(
     rt: &'s R,
     alloc: Global,
     scope: &Scope<'s, E>,
-    floor: &'s Floor<C, O, J, N>,
-    posts: Vec<Post<J, N>>,
-    gate: &'s G,
-    running: &mut Vec<JoinHandle<Worked<J>>>,
+    shared: &'s SharedRun<C, O, ThisRun, ItsMarks>,
+    seats: Vec<NodeSeats<ThisRun, ItsMarks>>,
+    watch: &'s W,
+    running: &mut Vec<JoinHandle<Worked<ThisRun>>>,
 ) {
-    for post in posts {
-        if let Some(handle) = start(rt, alloc, scope, floor, post, gate) {
+    for node_seats in seats {
+        if let Some(handle) = start(rt, alloc, scope, shared, node_seats, watch) {
             let _ = running.push(handle);
         }
     }
 }
 
 // Drives where each node has its worker, and else stops the hub.
-fn lead<C: SlotCell, O: Outlet, J: Run, N: MarksName, R: Wait>(
+fn lead<C: SlotCell, O: Outlet, ThisRun: Run, ItsMarks: MarksName, R: Wait>(
     rt: &R,
     alloc: Global,
-    floor: &Floor<C, O, J, N>,
-    driver: &mut DriverPost<J, N>,
+    shared: &SharedRun<C, O, ThisRun, ItsMarks>,
+    driver: &mut DriverSeats<ThisRun, ItsMarks>,
     channels: &[Channel],
     bounds: Bounds,
     all_work: bool,
 ) -> Result<(), HubFault> {
     if !all_work {
-        floor.hub.stop(rt);
+        shared.hub.stop(rt);
         return Err(HubFault::NoMemory);
     }
-    let DriverPost { seat, marks } = driver;
+    let DriverSeats { seat, marks } = driver;
     drive(
         rt,
         alloc,
-        &floor.hub,
+        &shared.hub,
         seat,
         channels,
-        &floor.marks,
+        &shared.marks,
         marks,
         bounds,
     )
@@ -151,24 +150,24 @@ fn lead<C: SlotCell, O: Outlet, J: Run, N: MarksName, R: Wait>(
 pub fn run_threads<
     C: SlotCell + Send,
     O: Outlet + Send,
-    J: Run + Send + Sync,
-    N: MarksName + Send + Sync,
-    G: Gate + Sync,
+    ThisRun: Run + Send + Sync,
+    ItsMarks: MarksName + Send + Sync,
+    W: JobWatch + Sync,
     R: Threads + Wait + Sync,
 >(
     rt: &R,
     alloc: Global,
-    floor: &Floor<C, O, J, N>,
-    posts: Vec<Post<J, N>>,
-    driver: &mut DriverPost<J, N>,
+    shared: &SharedRun<C, O, ThisRun, ItsMarks>,
+    seats: Vec<NodeSeats<ThisRun, ItsMarks>>,
+    driver: &mut DriverSeats<ThisRun, ItsMarks>,
     channels: &[Channel],
-    gate: &G,
+    watch: &W,
     bounds: Bounds,
-) -> Result<Vec<NodeSeat<J>>, HubFault>
-    ensures seats { IfOk result (λ back. vec_len back ≡ vec_len posts) }
+) -> Result<Vec<NodeSeat<ThisRun>>, HubFault>
+    ensures seats { IfOk result (λ back. vec_len back ≡ vec_len seats) }
 {
-    begin(rt, alloc, &floor.hub, &mut driver.seat)?;
-    let count = posts.len();
+    begin(rt, alloc, &shared.hub, &mut driver.seat)?;
+    let count = seats.len();
     let Ok(mut back) = Vec::with_capacity(alloc, count) else {
         return Err(HubFault::NoMemory);
     };
@@ -180,11 +179,11 @@ pub fn run_threads<
         thread::scope_env(),
         rt,
         |scope|
-            requires { IsSend C.row × IsSend O.row × IsSend J.row × IsSend N.row }
+            requires { IsSend C.row × IsSend O.row × IsSend ThisRun.row × IsSend ItsMarks.row }
         {
-            start_all(rt, alloc, scope, floor, posts, gate, &mut running);
+            start_all(rt, alloc, scope, shared, seats, watch, &mut running);
             let all_work = running.len() == count;
-            end = lead(rt, alloc, floor, driver, channels, bounds, all_work);
+            end = lead(rt, alloc, shared, driver, channels, bounds, all_work);
             while let Some(handle) = running.pop() {
                 let Worked { seat, end: own } = handle.join(rt);
                 if let Err(fault) = own {

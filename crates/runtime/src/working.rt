@@ -3,15 +3,14 @@ ghost use Rattle.std.specs.Prelude.{◌≡◌};
 ghost use Rattle.node_memory.specs.JobView.{shared_view};
 ghost use Rattle.protocol.specs.World.EventView.{node_in};
 
-use crate::answer::{HubFault, TurnAnswer};
-use crate::gate::Gate;
 use crate::hub::Hub;
+use crate::job_watch::JobWatch;
 use crate::seat::NodeSeat;
-use crate::tally::Run;
 use gate_cell::SlotCell;
 use marks::{Marks, MarksName, Seat};
 use outlet::Outlet;
 use proc_step::Job;
+use run_log::{HubFault, Run, TurnAnswer};
 use std::alloc::Global;
 use std::sync::{Arc, Wait};
 use std::thread;
@@ -19,19 +18,19 @@ use stream_eq::Freed;
 use world::Reply;
 
 // An item has left: its output's mark is raised, where it is one of the seat's node.
-fn raise<N: MarksName>(marks: &Marks<N>, seat: &mut Seat<N>, freed: Freed) {
+fn raise<ItsMarks: MarksName>(marks: &Marks<ItsMarks>, seat: &mut Seat<ItsMarks>, freed: Freed) {
     if marks.fits(seat, &freed) {
         marks.raise(seat, freed);
     }
 }
 
 // Runs a job outside the lock, and brings back what came of it.
-fn run_job<C: SlotCell, O: Outlet, J: Run, G: Gate, R: Wait>(
+fn run_job<C: SlotCell, O: Outlet, ThisRun: Run, W: JobWatch, R: Wait>(
     rt: &R,
     alloc: Global,
-    hub: &Hub<C, O, J>,
-    seat: &mut NodeSeat<J>,
-    gate: &G,
+    hub: &Hub<C, O, ThisRun>,
+    seat: &mut NodeSeat<ThisRun>,
+    watch: &W,
     nth: u64,
     job: Arc<Job>,
 ) -> Result<(), HubFault>
@@ -39,13 +38,13 @@ fn run_job<C: SlotCell, O: Outlet, J: Run, G: Gate, R: Wait>(
     ensures node { seat.new.node ≡ seat.old.node }
 {
     let node = seat.node();
-    gate.before_run(node, nth);
+    watch.before_run(node, nth);
     let Ok(done) = Job::run(job, alloc) else {
         return Err(HubFault::NoMemory);
     };
     match hub.install(rt, alloc, seat, done) {
         Ok(_) => {
-            gate.after_install(node, nth);
+            watch.after_install(node, nth);
             Ok(())
         }
         Err(held) => Err(held.fault),
@@ -53,14 +52,14 @@ fn run_job<C: SlotCell, O: Outlet, J: Run, G: Gate, R: Wait>(
 }
 
 // Takes turns until the hub is stopped, or a call is refused.
-fn take_turns<C: SlotCell, O: Outlet, J: Run, N: MarksName, G: Gate, R: Wait>(
+fn take_turns<C: SlotCell, O: Outlet, ThisRun: Run, ItsMarks: MarksName, W: JobWatch, R: Wait>(
     rt: &R,
     alloc: Global,
-    hub: &Hub<C, O, J>,
-    seat: &mut NodeSeat<J>,
-    marks: &Marks<N>,
-    marks_seat: &mut Seat<N>,
-    gate: &G,
+    hub: &Hub<C, O, ThisRun>,
+    seat: &mut NodeSeat<ThisRun>,
+    marks: &Marks<ItsMarks>,
+    marks_seat: &mut Seat<ItsMarks>,
+    watch: &W,
 ) -> Result<(), HubFault>
     ensures node { seat.new.node ≡ seat.old.node }
 {
@@ -69,7 +68,7 @@ fn take_turns<C: SlotCell, O: Outlet, J: Run, N: MarksName, G: Gate, R: Wait>(
         match hub.turn(rt, alloc, seat)? {
             TurnAnswer::Stopped => return Ok(()),
             TurnAnswer::Reply(Reply::Granted(job)) => {
-                run_job(rt, alloc, hub, seat, gate, nth, job)?;
+                run_job(rt, alloc, hub, seat, watch, nth, job)?;
                 nth = nth.wrapping_add(1);
             }
             TurnAnswer::Reply(Reply::Released(freed)) => raise(marks, marks_seat, freed),
@@ -83,18 +82,18 @@ fn take_turns<C: SlotCell, O: Outlet, J: Run, N: MarksName, G: Gate, R: Wait>(
 
 /// Works for a node until the hub is stopped: takes its turns, runs its jobs outside the lock, and raises the marks of what leaves.
 /// Where a call is refused, it stops the hub, and answers why.
-pub fn work<C: SlotCell, O: Outlet, J: Run, N: MarksName, G: Gate, R: Wait>(
+pub fn work<C: SlotCell, O: Outlet, ThisRun: Run, ItsMarks: MarksName, W: JobWatch, R: Wait>(
     rt: &R,
     alloc: Global,
-    hub: &Hub<C, O, J>,
-    seat: &mut NodeSeat<J>,
-    marks: &Marks<N>,
-    marks_seat: &mut Seat<N>,
-    gate: &G,
+    hub: &Hub<C, O, ThisRun>,
+    seat: &mut NodeSeat<ThisRun>,
+    marks: &Marks<ItsMarks>,
+    marks_seat: &mut Seat<ItsMarks>,
+    watch: &W,
 ) -> Result<(), HubFault>
     ensures node { seat.new.node ≡ seat.old.node }
 {
-    let end = take_turns(rt, alloc, hub, seat, marks, marks_seat, gate);
+    let end = take_turns(rt, alloc, hub, seat, marks, marks_seat, watch);
     if end.is_err() {
         hub.stop(rt);
     }

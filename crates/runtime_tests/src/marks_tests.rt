@@ -99,14 +99,14 @@ fn opened(alloc: Global) -> Result<Opened, Fail> {
 
 /// The seats of three nodes and the driver's.
 #[derive(Drop)]
-struct Four<N: MarksName> {
-    zero: Seat<N>,
-    one: Seat<N>,
-    two: Seat<N>,
-    driver: Seat<N>,
+struct Four<ItsMarks: MarksName> {
+    zero: Seat<ItsMarks>,
+    one: Seat<ItsMarks>,
+    two: Seat<ItsMarks>,
+    driver: Seat<ItsMarks>,
 }
 
-fn four_of<N: MarksName>(mut seats: Vec<Seat<N>>) -> Option<Four<N>> {
+fn four_of<ItsMarks: MarksName>(mut seats: Vec<Seat<ItsMarks>>) -> Option<Four<ItsMarks>> {
     let driver = seats.pop()?;
     let two = seats.pop()?;
     let one = seats.pop()?;
@@ -123,11 +123,11 @@ fn four_of<N: MarksName>(mut seats: Vec<Seat<N>>) -> Option<Four<N>> {
 }
 
 // Whether a seat is of this node, or of none.
-fn is_at<N: MarksName>(seat: &Seat<N>, node: Option<u8>) -> bool {
+fn is_at<ItsMarks: MarksName>(seat: &Seat<ItsMarks>, node: Option<u8>) -> bool {
     seat.node() == node
 }
 
-fn nodes<N: MarksName>(rt: &impl Abort, seats: &Four<N>) {
+fn nodes<ItsMarks: MarksName>(rt: &impl Abort, seats: &Four<ItsMarks>) {
     assert!(rt; is_at(&seats.zero, Some(0)));
     assert!(rt; is_at(&seats.one, Some(1)));
     assert!(rt; is_at(&seats.two, Some(2)));
@@ -135,11 +135,11 @@ fn nodes<N: MarksName>(rt: &impl Abort, seats: &Four<N>) {
 }
 
 // Asserts which of the outputs 0 to 5 and 255 fit a seat: the one that is given alone.
-fn fits_alone<N: MarksName>(
+fn fits_alone<ItsMarks: MarksName>(
     rt: &impl Abort,
     alloc: Global,
-    marks: &Marks<N>,
-    seat: &Seat<N>,
+    marks: &Marks<ItsMarks>,
+    seat: &Seat<ItsMarks>,
     own: Option<u8>,
 ) -> Result<(), Fail> {
     for output in [0, 1, 2, 3, 4, 5, 255] {
@@ -150,7 +150,11 @@ fn fits_alone<N: MarksName>(
 }
 
 // Raises where the seat may, and tells whether it may.
-fn raise<N: MarksName>(marks: &Marks<N>, seat: &mut Seat<N>, freed: Freed) -> bool {
+fn raise<ItsMarks: MarksName>(
+    marks: &Marks<ItsMarks>,
+    seat: &mut Seat<ItsMarks>,
+    freed: Freed,
+) -> bool {
     if !marks.fits(seat, &freed) {
         return false;
     }
@@ -159,21 +163,27 @@ fn raise<N: MarksName>(marks: &Marks<N>, seat: &mut Seat<N>, freed: Freed) -> bo
 }
 
 // What a seat reads of each channel, and beyond them.
-fn reads<N: MarksName>(rt: &impl Abort, marks: &Marks<N>, seat: &mut Seat<N>, a: u64, b: u64) {
+fn reads<ItsMarks: MarksName>(
+    rt: &impl Abort,
+    marks: &Marks<ItsMarks>,
+    seat: &mut Seat<ItsMarks>,
+    a: u64,
+    b: u64,
+) {
     for (channel, wanted) in [(0, 0), (1, 0), (2, a), (3, b), (4, 0), (255, 0)] {
         assert_eq!(rt; marks.read(seat, channel), wanted, "channel {channel}");
     }
 }
 
 // One thread raises both outputs, and then each seat reads the same. A lower number leaves a mark as it is.
-fn raised_from_another_thread<N: MarksName + Send + Sync, R: Threads + Sync + Abort>(
+fn raised_from_another_thread<ItsMarks: MarksName + Send + Sync, R: Threads + Sync + Abort>(
     rt: &R,
     alloc: Global,
     opened: Opened,
 ) -> Result<(), Fail>
-    requires { table_of opened ≡ N.table }
+    requires { table_of opened ≡ ItsMarks.table }
 {
-    let (marks, seats) = opened.named::<N>(alloc)?;
+    let (marks, seats) = opened.named::<ItsMarks>(alloc)?;
     let Some(mut seats) = four_of(seats) else {
         return Err(Fail::new("not four seats"));
     };

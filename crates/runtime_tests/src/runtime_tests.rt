@@ -6,7 +6,7 @@ ghost use Rattle.kahn_net.specs.Syntax.{network_of};
 ghost use Rattle.marks.specs.Seats.{table_of};
 ghost use Rattle.node_memory.specs.JobView.{shared_view};
 ghost use Rattle.protocol.specs.World.EventView.{node_in};
-ghost use Rattle.runtime.specs.BlankNames.{HaveParts, names_of};
+ghost use Rattle.run_log.specs.LedgerNames.{HaveParts, names_of};
 ghost use Rattle.sector_disk.specs.declared.TheConstants.{SECTOR_BYTES};
 ghost use Rattle.world.specs.WholeView.{world_of};
 ghost use Rattle.world.specs.WorldView.{rooms};
@@ -19,9 +19,10 @@ use net_text::{parse, parse_inputs};
 use outlet::{ListOutlet, Outlet};
 use proc_step::Job;
 use replay::{ArmedCrash, KeptReply, Maker, RunEvent, ScriptedEvent, Silence};
+use run_log::{ArmedWorld, keep_reply};
 use runtime::{
-    ArmedWorld, Blanks, Bounds, DriverPost, DriverSeat, Entry, FaultAnswer, Floor, Gate, History,
-    Hub, KeptEvent, Line, NodeSeat, OpenGate, Post, Run, TurnAnswer, keep_reply, run_threads,
+    Bounds, DriverSeat, DriverSeats, Entry, FaultAnswer, History, Hub, JobWatch, KeptEvent, Line,
+    NoWatch, NodeSeat, NodeSeats, Run, SharedRun, TurnAnswer, UnusedLedgers, run_threads,
     run_world, work,
 };
 use sector_disk::{ArmedFault, Disk, MemDisk, SECTOR_BYTES};
@@ -54,7 +55,7 @@ const ROUNDS: u32 = 100_000;
 
 type SumWorld = World<SplitCell<MemDisk>, ListOutlet>;
 
-type SumHub<J> = Hub<SplitCell<MemDisk>, ListOutlet, J>;
+type SumHub<ThisRun> = Hub<SplitCell<MemDisk>, ListOutlet, ThisRun>;
 
 type SumArmed = ArmedWorld<SplitCell<MemDisk>, ListOutlet>;
 
@@ -133,11 +134,11 @@ fn script(alloc: Global) -> Result<Vec<ScriptedEvent>, Fail> {
 }
 
 // Runs a job of the seat's node, and brings back what came of it.
-fn run_job<C: SlotCell, O: Outlet, J: Run, R: Wait>(
+fn run_job<C: SlotCell, O: Outlet, ThisRun: Run, R: Wait>(
     rt: &R,
     alloc: Global,
-    hub: &Hub<C, O, J>,
-    seat: &mut NodeSeat<J>,
+    hub: &Hub<C, O, ThisRun>,
+    seat: &mut NodeSeat<ThisRun>,
     job: Arc<Job>,
 ) -> bool
     requires { node_in (shared_view job).code ≡ seat.old.node }
@@ -150,11 +151,11 @@ fn run_job<C: SlotCell, O: Outlet, J: Run, R: Wait>(
 }
 
 // One call of a node's seat. A job is run outside the lock, and brought back. Whether no call was refused.
-fn go<C: SlotCell, O: Outlet, J: Run, R: Wait>(
+fn go<C: SlotCell, O: Outlet, ThisRun: Run, R: Wait>(
     rt: &R,
     alloc: Global,
-    hub: &Hub<C, O, J>,
-    seat: &mut NodeSeat<J>,
+    hub: &Hub<C, O, ThisRun>,
+    seat: &mut NodeSeat<ThisRun>,
 ) -> bool {
     match hub.turn(rt, alloc, seat) {
         Ok(TurnAnswer::Reply(Reply::Granted(job))) => run_job(rt, alloc, hub, seat, job),
@@ -178,7 +179,10 @@ struct Came {
 }
 
 // How many events each seat made, the driver's last.
-fn made_by_seats<J: Run>(seats: &[NodeSeat<J>], driver: &DriverSeat<J>) -> [u64; 3] {
+fn made_by_seats<ThisRun: Run>(
+    seats: &[NodeSeat<ThisRun>],
+    driver: &DriverSeat<ThisRun>,
+) -> [u64; 3] {
     let mut made = [0, 0, driver.entries()];
     for seat in seats {
         if seat.node() == 0 {
@@ -238,12 +242,12 @@ impl Ended {
 }
 
 // The script's next line, and a turn of each node. Whether no call was refused.
-fn take_round<J: Run, R: Wait>(
+fn take_round<ThisRun: Run, R: Wait>(
     rt: &R,
     alloc: Global,
-    hub: &SumHub<J>,
-    seats: &mut [NodeSeat<J>],
-    driver: &mut DriverSeat<J>,
+    hub: &SumHub<ThisRun>,
+    seats: &mut [NodeSeat<ThisRun>],
+    driver: &mut DriverSeat<ThisRun>,
 ) -> bool {
     if hub.fault(rt, alloc, driver).is_err() {
         return false;
@@ -257,12 +261,12 @@ fn take_round<J: Run, R: Wait>(
 }
 
 // Rounds, up to one in which each seat is told that the hub is stopped. Whether no call was refused.
-fn take_rounds<J: Run, R: Wait>(
+fn take_rounds<ThisRun: Run, R: Wait>(
     rt: &R,
     alloc: Global,
-    hub: &SumHub<J>,
-    seats: &mut [NodeSeat<J>],
-    driver: &mut DriverSeat<J>,
+    hub: &SumHub<ThisRun>,
+    seats: &mut [NodeSeat<ThisRun>],
+    driver: &mut DriverSeat<ThisRun>,
 ) -> bool {
     for _round in 0..ROUNDS {
         let is_last = hub.status(rt).stopped;
@@ -277,21 +281,23 @@ fn take_rounds<J: Run, R: Wait>(
 }
 
 // A run on one thread, in turns.
-fn play_in_turns<J: Run, R: Wait>(
+fn play_in_turns<ThisRun: Run, R: Wait>(
     rt: &R,
     alloc: Global,
     world: SumWorld,
     script: Vec<ScriptedEvent>,
-    blanks: Blanks,
+    ledgers: UnusedLedgers,
 ) -> Result<Ended, Fail>
-    requires opening { world_of world ≡ J.opening }
-    requires rooms { rooms world.stations.items ≡ J.rooms }
-    requires script { script.items ≡ J.script }
-    requires names { names_of blanks ≡ J.names }
-    requires parts { HaveParts blanks J.seats }
-    requires seats { J.seats ≡ NODES + 1 }
+    requires opening { world_of world ≡ ThisRun.opening }
+    requires rooms { rooms world.stations.items ≡ ThisRun.rooms }
+    requires script { script.items ≡ ThisRun.script }
+    requires names { names_of ledgers ≡ ThisRun.names }
+    requires parts { HaveParts ledgers ThisRun.seats }
+    requires seats { ThisRun.seats ≡ NODES + 1 }
 {
-    let (hub, mut seats, mut driver) = SumHub::<J>::new(alloc, world, script, NODES, blanks)?;
+    let (hub, mut seats, mut driver) = SumHub::<ThisRun>::new(
+        alloc, world, script, NODES, ledgers,
+    )?;
     if !take_rounds(rt, alloc, &hub, seats.as_mut_slice(), &mut driver) {
         return Err(Fail::new("refused"));
     }
@@ -306,55 +312,69 @@ fn play_in_turns<J: Run, R: Wait>(
     })
 }
 
-type Posts<J, N> = (Vec<Post<J, N>>, DriverPost<J, N>);
+type AllSeats<ThisRun, ItsMarks> = (
+    Vec<NodeSeats<ThisRun, ItsMarks>>,
+    DriverSeats<ThisRun, ItsMarks>,
+);
 
 // The seats of each node, and of the driver, side by side.
-fn list_posts<J: Run, N: MarksName>(
+fn list_seats<ThisRun: Run, ItsMarks: MarksName>(
     alloc: Global,
-    seats: Vec<NodeSeat<J>>,
-    seat: DriverSeat<J>,
-    mut marks_seats: Vec<Seat<N>>,
-) -> Option<Posts<J, N>> {
+    seats: Vec<NodeSeat<ThisRun>>,
+    seat: DriverSeat<ThisRun>,
+    mut marks_seats: Vec<Seat<ItsMarks>>,
+) -> Option<AllSeats<ThisRun, ItsMarks>> {
     let marks = marks_seats.pop()?;
-    let mut posts = Vec::with_capacity(alloc, seats.len()).ok()?;
+    let mut node_seats = Vec::with_capacity(alloc, seats.len()).ok()?;
     for (seat, marks) in seats.into_iter().zip(marks_seats) {
-        posts.push(Post { seat, marks }).ok()?;
+        node_seats.push(NodeSeats { seat, marks }).ok()?;
     }
-    Some((posts, DriverPost { seat, marks }))
+    Some((node_seats, DriverSeats { seat, marks }))
 }
 
 // A run with a thread for each node; the thread that calls is the driver's.
-fn play_by_threads<J: Run + Send + Sync, N: MarksName + Send + Sync, R: Threads + Wait + Sync>(
+fn play_by_threads<
+    ThisRun: Run + Send + Sync,
+    ItsMarks: MarksName + Send + Sync,
+    R: Threads + Wait + Sync,
+>(
     rt: &R,
     alloc: Global,
     channels: &[Channel],
     world: SumWorld,
     script: Vec<ScriptedEvent>,
-    blanks: Blanks,
+    ledgers: UnusedLedgers,
     opened: Opened,
 ) -> Result<Ended, Fail>
-    requires opening { world_of world ≡ J.opening }
-    requires rooms { rooms world.stations.items ≡ J.rooms }
-    requires script { script.items ≡ J.script }
-    requires names { names_of blanks ≡ J.names }
-    requires parts { HaveParts blanks J.seats }
-    requires seats { J.seats ≡ NODES + 1 }
-    requires table { table_of opened ≡ N.table }
+    requires opening { world_of world ≡ ThisRun.opening }
+    requires rooms { rooms world.stations.items ≡ ThisRun.rooms }
+    requires script { script.items ≡ ThisRun.script }
+    requires names { names_of ledgers ≡ ThisRun.names }
+    requires parts { HaveParts ledgers ThisRun.seats }
+    requires seats { ThisRun.seats ≡ NODES + 1 }
+    requires table { table_of opened ≡ ItsMarks.table }
 {
-    let (marks, marks_seats) = opened.named::<N>(alloc)?;
-    let (hub, seats, seat) = SumHub::<J>::new(alloc, world, script, NODES, blanks)?;
-    let floor = Floor { hub, marks };
-    let Some((posts, mut post)) = list_posts(alloc, seats, seat, marks_seats) else {
-        return Err(Fail::new("no posts"));
+    let (marks, marks_seats) = opened.named::<ItsMarks>(alloc)?;
+    let (hub, seats, seat) = SumHub::<ThisRun>::new(alloc, world, script, NODES, ledgers)?;
+    let shared = SharedRun { hub, marks };
+    let Some((node_seats, mut driver_seats)) = list_seats(alloc, seats, seat, marks_seats) else {
+        return Err(Fail::new("no seats"));
     };
     let ran = run_threads(
-        rt, alloc, &floor, posts, &mut post, channels, &OpenGate, BOUNDS,
+        rt,
+        alloc,
+        &shared,
+        node_seats,
+        &mut driver_seats,
+        channels,
+        &NoWatch,
+        BOUNDS,
     );
     let Ok(back) = ran else {
         return Err(Fail::new("refused"));
     };
-    let DriverPost { seat, .. } = post;
-    let Floor { hub, .. } = floor;
+    let DriverSeats { seat, .. } = driver_seats;
+    let SharedRun { hub, .. } = shared;
     let made = made_by_seats(back.as_slice(), &seat);
     let all = hub.entries(rt);
     let (world, history) = hub.close(back, seat);
@@ -372,8 +392,8 @@ fn play_sum<R: Threads + Wait + Sync>(
     script: Vec<ScriptedEvent>,
 ) -> Result<Ended, Fail> {
     let world = sum_world(alloc)?;
-    let blanks = Blanks::new(u64::from(NODES) + 1);
-    play_in_turns::<Brand, R>(rt, alloc, world, script, blanks)
+    let ledgers = UnusedLedgers::new(u64::from(NODES) + 1);
+    play_in_turns::<Brand, R>(rt, alloc, world, script, ledgers)
 }
 
 fn play_sum_by_threads<R: Threads + Wait + Sync>(
@@ -384,9 +404,9 @@ fn play_sum_by_threads<R: Threads + Wait + Sync>(
     let net = net_of(alloc, SUM_ON_TWO_NODES)?;
     let opened = Opened::new(alloc, &net)?;
     let world = sum_world(alloc)?;
-    let blanks = Blanks::new(u64::from(NODES) + 1);
+    let ledgers = UnusedLedgers::new(u64::from(NODES) + 1);
     let channels = net.program.channels.as_slice();
-    play_by_threads::<Brand, Brand, R>(rt, alloc, channels, world, script, blanks, opened)
+    play_by_threads::<Brand, Brand, R>(rt, alloc, channels, world, script, ledgers, opened)
 }
 
 // Whether a line says that no event came for this reason.
@@ -554,26 +574,26 @@ fn a_script_with_a_thread_for_each_node(rt: HostRuntime) -> Result<(), Fail> {
     Ok(())
 }
 
-// A gate that holds node 0's first job up until what came of a job of this node was taken in, or until it is opened otherwise.
+// A watch that holds node 0's first job up until what came of a job of this node was taken in, or until it is told to let go.
 #[derive(Drop)]
-struct HeldGate {
-    opened_by: u8,
+struct HoldingWatch {
+    let_go_by: u8,
     held: AtomicBool,
     came: AtomicBool,
     gave_up: AtomicBool,
 }
 
-impl HeldGate {
-    fn new(opened_by: u8) -> HeldGate {
-        HeldGate {
-            opened_by,
+impl HoldingWatch {
+    fn new(let_go_by: u8) -> HoldingWatch {
+        HoldingWatch {
+            let_go_by,
             held: AtomicBool::new(false),
             came: AtomicBool::new(false),
             gave_up: AtomicBool::new(false),
         }
     }
 
-    // Whether it held a job up, and was opened in time.
+    // Whether it held a job up, and let go in time.
     fn has_held(&self) -> bool {
         self.held.load(SeqCst) && self.came.load(SeqCst) && !self.gave_up.load(SeqCst)
     }
@@ -592,7 +612,7 @@ fn wait_for(that: &AtomicBool) -> bool {
     false
 }
 
-impl Gate for HeldGate {
+impl JobWatch for HoldingWatch {
     fn before_run(&self, node: u8, nth: u64) {
         if node == 0 && nth == 0 {
             self.held.store(true, SeqCst);
@@ -603,7 +623,7 @@ impl Gate for HeldGate {
     }
 
     fn after_install(&self, node: u8, _nth: u64) {
-        if node == self.opened_by {
+        if node == self.let_go_by {
             self.came.store(true, SeqCst);
         }
     }
@@ -652,16 +672,16 @@ fn answered(history: &History, reply: KeptReply) -> u64 {
     count
 }
 
-// What a run of the sum with a thread for each node came to, by this script and this gate.
-fn run_sum<G: Gate + Sync, R: Threads + Wait + Sync>(
+// What a run of the sum with a thread for each node came to, by this script and this watch.
+fn run_sum<W: JobWatch + Sync, R: Threads + Wait + Sync>(
     rt: &R,
     alloc: Global,
     script: Vec<ScriptedEvent>,
-    gate: &G,
+    watch: &W,
 ) -> Result<Went, Fail> {
     let net = net_of(alloc, SUM_ON_TWO_NODES)?;
     let world = sum_world(alloc)?;
-    match run_world(rt, alloc, &net, world, script, NODES, gate, BOUNDS) {
+    match run_world(rt, alloc, &net, world, script, NODES, watch, BOUNDS) {
         Ok((world, history)) => Ok(Went {
             whole: world.complete() && world.released(OUTPUT) == [1, 3, 6].as_slice(),
             led: led_by_driver(&history),
@@ -684,9 +704,9 @@ fn holds_up<R: Threads + Wait + Sync>(
     alloc: Global,
     script: Vec<ScriptedEvent>,
 ) -> Result<Went, Fail> {
-    let gate = HeldGate::new(1);
-    let mut went = run_sum(rt, alloc, script, &gate)?;
-    went.whole = went.whole && gate.has_held();
+    let watch = HoldingWatch::new(1);
+    let mut went = run_sum(rt, alloc, script, &watch)?;
+    went.whole = went.whole && watch.has_held();
     Ok(went)
 }
 
@@ -729,7 +749,7 @@ fn a_device_call_of_either_node_stops(rt: HostRuntime) -> Result<(), Fail> {
         for call in 1..=CALLS_THAT_STOP {
             for fill in &FILLS {
                 let script = at_first(alloc, stop(node, call, *fill))?;
-                let went = run_sum(&rt, alloc, script, &OpenGate)?;
+                let went = run_sum(&rt, alloc, script, &NoWatch)?;
                 assert!(rt; went.whole);
                 // The script's line comes before all else, and only once.
                 assert!(rt; went.led == 1);
@@ -751,7 +771,7 @@ fn round_of_four<R: Threads + Wait + Sync>(rt: &R, alloc: Global) -> Result<Opti
     let net = net_of(alloc, KAHN)?;
     let world = open_world(alloc, KAHN, "")?;
     let script = Vec::new(alloc);
-    match run_world(rt, alloc, &net, world, script, NODES, &OpenGate, FOUR_ITEMS) {
+    match run_world(rt, alloc, &net, world, script, NODES, &NoWatch, FOUR_ITEMS) {
         Ok((world, _)) => Ok(match world.released(OUTPUT_OF_KAHN) {
             [0, 1, 0, 1, ..] => Some(world.round()),
             _ => None,
@@ -771,11 +791,11 @@ fn a_run_ends_at_the_items_that_are_asked_for(rt: HostRuntime) -> Result<(), Fai
 }
 
 // Takes a node's turns until the hub is stopped, which it is once nothing is left to do. Whether it came to that.
-fn take_turns<C: SlotCell, O: Outlet, J: Run, R: Wait>(
+fn take_turns<C: SlotCell, O: Outlet, ThisRun: Run, R: Wait>(
     rt: &R,
     alloc: Global,
-    hub: &Hub<C, O, J>,
-    seat: &mut NodeSeat<J>,
+    hub: &Hub<C, O, ThisRun>,
+    seat: &mut NodeSeat<ThisRun>,
 ) -> bool {
     for _turn in 0..POLLS {
         if hub.status(rt).stopped {
@@ -791,83 +811,89 @@ fn take_turns<C: SlotCell, O: Outlet, J: Run, R: Wait>(
 
 // Lets node 0 crash by the script's line while its first job is held up, and takes the turns of node 1. Whether the node crashed, and all
 // came to its end.
-fn strike<C: SlotCell, O: Outlet, J: Run, R: Wait>(
+fn strike<C: SlotCell, O: Outlet, ThisRun: Run, R: Wait>(
     rt: &R,
     alloc: Global,
-    hub: &Hub<C, O, J>,
-    gate: &HeldGate,
-    seat: &mut NodeSeat<J>,
-    driver: &mut DriverSeat<J>,
+    hub: &Hub<C, O, ThisRun>,
+    watch: &HoldingWatch,
+    seat: &mut NodeSeat<ThisRun>,
+    driver: &mut DriverSeat<ThisRun>,
 ) -> bool {
-    let held = wait_for(&gate.held);
+    let held = wait_for(&watch.held);
     let struck = match hub.fault(rt, alloc, driver) {
         Ok(FaultAnswer::Reply(Reply::Crashed)) => held,
         _ => false,
     };
-    gate.came.store(true, SeqCst);
+    watch.came.store(true, SeqCst);
     let ended = take_turns(rt, alloc, hub, seat);
     hub.stop(rt);
     struck && ended
 }
 
-// Node 0 works on a thread of its own, behind a gate; the thread that calls is the driver's and node 1's.
-fn crash_at_gate<
+// Node 0 works on a thread of its own, held up by a watch; the thread that calls is the driver's and node 1's.
+fn crash_while_held<
     C: SlotCell + Send,
     O: Outlet + Send,
-    J: Run + Send + Sync,
-    N: MarksName + Send + Sync,
+    ThisRun: Run + Send + Sync,
+    ItsMarks: MarksName + Send + Sync,
     R: Threads + Wait + Sync,
 >(
     rt: &R,
     alloc: Global,
-    hub: &Hub<C, O, J>,
-    marks: &Marks<N>,
-    gate: &HeldGate,
-    zero: &mut NodeSeat<J>,
-    marks_seat: &mut Seat<N>,
-    one: &mut NodeSeat<J>,
-    driver: &mut DriverSeat<J>,
+    hub: &Hub<C, O, ThisRun>,
+    marks: &Marks<ItsMarks>,
+    watch: &HoldingWatch,
+    zero: &mut NodeSeat<ThisRun>,
+    marks_seat: &mut Seat<ItsMarks>,
+    one: &mut NodeSeat<ThisRun>,
+    driver: &mut DriverSeat<ThisRun>,
 ) -> bool {
     let (worked, struck) = thread::join(
         rt,
-        || work(rt, alloc, hub, zero, marks, marks_seat, gate).is_ok(),
-        || strike(rt, alloc, hub, gate, one, driver),
+        || work(rt, alloc, hub, zero, marks, marks_seat, watch).is_ok(),
+        || strike(rt, alloc, hub, watch, one, driver),
     );
     worked && struck
 }
 
 // A run in which node 0 crashes between the grant of its first job and the job's end.
-fn play_with_crash<J: Run + Send + Sync, N: MarksName + Send + Sync, R: Threads + Wait + Sync>(
+fn play_with_crash<
+    ThisRun: Run + Send + Sync,
+    ItsMarks: MarksName + Send + Sync,
+    R: Threads + Wait + Sync,
+>(
     rt: &R,
     alloc: Global,
-    gate: &HeldGate,
+    watch: &HoldingWatch,
     world: SumWorld,
     script: Vec<ScriptedEvent>,
-    blanks: Blanks,
+    ledgers: UnusedLedgers,
     opened: Opened,
 ) -> Result<Ended, Fail>
-    requires opening { world_of world ≡ J.opening }
-    requires rooms { rooms world.stations.items ≡ J.rooms }
-    requires script { script.items ≡ J.script }
-    requires names { names_of blanks ≡ J.names }
-    requires parts { HaveParts blanks J.seats }
-    requires seats { J.seats ≡ NODES + 1 }
-    requires table { table_of opened ≡ N.table }
+    requires opening { world_of world ≡ ThisRun.opening }
+    requires rooms { rooms world.stations.items ≡ ThisRun.rooms }
+    requires script { script.items ≡ ThisRun.script }
+    requires names { names_of ledgers ≡ ThisRun.names }
+    requires parts { HaveParts ledgers ThisRun.seats }
+    requires seats { ThisRun.seats ≡ NODES + 1 }
+    requires table { table_of opened ≡ ItsMarks.table }
 {
-    let (marks, marks_seats) = opened.named::<N>(alloc)?;
-    let (hub, mut seats, mut driver) = SumHub::<J>::new(alloc, world, script, NODES, blanks)?;
+    let (marks, marks_seats) = opened.named::<ItsMarks>(alloc)?;
+    let (hub, mut seats, mut driver) = SumHub::<ThisRun>::new(
+        alloc, world, script, NODES, ledgers,
+    )?;
     let (Some(mut one), Some(mut zero)) = (seats.pop(), seats.pop()) else {
         return Err(Fail::new("no seats"));
     };
     let Some(mut marks_seat) = marks_seats.into_iter().next() else {
         return Err(Fail::new("no seat of marks"));
     };
-    let crashed = crash_at_gate(
+    let crashed = crash_while_held(
         rt,
         alloc,
         &hub,
         &marks,
-        gate,
+        watch,
         &mut zero,
         &mut marks_seat,
         &mut one,
@@ -892,28 +918,28 @@ fn play_with_crash<J: Run + Send + Sync, N: MarksName + Send + Sync, R: Threads 
 fn play_sum_with_crash<R: Threads + Wait + Sync>(
     rt: &R,
     alloc: Global,
-    gate: &HeldGate,
+    watch: &HoldingWatch,
     script: Vec<ScriptedEvent>,
 ) -> Result<Ended, Fail> {
     let net = net_of(alloc, SUM_ON_TWO_NODES)?;
     let opened = Opened::new(alloc, &net)?;
     let world = sum_world(alloc)?;
-    let blanks = Blanks::new(u64::from(NODES) + 1);
-    play_with_crash::<Brand, Brand, R>(rt, alloc, gate, world, script, blanks, opened)
+    let ledgers = UnusedLedgers::new(u64::from(NODES) + 1);
+    play_with_crash::<Brand, Brand, R>(rt, alloc, watch, world, script, ledgers, opened)
 }
 
 #[test]
 fn a_crash_while_a_job_is_out(rt: HostRuntime) -> Result<(), Fail> {
     let alloc = rt.alloc();
-    // No node opens the gate: the driver does, once node 0 crashed.
-    let gate = HeldGate::new(NODES);
+    // No node lets go: the driver does, once node 0 crashed.
+    let watch = HoldingWatch::new(NODES);
     let crash = at_node(0, Deed::Crash { fill: 0, rounds: 1 });
-    let ended = play_sum_with_crash(&rt, alloc, &gate, at_first(alloc, crash)?)?;
+    let ended = play_sum_with_crash(&rt, alloc, &watch, at_first(alloc, crash)?)?;
     let came = ended.came();
     let discarded = answered(&ended.history, KeptReply::Discarded);
     drop(ended);
     assert!(rt; is_whole(&came));
-    assert!(rt; gate.has_held());
+    assert!(rt; watch.has_held());
     assert!(rt; discarded == 1);
     Ok(())
 }

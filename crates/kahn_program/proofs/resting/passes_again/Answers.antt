@@ -1,6 +1,6 @@
 use Rattle.std.proofs.Common.{◌≡◌, ◌∙◌, true, ℕ, Some, slice_get, sym, ap}
 use Rattle.std.proofs.lemmas.Option.{slice_get-get_or}
-use Rattle.runtime.specs.ArmedWorlds.{armed_view}
+use Rattle.run_log.specs.ArmedWorlds.{armed_view}
 use Rattle.kahn_program.proofs.Passing.{asked}
 use Rattle.kahn_program.proofs.resting.passes_again.Goals as goal
 

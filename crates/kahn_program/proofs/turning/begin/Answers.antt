@@ -1,5 +1,5 @@
 use Rattle.std.proofs.Common.{rules, ◌∙◌}
-use Rattle.runtime.specs.ArmedWorlds.{armed_view}
+use Rattle.run_log.specs.ArmedWorlds.{armed_view}
 use Rattle.kahn_program.specs.Turning.{progress}
 use Rattle.kahn_program.proofs.Turns.{more_passed}
 use Rattle.kahn_program.proofs.turning.begin.Goals as goal

@@ -1,6 +1,6 @@
 use Rattle.std.proofs.Common.{◌≡◌, ◌-◌, length}
 use Rattle.std.specs.List.{AllByRecursion}
-use Rattle.runtime.specs.ArmedWorlds.{armed_view}
+use Rattle.run_log.specs.ArmedWorlds.{armed_view}
 use Rattle.world.specs.WorldView.{capacities}
 use Rattle.kahn_program.specs.Turning.{HavePassed, IsRunRoom, progress}
 use Rattle.kahn_program.proofs.turning.begin.Given as goal

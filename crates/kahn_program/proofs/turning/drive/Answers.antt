@@ -1,7 +1,7 @@
 use Rattle.std.proofs.Common.{◌+◌, Option, refl, subst, sym}
 use Rattle.replay.specs.Plain.{run_view}
 use Rattle.replay.specs.declared.kept.RunEvent.{RunEvent}
-use Rattle.runtime.specs.ArmedWorlds.{armed_view}
+use Rattle.run_log.specs.ArmedWorlds.{armed_view}
 use Rattle.station.specs.ReplyView.{reply_view}
 use Rattle.kahn_program.specs.Turning.{IsDriven, progress}
 use Rattle.kahn_program.proofs.Turns.{in_room}

@@ -3,7 +3,7 @@ use Rattle.std.proofs.lemmas.Result.{on_ok_weaker}
 use Rattle.protocol.specs.World.Choice.{choice}
 use Rattle.protocol.specs.World.EventView.{EventView}
 use Rattle.replay.specs.Armed.{IsArmedStep, OfWorld}
-use Rattle.runtime.specs.ArmedWorlds.{armed_view}
+use Rattle.run_log.specs.ArmedWorlds.{armed_view}
 use Rattle.station.specs.EventView.{event_view}
 use Rattle.station.specs.ReplyView.{reply_view}
 use Rattle.world.specs.WholeView.{world_of}

@@ -1,5 +1,5 @@
 use Rattle.std.proofs.Common.{sym, subst, ◌∙◌, ℕ}
-use Rattle.runtime.specs.ArmedWorlds.{armed_view}
+use Rattle.run_log.specs.ArmedWorlds.{armed_view}
 use Rattle.world.specs.WholeView.{world_of}
 use Rattle.kahn_program.specs.Turning.{IsDriven, IsWholeTurn, line_before, progress}
 use Rattle.kahn_program.proofs.Next.{first_node}

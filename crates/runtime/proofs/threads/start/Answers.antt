@@ -8,8 +8,8 @@ use Rattle.net_check.proofs.inputs.Inputs.TheSendSync.{the_send as inputs_s, the
 use Rattle.marks.proofs.marks.Marks.TheSendSync.{the_field_sync as marks_z}
 use Rattle.replay.proofs.kept.ArmedCrash.TheSendSync.{the_send as crash_s}
 use Rattle.replay.proofs.kept.ScriptedEvent.TheSendSync.{the_send as script_s}
-use Rattle.runtime.proofs.tally.Totals.TheSendSync.{the_field_send as totals_t}
-use Rattle.runtime.proofs.threads.Post.TheSendSync.{the_send as post_s}
+use Rattle.run_log.proofs.seat_count.RunCount.TheSendSync.{the_field_send as totals_t}
+use Rattle.runtime.proofs.threads.NodeSeats.TheSendSync.{the_send as seats_s}
 use Rattle.runtime.proofs.Sends.{line_send, net_send, net_sync, state_field_send}
 use Rattle.runtime.proofs.threads.start.Goals as goal
 
@@ -18,10 +18,10 @@ pub spawn-requires-send-F : goal.spawn-requires-send-F
 spawn-requires-send-F g c κs within =
     let s = c.type_bounds.send-C in
     let o = c.type_bounds.send-O in
-    let a = c.type_bounds.send-J in
-    let b = c.type_bounds.sync-J in
-    let d = c.type_bounds.send-N in
-    let e = c.type_bounds.sync-N in
-    let h = c.type_bounds.sync-G in
+    let a = c.type_bounds.send-ThisRun in
+    let b = c.type_bounds.sync-ThisRun in
+    let d = c.type_bounds.send-ItsMarks in
+    let e = c.type_bounds.sync-ItsMarks in
+    let h = c.type_bounds.sync-W in
     let r = c.type_bounds.sync-R in
-    search (sendable, crosses, state_field_send, net_send, net_sync, store_t, wire_s, output_t, turns_t, inputs_s, inputs_y, marks_z, crash_s, line_send, script_s, totals_t, post_s) depth 100 fits 1000000
+    search (sendable, crosses, state_field_send, net_send, net_sync, store_t, wire_s, output_t, turns_t, inputs_s, inputs_y, marks_z, crash_s, line_send, script_s, totals_t, seats_s) depth 100 fits 1000000

@@ -1,8 +1,8 @@
 use Rattle.std.proofs.Common.{◌∙◌, refl, sym, subst}
 use Rattle.node_memory.specs.JobView.{shared_view}
 use Rattle.protocol.specs.World.Replies.{IsGrantedAt}
-use Rattle.runtime.specs.Answers.{IsGrantedIn}
-use Rattle.runtime.specs.declared.answer.TurnAnswer.{TurnAnswer}
+use Rattle.run_log.specs.Answers.{IsGrantedIn}
+use Rattle.run_log.specs.declared.answer.TurnAnswer.{TurnAnswer}
 use Rattle.station.specs.ReplyView.{reply_view}
 use Rattle.station.specs.ReplyView.{Reply}
 use Rattle.runtime.proofs.working.take_turns.Goals as goal

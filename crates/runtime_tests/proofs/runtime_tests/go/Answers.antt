@@ -3,8 +3,8 @@ use Rattle.node_memory.specs.JobView.{shared_view}
 use Rattle.protocol.specs.World.Replies.{IsGrantedAt}
 use Rattle.station.specs.ReplyView.{reply_view}
 use Rattle.station.specs.ReplyView.{Reply}
-use Rattle.runtime.specs.Answers.{IsGrantedIn}
-use Rattle.runtime.specs.declared.answer.TurnAnswer.{TurnAnswer}
+use Rattle.run_log.specs.Answers.{IsGrantedIn}
+use Rattle.run_log.specs.declared.answer.TurnAnswer.{TurnAnswer}
 use Rattle.runtime_tests.proofs.runtime_tests.go.Goals as goal
 
 -- a job that the seat is granted is of a process of its node

@@ -1,0 +1,3 @@
+mod Raising
+mod Adding
+mod Arming

@@ -1,0 +1,25 @@
+use Rattle.std.proofs.Common.{rules, ◌≡◌, ◌∙◌, List, Some, refl, slice_get, subst, arith}
+use Rattle.std.proofs.lemmas.Option.{slice_get_read}
+use Rattle.replay.specs.declared.kept.ScriptedEvent.{ScriptedEvent}
+use Rattle.run_log.proofs.Adding.{due_line}
+use Rattle.run_log.proofs.run_log.RunLog.fault.Goals as goal
+
+pub be_silent-requires-then-line-round-clause-own : goal.be_silent-requires-then-line-round-clause-own
+be_silent-requires-then-line-round-clause-own g c =
+    let log = c.args.self.now in
+    let line = c.index-line.result.now in
+    let there : slice_get g.ThisRun.Run.script log.passed ≡ Some line =
+    subst (λ (script : List ScriptedEvent). slice_get script log.passed ≡ Some line) log.same_script
+    (slice_get_read log.script.items c.len.result log.passed line (c.len.ensures ∙ log.script.ok.0) (omega (arith, c.if-passed-len.false))
+    c.index-line.ensures) in
+    ∣ (line, there, (search rules)) ∣₁
+
+pub play-requires-clause-own : goal.play-requires-clause-own
+play-requires-clause-own g c =
+    let log = c.args.self.now in
+    let line = c.index-line.result.now in
+    let there : slice_get g.ThisRun.Run.script log.passed ≡ Some line =
+    subst (λ (script : List ScriptedEvent). slice_get script log.passed ≡ Some line) log.same_script
+    (slice_get_read log.script.items c.len.result log.passed line (c.len.ensures ∙ log.script.ok.0) (omega (arith, c.if-passed-len.false))
+    c.index-line.ensures) in
+    due_line g.ThisRun.Run.script log.passed log.armed.world.round line _ there (search rules) refl

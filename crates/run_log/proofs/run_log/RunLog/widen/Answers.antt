@@ -1,0 +1,29 @@
+use Rattle.std.proofs.Common.{◌∙◌, sym, ap}
+use Rattle.protocol.specs.World.Steps.{WorldView}
+use Rattle.replay.specs.Armed.{with_world}
+use Rattle.run_log.specs.ArmedWorlds.{armed_view}
+use Rattle.run_log.specs.Numbers.{Numbers, counted}
+use Rattle.run_log.specs.declared.seat_count.Counted.TheVariants as kind
+use Rattle.run_log.proofs.Adding.{numbers_widened, tells_still, widens}
+use Rattle.run_log.proofs.run_log.RunLog.widen.Goals as goal
+
+pub invariant_of-self-2-clause-replays : goal.invariant_of-self-2-clause-replays
+invariant_of-self-2-clause-replays g c =
+    let old = c.args.self.now in
+    widens _ _ _ old.lines.items _ old.passed (armed_view old.armed) _ old.replays c.requires.still
+    c.in_ok-add_widened.ensures.added
+    (ap (λ (world : WorldView). with_world world (armed_view old.armed)) c.widen.ensures.set)
+
+pub invariant_of-self-2-clause-numbers : goal.invariant_of-self-2-clause-numbers
+invariant_of-self-2-clause-numbers g c =
+    let old = c.args.self.now in
+    numbers_widened old.lines.items _ old.stops c.in_ok-add_widened.ensures.added
+    ∙ (ap (λ (n : Numbers). counted kind.Entry n) old.numbers ∙ sym c.add.ensures.total)
+
+pub invariant_of-self-2-clause-same_rooms : goal.invariant_of-self-2-clause-same_rooms
+invariant_of-self-2-clause-same_rooms g c = rw c.widen.ensures.same.2 c.args.self.now.same_rooms
+
+pub returns-clause-told : goal.returns-clause-told
+returns-clause-told g c =
+    let old = c.args.self.now in
+    tells_still _ _ _ _ old.passed (armed_view old.armed) old.replays c.requires.still

@@ -1,0 +1,112 @@
+-- What a seat is answered.
+use Rattle.std.specs.Prelude.{◌≡◌, ℕ, Bool, true, List}
+use Rattle.record.specs.RecordView.{RecordView}
+use Rattle.protocol.specs.World.Replies.{IsGrantedAt}
+use Rattle.protocol.specs.World.ReplyView.{ReplyView}
+use Rattle.protocol.specs.World.Steps.{WorldView}
+use Rattle.protocol.specs.World.Still.{stands_still}
+use Rattle.replay.specs.Armed.{ArmedEvent, ArmedView}
+use Rattle.replay.specs.Replay.{Happening, IsMade, IsReplay, IsSilence, KeptEventView}
+use Rattle.replay.specs.Replies.{KeptReply}
+use Rattle.replay.specs.declared.kept.Maker.{Maker}
+use Rattle.replay.specs.declared.kept.Maker.TheVariants.{Node, Driver}
+use Rattle.replay.specs.declared.kept.ScriptedEvent.{ScriptedEvent}
+use Rattle.replay.specs.declared.kept.Silence.{Silence}
+use Rattle.replay.specs.declared.kept.Silence.TheVariants.{Nothing, NotYet, NoMore}
+use Rattle.run_log.specs.Counts.{IsCounted}
+use Rattle.run_log.specs.Lines.{IsAdded, IsWidened}
+use Rattle.run_log.specs.declared.history.Line.{Line}
+use Rattle.run_log.specs.declared.answer.FaultAnswer.{FaultAnswer}
+use Rattle.run_log.specs.declared.answer.FaultAnswer.TheVariants as fault
+use Rattle.run_log.specs.declared.answer.TurnAnswer.{TurnAnswer}
+use Rattle.run_log.specs.declared.answer.TurnAnswer.TheVariants as turn
+use Rattle.run_log.specs.declared.answer.HubFault.{HubFault}
+use Rattle.run_log.specs.declared.answer.HubFault.TheVariants.{NoMemory, PastNumber}
+use Rattle.run_log.specs.declared.seat_count.Counted.{Counted}
+use Rattle.run_log.specs.declared.seat_count.Counted.TheVariants as counted
+use Rattle.station.specs.ReplyView.{reply_view}
+
+-- as what an answer counts
+abbrev pub turn_kind : TurnAnswer → Counted
+turn_kind (turn.Reply reply) = counted.Entry
+turn_kind turn.Nothing = counted.Nothing
+turn_kind turn.Widened = counted.Entry
+turn_kind turn.Stopped = counted.Stop
+
+abbrev pub fault_kind : FaultAnswer → Counted
+fault_kind (fault.Reply reply) = counted.Entry
+fault_kind fault.NotYet = counted.NotYet
+fault_kind fault.NoMore = counted.NoMore
+fault_kind fault.Stopped = counted.Stop
+
+-- a job in an answer is of a process of this node
+abbrev pub IsGrantedIn : ℕ → TurnAnswer → Type 0
+IsGrantedIn node (turn.Reply reply) = IsGrantedAt node (reply_view reply)
+IsGrantedIn node other = Unit {0}
+
+-- ---- what is written of it
+
+-- The event of an answer stands behind all other lines, with its maker and with this very answer; so does it that channels got more
+-- room; and an answer without an event is counted, and makes no other.
+abbrev pub IsTurnWritten : ℕ → List Line → List Line → TurnAnswer → Type 0
+IsTurnWritten node before now (turn.Reply reply) = (event : ArmedEvent) × IsAdded (Node node) event (reply_view reply) before now
+IsTurnWritten node before now turn.Nothing = IsCounted (Nothing node) before now
+IsTurnWritten node before now turn.Widened = IsWidened before now
+IsTurnWritten node before now turn.Stopped = now ≡ before
+
+abbrev pub IsFaultWritten : List Line → List Line → FaultAnswer → Type 0
+IsFaultWritten before now (fault.Reply reply) = (event : ArmedEvent) × IsAdded Driver event (reply_view reply) before now
+IsFaultWritten before now fault.NotYet = IsCounted NotYet before now
+IsFaultWritten before now fault.NoMore = IsCounted NoMore before now
+IsFaultWritten before now fault.Stopped = now ≡ before
+
+-- ---- what it says of the run, to whoever can't see what is written
+
+-- A history of this run leads to a world in which this maker's event is made, and answered so.
+pub record IsReplyIn (fits : List (RecordView → Bool)) (script : List ScriptedEvent) (opening : WorldView) (maker : Maker)
+    (answer : ReplyView) : Type 0 where
+  pub before : List Happening
+  pub passed : ℕ
+  pub old : ArmedView
+  pub new : ArmedView
+  pub kept : KeptEventView
+  pub said : KeptReply
+  pub run : IsReplay fits script opening before passed old
+  pub made : IsMade fits script maker kept said passed old new
+  pub answered : made.answer ≡ answer
+
+-- One leads to a world in which no event is made, for this reason.
+pub record IsSilentIn (fits : List (RecordView → Bool)) (script : List ScriptedEvent) (opening : WorldView) (reason : Silence)
+    : Type 0 where
+  pub before : List Happening
+  pub passed : ℕ
+  pub old : ArmedView
+  pub run : IsReplay fits script opening before passed old
+  pub silence : IsSilence script reason passed old.world
+
+-- One leads to a world that stands still for want of room.
+pub record IsStillIn (fits : List (RecordView → Bool)) (script : List ScriptedEvent) (opening : WorldView) : Type 0 where
+  pub before : List Happening
+  pub passed : ℕ
+  pub old : ArmedView
+  pub run : IsReplay fits script opening before passed old
+  pub still : stands_still old.world ≡ true
+
+-- So it is with what a node is told, of an event of its own or of its own silence; and with what the driver is.
+abbrev pub TellsTurn : List (RecordView → Bool) → List ScriptedEvent → WorldView → ℕ → TurnAnswer → Type 0
+TellsTurn fits script opening node (turn.Reply reply) = ∥ IsReplyIn fits script opening (Node node) (reply_view reply) ∥₁
+TellsTurn fits script opening node turn.Nothing = ∥ IsSilentIn fits script opening (Nothing node) ∥₁
+TellsTurn fits script opening node turn.Widened = ∥ IsStillIn fits script opening ∥₁
+TellsTurn fits script opening node turn.Stopped = Unit {0}
+
+abbrev pub TellsFault : List (RecordView → Bool) → List ScriptedEvent → WorldView → FaultAnswer → Type 0
+TellsFault fits script opening (fault.Reply reply) = ∥ IsReplyIn fits script opening Driver (reply_view reply) ∥₁
+TellsFault fits script opening fault.NotYet = ∥ IsSilentIn fits script opening NotYet ∥₁
+TellsFault fits script opening fault.NoMore = ∥ IsSilentIn fits script opening NoMore ∥₁
+TellsFault fits script opening fault.Stopped = Unit {0}
+
+-- ---- refusals
+
+abbrev pub fault_number : HubFault → ℕ
+fault_number NoMemory = 1
+fault_number PastNumber = 44

@@ -1,0 +1,56 @@
+-- The numbers of a history.
+use Rattle.std.specs.Prelude.{◌≡◌, ◌⊎◌, ℕ, List, [], ◌∷◌, ◌++◌, sum_by}
+use Rattle.replay.specs.Replay as happening
+use Rattle.replay.specs.declared.kept.Silence.{Silence}
+use Rattle.replay.specs.declared.kept.Silence.TheVariants.{Nothing, NotYet, NoMore}
+use Rattle.run_log.specs.Lines.{happenings}
+use Rattle.run_log.specs.Numbers.{Numbers, numbers}
+use Rattle.run_log.specs.Numbers as number
+use Rattle.run_log.specs.declared.history.Line.{Line}
+use Rattle.run_log.specs.declared.history.Line.TheVariants.{Made, Silent, Widened}
+use Rattle.run_log.specs.declared.seat_count.Counted.{Counted}
+use Rattle.run_log.specs.declared.seat_count.Counted.TheVariants as counted
+
+-- as what an answer without an event counts
+abbrev pub kind_of : Silence → Counted
+kind_of (Nothing node) = counted.Nothing
+kind_of NotYet = counted.NotYet
+kind_of NoMore = counted.NoMore
+
+-- that channels got more room counts as an event
+abbrev pub events_in : Line → ℕ
+events_in (Made entry) = 1
+events_in (Silent reason count) = 0
+events_in Widened = 1
+
+abbrev pub nothings_in : Line → ℕ
+nothings_in (Made entry) = 0
+nothings_in (Silent (Nothing node) count) = count
+nothings_in (Silent NotYet count) = 0
+nothings_in (Silent NoMore count) = 0
+nothings_in Widened = 0
+
+abbrev pub not_yets_in : Line → ℕ
+not_yets_in (Made entry) = 0
+not_yets_in (Silent (Nothing node) count) = 0
+not_yets_in (Silent NotYet count) = count
+not_yets_in (Silent NoMore count) = 0
+not_yets_in Widened = 0
+
+abbrev pub no_mores_in : Line → ℕ
+no_mores_in (Made entry) = 0
+no_mores_in (Silent (Nothing node) count) = 0
+no_mores_in (Silent NotYet count) = 0
+no_mores_in (Silent NoMore count) = count
+no_mores_in Widened = 0
+
+-- of these lines, and of so many answers `Stopped`
+abbrev pub numbers_in : List Line → ℕ → Numbers
+numbers_in lines stops =
+    numbers (sum_by events_in lines) (sum_by nothings_in lines) (sum_by not_yets_in lines) (sum_by no_mores_in lines)
+    stops
+
+-- An answer without an event was counted, for this reason: where it was given since the last event, or in a line of its own.
+pub record IsCounted (reason : Silence) (before now : List Line) : Type 0 where
+  pub lines : (happenings now ≡ happenings before) ⊎ (happenings now ≡ happenings before ++ happening.Silent reason ∷ [])
+  pub counts : (stops : ℕ) → numbers_in now stops ≡ number.counted (kind_of reason) (numbers_in before stops)

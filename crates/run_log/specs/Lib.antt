@@ -1,0 +1,9 @@
+pub mod Numbers
+pub mod NoWorld
+pub mod SeatCounts
+pub mod LedgerNames
+pub mod Lines
+pub mod Counts
+pub mod Answers
+pub mod ArmedWorlds
+pub mod RunLogs

@@ -1,0 +1,232 @@
+// A world with crashes that are armed for the ends of deliveries.
+ghost use Rattle.std.specs.Prelude.{◌≡◌, IfErr, IfOk, OnErr};
+ghost use Rattle.protocol.specs.World.EventView.{event_node};
+ghost use Rattle.protocol.specs.World.Replies.{IsGrantedAt, has_happened};
+ghost use Rattle.replay.specs.Armed.{ArmCrash, EndsWith, IsArmedStep, OfWorld, armed_at_first, crash_after, deliveries_after, delivered_to, first_crash, has_come, is_for, one_more};
+ghost use Rattle.replay.specs.Plain.{run_view};
+ghost use Rattle.station.specs.EventView.{event_view};
+ghost use Rattle.station.specs.ReplyView.{reply_view};
+ghost use Rattle.world.specs.WholeView.{world_of};
+ghost use Rattle.world.specs.WorldView.{capacities, rooms};
+
+use gate_cell::SlotCell;
+use node::next_after;
+use outlet::Outlet;
+use replay::{ArmedCrash, RunEvent};
+use std::alloc::{AllocError, Global};
+use world::{Deed, Event, PlainEvent, Refused, Reply, World};
+
+/// A world, how many deliveries each of its nodes has had, and the crashes that are armed for the ends of some. A delivery for
+/// which a crash is armed is two events of the world, the delivery and the crash, with nothing between them.
+#[derive(Drop)]
+pub struct ArmedWorld<C: SlotCell, O: Outlet> {
+    pub world: World<C, O>,
+    deliveries: Vec<u64>,
+    crashes: Vec<ArmedCrash>,
+}
+
+// The node to which a packet is to come, where that is the event.
+fn delivered_to(event: &Event) -> Option<u8>
+    ensures { result ≡ delivered_to (event_view event.now) }
+{
+    match event {
+        Event::Plain(
+            PlainEvent::ByNode {
+                node,
+                deed: Deed::Deliver { .. },
+            },
+        ) => Some(*node),
+        _ => None,
+    }
+}
+
+// Whether something happened.
+fn has_happened(reply: &Reply) -> bool
+    ensures { result ≡ has_happened (reply_view reply.now) }
+{
+    match reply {
+        Reply::NotDue => false,
+        _ => true,
+    }
+}
+
+// Whether a packet came, and no device failed.
+fn has_come(reply: &Reply) -> bool
+    ensures { result ≡ has_come (reply_view reply.now) }
+{
+    match reply {
+        Reply::Delivered | Reply::Dropped => true,
+        _ => false,
+    }
+}
+
+// A node has had one delivery more.
+fn count_one(deliveries: &mut Vec<u64>, node: u8)
+    ensures { deliveries.new.items ≡ one_more deliveries.old.items node }
+{
+    let place = usize::from(node);
+    if place < deliveries.len() {
+        let count = deliveries[place];
+        deliveries[place] = next_after(count);
+    }
+}
+
+// The numbers of deliveries behind an event at which a packet came to this node, if to any, and that was answered so.
+fn count(deliveries: &mut Vec<u64>, came_to: Option<u8>, said: &Reply)
+    ensures { deliveries.new.items
+        ≡ deliveries_after came_to (reply_view said.now) deliveries.old.items }
+{
+    if let Some(node) = came_to {
+        if has_happened(said) {
+            count_one(deliveries, node);
+        }
+    }
+}
+
+// Whether a crash is armed for this delivery of a node.
+fn is_for(crash: &ArmedCrash, node: u8, delivery: u64) -> bool
+    ensures { result ≡ is_for node delivery crash.now }
+{
+    crash.node == node && crash.delivery == delivery
+}
+
+// The first crash that is armed for this delivery of a node.
+fn first_crash(crashes: &[ArmedCrash], node: u8, delivery: u64) -> Option<ArmedCrash>
+    ensures { result ≡ first_crash node delivery crashes.now }
+{
+    for crash in crashes {
+        if is_for(crash, node, delivery) {
+            return Some(*crash);
+        }
+    }
+    None
+}
+
+// The crash that follows a packet's coming to this node, if to any, where that was answered so.
+fn crash_after(
+    deliveries: &[u64],
+    crashes: &[ArmedCrash],
+    came_to: Option<u8>,
+    said: &Reply,
+) -> Option<ArmedCrash>
+    ensures { result ≡ crash_after came_to (reply_view said.now) deliveries.now crashes.now }
+{
+    let Some(node) = came_to else {
+        return None;
+    };
+    if !has_come(said) {
+        return None;
+    }
+    match deliveries.get(usize::from(node)) {
+        Some(delivery) => first_crash(crashes, node, *delivery),
+        None => None,
+    }
+}
+
+// Ends an event by this crash, if by any. What was answered is answered where it ends by none.
+fn end<C: SlotCell, O: Outlet>(
+    alloc: Global,
+    world: &mut World<C, O>,
+    crash: Option<ArmedCrash>,
+    said: Reply,
+) -> Reply
+    ensures ends { EndsWith (rooms world.old.stations.items) crash (reply_view said)
+        (world_of world.old) (reply_view result) (world_of world.new) }
+    ensures rooms { rooms world.new.stations.items ≡ rooms world.old.stations.items }
+    ensures capacities { capacities world.new.stations.items ≡ capacities world.old.stations.items }
+    ensures same { (world.new.net ≡ world.old.net) × (world.new.inputs ≡ world.old.inputs) }
+{
+    let Some(crash) = crash else {
+        return said;
+    };
+    let ArmedCrash {
+        node,
+        fill,
+        rounds,
+        ..
+    } = crash;
+    match world.apply(alloc, Event::by_node(node, Deed::Crash { fill, rounds })) {
+        Ok(reply) => reply,
+        // A crash takes no memory, and isn't refused.
+        Err(_) => said,
+    }
+}
+
+impl<C: SlotCell, O: Outlet> ArmedWorld<C, O> {
+    ghost use Rattle.run_log.specs.ArmedWorlds.{armed_view};
+
+    /// A world for which no crash is armed, and whose deliveries are counted from now on. Refuses for want of memory alone.
+    pub fn new(alloc: Global, world: World<C, O>) -> Result<ArmedWorld<C, O>, AllocError>
+        ensures first { IfOk result (λ armed. armed_view armed ≡ armed_at_first (world_of world)) }
+        ensures world { IfOk result (λ armed. armed.world ≡ world) }
+    {
+        let deliveries = vec![in alloc; 0; world.stations.len()]?;
+        Ok(ArmedWorld {
+            world,
+            deliveries,
+            crashes: Vec::new(alloc),
+        })
+    }
+
+    /// One event of the world; where it is a delivery for whose end a crash is armed, the node crashes then, and that is
+    /// answered. Refuses for want of memory alone (1), with the event, and then nothing is changed.
+    pub fn apply(&mut self, alloc: Global, event: Event) -> Result<Reply, Refused>
+        ensures step { IfOk result (λ reply. IsArmedStep (rooms self.old.world.stations.items)
+            (OfWorld (event_view event)) (armed_view self.old) (reply_view reply)
+            (armed_view self.new)) }
+        // A job that is granted is of a process of the event's node.
+        ensures home { IfOk result
+            (λ reply. IsGrantedAt (event_node (event_view event)) (reply_view reply)) }
+        ensures same_rooms { rooms self.new.world.stations.items
+            ≡ rooms self.old.world.stations.items }
+        ensures same_capacities { capacities self.new.world.stations.items
+            ≡ capacities self.old.world.stations.items }
+        ensures same { (self.new.world.net ≡ self.old.world.net)
+            × (self.new.world.inputs ≡ self.old.world.inputs) }
+        ensures refused { OnErr result (armed_view self.new ≡ armed_view self.old) }
+        ensures handed_back { IfErr result (λ refused. refused.event ≡ event) }
+    {
+        let ArmedWorld {
+            world,
+            deliveries,
+            crashes,
+        } = self;
+        let came_to = delivered_to(&event);
+        let said = world.apply(alloc, event)?;
+        count(deliveries, came_to, &said);
+        let crash = crash_after(deliveries, crashes, came_to, &said);
+        Ok(end(alloc, world, crash, said))
+    }
+
+    /// Arms a crash for the end of a delivery. Where that is over, it has no effect. Refuses for want of memory alone.
+    fn arm(&mut self, crash: ArmedCrash) -> Result<Reply, AllocError>
+        ensures step { IfOk result (λ reply. IsArmedStep (rooms self.old.world.stations.items)
+            (ArmCrash crash) (armed_view self.old) (reply_view reply) (armed_view self.new)) }
+        ensures world { self.new.world ≡ self.old.world }
+        ensures refused { OnErr result (armed_view self.new ≡ armed_view self.old) }
+    {
+        self.crashes.push(crash)?;
+        Ok(Reply::Acted)
+    }
+
+    /// The event of a line of a script. Refuses for want of memory alone, and then nothing is changed.
+    pub fn play(&mut self, alloc: Global, event: RunEvent) -> Result<Reply, AllocError>
+        ensures step { IfOk result (λ reply. IsArmedStep (rooms self.old.world.stations.items)
+            (run_view event) (armed_view self.old) (reply_view reply) (armed_view self.new)) }
+        ensures same_rooms { rooms self.new.world.stations.items
+            ≡ rooms self.old.world.stations.items }
+        ensures same_capacities { capacities self.new.world.stations.items
+            ≡ capacities self.old.world.stations.items }
+        ensures same { (self.new.world.net ≡ self.old.world.net)
+            × (self.new.world.inputs ≡ self.old.world.inputs) }
+        ensures refused { OnErr result (armed_view self.new ≡ armed_view self.old) }
+    {
+        match event {
+            RunEvent::World(event) => match self.apply(alloc, Event::Plain(event)) {
+                Ok(reply) => Ok(reply),
+                Err(_) => Err(AllocError),
+            },
+            RunEvent::ArmCrash(crash) => self.arm(crash),
+        }
+    }
+}

@@ -1,0 +1,79 @@
+// Answers without an event, counted between the events.
+ghost use Rattle.std.specs.Prelude.{◌≡◌, ◌⊎◌, ◌++◌, ◌∷◌, [], ◌<◌, ◌+◌, ◌-◌, ℕ, IfSome, OnErr, OnOk};
+ghost use Rattle.replay.specs.Replay as happening;
+ghost use Rattle.run_log.specs.Counts.{kind_of, numbers_in};
+ghost use Rattle.run_log.specs.Lines.{IsSaidAt, IsWidened, happenings};
+ghost use Rattle.run_log.specs.Numbers.{counted};
+
+use crate::answer::HubFault;
+use crate::history::Line;
+use kahn_net::MAX_COUNT;
+use replay::Silence;
+
+/// Where this was said since the last event or widening, if it was. So it looks at a line for each node at most.
+pub(crate) fn find_silence(lines: &[Line], reason: Silence) -> Option<usize>
+    ensures { IfSome result (λ place. IsSaidAt lines.now place reason) }
+{
+    let mut place = lines.len();
+    while place > 0 {
+        place -= 1;
+        match &lines[place] {
+            Line::Made(_) | Line::Widened => return None,
+            Line::Silent { reason: said, .. } => {
+                if *said == reason {
+                    return Some(place);
+                }
+            }
+        }
+    }
+    None
+}
+
+// It is said there once more.
+fn raise(lines: &mut Vec<Line>, place: usize, reason: Silence) -> Result<(), HubFault>
+    requires { IsSaidAt lines.old.items place reason }
+    ensures same { OnOk result (happenings lines.new.items ≡ happenings lines.old.items) }
+    ensures counts { OnOk result ((stops : ℕ) → numbers_in lines.new.items stops
+        ≡ counted (kind_of reason) (numbers_in lines.old.items stops)) }
+    ensures refused { OnErr result (lines.new.items ≡ lines.old.items) }
+{
+    match &mut lines[place] {
+        Line::Made(_) | Line::Widened => Ok(()),
+        Line::Silent { count, .. } => {
+            if *count >= MAX_COUNT {
+                return Err(HubFault::PastNumber);
+            }
+            *count += 1;
+            Ok(())
+        }
+    }
+}
+
+/// Counts an answer without an event: where it was given since the last event, and else in a line of its own.
+pub(crate) fn add_silence(lines: &mut Vec<Line>, reason: Silence) -> Result<(), HubFault>
+    ensures lines { OnOk result ((happenings lines.new.items ≡ happenings lines.old.items)
+        ⊎ (happenings lines.new.items
+        ≡ happenings lines.old.items ++ happening.Silent reason ∷ [])) }
+    ensures counts { OnOk result ((stops : ℕ) → numbers_in lines.new.items stops
+        ≡ counted (kind_of reason) (numbers_in lines.old.items stops)) }
+    ensures refused { OnErr result (lines.new.items ≡ lines.old.items) }
+{
+    if let Some(place) = find_silence(lines, reason) {
+        return raise(lines, place, reason);
+    }
+    if lines.push(Line::Silent { reason, count: 1 }).is_err() {
+        return Err(HubFault::NoMemory);
+    }
+    Ok(())
+}
+
+/// Notes that channels got more room.
+pub(crate) fn add_widened(lines: &mut Vec<Line>) -> Result<(), HubFault>
+    ensures added { OnOk result (IsWidened lines.old.items lines.new.items) }
+    ensures refused { OnErr result (lines.new.items ≡ lines.old.items) }
+{
+    if lines.push(Line::Widened).is_err() {
+        return Err(HubFault::NoMemory);
+    }
+    Ok(())
+}

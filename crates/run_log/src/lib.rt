@@ -1,0 +1,25 @@
+//! A world with the log of all that was done to it, and of why at times nothing was.
+//!
+//! The log has a seat for each node, and one for whoever goes through the script. A call for a seat makes at most one event, and
+//! keeps it with its answer; a call that makes none is counted. The world is always the one to which the log leads from the opening
+//! world. There is no thread here: several may share a log under a lock.
+#![tactic(auto)]
+
+mod answer;
+mod armed;
+mod counting;
+mod history;
+mod keeping;
+mod making;
+mod run_log;
+mod seat_count;
+
+pub use answer::{FaultAnswer, HeldBack, HubFault, Status, TurnAnswer};
+pub use armed::ArmedWorld;
+pub use history::{Entry, History, KeptEvent, Line};
+pub use keeping::keep_reply;
+pub use run_log::RunLog;
+pub use seat_count::{
+    Counted, Entries, NoMores, NotYets, Nothings, Run, RunCount, RunLedgers, SeatCount, Stops,
+    UnusedLedgers,
+};

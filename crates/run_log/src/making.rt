@@ -1,0 +1,84 @@
+// An event, and its line.
+ghost use Rattle.std.specs.Prelude.{◌≡◌, IfErr, IfOk, OnErr};
+ghost use Rattle.protocol.specs.World.EventView.{event_node};
+ghost use Rattle.protocol.specs.World.Replies.{IsGrantedAt};
+ghost use Rattle.replay.specs.Armed.{IsArmedStep, OfWorld};
+ghost use Rattle.replay.specs.Plain.{run_view};
+ghost use Rattle.replay.specs.declared.kept.Maker.TheVariants as who;
+ghost use Rattle.run_log.specs.ArmedWorlds.{armed_view};
+ghost use Rattle.run_log.specs.Lines.{IsAdded};
+ghost use Rattle.station.specs.EventView.{event_view};
+ghost use Rattle.station.specs.ReplyView.{reply_view};
+ghost use Rattle.world.specs.WorldView.{rooms};
+
+use crate::armed::ArmedWorld;
+use crate::history::{Entry, KeptEvent, Line};
+use crate::keeping::{keep, keep_reply};
+use gate_cell::SlotCell;
+use outlet::Outlet;
+use replay::{Maker, RunEvent};
+use std::alloc::{AllocError, Global};
+use world::{Event, Refused, Reply};
+
+/// Makes an event of a node, and keeps it with its answer. The room of its line is made first, and a refusal leaves all as it was.
+pub(crate) fn make_event<C: SlotCell, O: Outlet>(
+    alloc: Global,
+    world: &mut ArmedWorld<C, O>,
+    lines: &mut Vec<Line>,
+    node: u8,
+    event: Event,
+) -> Result<Reply, Refused>
+    ensures added { IfOk result (λ reply. IsAdded (who.Node node) (OfWorld (event_view event))
+        (reply_view reply) lines.old.items lines.new.items) }
+    ensures step { IfOk result (λ reply. IsArmedStep (rooms world.old.world.stations.items)
+        (OfWorld (event_view event)) (armed_view world.old) (reply_view reply)
+        (armed_view world.new)) }
+    ensures home { IfOk result
+        (λ reply. IsGrantedAt (event_node (event_view event)) (reply_view reply)) }
+    ensures rooms { rooms world.new.world.stations.items ≡ rooms world.old.world.stations.items }
+    ensures refused { OnErr result ((lines.new.items ≡ lines.old.items)
+        × (armed_view world.new ≡ armed_view world.old)) }
+    ensures handed_back { IfErr result (λ refused. refused.event ≡ event) }
+{
+    if lines.reserve(1).is_err() {
+        return Err(Refused { event });
+    }
+    let Ok(kept) = keep(&event) else {
+        return Err(Refused { event });
+    };
+    let reply = world.apply(alloc, event)?;
+    let said = keep_reply(&reply);
+    lines.push_reserved(Line::Made(Entry {
+        maker: Maker::Node(node),
+        event: kept,
+        reply: said,
+    }));
+    Ok(reply)
+}
+
+/// Makes the event of a line of the script, and keeps it with its answer. The room of its line is made first, and a refusal leaves
+/// all as it was.
+pub(crate) fn make_scripted<C: SlotCell, O: Outlet>(
+    alloc: Global,
+    world: &mut ArmedWorld<C, O>,
+    lines: &mut Vec<Line>,
+    event: RunEvent,
+) -> Result<Reply, AllocError>
+    ensures added { IfOk result (λ reply. IsAdded who.Driver (run_view event) (reply_view reply)
+        lines.old.items lines.new.items) }
+    ensures step { IfOk result (λ reply. IsArmedStep (rooms world.old.world.stations.items)
+        (run_view event) (armed_view world.old) (reply_view reply) (armed_view world.new)) }
+    ensures rooms { rooms world.new.world.stations.items ≡ rooms world.old.world.stations.items }
+    ensures refused { OnErr result ((lines.new.items ≡ lines.old.items)
+        × (armed_view world.new ≡ armed_view world.old)) }
+{
+    lines.reserve(1)?;
+    let reply = world.play(alloc, event)?;
+    let said = keep_reply(&reply);
+    lines.push_reserved(Line::Made(Entry {
+        maker: Maker::Driver,
+        event: KeptEvent::Plain(event),
+        reply: said,
+    }));
+    Ok(reply)
+}

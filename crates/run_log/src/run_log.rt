@@ -1,0 +1,459 @@
+// The log of a run, with the world to which it leads.
+ghost use Rattle.std.specs.Prelude.{◌≡◌, ◌||◌, ◌<◌, true, false, length, IfErr, IfOk, IsTrue, OnErr, OnOk};
+ghost use Rattle.protocol.specs.World.EventView.{event_node, Install};
+ghost use Rattle.protocol.specs.World.Quiet.{are_quiet};
+ghost use Rattle.protocol.specs.World.Still.{stands_still};
+ghost use Rattle.protocol.specs.World.Replies.{IsGrantedAt};
+ghost use Rattle.replay.specs.Armed.{OfWorld, armed_at_first};
+ghost use Rattle.replay.specs.Plain.{run_view};
+ghost use Rattle.replay.specs.Replay.{IsEventOf, IsIdle, IsReplay, IsSilence, LeadsTo, has_idled};
+ghost use Rattle.replay.specs.declared.kept.Maker.TheVariants as who;
+ghost use Rattle.run_log.specs.ArmedWorlds.{armed_view};
+ghost use Rattle.run_log.specs.Answers.{fault_kind, turn_kind, IsGrantedIn, IsReplyIn, IsSilentIn, IsStillIn, IsFaultWritten, IsTurnWritten, TellsFault, TellsTurn};
+ghost use Rattle.run_log.specs.Counts.{kind_of, numbers_in, IsCounted};
+ghost use Rattle.run_log.specs.Lines.{IsAdded, IsWidened, happenings};
+ghost use Rattle.run_log.specs.declared.answer.FaultAnswer.TheVariants as faults;
+ghost use Rattle.run_log.specs.declared.answer.TurnAnswer.TheVariants as turns;
+ghost use Rattle.run_log.specs.Numbers.{counted, no_numbers};
+ghost use Rattle.run_log.specs.SeatCounts.{run_numbers, seat_numbers, seat_parts};
+ghost use Rattle.run_log.specs.declared.seat_count.Counted.TheVariants as kind;
+ghost use Rattle.station.specs.DoneView.{done_view};
+ghost use Rattle.station.specs.EventView.{event_view};
+ghost use Rattle.station.specs.ReplyView.{reply_view};
+ghost use Rattle.world.specs.WholeView.{world_of};
+ghost use Rattle.world.specs.WorldView.{rooms};
+ghost use Rattle.station.specs.declared.event.Event.TheVariants as event;
+
+use crate::answer::{FaultAnswer, HeldBack, HubFault, Status, TurnAnswer};
+use crate::armed::ArmedWorld;
+use crate::counting::{add_silence, add_widened, find_silence};
+use crate::history::{History, Line};
+use crate::making::{make_event, make_scripted};
+use crate::seat_count::{Counted, Run, RunCount, SeatCount};
+use gate_cell::SlotCell;
+use kahn_net::MAX_COUNT;
+use outlet::Outlet;
+use proc_step::Done;
+use replay::{RunEvent, ScriptedEvent, Silence};
+use std::alloc::Global;
+use world::{Deed, Event, PlainEvent, Refused, Reply, World};
+
+/// A world with its script and its history, and how often the seats were answered. Several threads share it under a lock.
+#[derive(Drop)]
+pub struct RunLog<C: SlotCell, O: Outlet, ThisRun: Run> {
+    armed: ArmedWorld<C, O>,
+    script: Vec<ScriptedEvent>,
+    // How many lines of the script are passed.
+    passed: usize,
+    lines: Vec<Line>,
+    stopped: bool,
+    stops: u64,
+    // Whether the world was found incomplete, and no event came since.
+    incomplete: bool,
+    totals: RunCount<ThisRun>,
+    pub ghost replays: { ∥ IsReplay ThisRun.rooms ThisRun.script ThisRun.opening (happenings lines.items) passed
+        (armed_view armed) ∥₁ },
+    pub ghost same_rooms: { rooms armed.world.stations.items ≡ ThisRun.rooms },
+    pub ghost same_script: { script.items ≡ ThisRun.script },
+    pub ghost numbers: { numbers_in lines.items stops ≡ run_numbers totals },
+    pub ghost running: { stopped ≡ false → stops ≡ 0 },
+    pub ghost still: { incomplete ≡ true → are_quiet (world_of armed.world) ≡ false },
+}
+
+fn counted_as(reason: Silence) -> Counted
+    ensures { result ≡ kind_of reason }
+{
+    match reason {
+        Silence::Nothing(_) => Counted::Nothing,
+        Silence::NotYet => Counted::NotYet,
+        Silence::NoMore => Counted::NoMore,
+    }
+}
+
+// Whether a turn passes in this event.
+fn is_idle(event: &Event) -> bool
+    ensures { result ≡ true → IsIdle (event_view event.now) }
+{
+    match event {
+        Event::Plain(
+            PlainEvent::ByNode {
+                deed: Deed::Idle,
+                ..
+            },
+        ) => true,
+        _ => false,
+    }
+}
+
+// Whether a node has let its turn pass in this round.
+fn has_idled<C: SlotCell, O: Outlet>(world: &World<C, O>, node: u8) -> bool
+    ensures { result ≡ has_idled (world_of world.now) node }
+{
+    match world.stations.get(usize::from(node)) {
+        Some(station) => station.turns.of(world.round).idled,
+        None => false,
+    }
+}
+
+impl<C: SlotCell, O: Outlet, ThisRun: Run> RunLog<C, O, ThisRun> {
+    ghost use Rattle.run_log.specs.RunLogs.{IsSameLog};
+
+    /// A log in which nothing is written yet.
+    pub fn new(
+        alloc: Global,
+        armed: ArmedWorld<C, O>,
+        script: Vec<ScriptedEvent>,
+        totals: RunCount<ThisRun>,
+    ) -> RunLog<C, O, ThisRun>
+        requires opening { armed_view armed ≡ armed_at_first ThisRun.opening }
+        requires rooms { rooms armed.world.stations.items ≡ ThisRun.rooms }
+        requires script { script.items ≡ ThisRun.script }
+        requires totals { run_numbers totals ≡ no_numbers }
+    {
+        RunLog {
+            armed,
+            script,
+            passed: 0,
+            lines: Vec::new(alloc),
+            stopped: false,
+            stops: 0,
+            incomplete: false,
+            totals,
+        }
+    }
+
+    // An event of this node, with its line and its count.
+    fn make(
+        &mut self,
+        alloc: Global,
+        node: u8,
+        event: Event,
+        count: &mut SeatCount<ThisRun>,
+    ) -> Result<Reply, HeldBack>
+        requires part { 0 < seat_parts count.old }
+        requires own { IsEventOf ThisRun.script (who.Node node) self.old.passed
+            (world_of self.old.armed.world) (OfWorld (event_view event)) }
+        ensures parts { seat_parts count.new ≡ seat_parts count.old }
+        ensures counted { OnOk result
+            (seat_numbers count.new ≡ counted kind.Entry (seat_numbers count.old)) }
+        ensures home { IfOk result
+            (λ reply. IsGrantedAt (event_node (event_view event)) (reply_view reply)) }
+        ensures added { IfOk result (λ reply. IsAdded (who.Node node) (OfWorld (event_view event))
+            (reply_view reply) self.old.lines.items self.new.lines.items) }
+        ensures told { IfOk result (λ reply. ∥ IsReplyIn ThisRun.rooms ThisRun.script ThisRun.opening (who.Node node)
+            (reply_view reply) ∥₁) }
+        ensures refused { OnErr result (seat_numbers count.new ≡ seat_numbers count.old) }
+        ensures unchanged { OnErr result (IsSameLog self.old self.new) }
+        ensures handed_back { IfErr result (λ held. held.event ≡ event) }
+    {
+        if self.totals.made() >= MAX_COUNT {
+            return Err(HeldBack {
+                event,
+                fault: HubFault::PastNumber,
+            });
+        }
+        let RunLog {
+            armed,
+            lines,
+            incomplete,
+            totals,
+            ..
+        } = self;
+        let reply = match make_event(alloc, armed, lines, node, event) {
+            Ok(reply) => reply,
+            Err(Refused { event }) => {
+                return Err(HeldBack {
+                    event,
+                    fault: HubFault::NoMemory,
+                });
+            }
+        };
+        *incomplete = false;
+        totals.add(count, Counted::Entry);
+        Ok(reply)
+    }
+
+    // The event of the script's next line, with its line and its count.
+    fn play(
+        &mut self,
+        alloc: Global,
+        event: RunEvent,
+        count: &mut SeatCount<ThisRun>,
+    ) -> Result<Reply, HubFault>
+        requires part { 0 < seat_parts count.old }
+        requires own { IsEventOf ThisRun.script who.Driver self.old.passed
+            (world_of self.old.armed.world) (run_view event) }
+        requires few { self.old.passed < length ThisRun.script }
+        ensures parts { seat_parts count.new ≡ seat_parts count.old }
+        ensures counted { OnOk result
+            (seat_numbers count.new ≡ counted kind.Entry (seat_numbers count.old)) }
+        ensures added { IfOk result (λ reply. IsAdded who.Driver (run_view event)
+            (reply_view reply) self.old.lines.items self.new.lines.items) }
+        ensures told { IfOk result (λ reply. ∥ IsReplyIn ThisRun.rooms ThisRun.script ThisRun.opening who.Driver
+            (reply_view reply) ∥₁) }
+        ensures refused { OnErr result (seat_numbers count.new ≡ seat_numbers count.old) }
+        ensures unchanged { OnErr result (IsSameLog self.old self.new) }
+    {
+        if self.totals.made() >= MAX_COUNT {
+            return Err(HubFault::PastNumber);
+        }
+        let RunLog {
+            armed,
+            lines,
+            passed,
+            incomplete,
+            totals,
+            ..
+        } = self;
+        let Ok(reply) = make_scripted(alloc, armed, lines, event) else {
+            return Err(HubFault::NoMemory);
+        };
+        *passed += 1;
+        *incomplete = false;
+        totals.add(count, Counted::Entry);
+        Ok(reply)
+    }
+
+    // Gives channels more room, with its line and its count.
+    fn widen(&mut self, count: &mut SeatCount<ThisRun>) -> Result<(), HubFault>
+        requires part { 0 < seat_parts count.old }
+        requires still { stands_still (world_of self.old.armed.world) ≡ true }
+        ensures parts { seat_parts count.new ≡ seat_parts count.old }
+        ensures counted { OnOk result
+            (seat_numbers count.new ≡ counted kind.Entry (seat_numbers count.old)) }
+        ensures added { OnOk result (IsWidened self.old.lines.items self.new.lines.items) }
+        ensures told { OnOk result (∥ IsStillIn ThisRun.rooms ThisRun.script ThisRun.opening ∥₁) }
+        ensures refused { OnErr result (seat_numbers count.new ≡ seat_numbers count.old) }
+        ensures unchanged { OnErr result (IsSameLog self.old self.new) }
+    {
+        if self.totals.made() >= MAX_COUNT {
+            return Err(HubFault::PastNumber);
+        }
+        let RunLog {
+            armed,
+            lines,
+            incomplete,
+            totals,
+            ..
+        } = self;
+        add_widened(lines)?;
+        armed.world.widen();
+        *incomplete = false;
+        totals.add(count, Counted::Entry);
+        Ok(())
+    }
+
+    // An answer without an event.
+    fn be_silent(&mut self, reason: Silence, count: &mut SeatCount<ThisRun>) -> Result<(), HubFault>
+        requires part { 0 < seat_parts count.old }
+        requires own { ∥ IsSilence ThisRun.script reason self.old.passed
+            (world_of self.old.armed.world) ∥₁ }
+        ensures parts { seat_parts count.new ≡ seat_parts count.old }
+        ensures counted { OnOk result
+            (seat_numbers count.new ≡ counted (kind_of reason) (seat_numbers count.old)) }
+        ensures added { OnOk result (IsCounted reason self.old.lines.items self.new.lines.items) }
+        ensures told { OnOk result (∥ IsSilentIn ThisRun.rooms ThisRun.script ThisRun.opening reason ∥₁) }
+        ensures refused { OnErr result (seat_numbers count.new ≡ seat_numbers count.old) }
+        ensures unchanged { OnErr result (IsSameLog self.old self.new) }
+    {
+        let RunLog { lines, totals, .. } = self;
+        add_silence(lines, reason)?;
+        totals.add(count, counted_as(reason));
+        Ok(())
+    }
+
+    // The answer of a run that is stopped.
+    fn be_stopped(&mut self, count: &mut SeatCount<ThisRun>) -> Result<(), HubFault>
+        requires part { 0 < seat_parts count.old }
+        requires stopped { self.old.stopped ≡ true }
+        ensures parts { seat_parts count.new ≡ seat_parts count.old }
+        ensures counted { OnOk result
+            (seat_numbers count.new ≡ counted kind.Stop (seat_numbers count.old)) }
+        ensures same { self.new.lines.items ≡ self.old.lines.items }
+        ensures refused { OnErr result (seat_numbers count.new ≡ seat_numbers count.old) }
+        ensures unchanged { OnErr result (IsSameLog self.old self.new) }
+    {
+        if self.stops >= MAX_COUNT {
+            return Err(HubFault::PastNumber);
+        }
+        let RunLog { stops, totals, .. } = self;
+        *stops += 1;
+        totals.add(count, Counted::Stop);
+        Ok(())
+    }
+
+    // Whether this was said since the last event: then it holds still, and the world need not be asked.
+    fn has_said(&self, reason: Silence) -> bool
+        ensures { IsTrue result
+            → ∥ IsSilence ThisRun.script reason self.now.passed (world_of self.now.armed.world) ∥₁ }
+    {
+        find_silence(&self.lines, reason).is_some()
+    }
+
+    /// The event that is next for a node; none where all that it could do is to let its turn pass, and it has done so in this
+    /// round. Before it does so first, channels get more room if the world stands still for want of it.
+    pub fn turn(
+        &mut self,
+        alloc: Global,
+        node: u8,
+        count: &mut SeatCount<ThisRun>,
+    ) -> Result<TurnAnswer, HubFault>
+        requires part { 0 < seat_parts count.old }
+        ensures parts { seat_parts count.new ≡ seat_parts count.old }
+        ensures counted { IfOk result (λ answer. seat_numbers count.new
+            ≡ counted (turn_kind answer) (seat_numbers count.old)) }
+        ensures home { IfOk result (IsGrantedIn node) }
+        ensures written { IfOk result
+            (IsTurnWritten node self.old.lines.items self.new.lines.items) }
+        ensures told { IfOk result (TellsTurn ThisRun.rooms ThisRun.script ThisRun.opening node) }
+        ensures stopped { self.old.stopped ≡ true
+            → IfOk result (λ answer. answer ≡ turns.Stopped) }
+        ensures refused { OnErr result (seat_numbers count.new ≡ seat_numbers count.old) }
+        ensures unchanged { OnErr result (IsSameLog self.old self.new) }
+    {
+        if self.stopped {
+            self.be_stopped(count)?;
+            return Ok(TurnAnswer::Stopped);
+        }
+        if self.has_said(Silence::Nothing(node)) {
+            self.be_silent(Silence::Nothing(node), count)?;
+            return Ok(TurnAnswer::Nothing);
+        }
+        let event = self.armed.world.pick(node);
+        if is_idle(&event) && has_idled(&self.armed.world, node) {
+            self.be_silent(Silence::Nothing(node), count)?;
+            return Ok(TurnAnswer::Nothing);
+        }
+        if is_idle(&event) && self.armed.world.stands_still() {
+            self.widen(count)?;
+            return Ok(TurnAnswer::Widened);
+        }
+        match self.make(alloc, node, event, count) {
+            Ok(reply) => Ok(TurnAnswer::Reply(reply)),
+            Err(held) => Err(held.fault),
+        }
+    }
+
+    /// What came of a job of this node comes back.
+    pub fn install(
+        &mut self,
+        alloc: Global,
+        node: u8,
+        done: Done,
+        count: &mut SeatCount<ThisRun>,
+    ) -> Result<Reply, HeldBack>
+        requires part { 0 < seat_parts count.old }
+        requires home { event_node (Install (done_view done)) ≡ node }
+        ensures parts { seat_parts count.new ≡ seat_parts count.old }
+        ensures added { IfOk result (λ reply. IsAdded (who.Node node)
+            (OfWorld (Install (done_view done))) (reply_view reply) self.old.lines.items self.new.lines.items) }
+        ensures told { IfOk result (λ reply. ∥ IsReplyIn ThisRun.rooms ThisRun.script ThisRun.opening (who.Node node)
+            (reply_view reply) ∥₁) }
+        ensures counted { OnOk result
+            (seat_numbers count.new ≡ counted kind.Entry (seat_numbers count.old)) }
+        ensures refused { OnErr result (seat_numbers count.new ≡ seat_numbers count.old) }
+        ensures unchanged { OnErr result (IsSameLog self.old self.new) }
+        ensures handed_back { IfErr result (λ held. held.event ≡ event.Install done) }
+    {
+        self.make(alloc, node, Event::Install(done), count)
+    }
+
+    /// The event of the script's next line, if there is one and it is due.
+    pub fn fault(
+        &mut self,
+        alloc: Global,
+        count: &mut SeatCount<ThisRun>,
+    ) -> Result<FaultAnswer, HubFault>
+        requires part { 0 < seat_parts count.old }
+        ensures parts { seat_parts count.new ≡ seat_parts count.old }
+        ensures counted { IfOk result (λ answer. seat_numbers count.new
+            ≡ counted (fault_kind answer) (seat_numbers count.old)) }
+        ensures written { IfOk result
+            (IsFaultWritten self.old.lines.items self.new.lines.items) }
+        ensures told { IfOk result (TellsFault ThisRun.rooms ThisRun.script ThisRun.opening) }
+        ensures stopped { self.old.stopped ≡ true
+            → IfOk result (λ answer. answer ≡ faults.Stopped) }
+        ensures refused { OnErr result (seat_numbers count.new ≡ seat_numbers count.old) }
+        ensures unchanged { OnErr result (IsSameLog self.old self.new) }
+    {
+        if self.stopped {
+            self.be_stopped(count)?;
+            return Ok(FaultAnswer::Stopped);
+        }
+        let passed = self.passed;
+        if passed >= self.script.len() {
+            self.be_silent(Silence::NoMore, count)?;
+            return Ok(FaultAnswer::NoMore);
+        }
+        let line = self.script[passed];
+        if line.round > self.armed.world.round() {
+            self.be_silent(Silence::NotYet, count)?;
+            return Ok(FaultAnswer::NotYet);
+        }
+        match self.play(alloc, line.event, count) {
+            Ok(reply) => Ok(FaultAnswer::Reply(reply)),
+            Err(fault) => Err(fault),
+        }
+    }
+
+    /// How many events were made.
+    pub fn made(&self) -> u64
+        ensures { result ≡ (run_numbers self.now.totals).entries }
+    {
+        self.totals.made()
+    }
+
+    /// From now on no turn and no line of the script makes an event. What comes of a job that is out may still come back.
+    pub fn stop(&mut self)
+        ensures { self.new.stopped ≡ true }
+    {
+        self.stopped = true;
+    }
+
+    // Whether nothing is left to do. The world is asked once behind each event.
+    fn is_complete(&mut self) -> bool
+        ensures quiet { result ≡ are_quiet (world_of self.old.armed.world) }
+        ensures same { (self.new.armed ≡ self.old.armed) × (self.new.stopped ≡ self.old.stopped) }
+    {
+        if self.incomplete {
+            return false;
+        }
+        let complete = self.armed.world.complete();
+        self.incomplete = !complete;
+        complete
+    }
+
+    /// How the run stands. It is stopped where nothing is left to do.
+    pub fn status(&mut self) -> Status
+        ensures round { result.round ≡ self.old.armed.world.round }
+        ensures complete { result.complete ≡ are_quiet (world_of self.old.armed.world) }
+        ensures stopped { (result.stopped ≡ self.new.stopped)
+            × (self.new.stopped ≡ self.old.stopped || result.complete) }
+    {
+        let complete = self.is_complete();
+        self.stopped = self.stopped || complete;
+        Status {
+            round: self.armed.world.round(),
+            complete,
+            stopped: self.stopped,
+        }
+    }
+
+    /// The world, and the history that leads to it. Whoever has the parts of all seats learns its numbers.
+    pub fn close(mut self, all: &mut SeatCount<ThisRun>) -> (World<C, O>, History)
+        ensures leads { LeadsTo ThisRun.rooms ThisRun.script ThisRun.opening (happenings result.1.lines.items)
+            (world_of result.0) }
+        ensures numbers { seat_parts all.old ≡ ThisRun.seats
+            → numbers_in result.1.lines.items result.1.stops ≡ seat_numbers all.old }
+    {
+        self.totals.audit(all);
+        let RunLog {
+            armed,
+            lines,
+            stops,
+            ..
+        } = self;
+        let ArmedWorld { world, .. } = armed;
+        (world, History { lines, stops })
+    }
+}

@@ -1,5 +1,0 @@
-use Rattle.runtime.proofs.Adding.{leads}
-use Rattle.runtime.proofs.book.Book.close.Goals as goal
-
-pub returns-clause-leads : goal.returns-clause-leads
-returns-clause-leads g c = leads _ _ _ _ _ c.args.self.passed c.args.self.replays

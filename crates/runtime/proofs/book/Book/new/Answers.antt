@@ -1,6 +1,0 @@
-use Rattle.std.proofs.Common.{rules}
-use Rattle.runtime.proofs.Adding.{begins}
-use Rattle.runtime.proofs.book.Book.new.Goals as goal
-
-pub invariant_of-result-clause-replays : goal.invariant_of-result-clause-replays
-invariant_of-result-clause-replays g c = begins _ _ _ _ _ (search rules) c.requires.opening
