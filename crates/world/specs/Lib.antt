@@ -4,3 +4,4 @@ pub mod Acting
 pub mod RecoveryLine
 pub mod OpeningWorld
 pub mod Closing
+pub mod NewWorld

@@ -23,7 +23,7 @@ ghost use Rattle.world.specs.OpeningWorld.{IsOpened, IsOpenedNode, IsUnused, Lea
 ghost use Rattle.world.specs.OpeningWorld.{AreHandedBack, IsNotOpened, IsOpeningRefusal, IsWorldRefusal};
 ghost use Rattle.world.specs.OpeningWorld.{version_for, AreFormatted, AreVersions, AreVersionsFor, IsVersion, StandsInVersion};
 ghost use Rattle.station.specs.StationView.{outlet_views};
-ghost use Rattle.world.specs.WholeView.{world_of};
+ghost use Rattle.world.specs.NewWorld.{IsNew};
 ghost use Rattle.world.specs.WorldView.{capacities};
 ghost use Rattle.kahn_net.specs.declared.limits.TheConstants.{MAX_NODES};
 
@@ -335,27 +335,7 @@ fn open_world<D: Disk, O: Outlet>(
         ≡ output_channels 0 (network_of net.value.program).channels }
     requires empty { AllByRecursion (IsUnused O.taken) outputs.items }
     requires versions { AreVersions versions.now }
-    ensures opening { IfOk result
-        (λ world. world_of world
-        ≡ opening_world (network_of net.value.program) inputs.value
-        (map (λ disk. D.failure_count disk) disks.items)
-        (outlet_views O.taken O.failures outputs.items)) }
-    ensures same { IfOk result
-        (λ world. (world.net ≡ net) × (world.inputs ≡ inputs)) }
-    ensures outlets { IfOk result
-        (λ world. HaveOutlets (network_of net.value.program) 0 outputs.items
-        world.stations.items) }
-    ensures prefix { IfOk result (λ world. AreApproximated (world_of world)) }
-    ensures left { IfOk result
-        (λ world. LeaveOnlyRecords (network_of net.value.program) 0 world.stations.items) }
-    ensures formatted { IfOk result
-        (λ world. AreFormatted (network_of net.value.program) 0 versions.now world.stations.items) }
-    ensures room { IfOk result
-        (λ world. capacities world.stations.items
-        ≡ map (λ disk. slot_room_on (D.sector_count disk)) disks.items) }
-    ensures armed { IfOk result (λ world. armed_on world.stations.items
-        ≡ map (λ disk. D.armed disk) disks.items) }
-    ensures counted { IfOk result (λ world. calls_on world.stations.items ≡ map (λ disk. 0) disks.items) }
+    ensures new { IfOk result (IsNew net inputs versions.now disks.items outputs.items) }
     ensures fits { OnOk result (HaveRoom (network_of net.value.program) 0
         (map (λ disk. D.sector_count disk) disks.items)) }
     ensures refused { IfErr result (λ refused. IsWorldRefusal (network_of net.value.program) 0
@@ -419,32 +399,8 @@ impl<D: Disk, O: Outlet> World<SplitCell<D>, O> {
         requires listed { map (λ output. output.channel) outputs.items
             ≡ output_channels 0 (network_of net.value.program).channels }
         requires empty { AllByRecursion (IsUnused O.taken) outputs.items }
-        // It is the opening world of the network and the inputs, with the outlets that were given.
-        ensures opening { IfOk result
-            (λ world. world_of world
-            ≡ opening_world (network_of net.value.program) inputs.value
-            (map (λ disk. D.failure_count disk) disks.items)
-            (outlet_views O.taken O.failures outputs.items)) }
-        ensures same { IfOk result
-            (λ world. (world.net ≡ net) × (world.inputs ≡ inputs)) }
-        ensures outlets { IfOk result
-            (λ world. HaveOutlets (network_of net.value.program) 0 outputs.items
-            world.stations.items) }
-        // What has left is a prefix of each channel's history.
-        ensures prefix { IfOk result (λ world. AreApproximated (world_of world)) }
-        // A crash leaves the opening records, and each cell has the room that its disk gives.
-        ensures left { IfOk result
-            (λ world. LeaveOnlyRecords (network_of net.value.program) 0 world.stations.items) }
-        // Each header stands in the version in which records are written.
-        ensures formatted { IfOk result
-            (λ world. AreFormatted (network_of net.value.program) 0 [] world.stations.items) }
-        ensures room { IfOk result
-            (λ world. capacities world.stations.items
-            ≡ map (λ disk. slot_room_on (D.sector_count disk)) disks.items) }
-        // No fault is armed on a disk, nor disarmed, and each disk counts its calls from now on.
-        ensures armed { IfOk result (λ world. armed_on world.stations.items
-            ≡ map (λ disk. D.armed disk) disks.items) }
-        ensures counted { IfOk result (λ world. calls_on world.stations.items ≡ map (λ disk. 0) disks.items) }
+        // It is the opening world over these disks and outlets, and a crash leaves the opening records.
+        ensures new { IfOk result (IsNew net inputs [] disks.items outputs.items) }
         // It is made only on disks with room for those records, and refused for no other reasons than those above.
         ensures fits { OnOk result (HaveRoom (network_of net.value.program) 0
             (map (λ disk. D.sector_count disk) disks.items)) }
@@ -477,32 +433,8 @@ impl<D: Disk, O: Outlet> World<SplitCell<D>, O> {
         requires listed { map (λ output. output.channel) outputs.items
             ≡ output_channels 0 (network_of net.value.program).channels }
         requires empty { AllByRecursion (IsUnused O.taken) outputs.items }
-        // It is the opening world of the network and the inputs, with the outlets that were given.
-        ensures opening { IfOk result
-            (λ world. world_of world
-            ≡ opening_world (network_of net.value.program) inputs.value
-            (map (λ disk. D.failure_count disk) disks.items)
-            (outlet_views O.taken O.failures outputs.items)) }
-        ensures same { IfOk result
-            (λ world. (world.net ≡ net) × (world.inputs ≡ inputs)) }
-        ensures outlets { IfOk result
-            (λ world. HaveOutlets (network_of net.value.program) 0 outputs.items
-            world.stations.items) }
-        // What has left is a prefix of each channel's history.
-        ensures prefix { IfOk result (λ world. AreApproximated (world_of world)) }
-        // A crash leaves the opening records, and each cell has the room that its disk gives.
-        ensures left { IfOk result
-            (λ world. LeaveOnlyRecords (network_of net.value.program) 0 world.stations.items) }
-        // Each header stands in the version that was given for its disk.
-        ensures formatted { IfOk result
-            (λ world. AreFormatted (network_of net.value.program) 0 versions.now world.stations.items) }
-        ensures room { IfOk result
-            (λ world. capacities world.stations.items
-            ≡ map (λ disk. slot_room_on (D.sector_count disk)) disks.items) }
-        // No fault is armed on a disk, nor disarmed, and each disk counts its calls from now on.
-        ensures armed { IfOk result (λ world. armed_on world.stations.items
-            ≡ map (λ disk. D.armed disk) disks.items) }
-        ensures counted { IfOk result (λ world. calls_on world.stations.items ≡ map (λ disk. 0) disks.items) }
+        // It is the opening world over these disks and outlets, and a crash leaves the opening records.
+        ensures new { IfOk result (IsNew net inputs versions.now disks.items outputs.items) }
         // It is made only on disks with room for those records, in versions of which there is one for each disk.
         ensures fits { OnOk result (HaveRoom (network_of net.value.program) 0
             (map (λ disk. D.sector_count disk) disks.items)) }
