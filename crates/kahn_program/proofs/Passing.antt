@@ -34,7 +34,7 @@ use Rattle.protocol.specs.World.StationView.{StationView}
 use Rattle.protocol.specs.World.Steps.{WorldView, Setting, IsStep, IsActAt, IsActOf, IsPlanned, are_done_with, next_release}
 use Rattle.protocol.specs.World.Steps.{idle_plan, moved_to, round_after, setting_of, traffic_after}
 use Rattle.protocol.specs.World.Turns.{count_idle, no_turns, turns_of}
-use Rattle.protocol.specs.WorldLaws.OutputLaws.{map_at, set_cases, set_same}
+use Rattle.protocol_laws.specs.World.OutputLaws.{map_at, set_cases, set_same}
 use Rattle.protocol.specs.declared.limits.TheConstants.{MAX_GRANTS}
 use Rattle.protocol.specs.declared.outcome.Outcome.{Outcome}
 use Rattle.protocol.specs.declared.outcome.Outcome.TheVariants as outcome

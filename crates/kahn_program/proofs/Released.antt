@@ -12,9 +12,9 @@ use Rattle.kahn_net.specs.Approximations.{approximation}
 use Rattle.kahn_net.specs.declared.program.Channel.{Channel}
 use Rattle.protocol.specs.World.Sound.{goes_outside, output_channels}
 use Rattle.protocol.specs.World.Steps.{WorldView}
-use Rattle.protocol.specs.WorldLaws.OutputLaws.{channel_there, map_at}
-use Rattle.protocol.specs.WorldLaws.ShownLaws.{output_shown}
-use Rattle.protocol.specs.WorldLaws.PrefixLaws.{released_prefix}
+use Rattle.protocol_laws.specs.World.OutputLaws.{channel_there, map_at}
+use Rattle.protocol_laws.specs.World.ShownLaws.{output_shown}
+use Rattle.protocol_laws.specs.World.PrefixLaws.{released_prefix}
 use Rattle.protocol.specs.World.Invariant.{output_of, outputs_of, WorldInvariant}
 use Rattle.protocol.specs.World.OutputView.{OutputView}
 use Rattle.protocol.specs.World.Quiet.{are_quiet, AreWhole}

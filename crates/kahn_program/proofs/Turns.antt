@@ -15,9 +15,9 @@ use Rattle.ckpt_store.specs.declared.fault.StoreFault.TheVariants.{NoMemory, Dev
 use Rattle.ckpt_store.specs.declared.fault.StoreFault.TheVariants.{Version, Malformed, HoldsOther, PastNumber, NotHeld}
 use Rattle.ckpt_store.specs.declared.fault.StoreFault.TheVariants.{Unsettled, Spent}
 use Rattle.protocol.specs.Node.Opening.{opening_record}
-use Rattle.protocol.specs.NodeLaws.PlaceLaws.{nodes_few}
-use Rattle.protocol.specs.NodeLaws.SizeLaws.{opening_within}
-use Rattle.protocol.specs.WorldLaws.RoomLaws.{bounded_image}
+use Rattle.protocol_laws.specs.Node.PlaceLaws.{nodes_few}
+use Rattle.protocol_laws.specs.Node.SizeLaws.{opening_within}
+use Rattle.protocol_laws.specs.World.RoomLaws.{bounded_image}
 use Rattle.record.specs.RecordView.{RecordView}
 use Rattle.gate_cell.specs.declared.cell.StableCell.{Ghosts as CellWords}
 use Rattle.gate_cell.specs.declared.slot_cell.SlotCell.{Ghosts as SlotWords}

@@ -6,7 +6,7 @@ use Rattle.kahn_net.specs.declared.program.Channel.{Channel}
 use Rattle.record.specs.Ascending.{AreAscending}
 use Rattle.record.specs.declared.image.SavedEnd.{SavedEnd}
 use Rattle.protocol.specs.Node.Opening.{opening_ends}
-use Rattle.protocol.specs.NodeLaws.OpeningLaws.{opening_ascends}
+use Rattle.protocol_laws.specs.Node.OpeningLaws.{opening_ascends}
 
 -- once all channels were gone through
 pub all_opened : (net : Network) (home number : ℕ) (channels : List Channel) (ends : List SavedEnd)

@@ -13,8 +13,8 @@ use Rattle.ckpt_codec.specs.SizeLaws.{IsRecordWithin, within_confirmed, within_w
 use Rattle.ckpt_codec.specs.declared.lengths.TheConstants.{MAX_RECORD_BYTES, MAX_RETAINED_ITEMS}
 use Rattle.ckpt_store.proofs.Room.{decision_fits}
 use Rattle.ckpt_store.specs.Spelling.{AreOthers, fits_in, held_fits, images_fit, is_short}
-use Rattle.protocol.specs.NodeLaws.SizeLaws.{decided_within}
-use Rattle.protocol.specs.WorldLaws.RoomLaws.{bounded_is_short}
+use Rattle.protocol_laws.specs.Node.SizeLaws.{decided_within}
+use Rattle.protocol_laws.specs.World.RoomLaws.{bounded_is_short}
 use Rattle.node.proofs.Starts.{both_of}
 use Rattle.recovery_line.specs.Observers.{has_node, names}
 use Rattle.protocol.specs.Node.Layout.{numbers_where}

@@ -5,7 +5,7 @@ ghost use Rattle.std.specs.Prelude.{◌≡◌, IsTrue, false, length};
 ghost use Rattle.kahn_net.specs.Nodes.{node_count};
 ghost use Rattle.kahn_net.specs.Syntax.{network_of};
 ghost use Rattle.protocol.specs.Node.Modes.{is_down};
-ghost use Rattle.protocol.specs.WorldLaws.HeardLaws.{IsHeard};
+ghost use Rattle.protocol.specs.Node.Delivering.{IsHeard};
 ghost use Rattle.node.specs.NodeOf.{view_of};
 
 use crate::answer::Came;

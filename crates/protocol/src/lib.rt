@@ -1,7 +1,6 @@
-//! A node and a world as data, what their events do, and what follows from that. `specs/Node` and
-//! `specs/World` hold the definitions, and import no law; `specs/NodeLaws` and `specs/WorldLaws`
-//! hold the laws on them. `specs/Join` says how a world is a run of the abstract machine of recovery lines,
-//! and `specs/JoinLaws` has that it is. The code is the few types that the definitions cite.
+//! A node and a world as data, and what their events do: `specs/Node` and `specs/World`. `specs/Join` says how a world is a run of the
+//! abstract machine of recovery lines. What follows from these definitions is the crate `protocol_laws`. The code is the few types that the
+//! definitions cite.
 #![tactic(auto)]
 
 mod armed_restart;

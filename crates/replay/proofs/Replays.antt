@@ -8,7 +8,7 @@ use Rattle.protocol.specs.World.Invariant.{WorldInvariant}
 use Rattle.protocol.specs.World.ReplyView.{ReplyView}
 use Rattle.protocol.specs.World.Steps.{WorldView}
 use Rattle.protocol.specs.World.Still.{wider}
-use Rattle.protocol.specs.WorldLaws.StepKeeps.{room_keeps_world, step_keeps}
+use Rattle.protocol_laws.specs.World.StepKeeps.{room_keeps_world, step_keeps}
 use Rattle.replay.specs.Armed.{ArmedEvent, ArmedView, OfWorld, ArmCrash, IsArmedStep, EndsWith}
 use Rattle.replay.specs.Armed.{crash_after, delivered_to}
 use Rattle.replay.specs.Laws.{ReplaysKeep, ReplaysStay, room_after}

@@ -16,7 +16,7 @@ use Rattle.ckpt_codec.specs.Fields.{AreAllowed, Field, IsAllowed}
 use Rattle.ckpt_codec.specs.RecordText.{at_most, end_fields, ends_fields, ends_in, image_fields, processes_fields}
 use Rattle.ckpt_codec.specs.RecordText.{IsRecord, count, decisions_fields, head_fields, most_decisions, processes_in}
 use Rattle.ckpt_codec.specs.RecordText.{record_fields, rest_of, tentative_fields, wanted, wanted_or}
-use Rattle.protocol.specs.JoinLaws.Holding.{at_most as below}
+use Rattle.protocol_laws.specs.Join.Holding.{at_most as below}
 use Rattle.protocol.specs.Node.Recovering.{IsRestorable}
 
 -- what stands behind some fields

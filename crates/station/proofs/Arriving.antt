@@ -13,10 +13,11 @@ use Rattle.protocol.specs.Node.Plans.{packets_by}
 use Rattle.protocol.specs.World.StationView.{StationView}
 use Rattle.protocol.specs.World.Steps.{Setting, bytes_when, due_bytes}
 use Rattle.protocol.specs.World.Traffic.{BytesAreSound}
-use Rattle.protocol.specs.WorldLaws.HeardLaws.{IsHeard, heard_right}
-use Rattle.protocol.specs.WorldLaws.PlanLaws.{IsSoundSetting, IsSoundStation}
-use Rattle.protocol.specs.WorldLaws.TellLaws.{heard_allowed}
-use Rattle.protocol.specs.WorldLaws.TrafficLaws.{arrives_sound}
+use Rattle.protocol.specs.Node.Delivering.{IsHeard}
+use Rattle.protocol_laws.specs.World.HeardLaws.{heard_right}
+use Rattle.protocol.specs.World.Invariant.{IsSoundSetting, IsSoundStation}
+use Rattle.protocol_laws.specs.World.TellLaws.{heard_allowed}
+use Rattle.protocol_laws.specs.World.TrafficLaws.{arrives_sound}
 use Rattle.protocol.specs.declared.outcome.Outcome.{Outcome}
 
 -- bytes that are due are those of a packet in flight

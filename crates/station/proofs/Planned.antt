@@ -35,7 +35,7 @@ use Rattle.protocol.specs.World.StationView.{StationView}
 use Rattle.protocol.specs.World.Steps.{IsPlanned, Setting, StationPlan, deliver_plan, grant_plan, moved_to, plan_of}
 use Rattle.protocol.specs.World.Steps.{plan_sendings, sending_of, traffic_left, turns_by}
 use Rattle.protocol.specs.World.Turns.{turns_of, count_grant}
-use Rattle.protocol.specs.WorldLaws.DeedLaws.{becoming_sends}
+use Rattle.protocol_laws.specs.World.DeedLaws.{becoming_sends}
 use Rattle.protocol.specs.declared.outcome.Outcome.{Outcome}
 use Rattle.protocol.specs.declared.outcome.Outcome.TheVariants as outcome
 use Rattle.protocol.specs.declared.outcome.Refusal.TheVariants.{TooLarge, Spent}

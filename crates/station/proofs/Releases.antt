@@ -8,7 +8,7 @@ use Rattle.std.proofs.lemmas.Option.{slice_get_read}
 use Rattle.std.specs.declared.alloc.AllocError.{AllocError}
 use Rattle.protocol.specs.Node.NodeView.{NodeView}
 use Rattle.protocol.specs.Node.Trimming.{current_log, trimmed_node}
-use Rattle.protocol.specs.WorldLaws.OutputLaws.{map_at, set_same}
+use Rattle.protocol_laws.specs.World.OutputLaws.{map_at, set_same}
 use Rattle.protocol.specs.World.StationView.{OutletView, StationView}
 use Rattle.station.specs.StationView.{outlet_view, outlet_views}
 use Rattle.protocol.specs.World.Steps.{next_release, IsHanded, IsRelease}

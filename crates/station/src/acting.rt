@@ -18,7 +18,7 @@ ghost use Rattle.protocol.specs.declared.reply.Reply.TheVariants.{Down};
 ghost use Rattle.station.specs.ReplyView.{answer_view, reply_view};
 ghost use Rattle.station.specs.StationView.{outlet_views};
 ghost use Rattle.protocol.specs.World.Steps.{idle_plan, send_plan, setting_in};
-ghost use Rattle.protocol.specs.WorldLaws.PlanLaws.{IsSoundSetting, IsSoundStation};
+ghost use Rattle.protocol.specs.World.Invariant.{IsSoundSetting, IsSoundStation};
 ghost use Rattle.station.specs.Leaving.{IsCellUnchanged, LeavesDeviceBy, LeavesWhatItFound, RestartsAsArmed};
 ghost use Rattle.station.specs.StationView.{station_view};
 

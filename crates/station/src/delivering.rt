@@ -19,7 +19,7 @@ ghost use Rattle.protocol.specs.World.Pairs.{LeaveEitherSince};
 ghost use Rattle.protocol.specs.World.Replies.{AnswerLeaves};
 ghost use Rattle.protocol.specs.declared.reply.Reply.TheVariants.{Down};
 ghost use Rattle.protocol.specs.World.Steps.{deliver_plan, due_bytes};
-ghost use Rattle.protocol.specs.WorldLaws.HeardLaws.{IsHeard};
+ghost use Rattle.protocol.specs.Node.Delivering.{IsHeard};
 ghost use Rattle.protocol.specs.declared.outcome.Outcome.{Outcome as OutcomeValue};
 ghost use Rattle.wire.specs.Traffic.{flights_to, traffic_of};
 ghost use Rattle.wire.specs.declared.queue.TheConstants.{NODES};

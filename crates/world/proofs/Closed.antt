@@ -11,7 +11,7 @@ use Rattle.protocol.specs.World.OutputView.{OutputView}
 use Rattle.protocol.specs.World.Sound.{output_channels, outputs_on}
 use Rattle.protocol.specs.World.StationView.{StationView}
 use Rattle.protocol.specs.World.Steps.{WorldView}
-use Rattle.protocol.specs.WorldLaws.ClosedLaws.{joined, AreOutputsFrom, closed_channels}
+use Rattle.protocol_laws.specs.World.ClosedLaws.{joined, AreOutputsFrom, closed_channels}
 use Rattle.world.specs.Closing.{all_outputs}
 use Rattle.station.specs.StationView.{outlet_views}
 use Rattle.station.specs.StationView.{station_view}

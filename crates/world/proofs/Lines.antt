@@ -15,7 +15,7 @@ use Rattle.protocol.specs.World.Invariant.{WorldInvariant}
 use Rattle.protocol.specs.World.RecoveryLine.{AreEither, next_for, records_of}
 use Rattle.protocol.specs.World.ReplyView.{ReplyView}
 use Rattle.protocol.specs.World.Steps.{IsAct, Setting, WorldView, setting_of}
-use Rattle.protocol.specs.WorldLaws.LineLaws.{act_in_line, line_goes_on}
+use Rattle.protocol_laws.specs.World.LineLaws.{act_in_line, line_goes_on}
 use Rattle.protocol.specs.declared.outcome.Outcome.{Outcome}
 use Rattle.world.specs.RecoveryLine.{MayBeLeft, AreLeftSince, KeepsLine, HasOneLine, StaysInLine}
 use Rattle.station.specs.StationView.{station_view}

@@ -30,8 +30,8 @@ use Rattle.protocol.specs.World.OpeningWorld.{opening_outlet, outlets_on, openin
 use Rattle.protocol.specs.World.Invariant.{WorldInvariant}
 use Rattle.protocol.specs.World.Sound.{is_output, output_channels}
 use Rattle.protocol.specs.World.StationView.{OutletView, StationView}
-use Rattle.protocol.specs.WorldLaws.OpenLaws.{world_opened}
-use Rattle.protocol.specs.WorldLaws.OutputLaws.{output_once}
+use Rattle.protocol_laws.specs.World.OpenLaws.{world_opened}
+use Rattle.protocol_laws.specs.World.OutputLaws.{output_once}
 use Rattle.world.specs.OpeningWorld.{armed_on, calls_on, own_outputs, opening_length, AllNumbered, HasRoom, HaveRoom, HaveOutlets}
 use Rattle.station.specs.OutputView.{fresh}
 use Rattle.world.specs.OpeningWorld.{IsOpened, IsOpenedNode, IsOpeningRefusal, IsUnused, IsWorldRefusal}

@@ -13,7 +13,7 @@ use Rattle.protocol.specs.declared.round_turns.RoundTurns.{RoundTurns}
 use Rattle.protocol.specs.World.Invariant.{output_of, outputs_of}
 use Rattle.protocol.specs.World.OutputView.{OutputView}
 use Rattle.protocol.specs.World.Sound.{goes_outside, output_channels}
-use Rattle.protocol.specs.WorldLaws.OpenLaws.{NothingLeft}
+use Rattle.protocol_laws.specs.World.OpenLaws.{NothingLeft}
 use Rattle.std.specs.List.{AllByRecursion}
 use Rattle.protocol.specs.World.OpeningWorld.{opening_outlet, opening_station}
 use Rattle.station.specs.OutputView.{fresh}

@@ -2,7 +2,7 @@
 use Rattle.std.proofs.Common.{◌≡◌, ℕ, ◌<◌, length, Some, arith}
 use Rattle.std.specs.Prelude.{slice_get}
 use Rattle.std.proofs.lemmas.Option.{slice_get_within}
-use Rattle.protocol.specs.NodeLaws.PlaceLaws.{nodes_few}
+use Rattle.protocol_laws.specs.Node.PlaceLaws.{nodes_few}
 use Rattle.protocol.specs.World.Invariant.{WorldInvariant}
 use Rattle.protocol.specs.World.StationView.{StationView}
 use Rattle.protocol.specs.World.Steps.{WorldView}

@@ -9,7 +9,7 @@ use Rattle.gate_cell.specs.declared.slot_cell.SlotCell.{Ghosts as SlotWords}
 use Rattle.protocol.specs.World.EventView.{EventView}
 use Rattle.protocol.specs.World.ReplyView.{ReplyView}
 use Rattle.protocol.specs.declared.reply.Reply.TheVariants.{Down}
-use Rattle.protocol.specs.WorldLaws.OutputLaws.{set_cases}
+use Rattle.protocol_laws.specs.World.OutputLaws.{set_cases}
 use Rattle.station.specs.ReplyView.{reply_view}
 use Rattle.world.specs.WorldView.{LeavesDeviceAt, RestartsAsArmedAt}
 use Rattle.station.specs.Leaving.{LeavesDeviceBy, RestartsAsArmed}

@@ -14,13 +14,13 @@ use Rattle.gate_cell.specs.declared.slot_cell.SlotCell.{Ghosts as SlotWords}
 use Rattle.gate_cell.specs.Whole.{Whole}
 use Rattle.protocol.specs.World.EventView.{EventView, event_node}
 use Rattle.protocol.specs.World.Growing.{EachBegins}
-use Rattle.protocol.specs.WorldLaws.GrowLaws.{begins_same, step_begins, has_grown, still_grown}
+use Rattle.protocol_laws.specs.World.GrowLaws.{begins_same, step_begins, has_grown, still_grown}
 use Rattle.protocol.specs.World.Invariant.{outputs_of, AreSound, StationInvariant}
-use Rattle.protocol.specs.WorldLaws.LineLaws.{next_ahead}
-use Rattle.protocol.specs.WorldLaws.OutputLaws.{map_at}
+use Rattle.protocol_laws.specs.World.LineLaws.{next_ahead}
+use Rattle.protocol_laws.specs.World.OutputLaws.{map_at}
 use Rattle.protocol.specs.World.OutputView.{OutputView}
 use Rattle.station.specs.OutputView.{outputs_view}
-use Rattle.protocol.specs.WorldLaws.PairLaws.{pairs_refl, pairs_set}
+use Rattle.protocol_laws.specs.World.PairLaws.{pairs_refl, pairs_set}
 use Rattle.protocol.specs.World.Covered.{LeavesEither}
 use Rattle.protocol.specs.World.Pairs.{HasMoved, HasGrown}
 use Rattle.protocol.specs.World.RecoveryLine.{next_for, next_kept}
@@ -30,9 +30,9 @@ use Rattle.station.specs.Coming.{HasCome}
 use Rattle.station.specs.ReplyView.{reply_view}
 use Rattle.protocol.specs.World.StationView.{StationView}
 use Rattle.station.specs.StationView.{outlet_views}
-use Rattle.protocol.specs.WorldLaws.StepKeeps.{station_keeps}
+use Rattle.protocol_laws.specs.World.StepKeeps.{station_keeps}
 use Rattle.protocol.specs.World.Steps.{Setting}
-use Rattle.protocol.specs.WorldLaws.PlanLaws.{IsSoundSetting, IsSoundStation}
+use Rattle.protocol.specs.World.Invariant.{IsSoundSetting, IsSoundStation}
 use Rattle.station.specs.StationView.{station_view}
 use Rattle.world.specs.WorldView.{IsGrown}
 use Rattle.station.specs.ReplyView.{Reply}

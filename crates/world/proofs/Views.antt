@@ -10,8 +10,8 @@ use Rattle.kahn_net.specs.Syntax.{Network}
 use Rattle.wire.specs.Traffic.{Traffic}
 use Rattle.kahn_net.specs.Nodes.{node_count}
 use Rattle.protocol.specs.World.Invariant.{outputs_of, AreJoined, AreSound, IsNumbered}
-use Rattle.protocol.specs.WorldLaws.PlanLaws.{IsSoundStation}
-use Rattle.protocol.specs.WorldLaws.OutputLaws.{map_at}
+use Rattle.protocol.specs.World.Invariant.{IsSoundStation}
+use Rattle.protocol_laws.specs.World.OutputLaws.{map_at}
 use Rattle.protocol.specs.World.OutputView.{OutputView}
 use Rattle.station.specs.OutputView.{output_view, outputs_view}
 use Rattle.protocol.specs.World.StationView.{StationView}

@@ -1,5 +1,5 @@
 -- What a packet does to the ends of channels of the node that it is for, and which packets are for a node.
-use Rattle.std.specs.Prelude.{ℕ, ◌==◌, ◌&&◌, Bool, true, false, if◌then◌else◌, List, [], ◌∷◌, ℤ}
+use Rattle.std.specs.Prelude.{◌≡◌, ℕ, ◌==◌, ◌&&◌, Bool, true, false, if◌then◌else◌, List, [], ◌∷◌, ℤ}
 use Rattle.std.specs.Prelude.{Option, Some, None, option_map, slice_get, slice_set}
 use Rattle.std.specs.List.{position_from}
 use Rattle.kahn_net.specs.Syntax.{Network}
@@ -7,6 +7,7 @@ use Rattle.record.specs.Changes.{log_with}
 use Rattle.window_link.specs.Windows.{Receiver, Received, received, sender_after}
 use Rattle.window_link.specs.declared.receiving.Arrival.{Arrival}
 use Rattle.window_link.specs.declared.receiving.Arrival.TheVariants as arrival
+use Rattle.datagram.specs.PacketText.{IsPacket}
 use Rattle.datagram.specs.Reading.{whole_at}
 use Rattle.datagram.specs.declared.packet.Packet.{Packet}
 use Rattle.datagram.specs.declared.packet.Body.{Body}
@@ -100,3 +101,9 @@ abbrev pub delivery_of : Bool → Option Packet → Delivery
 delivery_of true packet = NotDue
 delivery_of false None = Dropped
 delivery_of false (Some packet) = Delivered
+
+-- a packet that has a spelling comes to the node that it is for, and its names are right
+pub record IsHeard (net : Network) (home : ℕ) (packet : Packet) : Type 0 where
+  pub allowed : IsPacket packet
+  pub here : packet.to ≡ home
+  pub names : names_right net packet ≡ true

@@ -1,5 +1,5 @@
 -- What is true of a world, whatever events came before.
-use Rattle.std.specs.Prelude.{◌≡◌, ℕ, ℤ, List, length, map, Some, slice_get}
+use Rattle.std.specs.Prelude.{◌≡◌, ◌<◌, ℕ, ℤ, List, length, map, Some, slice_get}
 use Rattle.kahn_net.specs.Fits.{Fits}
 use Rattle.kahn_net.specs.Nodes.{node_count}
 use Rattle.kahn_net.specs.Syntax.{Network}
@@ -12,7 +12,7 @@ use Rattle.protocol.specs.World.OutputView.{OutputView}
 use Rattle.protocol.specs.World.RecordSound.{RecordIsSound}
 use Rattle.protocol.specs.World.Sound.{IsSound}
 use Rattle.protocol.specs.World.StationView.{OutletView, StationView}
-use Rattle.protocol.specs.World.Steps.{WorldView}
+use Rattle.protocol.specs.World.Steps.{Setting, WorldView}
 use Rattle.protocol.specs.World.Traffic.{TrafficIsSound}
 
 -- what has left by an outlet
@@ -63,3 +63,17 @@ pub record WorldInvariant (world : WorldView) : Type 0 where
   pub joined : AreJoined world.net world.stations
   pub traffic : TrafficIsSound world.net world.inputs world.traffic
   pub run : ∥ HasRun world.net world.stations world.traffic ∥₁
+
+-- what an event meets: a setting that is sound
+pub record IsSoundSetting (setting : Setting) : Type 0 where
+  pub valid : IsValid setting.net
+  pub fits : Fits setting.net setting.inputs
+  pub traffic : TrafficIsSound setting.net setting.inputs setting.traffic
+
+-- and a station in it
+pub record IsSoundStation (setting : Setting) (station : StationView) : Type 0 where
+  pub inv : StationInvariant setting.net setting.inputs station
+  pub named : station.node.kept.node ≡ station.number
+  -- it is one of the network's nodes, and what it keeps and collects may be said
+  pub below : station.number < node_count setting.net
+  pub joined : IsJoined setting.net station

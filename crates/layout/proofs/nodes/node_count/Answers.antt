@@ -2,7 +2,7 @@ use Rattle.std.proofs.Common.{◌≤◌, arith}
 use Rattle.kahn_net.specs.Syntax.{network_of}
 use Rattle.kahn_net.specs.Nodes.{node_count}
 use Rattle.kahn_net.specs.declared.limits.TheConstants.{MAX_NODES}
-use Rattle.protocol.specs.NodeLaws.PlaceLaws.{nodes_few}
+use Rattle.protocol_laws.specs.Node.PlaceLaws.{nodes_few}
 use Rattle.layout.proofs.nodes.node_count.Goals as goal
 
 pub returns-clause-few : goal.returns-clause-few

@@ -1,4 +1,4 @@
-use Rattle.protocol.specs.NodeLaws.SizeLaws.{image_within, current_within, opening_within, own_within, decided_within}
+use Rattle.protocol_laws.specs.Node.SizeLaws.{image_within, current_within, opening_within, own_within, decided_within}
 use Rattle.node_memory.proofs.sharing.share_law.Goals as goal
 
 pub returns-clause-image : goal.returns-clause-image

@@ -1,4 +1,4 @@
-use Rattle.protocol.specs.WorldLaws.LineLaws.{lines_follow}
+use Rattle.protocol_laws.specs.World.LineLaws.{lines_follow}
 use Rattle.world.proofs.laws.line_law.Goals as goal
 
 pub returns : goal.returns

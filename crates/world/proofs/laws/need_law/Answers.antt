@@ -1,4 +1,4 @@
-use Rattle.protocol.specs.WorldLaws.CoordinationLaws.{asks_were_received}
+use Rattle.protocol_laws.specs.World.CoordinationLaws.{asks_were_received}
 use Rattle.world.proofs.laws.need_law.Goals as goal
 
 pub returns : goal.returns

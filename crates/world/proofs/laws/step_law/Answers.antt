@@ -1,4 +1,4 @@
-use Rattle.protocol.specs.WorldLaws.AgreeLaws.{steps_agree}
+use Rattle.protocol_laws.specs.World.AgreeLaws.{steps_agree}
 use Rattle.world.proofs.laws.step_law.Goals as goal
 
 pub returns : goal.returns

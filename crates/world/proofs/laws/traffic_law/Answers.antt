@@ -1,5 +1,5 @@
-use Rattle.protocol.specs.WorldLaws.DeedLaws.{only_nodes_that_are_up_send}
-use Rattle.protocol.specs.WorldLaws.FlightLaws.{each_was_sent, nothing_at_first, nothing_is_made_up}
+use Rattle.protocol_laws.specs.World.DeedLaws.{only_nodes_that_are_up_send}
+use Rattle.protocol_laws.specs.World.FlightLaws.{each_was_sent, nothing_at_first, nothing_is_made_up}
 use Rattle.world.proofs.laws.traffic_law.Goals as goal
 
 pub returns-clause-first : goal.returns-clause-first

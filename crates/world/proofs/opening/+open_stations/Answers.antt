@@ -5,7 +5,7 @@ use Rattle.kahn_net.specs.declared.limits.TheConstants.{MAX_NODES}
 use Rattle.gate_cell.specs.SplitCell.{disk_in}
 use Rattle.gate_cell.specs.SplitLayout.{slot_room_on}
 use Rattle.protocol.specs.World.Sound.{is_output}
-use Rattle.protocol.specs.NodeLaws.PlaceLaws.{nodes_few}
+use Rattle.protocol_laws.specs.Node.PlaceLaws.{nodes_few}
 use Rattle.world.proofs.OpenedStations.{none_opened, last_back, before_back, world_refused, last_refused}
 use Rattle.world.proofs.OpenedStations.{before_refused, station_opened, stations_more, others_left, nothing_before}
 use Rattle.world.proofs.OpenedStations.{fewer_left, version_valid}

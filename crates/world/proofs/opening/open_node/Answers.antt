@@ -4,8 +4,8 @@ use Rattle.kahn_net.specs.Syntax.{network_of}
 use Rattle.ckpt_codec.specs.RecordText.{IsRecord}
 use Rattle.ckpt_codec.specs.SizeLaws.{IsRecordWithin}
 use Rattle.ckpt_codec.specs.declared.lengths.TheConstants.{MAX_RETAINED_ITEMS}
-use Rattle.protocol.specs.NodeLaws.SizeLaws.{opening_within}
-use Rattle.protocol.specs.NodeLaws.LikeLaws.{opening_allowed}
+use Rattle.protocol_laws.specs.Node.SizeLaws.{opening_within}
+use Rattle.protocol_laws.specs.Node.LikeLaws.{opening_allowed}
 use Rattle.record.specs.RecordView.{RecordView}
 use Rattle.ckpt_codec.specs.Lengths.{image_length}
 use Rattle.world.specs.OpeningWorld.{HasRoom}

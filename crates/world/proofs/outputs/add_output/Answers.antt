@@ -1,7 +1,7 @@
 use Rattle.std.proofs.Common.{List, refl, sym, subst}
 use Rattle.std.specs.List.{AllByRecursion}
 use Rattle.world.specs.OpeningWorld.{HasNotFailed, IsMade, IsUnused}
-use Rattle.protocol.specs.WorldLaws.PairLaws.{every_more}
+use Rattle.protocol_laws.specs.World.PairLaws.{every_more}
 use Rattle.station.specs.declared.output.Output.{Output}
 use Rattle.world.proofs.outputs.add_output.Goals as goal
 

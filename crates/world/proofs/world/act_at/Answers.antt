@@ -1,7 +1,7 @@
 use Rattle.std.proofs.Common.{rules, refl, ◌<◌, ◌≤◌, ◌∙◌, sym, subst, length, ℕ, arith}
 use Rattle.std.specs.Prelude.{slice_set}
 use Rattle.std.proofs.lemmas.List.{length-map}
-use Rattle.protocol.specs.NodeLaws.PlaceLaws.{nodes_few}
+use Rattle.protocol_laws.specs.Node.PlaceLaws.{nodes_few}
 use Rattle.protocol.specs.World.EventView.{event_node}
 use Rattle.protocol.specs.World.Steps.{setting_in}
 use Rattle.wire.specs.Traffic.{traffic_of}
@@ -11,9 +11,9 @@ use Rattle.kahn_net.specs.Syntax.{network_of}
 use Rattle.ckpt_store.specs.Spelling.{fits_in}
 use Rattle.ckpt_store.specs.StoreView.{cell_in}
 use Rattle.station.specs.EventView.{event_view}
-use Rattle.protocol.specs.WorldLaws.OutputLaws.{set_keeps}
+use Rattle.protocol_laws.specs.World.OutputLaws.{set_keeps}
 use Rattle.protocol.specs.World.Pairs.{AreSameElsewhere}
-use Rattle.protocol.specs.WorldLaws.PairLaws.{elsewhere_set, on_err_map, pairs_refl, pairs_set}
+use Rattle.protocol_laws.specs.World.PairLaws.{elsewhere_set, on_err_map, pairs_refl, pairs_set}
 use Rattle.station.specs.StationView.{station_view}
 use Rattle.station.specs.declared.station.Station.{Station}
 use Rattle.world.proofs.Held.{found_at}

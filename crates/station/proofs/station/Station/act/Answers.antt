@@ -25,7 +25,7 @@ use Rattle.protocol.specs.Node.Installing.{TakesTurn}
 use Rattle.protocol.specs.Node.Plans.{next_record, packets_by}
 use Rattle.protocol.specs.Node.Sending.{IsWritable}
 use Rattle.protocol.specs.Node.Telling.{turn_packets}
-use Rattle.protocol.specs.NodeLaws.PlaceLaws.{nodes_few}
+use Rattle.protocol_laws.specs.Node.PlaceLaws.{nodes_few}
 use Rattle.protocol.specs.World.EventView.{ByNode, EventView, event_node, plain_view}
 use Rattle.protocol.specs.declared.event.Deed.TheVariants as view
 use Rattle.protocol.specs.World.Pairs.{HasMoved}
@@ -33,11 +33,11 @@ use Rattle.protocol.specs.World.RecoveryLine.{next_kept}
 use Rattle.protocol.specs.World.Steps.{crash_plan, decide_plan, deliver_plan, due_bytes, grant_plan, idle_plan}
 use Rattle.protocol.specs.World.Steps.{recover_plan}
 use Rattle.protocol.specs.World.Steps.{IsInstalled, arm_plan, send_plan, setting_in, start_plan}
-use Rattle.protocol.specs.WorldLaws.ActLaws.{takes_turn, like_now}
-use Rattle.protocol.specs.WorldLaws.DeedLaws.{becoming_sends, crash_sends, grant_sends, recover_sends}
-use Rattle.protocol.specs.WorldLaws.HandedLaws.{next_reached, next_there}
-use Rattle.protocol.specs.WorldLaws.MoveLaws.{decision_others, decision_room}
-use Rattle.protocol.specs.WorldLaws.TellLaws.{decide_allowed, start_allowed, station_writable}
+use Rattle.protocol_laws.specs.World.ActLaws.{takes_turn, like_now}
+use Rattle.protocol_laws.specs.World.DeedLaws.{becoming_sends, crash_sends, grant_sends, recover_sends}
+use Rattle.protocol_laws.specs.World.HandedLaws.{next_reached, next_there}
+use Rattle.protocol_laws.specs.World.MoveLaws.{decision_others, decision_room}
+use Rattle.protocol_laws.specs.World.TellLaws.{decide_allowed, start_allowed, station_writable}
 use Rattle.station.specs.DoneView.{done_view}
 use Rattle.station.specs.EventView.{event_view}
 use Rattle.station.specs.StationView.{outlet_views}

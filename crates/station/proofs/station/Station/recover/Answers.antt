@@ -10,7 +10,7 @@ use Rattle.protocol.specs.World.ReplyView.{ReplyView}
 use Rattle.protocol.specs.declared.reply.Reply.TheVariants.{Refused}
 use Rattle.protocol.specs.declared.outcome.Refusal.TheVariants.{TooLarge}
 use Rattle.protocol.specs.World.Steps.{recover_plan}
-use Rattle.protocol.specs.WorldLaws.DeedLaws.{recover_sends}
+use Rattle.protocol_laws.specs.World.DeedLaws.{recover_sends}
 use Rattle.station.specs.StationView.{station_view}
 use Rattle.station.proofs.Cells.{through}
 use Rattle.station.proofs.Planned.{answer_then, back_mode, seen_moved, silent_allowed, turns_kept}

@@ -5,17 +5,17 @@ use Rattle.ckpt_store.specs.StoreView.{cell_in}
 use Rattle.station.specs.EventView.{event_view}
 use Rattle.protocol.specs.World.Headline.{AreApproximated}
 use Rattle.protocol.specs.World.Coordination.{AreCoordinated}
-use Rattle.protocol.specs.WorldLaws.CoordinationLaws.{coordinated_still, events_are_coordinated}
-use Rattle.protocol.specs.WorldLaws.PrefixLaws.{released_prefix}
+use Rattle.protocol_laws.specs.World.CoordinationLaws.{coordinated_still, events_are_coordinated}
+use Rattle.protocol_laws.specs.World.PrefixLaws.{released_prefix}
 use Rattle.station.specs.ReplyView.{reply_view}
-use Rattle.protocol.specs.WorldLaws.DropLaws.{never_dropped}
-use Rattle.protocol.specs.WorldLaws.HomeLaws.{granted_at_home}
-use Rattle.protocol.specs.WorldLaws.RoomLaws.{never_too_large, rooms_of}
+use Rattle.protocol_laws.specs.World.DropLaws.{never_dropped}
+use Rattle.protocol_laws.specs.World.HomeLaws.{granted_at_home}
+use Rattle.protocol_laws.specs.World.RoomLaws.{never_too_large, rooms_of}
 use Rattle.protocol.specs.declared.reply.Reply.TheVariants.{NotDue}
 use Rattle.protocol.specs.World.StationView.{StationView}
 use Rattle.protocol.specs.declared.outcome.Outcome.TheVariants as outcome
 use Rattle.protocol.specs.World.Steps.{round_after, setting_in}
-use Rattle.protocol.specs.WorldLaws.StepKeeps.{step_keeps}
+use Rattle.protocol_laws.specs.World.StepKeeps.{step_keeps}
 use Rattle.wire.specs.Traffic.{Traffic, traffic_of}
 use Rattle.world.specs.WholeView.{world_of}
 use Rattle.world.specs.WorldView.{rooms, world_view}

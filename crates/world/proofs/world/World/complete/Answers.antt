@@ -6,7 +6,7 @@ use Rattle.protocol.specs.Node.NodeView.{running_of}
 use Rattle.protocol.specs.World.Invariant.{outputs_of}
 use Rattle.protocol.specs.World.Quiet.{is_quiet_at}
 use Rattle.protocol.specs.World.StationView.{StationView}
-use Rattle.protocol.specs.WorldLaws.QuietLaws.{quiet_is_whole}
+use Rattle.protocol_laws.specs.World.QuietLaws.{quiet_is_whole}
 use Rattle.world.specs.WholeView.{world_of}
 use Rattle.station.specs.StationView.{station_view}
 use Rattle.station.specs.declared.station.Station.{Station}

@@ -1,0 +1,320 @@
+-- What a station keeps and collects may be said at any time.
+use Rattle.std.proofs.Common.{◌≡◌, ⊎_elim, ℕ, zero, suc, ◌<◌, Bool, true, false, cond, List, ℤ, [], ◌∷◌}
+use Rattle.std.proofs.Common.{length, Option, Some, None, refl, sym, ap, subst, ◌∙◌, arith}
+use Rattle.std.specs.Prelude.{◌==◌, nat_lt, not, slice_get}
+use Rattle.std.proofs.Math.Bool.{Bool-set}
+use Rattle.std.proofs.Math.Bridge.{le_prop}
+use Rattle.std.proofs.Math.Logic.{∥∥₁_elim, ∥∥₁_map}
+use Rattle.std.proofs.Math.Nat.{ℕ_set}
+use Rattle.std.proofs.lemmas.Bool.{eq-eqb}
+use Rattle.std.proofs.lemmas.List.{length-replicate}
+use Rattle.std.proofs.lemmas.Option.{slice_get_within}
+use Rattle.datagram.proofs.Exactness.{whole_again}
+use Rattle.datagram.specs.declared.packet.Packet.{Packet}
+use Rattle.kahn_net.specs.Nodes.{node_count}
+use Rattle.kahn_net.specs.Syntax.{Network}
+use Rattle.kahn_net.specs.declared.limits.TheConstants.{MAX_COUNT}
+use Rattle.record.specs.Moves.{with_epoch}
+use Rattle.record.specs.RecordView.{RecordView}
+use Rattle.record.specs.declared.record.Tentative.{Tentative}
+use Rattle.recovery_line.proofs.Basics.{one_inside, some_not_none}
+use Rattle.protocol.specs.Node.Beginning.{live_in, start_prospect}
+use Rattle.protocol.specs.World.Steps.{deliver_plan, plan_of}
+use Rattle.protocol.specs.Node.Hearing.{hear_prospect, told_prospect, deliver_prospect}
+use Rattle.protocol.specs.Join.Joined.{LiveIsSound, MayBeAskedFor, KeepsNodes, IsJoined}
+use Rattle.protocol_laws.specs.Join.Promises.{StandsIn, DeedsStayJoined, OpeningIsJoined}
+use Rattle.protocol.specs.Node.Telling.{turn_packets}
+use Rattle.protocol.specs.Node.Verdicts.{decide_prospect}
+use Rattle.protocol_laws.specs.Join.Crossings.{true_both}
+use Rattle.protocol_laws.specs.Join.Keeps.{epoch_keeps, current_counts}
+use Rattle.protocol_laws.specs.Join.Sayable.{ProspectSays, begins_says, concludes_says, hears_says}
+use Rattle.protocol_laws.specs.Join.Whole.{SpelledBytes, bytes_spelled}
+use Rattle.protocol.specs.Node.Addresses.{names_right, names_run}
+use Rattle.protocol.specs.Node.ArmedRestarts.{restart_after, round_later}
+use Rattle.protocol.specs.Node.Choosing.{granted, grant_prospect, node_job}
+use Rattle.protocol.specs.Node.Delivering.{if_right, packet_for}
+use Rattle.protocol.specs.Node.Installing.{turned, IsInstall}
+use Rattle.protocol.specs.Node.JobView.{JobView}
+use Rattle.protocol.specs.Node.LiveView.{LiveView}
+use Rattle.protocol.specs.Node.Modes.{is_down, crashed, with_kept}
+use Rattle.protocol.specs.Node.NodeView.{NodeView, ModeView, Down, InDoubt, Runs, RunningView, running_node, running_in}
+use Rattle.protocol.specs.Node.NodeView.{on_mode}
+use Rattle.protocol.specs.Node.Plans.{Prospect, Undue, Exhausted, Planned, IsMade}
+use Rattle.protocol.specs.Node.Plans.{becoming, if_due, putting, telling, unless_spent}
+use Rattle.protocol.specs.Node.Recovering.{crash_prospect, recover_prospect, restored, restored_with}
+use Rattle.protocol.specs.Node.Trimming.{cut_at}
+use Rattle.protocol.specs.declared.event.Deed.{Deed}
+use Rattle.protocol.specs.declared.event.Deed.TheVariants as event
+use Rattle.protocol.specs.World.OpeningWorld.{stations_from}
+use Rattle.protocol.specs.World.StationView.{StationView}
+use Rattle.protocol.specs.World.DoneView.{DoneView}
+use Rattle.protocol.specs.World.ReplyView.{ReplyView}
+use Rattle.protocol.specs.World.Steps.{Setting, due_bytes, flight_at, next_release, IsInstalled, IsRelease, moved_to}
+use Rattle.protocol.specs.declared.outcome.Outcome.{Outcome}
+use Rattle.protocol.specs.declared.outcome.Outcome.TheVariants as outcome
+use Rattle.protocol.specs.declared.outcome.Refusal.TheVariants.{TooLarge, Spent}
+
+-- ---- nodes
+
+pub record NodeJoins (net : Network) (home : ℕ) (node : NodeView) : Type 0 where
+  pub kept : KeepsNodes net home node.kept
+  pub live : (live : LiveView) → live_in node.mode ≡ Some live → LiveIsSound net home live
+
+abbrev ProspectJoins : Network → ℕ → Prospect → Type 0
+ProspectJoins net home Undue = Unit {0}
+ProspectJoins net home (Exhausted looks) = Unit {0}
+ProspectJoins net home (Planned plan) = NodeJoins net home plan.node
+
+says_joins : (net : Network) (inputs : List (List ℤ)) (home : ℕ) (prospect : Prospect)
+    → ProspectSays net inputs home prospect → ProspectJoins net home prospect
+says_joins net inputs home Undue says = tt
+says_joins net inputs home (Exhausted looks) says = tt
+says_joins net inputs home (Planned plan) says = record { kept = says.kept; live = says.live }
+
+module _ (net : Network) (home : ℕ) (old : NodeView) (joins : NodeJoins net home old) where
+  down_joins : (restart : ℕ) (kept : RecordView) → KeepsNodes net home kept
+      → NodeJoins net home (crashed restart (with_kept kept old))
+  down_joins restart kept keeps =
+      record { kept = keeps; live = λ live is. absurd (some_not_none refl is) }
+
+  went_down : (restart : ℕ) → NodeJoins net home (crashed restart old)
+  went_down restart =
+      record { kept = joins.kept; live = λ live is. absurd (some_not_none refl is) }
+
+  -- however it comes out
+  made_joins : (restart : ℕ) (prospect : Prospect) (came : Outcome) (new : NodeView) → ProspectJoins net home prospect
+      → IsMade restart prospect old came new → NodeJoins net home new
+  made_joins restart Undue came new then_joins step = subst (NodeJoins net home) (sym step.1) joins
+  made_joins restart (Exhausted looks) outcome.NotDue new then_joins step = absurd step
+  made_joins restart (Exhausted looks) outcome.Made new then_joins step = absurd step
+  made_joins restart (Exhausted looks) (outcome.Refused TooLarge) new then_joins step = absurd step
+  made_joins restart (Exhausted looks) (outcome.Refused Spent) new then_joins step =
+      subst (NodeJoins net home) (sym step) joins
+  made_joins restart (Exhausted looks) outcome.Failed new then_joins step =
+      subst (NodeJoins net home) (sym step.1) (went_down restart)
+  made_joins restart (Planned plan) outcome.NotDue new then_joins step = absurd step
+  made_joins restart (Planned plan) outcome.Made new then_joins step =
+      subst (NodeJoins net home) (sym step) then_joins
+  made_joins restart (Planned plan) (outcome.Refused TooLarge) new then_joins step =
+      subst (NodeJoins net home) (sym step.1) joins
+  made_joins restart (Planned plan) (outcome.Refused Spent) new then_joins step = absurd step
+  made_joins restart (Planned plan) outcome.Failed new then_joins step =
+      ⊎_elim (λ same. subst (NodeJoins net home) (sym same) (went_down restart))
+      (λ same. subst (NodeJoins net home) (sym same) (down_joins restart plan.node.kept then_joins.kept)) step.1
+
+  -- a change that leaves what is collected
+  changed_joins : (change : RunningView → RunningView)
+      → ((running : RunningView) → (change running).live ≡ running.live)
+      → NodeJoins net home (record old { mode = on_mode change old.mode })
+  changed_joins change same = record {
+    kept = joins.kept;
+    live = λ live is. joins.live live (sym (by old.mode) ∙ is);
+  }
+    where
+      by : (mode : ModeView) → live_in (on_mode change mode) ≡ live_in mode
+      by Down = refl
+      by InDoubt = refl
+      by (Runs running) = same running
+
+  crash_joins : (restart : ℕ) → ProspectJoins net home (crash_prospect restart old)
+  crash_joins restart = by (not (is_down old.mode))
+    where
+      by : (b : Bool) → ProspectJoins net home (if_due b (becoming (crashed restart old)))
+      by false = tt
+      by true = went_down restart
+
+  -- a node that comes back collects nothing
+  recover_joins : ProspectJoins net home (recover_prospect net home old)
+  recover_joins = by (is_down old.mode) (nat_lt old.kept.epoch MAX_COUNT)
+    where
+      none : (o : Option Tentative) (live : LiveView) → live_in (restored_with net home (with_epoch old.kept) o) ≡ Some live
+          → LiveIsSound net home live
+      none None live is = absurd (some_not_none refl is)
+      none (Some held) live is = absurd (some_not_none refl is)
+
+      by : (b d : Bool)
+          → ProspectJoins net home (if_due b (unless_spent true d (putting false (restored net home old))))
+      by false d = tt
+      by true false = tt
+      by true true = record {
+        kept = epoch_keeps net home old.kept joins.kept;
+        live = none (with_epoch old.kept).tentative;
+      }
+
+  grant_joins : (job : Option JobView) → ProspectJoins net home (grant_prospect job old)
+  grant_joins None = tt
+  grant_joins (Some job) = changed_joins (granted (Some job)) (λ r. refl)
+
+  turn_joins : (b : Bool) (packets : List Packet) → ProspectJoins net home (if_due b (telling packets old))
+  turn_joins false packets = tt
+  turn_joins true packets = joins
+
+node_of_station : (net : Network) (station : StationView) → IsJoined net station
+    → NodeJoins net station.number station.node
+node_of_station net station joined = record { kept = joined.kept; live = joined.live }
+
+-- ---- deeds
+
+module _ (setting : Setting) (stations : List StationView) (k : ℕ) (old : StationView)
+    (in_world : StandsIn setting stations k old) where
+  here_below : old.number < node_count setting.net
+  here_below =
+      let within = slice_get_within stations k old in_world.there in
+      let count = in_world.count in
+      let number = in_world.number in
+      omega (arith, within, count, number)
+
+  joins_now : NodeJoins setting.net old.number old.node
+  joins_now = node_of_station setting.net old in_world.joined
+
+  counts : (running : RunningView) → old.node.mode ≡ Runs running
+      → MayBeAskedFor setting.net old.number running.current
+  counts running runs =
+      let node = running_node old.node.kept old.node.version running in
+      let links = (in_world.sound.runs node (ap (running_in old.node.kept old.node.version) runs)).sound.kept.links in
+      subst (λ (n : ℕ). MayBeAskedFor setting.net n running.current) (in_world.node ∙ sym in_world.number)
+      (current_counts setting.net old.node.kept.node setting.inputs in_world.valid
+      (let same = in_world.node ∙ sym in_world.number in
+      subst (λ (n : ℕ). n < node_count setting.net) (sym same) here_below)
+      node links)
+
+  came_joins : (place : ℕ) (o : Option (List ℕ)) → SpelledBytes setting k o
+      → ProspectJoins setting.net old.number (deliver_plan setting.net place o old).prospect
+  came_joins place None says = tt
+  came_joins place (Some bytes) says =
+      subst (λ (o : Option Packet). ProspectJoins setting.net old.number
+      (deliver_prospect setting.net old.number o old.node))
+      (sym packet_is) (by (not (is_down old.node.mode)))
+    where
+      to_here : says.packet.to ≡ old.number
+      to_here = says.here ∙ sym in_world.number
+
+      packet_is : packet_for setting.net old.number bytes ≡ Some says.packet
+      packet_is =
+          ap (if_right setting.net old.number) (whole_again bytes says.packet says.text)
+          ∙ ap (λ (b : Bool). cond b (Some says.packet) None)
+          (true_both (says.packet.to == old.number) (names_right setting.net says.packet)
+          (eq-eqb says.packet.to old.number to_here) says.names)
+
+      by : (b : Bool)
+          → ProspectJoins setting.net old.number
+          (if_due b (told_prospect setting.net old.number (Some says.packet) old.node))
+      by false = tt
+      by true =
+          says_joins setting.net setting.inputs old.number
+          (hear_prospect setting.net old.number says.packet.from says.packet.body old.node)
+          (hears_says setting.net setting.inputs in_world.valid old.number here_below old.node
+          in_world.joined.kept
+          in_world.joined.live counts says.packet.from says.packet.body says.text.allowed.body
+          (ap (λ (n : ℕ). names_run setting.net says.packet.from n says.packet.body) (sym to_here) ∙ says.names))
+
+  deed_joins : (deed : Deed)
+      → ((place : ℕ) → deed ≡ event.Deliver place
+      → SpelledBytes setting k (due_bytes setting.round (flight_at setting k place)))
+      → ProspectJoins setting.net old.number (plan_of setting k deed old).prospect
+  deed_joins (event.Deliver place) says =
+      came_joins place (due_bytes setting.round (flight_at setting k place)) (says place refl)
+  deed_joins event.Grant says =
+      grant_joins setting.net old.number old.node joins_now (node_job setting.net setting.inputs setting.room old.node)
+  deed_joins event.Send says =
+      turn_joins setting.net old.number old.node joins_now (not (is_down old.node.mode))
+      (turn_packets setting.net old.number old.node.kept old.node.mode)
+  deed_joins event.Start says =
+      says_joins setting.net setting.inputs old.number (start_prospect setting.net old.number old.node)
+      (begins_says setting.net setting.inputs in_world.valid old.number here_below old.node
+      in_world.joined.kept in_world.joined.live counts)
+  deed_joins event.Decide says =
+      says_joins setting.net setting.inputs old.number (decide_prospect old.number old.node)
+      (concludes_says setting.net setting.inputs in_world.valid old.number here_below old.node
+      in_world.joined.kept in_world.joined.live counts)
+  deed_joins (event.Crash fill rounds) says =
+      crash_joins setting.net old.number old.node joins_now (round_later setting.round rounds)
+  deed_joins event.Recover says = recover_joins setting.net old.number old.node joins_now
+  deed_joins (event.Arm fault rounds) says =
+      record { kept = joins_now.kept; live = joins_now.live }
+  deed_joins event.Idle says = joins_now
+
+  -- the bytes that come in a deed are spelled
+  known_bytes : (deed : Deed) → ∥ ((place : ℕ) → deed ≡ event.Deliver place
+      → SpelledBytes setting k (due_bytes setting.round (flight_at setting k place))) ∥₁
+  known_bytes (event.Deliver place) =
+      ∥∥₁_map (bytes_spelled setting stations k old in_world place
+      (due_bytes setting.round (flight_at setting k place)) refl)
+      (λ says other same. subst (λ (p : ℕ). SpelledBytes setting k (due_bytes setting.round (flight_at setting k p)))
+      (place_in same) says)
+    where
+      place_of : Deed → ℕ
+      place_of (event.Deliver p) = p
+      place_of event.Grant = 0
+      place_of event.Send = 0
+      place_of event.Start = 0
+      place_of event.Decide = 0
+      place_of (event.Crash fill rounds) = 0
+      place_of event.Recover = 0
+      place_of (event.Arm fault rounds) = 0
+      place_of event.Idle = 0
+
+      place_in : {other : ℕ} → event.Deliver place ≡ event.Deliver other → place ≡ other
+      place_in same = ap place_of same
+  known_bytes event.Grant = ∣ (λ place same. absurd (cc)) ∣₁
+  known_bytes event.Send = ∣ (λ place same. absurd (cc)) ∣₁
+  known_bytes event.Start = ∣ (λ place same. absurd (cc)) ∣₁
+  known_bytes event.Decide = ∣ (λ place same. absurd (cc)) ∣₁
+  known_bytes (event.Crash fill rounds) = ∣ (λ place same. absurd (cc)) ∣₁
+  known_bytes event.Recover = ∣ (λ place same. absurd (cc)) ∣₁
+  known_bytes (event.Arm fault rounds) = ∣ (λ place same. absurd (cc)) ∣₁
+  known_bytes event.Idle = ∣ (λ place same. absurd (cc)) ∣₁
+
+pub deeds_stay_joined : DeedsStayJoined
+deeds_stay_joined setting stations k old new deed fits came answer in_world step =
+    ∥∥₁_elim (known_bytes setting stations k old in_world deed) (hlevel (le_prop, ℕ_set, Bool-set))
+    (λ says. subst (IsJoined setting.net) (sym step.same) (as_station
+    (made_joins setting.net old.number old.node (joins_now setting stations k old in_world)
+    (restart_after old.node.armed step.call setting.round) (plan_of setting k deed old).prospect came
+    new.node (deed_joins setting stations k old in_world deed says) step.step)))
+  where
+    as_station : {failures : _} {turns : _} → NodeJoins setting.net old.number new.node
+        → IsJoined setting.net (moved_to new.node failures turns old)
+    as_station joins = record { kept = joins.kept; live = joins.live }
+
+pub install_joined : (net : Network) (old new : StationView) (done : DoneView) (answer : ReplyView)
+    → IsInstalled net.channels done old answer new → IsJoined net old → IsJoined net new
+install_joined net old new done answer step joined = subst (IsJoined net) (sym step.same) (by step.applied step.step)
+  where
+    by : (applied : Bool) → IsInstall net.channels done.job done.after done.taken done.sent old.node applied new.node
+        → IsJoined net (moved_to new.node old.failures old.turns old)
+    by false is = subst (λ (n : NodeView). IsJoined net (moved_to n old.failures old.turns old)) (sym is.1)
+        (record { kept = joined.kept; live = joined.live })
+    by true is =
+        let joins = changed_joins net old.number old.node (node_of_station net old joined)
+        (turned net.channels done.job.process done.after done.taken done.sent) (λ r. refl) in
+        subst (λ (n : NodeView). IsJoined net (moved_to n old.failures old.turns old)) (sym is.1)
+        (record { kept = joins.kept; live = joins.live })
+
+pub release_joined : (net : Network) (old new : StationView) (round : ℕ) (answer : ReplyView)
+    → IsRelease round (next_release round old) old answer new → IsJoined net old → IsJoined net new
+release_joined net old new round answer step joined = by (next_release round old) step
+  where
+    by : (o : Option ℕ) → IsRelease round o old answer new → IsJoined net new
+    by None is = subst (IsJoined net) (sym is.1) joined
+    by (Some place) is =
+        let joins = changed_joins net old.number old.node (node_of_station net old joined)
+        (cut_at is.outlet.channel (length is.later.taken)) (λ r. refl) in
+        subst (IsJoined net) (sym is.same) (record { kept = joins.kept; live = joins.live })
+
+pub opening_is_joined : OpeningIsJoined
+opening_is_joined net failures outlets k station is = from_number (node_count net) 0 failures k refl is
+  where
+    from_number : (nodes number : ℕ) (failures : List ℕ) (k : ℕ) → nodes ≡ node_count net
+        → slice_get (stations_from net nodes number failures outlets) k ≡ Some station → IsJoined net station
+    from_number nodes number [] k same is = absurd (cc)
+    from_number nodes number (f ∷ failures) zero same is = subst (IsJoined net) (one_inside refl is) (record {
+      kept = record {
+        listed = length-replicate nodes 0 ∙ same;
+        held = λ held e. absurd (some_not_none refl e);
+        decisions = λ i d e. absurd (cc);
+        room = λ held e own. absurd (some_not_none refl e);
+      };
+      live = λ live e. absurd (some_not_none refl e);
+    })
+    from_number nodes number (f ∷ failures) (suc k) same is = from_number nodes (suc number) failures k same is

@@ -1,0 +1,188 @@
+-- A world before its first event is the opening world of the abstract machine.
+use Rattle.std.proofs.Common.{◌≡◌, ℕ, zero, suc, Bool, true, false, eqb, cond, List, ℤ, [], ◌∷◌, length, replicate}
+use Rattle.std.proofs.Common.{Option, Some}
+use Rattle.std.proofs.Common.{None, option_map, refl, sym, ap, ◌∙◌}
+use Rattle.std.specs.Prelude.{◌==◌, slice_index, find, filter}
+use Rattle.std.proofs.Math.Path.{fun_ext}
+use Rattle.kahn_net.specs.Syntax.{Network}
+use Rattle.kahn_net.specs.declared.program.Channel.{Channel}
+use Rattle.record.specs.Ends.{received_at, log_at, base_in, sent_in, received_of, base_of, sent_of}
+use Rattle.record.specs.declared.image.End.{End}
+use Rattle.record.specs.declared.image.SavedEnd.{SavedEnd}
+use Rattle.wire.specs.Traffic.{opening_traffic}
+use Rattle.recovery_line.specs.Images.{Image, blank}
+use Rattle.recovery_line.specs.Nodes.{Mode, Running}
+use Rattle.recovery_line.specs.Observers.{image_seen, record_seen}
+use Rattle.recovery_line.specs.Records.{Record, new_record}
+use Rattle.recovery_line.specs.Worlds.{opening}
+use Rattle.protocol_laws.specs.Join.Promises.{HaveTakenNothing}
+use Rattle.protocol.specs.Join.Runs.{SaysWhatWasSent, HasRun}
+use Rattle.protocol.specs.Join.Seen.{modes_seen, world_seen}
+use Rattle.protocol.specs.Node.Layout.{port_on, channel_on}
+use Rattle.protocol.specs.Node.Opening.{opening_end, opening_ends, opening_image, opening_record}
+use Rattle.protocol.specs.World.OpeningWorld.{stations_from}
+use Rattle.protocol.specs.World.RecoveryLine.{records_of, records_seen, outlets_seen}
+use Rattle.protocol.specs.World.Released.{taken_or, released_of}
+use Rattle.protocol.specs.World.Sound.{is_output}
+use Rattle.protocol.specs.World.StationView.{OutletView}
+use Rattle.protocol_laws.specs.World.FlightLaws.{opened_holds}
+
+module _ (net : Network) (home : ℕ) where
+  -- a count that is 0 of an end to which nothing has come is 0 of every channel
+  count_is_none : (count : Option End → ℕ) → count None ≡ 0
+      → ((puts gets : Bool) → count (Some (opening_end puts gets)) ≡ 0) → (c number : ℕ) (channels : List Channel)
+      → count (option_map (λ (s : SavedEnd). s.end)
+      (find (λ (s : SavedEnd). eqb s.channel c) (opening_ends net home number channels))) ≡ 0
+  count_is_none count none one c number [] = none
+  count_is_none count none one c number (channel ∷ channels) =
+      by (channel_on net home (Some channel)) (eqb number c) (count_is_none count none one c (suc number) channels)
+    where
+      by : (on here : Bool)
+          → count (option_map (λ (s : SavedEnd). s.end)
+          (find (λ (s : SavedEnd). eqb s.channel c) (opening_ends net home (suc number) channels))) ≡ 0
+          → count (option_map (λ (s : SavedEnd). s.end) (find (λ (s : SavedEnd). eqb s.channel c)
+          (cond on
+          (record {
+            channel = number;
+            end = opening_end (port_on net home channel.producer) (port_on net home channel.consumer);
+          } ∷ opening_ends net home (suc number) channels)
+          (opening_ends net home (suc number) channels)))) ≡ 0
+      by false here rest = rest
+      by true here rest = at (eqb number c)
+        where
+          at : (b : Bool) → count (option_map (λ (s : SavedEnd). s.end) (cond b
+              (Some (record {
+                channel = number;
+                end = opening_end (port_on net home channel.producer) (port_on net home channel.consumer);
+              }))
+              (find (λ (s : SavedEnd). eqb s.channel c) (opening_ends net home (suc number) channels)))) ≡ 0
+          at true = one (port_on net home channel.producer) (port_on net home channel.consumer)
+          at false = rest
+
+  image_opens : image_seen (opening_image net home) ≡ blank
+  image_opens =
+      ap (λ (r : ℕ → ℕ). record {
+        received = r;
+        base = base_of (opening_image net home);
+        sent = sent_of (opening_image net home);
+      }) (fun_ext received)
+      ∙ (ap (λ (b : ℕ → ℕ). record { received = λ c. 0; base = b; sent = sent_of (opening_image net home) })
+      (fun_ext base)
+      ∙ ap (λ (s : ℕ → ℕ). record { received = λ c. 0; base = λ c. 0; sent = s }) (fun_ext sent))
+    where
+      received : (c : ℕ) → received_of (opening_image net home) c ≡ 0
+      received c = count_is_none received_at refl none c 0 net.channels
+        where
+          none : (puts gets : Bool) → received_at (Some (opening_end puts gets)) ≡ 0
+          none true true = refl
+          none true false = refl
+          none false gets = refl
+
+      base : (c : ℕ) → base_of (opening_image net home) c ≡ 0
+      base c = count_is_none (λ (o : Option End). base_in (log_at o)) refl none c 0 net.channels
+        where
+          none : (puts gets : Bool) → base_in (log_at (Some (opening_end puts gets))) ≡ 0
+          none true true = refl
+          none true false = refl
+          none false gets = refl
+
+      sent : (c : ℕ) → sent_of (opening_image net home) c ≡ 0
+      sent c = count_is_none (λ (o : Option End). sent_in (log_at o)) refl none c 0 net.channels
+        where
+          none : (puts gets : Bool) → sent_in (log_at (Some (opening_end puts gets))) ≡ 0
+          none true true = refl
+          none true false = refl
+          none false gets = refl
+
+  record_opens : (nodes : ℕ) → record_seen (opening_record net nodes home) ≡ new_record
+  record_opens nodes =
+      ap (λ (h : ℕ → ℕ). record {
+        highest = h;
+        decided = λ n. false;
+        named = λ n p. false;
+        permanent = image_seen (opening_image net home);
+        tentative = None;
+      }) (fun_ext (none nodes))
+      ∙ ap (λ (i : Image). record {
+        highest = λ x. 0;
+        decided = λ n. false;
+        named = λ n p. false;
+        permanent = i;
+        tentative = None;
+      }) image_opens
+    where
+      none : (count x : ℕ) → slice_index (replicate count 0) x ≡ 0
+      none zero x = refl
+      none (suc count) zero = refl
+      none (suc count) (suc x) = none count x
+
+module _ (net : Network) (nodes : ℕ) (outlets : List OutletView) where
+  records_open : (number : ℕ) (failures : List ℕ) (k : ℕ)
+      → records_seen (records_of (stations_from net nodes number failures outlets)) k ≡ new_record
+  records_open number [] k = refl
+  records_open number (f ∷ failures) zero = record_opens net number nodes
+  records_open number (f ∷ failures) (suc k) = records_open (suc number) failures k
+
+  modes_open : (number : ℕ) (failures : List ℕ) (k : ℕ)
+      → modes_seen (stations_from net nodes number failures outlets) k ≡ Running blank None
+  modes_open number [] k = refl
+  modes_open number (f ∷ failures) zero = ap (λ (i : Image). Running i None) (image_opens net number)
+  modes_open number (f ∷ failures) (suc k) = modes_open (suc number) failures k
+
+  nothing_found : (test : OutletView → Bool) (c : ℕ) (all : List OutletView) (others : List ℤ) → HaveTakenNothing all
+      → others ≡ []
+      → taken_or (find (λ (outlet : OutletView). outlet.channel == c) (filter test all)) others ≡ []
+  nothing_found test c [] others nothing none = none
+  nothing_found test c (o ∷ all) others nothing none =
+      by (test o) (nothing_found test c all others (λ i outlet is. nothing (suc i) outlet is) none)
+    where
+      by : (b : Bool)
+          → taken_or (find (λ (outlet : OutletView). outlet.channel == c) (filter test all)) others ≡ []
+          → taken_or (find (λ (outlet : OutletView). outlet.channel == c)
+          (cond b (o ∷ filter test all) (filter test all))) others ≡ []
+      by false rest = rest
+      by true rest = at (o.channel == c)
+        where
+          at : (b : Bool) → taken_or (cond b (Some o)
+              (find (λ (outlet : OutletView). outlet.channel == c) (filter test all))) others ≡ []
+          at true = nothing 0 o refl
+          at false = rest
+
+  left_open : (c number : ℕ) (failures : List ℕ) → HaveTakenNothing outlets
+      → released_of c (stations_from net nodes number failures outlets) ≡ []
+  left_open c number [] nothing = refl
+  left_open c number (f ∷ failures) nothing =
+      nothing_found (λ (outlet : OutletView). is_output net number outlet.channel) c outlets
+      (released_of c (stations_from net nodes (suc number) failures outlets)) nothing
+      (left_open c (suc number) failures nothing)
+
+  world_opens : (number : ℕ) (failures : List ℕ) → HaveTakenNothing outlets
+      → world_seen (stations_from net nodes number failures outlets) [] ≡ opening
+  world_opens number failures nothing =
+      ap (λ (r : ℕ → Record). record {
+        records = r;
+        modes = modes_seen (stations_from net nodes number failures outlets);
+        outlets = outlets_seen (stations_from net nodes number failures outlets);
+        flight = λ place. None;
+      }) (fun_ext (records_open number failures))
+      ∙ (ap (λ (m : ℕ → Mode). record {
+        records = λ k. new_record;
+        modes = m;
+        outlets = outlets_seen (stations_from net nodes number failures outlets);
+        flight = λ place. None;
+      }) (fun_ext (modes_open number failures))
+      ∙ ap (λ (o : ℕ → ℕ). record {
+        records = λ k. new_record;
+        modes = λ k. Running blank None;
+        outlets = o;
+        flight = λ place. None;
+      }) (fun_ext (λ c. ap (length {A = ℤ}) (left_open c number failures nothing))))
+
+  pub run_opens : (number : ℕ) (failures : List ℕ) → HaveTakenNothing outlets
+      → HasRun net (stations_from net nodes number failures outlets) opening_traffic
+  run_opens number failures nothing = record {
+    sent = [];
+    reached = ([], sym (world_opens number failures nothing));
+    carries = opened_holds (λ to. SaysWhatWasSent []);
+    flown = λ told was. absurd (cc);
+  }

@@ -1,0 +1,218 @@
+-- Whatever a node says in its turn may be said.
+use Rattle.std.proofs.Common.{◌≡◌, ℕ, zero, suc, ◌&&◌, ◌||◌, Bool, true, false, cond, List, ℤ, [], ◌∷◌, ◌++◌, length}
+use Rattle.std.proofs.Common.{map, Option, Some}
+use Rattle.std.proofs.Common.{None, refl, sym, ap, ◌∙◌}
+use Rattle.std.specs.Prelude.{◌≢◌, ◌==◌, not, slice_get, slice_set}
+use Rattle.std.specs.List.{flat_map}
+use Rattle.std.proofs.lemmas.Bool.{eq-eqb}
+use Rattle.datagram.specs.declared.packet.Body.TheVariants as says
+use Rattle.kahn_net.specs.Syntax.{Network}
+use Rattle.kahn_net.specs.Valid.{IsValid}
+use Rattle.record.specs.DecisionView.{DecisionView}
+use Rattle.record.specs.Ends.{log_of}
+use Rattle.record.specs.RecordView.{RecordView}
+use Rattle.record.specs.declared.record.Tentative.{Tentative as HeldImage}
+use Rattle.retained.specs.LogState.{LogState}
+use Rattle.recovery_line.specs.Images.{Net}
+use Rattle.recovery_line.specs.Nodes.{Mode, live_of}
+use Rattle.recovery_line.specs.Observers.{has_node, image_seen, record_seen, tentative_seen, decides, names}
+use Rattle.recovery_line.specs.Packets.{Packet}
+use Rattle.recovery_line.specs.Records.{Record}
+use Rattle.recovery_line.specs.Worlds.{World}
+use Rattle.protocol.specs.Node.Beginning.{live_in, live_asks}
+use Rattle.protocol.specs.Join.Seen.{mode_seen, world_seen}
+use Rattle.protocol.specs.Node.Telling.{decision_packets, packet_if, query_packets, verdicts_told, kept_packet}
+use Rattle.protocol.specs.Node.Telling.{turn_packets, undone_packet, undone_packets}
+use Rattle.protocol.specs.Node.Telling.{send_prospect}
+use Rattle.protocol_laws.specs.Join.Concludes.{commits_may}
+use Rattle.protocol_laws.specs.Join.Crossings.{comes_cross}
+use Rattle.protocol_laws.specs.Join.Holding.{up_seen}
+use Rattle.protocol_laws.specs.Join.Leading.{leads_by, leads_from, record_at, mode_at, set_there, unseen}
+use Rattle.protocol_laws.specs.Join.Plans.{ProspectLeads}
+use Rattle.protocol_laws.specs.Join.Sent.{MaySendAll, may_both, may_each, may_map, sends}
+use Rattle.protocol_laws.specs.Join.Starts.{asks_may, live_there}
+use Rattle.protocol.specs.Node.Addresses.{consumer_node}
+use Rattle.protocol.specs.Node.Layout.{is_incoming, incoming_on}
+use Rattle.protocol.specs.Node.LiveView.{LiveView}
+use Rattle.protocol.specs.Node.Modes.{is_none, is_down}
+use Rattle.protocol.specs.Node.NodeView.{ModeView, Down, InDoubt, Runs, RunningView}
+use Rattle.protocol.specs.Node.Plans.{if_due, telling}
+use Rattle.protocol.specs.Node.Sending.{inbox_packets, data_packets, first_due, items_due, log_packets, outbox_packets}
+use Rattle.protocol_laws.specs.Node.NumberedLaws.{where_mark}
+use Rattle.protocol.specs.World.RecoveryLine.{net_seen}
+use Rattle.protocol.specs.World.StationView.{StationView}
+use Rattle.protocol.specs.World.Steps.{moved_to}
+use Rattle.protocol.specs.declared.links.Inbox.{Inbox}
+use Rattle.protocol.specs.declared.links.Outbox.{Outbox}
+
+-- ---- items
+
+data_may : (net : Net) (w : World) (home to channel position : ℕ) (items : List ℤ)
+    → MaySendAll net w (data_packets home to channel position items)
+data_may net w home to channel position [] = tt
+data_may net w home to channel position (item ∷ items) = data_may net w home to channel (suc position) items
+
+items_may : (net : Network) (w : World) (home : ℕ) (outbox : Outbox) (log : Option LogState)
+    → MaySendAll (net_seen net) w (log_packets net home outbox log)
+items_may net w home outbox None = tt
+items_may net w home outbox (Some log) =
+    data_may (net_seen net) w home (consumer_node net outbox.channel) outbox.channel (first_due outbox log)
+    (items_due outbox log)
+
+-- ---- a node with this record and mode
+
+or_true : (b : Bool) → (b || true) ≡ true
+or_true true = refl
+or_true false = refl
+
+-- a decision among some is one of them, and so are the nodes that it names
+decided_there : (decisions : List DecisionView) (i : ℕ) (d : DecisionView) → slice_get decisions i ≡ Some d
+    → decides decisions d.number ≡ true
+decided_there [] i d is = absurd (cc)
+decided_there (x ∷ decisions) zero d is =
+    let same : x ≡ d = cc in
+    let e : (x.number == d.number) ≡ true = eq-eqb x.number d.number (ap (λ (y : DecisionView). y.number) same) in
+    rw e refl
+decided_there (x ∷ decisions) (suc i) d is = rw (decided_there decisions i d is) (or_true (x.number == d.number))
+
+named_there : (decisions : List DecisionView) (i : ℕ) (d : DecisionView) (p : ℕ) → slice_get decisions i ≡ Some d
+    → has_node p d.participants ≡ true → names decisions d.number p ≡ true
+named_there [] i d p is has = absurd (cc)
+named_there (x ∷ decisions) zero d p is has =
+    let same : x ≡ d = cc in
+    let e : (x.number == d.number) ≡ true = eq-eqb x.number d.number (ap (λ (y : DecisionView). y.number) same) in
+    let f : has_node p x.participants ≡ true = ap (λ (y : DecisionView). has_node p y.participants) same ∙ has in
+    rw (e, f) refl
+named_there (x ∷ decisions) (suc i) d p is has =
+    rw (named_there decisions i d p is has) (or_true ((x.number == d.number) && has_node p x.participants))
+
+module _ (net : Network) (valid : IsValid net) (w : World) (home : ℕ) (kept : RecordView) (mode : ModeView)
+    (is : w.records home ≡ record_seen kept) (mode_is : w.modes home ≡ mode_seen mode) (up : w.modes home ≢ Mode.Down)
+  where
+    asks_told : (o : Option LiveView) → live_in mode ≡ o → MaySendAll (net_seen net) w (live_asks net home o)
+    asks_told None at = tt
+    asks_told (Some live) at = asks_may net home w live (ap live_of mode_is ∙ live_there mode live at)
+
+    query_told : (o : Option HeldImage) → kept.tentative ≡ o → MaySendAll (net_seen net) w (query_packets home o)
+    query_told None at = tt
+    query_told (Some held) at = by (held.initiator == home)
+      where
+        by : (b : Bool) → MaySendAll (net_seen net) w
+            (packet_if (not b) (record { from = home; to = held.initiator; body = says.Query held.number }))
+        by true = tt
+        by false = (
+          record {
+            image = image_seen held.image;
+            up = up;
+            held = ap (λ (r : Record). r.tentative) is ∙ ap tentative_seen at;
+          },
+          tt,
+        )
+
+    verdicts_may : MaySendAll (net_seen net) w (verdicts_told home kept)
+    verdicts_may =
+        may_both (net_seen net) w (flat_map (decision_packets home) kept.decisions) (query_packets home kept.tentative)
+        (may_each (net_seen net) w (decision_packets home) kept.decisions
+        (λ i d at. commits_may (net_seen net) w home d.number d.participants up
+        (λ p named. (
+          ap (λ (r : Record). r.decided d.number) is ∙ decided_there kept.decisions i d at,
+          ap (λ (r : Record). r.named d.number p) is ∙ named_there kept.decisions i d p at named,
+        ))))
+        (query_told kept.tentative refl)
+
+    kept_may : (c : ℕ) → is_incoming net home c ≡ true
+        → MaySendAll (net_seen net) w (kept_packet net home kept.permanent c ∷ [])
+    kept_may c comes = (
+      record {
+        node = home;
+        to = (comes_cross net home c valid comes).1.to;
+        up = up;
+        count = ap (λ (r : Record). r.permanent.received c) (sym is);
+      },
+      tt,
+    )
+
+    pub turn_may : ((running : RunningView) → mode ≡ Runs running → (i : ℕ) (inbox : Inbox)
+        → slice_get running.inboxes i ≡ Some inbox → is_incoming net home inbox.channel ≡ true)
+        → MaySendAll (net_seen net) w (turn_packets net home kept mode)
+    turn_may incoming = by mode refl
+      where
+        by : (now : ModeView) → mode ≡ now → MaySendAll (net_seen net) w (turn_packets net home kept now)
+        by Down at = tt
+        by InDoubt at =
+            may_both (net_seen net) w (map (kept_packet net home kept.permanent) (incoming_on net home))
+            (verdicts_told home kept)
+            (may_map (net_seen net) w (kept_packet net home kept.permanent) (incoming_on net home)
+            (λ i c there. kept_may c
+            (where_mark (λ (n : ℕ). n) (is_incoming net home) 0 (length net.channels) (incoming_on net home) i c
+            (map_same (incoming_on net home)) there).0))
+            verdicts_may
+          where
+            map_same : (xs : List ℕ) → map (λ (n : ℕ). n) xs ≡ xs
+            map_same [] = refl
+            map_same (x ∷ xs) = ap (λ (rest : List ℕ). x ∷ rest) (map_same xs)
+        by (Runs running) at =
+            may_both (net_seen net) w (flat_map (inbox_packets net home kept.permanent) running.inboxes)
+            (undone_packets net home kept.epoch running.outboxes
+            ++ (live_asks net home running.live ++ (verdicts_told home kept ++
+            (cond (is_none kept.tentative) (flat_map (outbox_packets net home running.current) running.outboxes) []))))
+            (may_each (net_seen net) w (inbox_packets net home kept.permanent) running.inboxes
+            (λ i inbox there. kept_may inbox.channel (incoming running at i inbox there)))
+            (may_both (net_seen net) w (undone_packets net home kept.epoch running.outboxes)
+            (live_asks net home running.live ++ (verdicts_told home kept ++
+            (cond (is_none kept.tentative) (flat_map (outbox_packets net home running.current) running.outboxes) [])))
+            (undone_told (kept.epoch == 0))
+            (may_both (net_seen net) w (live_asks net home running.live) (verdicts_told home kept ++
+            (cond (is_none kept.tentative) (flat_map (outbox_packets net home running.current) running.outboxes) []))
+            (asks_told running.live (ap live_in at))
+            (may_both (net_seen net) w (verdicts_told home kept)
+            (cond (is_none kept.tentative) (flat_map (outbox_packets net home running.current) running.outboxes) [])
+            verdicts_may
+            (items_told (is_none kept.tentative)))))
+          where
+            -- what a node restored is no matter of the machine's
+            each_undone : (outboxes : List Outbox)
+                → MaySendAll (net_seen net) w (map (undone_packet net home kept.epoch) outboxes)
+            each_undone [] = tt
+            each_undone (outbox ∷ outboxes) = each_undone outboxes
+
+            undone_told : (b : Bool) → MaySendAll (net_seen net) w
+                (cond b [] (map (undone_packet net home kept.epoch) running.outboxes))
+            undone_told true = tt
+            undone_told false = each_undone running.outboxes
+
+            items_told : (b : Bool) → MaySendAll (net_seen net) w
+                (cond b (flat_map (outbox_packets net home running.current) running.outboxes) [])
+            items_told true =
+                may_each (net_seen net) w (outbox_packets net home running.current) running.outboxes
+                (λ i outbox there. items_may net w home outbox (log_of running.current outbox.channel))
+            items_told false = tt
+
+-- ---- one station of several
+
+module _ (net : Network) (valid : IsValid net) (stations : List StationView) (k : ℕ) (old : StationView)
+    (there : slice_get stations k ≡ Some old) (sent : List Packet)
+    (incoming : (running : RunningView) → old.node.mode ≡ Runs running → (i : ℕ) (inbox : Inbox)
+    → slice_get running.inboxes i ≡ Some inbox → is_incoming net k inbox.channel ≡ true) where
+  pub turn_leads : ProspectLeads net stations k old sent (send_prospect net k old.node)
+  turn_leads = by (is_down old.node.mode) refl
+    where
+      by : (down : Bool) → is_down old.node.mode ≡ down
+          → ProspectLeads net stations k old sent
+          (if_due (not down) (telling (turn_packets net k old.node.kept old.node.mode) old.node))
+      by true is = tt
+      by false is = record {
+        leads = λ failures turns.
+            let new = moved_to old.node failures turns old in
+            let later = slice_set stations k new in
+            let here = set_there stations k old new there in
+            leads_from (net_seen net) (world_seen stations sent) (world_seen later sent) _
+            (unseen stations k old new there sent refl refl refl)
+            (leads_by (net_seen net) (world_seen later sent) _
+            (sends (net_seen net) later (turn_packets net k old.node.kept old.node.mode) sent
+            (turn_may net valid (world_seen later sent) k old.node.kept old.node.mode (record_at later k new here)
+            (mode_at later k new here) (λ down. up_seen old.node.mode is (sym (mode_at later k new here) ∙ down))
+            incoming)));
+        silent = refl;
+        keeps = λ e. refl;
+      }

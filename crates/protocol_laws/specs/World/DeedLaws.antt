@@ -1,0 +1,359 @@
+-- What is known of each deed: its plan is sound, a node that is down sends nothing by it, and nothing that comes by
+-- it is dropped. A further deed has a case in each of the three laws that go by deeds, at the end of this file.
+use Rattle.std.proofs.Common.{◌≡◌, ℕ, Bool, true, false, cond, ℤ, List, [], map, All, Option, Some, None}
+use Rattle.std.proofs.Common.{option_map, refl, sym, ap, subst, ◌∙◌}
+use Rattle.std.specs.Prelude.{◌==◌, nat_lt, not}
+use Rattle.std.proofs.Math.Logic.{∥∥₁_elim}
+use Rattle.std.proofs.lemmas.Bool.{and_from, eq-eqb, ltb-true}
+use Rattle.std.proofs.lemmas.List.Elements.{All-nil}
+use mathlib.Core.HLevel.{⊥_prop}
+use Rattle.datagram.proofs.Exactness.{whole_again}
+use Rattle.datagram.specs.Reading.{whole_at}
+use Rattle.datagram.specs.declared.packet.Packet.{Packet}
+use Rattle.kahn_net.specs.Syntax.{Network}
+use Rattle.kahn_net.specs.declared.limits.TheConstants.{MAX_COUNT}
+use Rattle.record.specs.Moves.{highest_seen, with_epoch}
+use Rattle.wire.specs.Queue.{is_due}
+use Rattle.wire.specs.declared.queue.Flight.{Flight}
+use Rattle.protocol.specs.Node.Addresses.{names_right, names_run}
+use Rattle.protocol.specs.Node.ArmedRestarts.{round_later, with_armed}
+use Rattle.protocol.specs.Node.Beginning.{begun, live_asks, live_in, may_start, start_prospect}
+use Rattle.protocol.specs.Node.Choosing.{grant_prospect, node_job, with_grant}
+use Rattle.protocol.specs.Node.Delivering.{delivery_of, if_right, packet_for}
+use Rattle.protocol.specs.Node.Hearing.{deliver_prospect, hear_prospect}
+use Rattle.protocol.specs.Node.JobView.{JobView}
+use Rattle.protocol.specs.Node.Modes.{crashed, is_down}
+use Rattle.protocol.specs.Node.NodeView.{Down, InDoubt, ModeView, NodeView, Runs}
+use Rattle.protocol.specs.Node.Plans.{Planned, Prospect, Undue, Exhausted, becoming, if_due, packets_by, putting}
+use Rattle.protocol.specs.Node.Plans.{unless_spent}
+use Rattle.protocol.specs.Node.Recovering.{crash_prospect, recover_prospect, restored, restored_mode}
+use Rattle.protocol.specs.Node.Sending.{IsWritable}
+use Rattle.protocol.specs.Node.Telling.{turn_packets}
+use Rattle.protocol.specs.Node.Verdicts.{decide_prospect, may_decide}
+use Rattle.protocol.specs.declared.outcome.Outcome.{Outcome}
+use Rattle.protocol.specs.declared.outcome.Outcome.TheVariants as outcome
+use Rattle.protocol.specs.declared.outcome.Refusal.TheVariants.{Spent, TooLarge}
+use Rattle.protocol.specs.World.EventView.{ByNode, ByNetwork, Install, Release}
+use Rattle.protocol.specs.declared.event.Deed.{Deed}
+use Rattle.protocol.specs.declared.event.Deed.TheVariants as event
+use Rattle.protocol.specs.World.InFlight.{OnlyNodesThatAreUpSend}
+use Rattle.protocol.specs.World.Replies.{back_reply, delivery_reply, grant_reply}
+use Rattle.protocol.specs.World.ReplyView.{ReplyView}
+use Rattle.protocol.specs.declared.reply.Reply.TheVariants as reply
+use Rattle.protocol.specs.World.StationView.{StationView}
+use Rattle.protocol.specs.World.Steps.{Setting, bytes_when, deliver_plan, due_bytes, flight_at, plan_of, sending_of}
+use Rattle.protocol.specs.World.Traffic.{BytesAreSound, SpellsSound, TrafficIsSound}
+use Rattle.protocol_laws.specs.World.HeardLaws.{hear_keeps, named_here, right_is, whole_sound}
+use Rattle.protocol_laws.specs.World.MoveLaws.{decide_keeps, start_keeps}
+use Rattle.protocol.specs.World.Invariant.{IsSoundSetting, IsSoundStation}
+use Rattle.protocol_laws.specs.World.PlanLaws.{IsSoundProspect, ProspectKeeps}
+use Rattle.protocol_laws.specs.World.PlanLaws.{back_sound}
+use Rattle.protocol_laws.specs.World.PlanLaws.{down_keeps, grant_sound, keeps_if_due, keeps_still, moved_keeps}
+use Rattle.protocol_laws.specs.World.PlanLaws.{sound_becoming, sound_if_due, sound_unless_spent, whole_plan}
+use Rattle.protocol_laws.specs.World.PlanLaws.{whole_prospect}
+use Rattle.protocol_laws.specs.World.SendLaws.{IsSendable}
+use Rattle.protocol_laws.specs.World.TellLaws.{begins_said, decides_said, hears_said, turn_sendable}
+use Rattle.protocol_laws.specs.World.TrafficLaws.{arrives_sound}
+
+-- ---- what is sent
+
+-- where nothing is to be sent nothing is
+pub becoming_sends : (node : NodeView) (came : Outcome) → packets_by (becoming node) came ≡ []
+becoming_sends node outcome.NotDue = refl
+becoming_sends node outcome.Made = refl
+becoming_sends node (outcome.Refused TooLarge) = refl
+becoming_sends node (outcome.Refused Spent) = refl
+becoming_sends node outcome.Failed = refl
+
+putting_sends : (grows : Bool) (node : NodeView) (came : Outcome) → packets_by (putting grows node) came ≡ []
+putting_sends grows node outcome.NotDue = refl
+putting_sends grows node outcome.Made = refl
+putting_sends grows node (outcome.Refused TooLarge) = refl
+putting_sends grows node (outcome.Refused Spent) = refl
+putting_sends grows node outcome.Failed = refl
+
+due_sends : (due : Bool) (prospect : Prospect) (came : Outcome) → packets_by prospect came ≡ []
+    → packets_by (if_due due prospect) came ≡ []
+due_sends true prospect came none = none
+due_sends false prospect came none = refl
+
+-- nor where it isn't due
+undue_sends : (due : Bool) (prospect : Prospect) (came : Outcome) → due ≡ false
+    → packets_by (if_due due prospect) came ≡ []
+undue_sends due prospect came is = ap (λ (b : Bool). packets_by (if_due b prospect) came) is
+
+spent_sends : (looks less : Bool) (prospect : Prospect) (came : Outcome) → packets_by prospect came ≡ []
+    → packets_by (unless_spent looks less prospect) came ≡ []
+spent_sends looks true prospect came none = none
+spent_sends looks false prospect came none = refl
+
+pub grant_sends : (job : Option JobView) (node : NodeView) (came : Outcome)
+    → packets_by (grant_prospect job node) came ≡ []
+grant_sends None node came = refl
+grant_sends (Some job) node came = becoming_sends (with_grant (Some job) node) came
+
+pub crash_sends : (restart : ℕ) (node : NodeView) (came : Outcome)
+    → packets_by (crash_prospect restart node) came ≡ []
+crash_sends restart node came =
+    due_sends (not (is_down node.mode)) _ came (becoming_sends (crashed restart node) came)
+
+pub recover_sends : (net : Network) (home : ℕ) (node : NodeView) (came : Outcome)
+    → packets_by (recover_prospect net home node) came ≡ []
+recover_sends net home node came =
+    due_sends (is_down node.mode)
+    (unless_spent true (nat_lt node.kept.epoch MAX_COUNT) (putting false (restored net home node))) came
+    (spent_sends true (nat_lt node.kept.epoch MAX_COUNT) (putting false (restored net home node)) came
+    (putting_sends false (restored net home node) came))
+
+-- a node that is down hears nothing, and neither begins nor decides
+down_start : (node : NodeView) → is_down node.mode ≡ true → may_start node ≡ false
+down_start node down = by node.mode refl
+  where
+    by : (mode : ModeView) → node.mode ≡ mode → may_start node ≡ false
+    by Down is = rw is refl
+    by InDoubt is = absurd (let bad : is_down node.mode ≡ false = ap is_down is in cc)
+    by (Runs running) is = absurd (let bad : is_down node.mode ≡ false = ap is_down is in cc)
+
+down_decides : (home : ℕ) (node : NodeView) → is_down node.mode ≡ true
+    → may_decide home node.kept (live_in node.mode) ≡ false
+down_decides home node down = by node.mode refl
+  where
+    by : (mode : ModeView) → node.mode ≡ mode → may_decide home node.kept (live_in node.mode) ≡ false
+    by Down is = ap (λ (m : ModeView). may_decide home node.kept (live_in m)) is
+    by InDoubt is = absurd (let bad : is_down node.mode ≡ false = ap is_down is in cc)
+    by (Runs running) is = absurd (let bad : is_down node.mode ≡ false = ap is_down is in cc)
+
+down_hears : (net : Network) (place : ℕ) (bytes : Option (List ℕ)) (station : StationView) (came : Outcome)
+    → is_down station.node.mode ≡ true → packets_by (deliver_plan net place bytes station).prospect came ≡ []
+down_hears net place None station came down = refl
+down_hears net place (Some bytes) station came down = undue_sends (not (is_down station.node.mode)) _ came (ap not down)
+
+-- ---- what is dropped
+
+-- a packet was dropped
+abbrev pub is_dropped : ReplyView → Bool
+is_dropped reply.Dropped = true
+is_dropped answer = false
+
+grant_is : (job : Option JobView) → is_dropped (grant_reply job) ≡ false
+grant_is None = refl
+grant_is (Some job) = refl
+
+back_is : (mode : ModeView) → is_dropped (back_reply mode) ≡ false
+back_is Down = refl
+back_is InDoubt = refl
+back_is (Runs running) = refl
+
+-- bytes that are sound spell a packet for the node
+right_now : (net : Network) (home : ℕ) (packet : Packet) → packet.to ≡ home → names_right net packet ≡ true
+    → if_right net home (Some packet) ≡ Some packet
+right_now net home packet here names =
+    ap (λ (b : Bool). cond b (Some packet) None)
+    (and_from (packet.to == home) (names_right net packet) (eq-eqb packet.to home here) names)
+
+spells_one : (net : Network) (inputs : List (List ℤ)) (home : ℕ) (bytes : List ℕ) → SpellsSound net inputs home bytes
+    → packet_for net home bytes ≡ None → ⊥
+spells_one net inputs home bytes says none =
+    let one : packet_for net home bytes ≡ Some says.packet =
+    ap (if_right net home) (whole_again bytes says.packet says.text)
+    ∙ right_now net home says.packet says.here says.names in
+    cc
+
+heard_is : (found : Option Packet) → (found ≡ None → ⊥) → is_dropped (delivery_reply (delivery_of false found)) ≡ false
+heard_is None some = absurd (some refl)
+heard_is (Some packet) some = refl
+
+module _ (setting : Setting) (flying : TrafficIsSound setting.net setting.inputs setting.traffic) where
+  came_is : (k place : ℕ) (old : StationView) → old.number ≡ k → (flight : Option Flight)
+      → flight_at setting k place ≡ flight
+      → is_dropped (deliver_plan setting.net place (due_bytes setting.round flight) old).answer ≡ false
+  came_is k place old here None is = refl
+  came_is k place old here (Some flight) is = at (is_due setting.round flight)
+    where
+      sound : BytesAreSound setting.net setting.inputs old.number flight.packet
+      sound =
+          subst (λ (n : ℕ). BytesAreSound setting.net setting.inputs n flight.packet) (sym here)
+          (arrives_sound setting.net setting.inputs setting.traffic k place flight.packet flying
+          (ap (option_map (λ (f : Flight). f.packet)) is))
+
+      at : (due : Bool) → is_dropped (deliver_plan setting.net place (bytes_when due flight.packet) old).answer ≡ false
+      at false = refl
+      at true =
+          heard_is (packet_for setting.net old.number flight.packet)
+          (λ none. ∥∥₁_elim sound ⊥_prop
+          (λ says. spells_one setting.net setting.inputs old.number flight.packet says none))
+
+-- what is sent may be written
+abbrev pub IsWritten : Prospect → Type 0
+IsWritten Undue = Unit {0}
+IsWritten (Exhausted looks) = Unit {0}
+IsWritten (Planned plan) = All IsWritable plan.packets × All IsWritable plan.refused
+
+-- ---- a packet that comes is sound
+
+module _ (setting : Setting) (sure : IsSoundSetting setting) (old : StationView) (sound : IsSoundStation setting old)
+  where
+    -- ---- what it hears
+
+    told_sound : (bytes : List ℕ) (to : ℕ) → BytesAreSound setting.net setting.inputs to bytes
+        → (packet : Option Packet) → packet_for setting.net old.number bytes ≡ packet
+        → IsSoundProspect setting.net setting.inputs old (deliver_prospect setting.net old.number packet old.node)
+    told_sound bytes to says None is =
+        sound_if_due setting.net setting.inputs old (not (is_down old.node.mode)) (becoming old.node)
+        (λ up. sound_becoming setting.net setting.inputs old.node old
+        (moved_keeps setting.net setting.inputs old.node old.failures old.turns old sound.inv.kept sound.inv.runs)
+        refl)
+    told_sound bytes to says (Some packet) is =
+        let right = right_is setting.net old.number (whole_at bytes) packet is in
+        let named = named_here setting.net old.number bytes packet is in
+        sound_if_due setting.net setting.inputs old (not (is_down old.node.mode))
+        (hear_prospect setting.net old.number packet.from packet.body old.node)
+        (λ up. whole_prospect setting.net setting.inputs old.number old
+        (hear_prospect setting.net old.number packet.from packet.body old.node)
+        (hear_keeps setting.net setting.inputs sure.valid sure.fits old sound.inv sound.named
+        packet.from packet.body (whole_sound setting.net setting.inputs packet to bytes says right.0)
+        (ap (λ (n : ℕ). names_run setting.net packet.from n packet.body) (sym named.0) ∙ named.1))
+        (hears_said setting.net setting.inputs sure.valid old sound.inv sound.named sound.below sound.joined
+        bytes to says packet is))
+
+    came_sound : (k place : ℕ) (flight : Option Flight) → flight_at setting k place ≡ flight
+        → IsSoundProspect setting.net setting.inputs old
+        (deliver_plan setting.net place (due_bytes setting.round flight) old).prospect
+    came_sound k place None is = tt
+    came_sound k place (Some flight) is = at (is_due setting.round flight)
+      where
+        at : (due : Bool)
+            → IsSoundProspect setting.net setting.inputs old
+            (deliver_plan setting.net place (bytes_when due flight.packet) old).prospect
+        at false = tt
+        at true =
+            told_sound flight.packet k
+            (arrives_sound setting.net setting.inputs setting.traffic k place flight.packet sure.traffic
+            (ap (option_map (λ (f : Flight). f.packet)) is))
+            (packet_for setting.net old.number flight.packet) refl
+
+    -- ---- it begins, and decides
+
+    begins_sound : IsSoundProspect setting.net setting.inputs old (start_prospect setting.net old.number old.node)
+    begins_sound =
+        whole_prospect setting.net setting.inputs old.number old (start_prospect setting.net old.number old.node)
+        (keeps_if_due setting.net setting.inputs old (may_start old.node) _
+        (λ due. by due (nat_lt (highest_seen old.number old.node.kept) MAX_COUNT)))
+        (begins_said setting.net setting.inputs sure.valid old sound.inv sound.named sound.below sound.joined)
+      where
+        by : may_start old.node ≡ true → (less : Bool)
+            → ProspectKeeps setting.net setting.inputs old
+            (unless_spent false less (Planned (record {
+              node = begun setting.net old.number old.node;
+              puts = true;
+              grows = true;
+              packets = live_asks setting.net old.number (live_in (begun setting.net old.number old.node).mode);
+              refused = [];
+            })))
+        by due false = tt
+        by due true = start_keeps setting.net setting.inputs old sound.inv sure.valid due _ []
+
+    decides_sound : IsSoundProspect setting.net setting.inputs old (decide_prospect old.number old.node)
+    decides_sound =
+        whole_prospect setting.net setting.inputs old.number old (decide_prospect old.number old.node)
+        (keeps_if_due setting.net setting.inputs old (may_decide old.number old.node.kept (live_in old.node.mode)) _
+        (λ due. decide_keeps setting.net setting.inputs old sound.inv sound.joined due _ []))
+        (decides_said setting.net setting.inputs sure.valid old sound.inv sound.named sound.below sound.joined)
+
+    -- ---- what it says in its turn
+
+    tells_sound : IsSoundProspect setting.net setting.inputs old (plan_of setting old.number event.Send old).prospect
+    tells_sound =
+        sound_if_due setting.net setting.inputs old (not (is_down old.node.mode)) _
+        (λ up. whole_plan setting.net setting.inputs old _
+        (keeps_still setting.net setting.inputs old.node
+        (turn_packets setting.net old.number old.node.kept old.node.mode) [] old
+        (moved_keeps setting.net setting.inputs old.node old.failures old.turns old sound.inv.kept sound.inv.runs)
+        refl)
+        (turn_sendable setting.net setting.inputs sure.valid old sound.inv sound.named sound.below sound.joined)
+        (All-nil (IsSendable setting.net setting.inputs)))
+
+    -- ---- by deeds
+
+    pub deed_sound : (k : ℕ) (deed : Deed)
+        → IsSoundProspect setting.net setting.inputs old (plan_of setting k deed old).prospect
+    deed_sound k (event.Deliver place) = came_sound k place (flight_at setting k place) refl
+    deed_sound k event.Grant = grant_sound setting.net setting.inputs setting.room old sound.inv
+    deed_sound k event.Send = tells_sound
+    deed_sound k event.Start = begins_sound
+    deed_sound k event.Decide = decides_sound
+    deed_sound k (event.Crash fill rounds) =
+        let down = crashed (round_later setting.round rounds) old.node in
+        sound_if_due setting.net setting.inputs old (not (is_down old.node.mode)) (becoming down)
+        (λ up. sound_becoming setting.net setting.inputs down old
+        (down_keeps setting.net setting.inputs (round_later setting.round rounds) old.node old.failures old.turns old
+        sound.inv.kept) refl)
+    deed_sound k event.Recover =
+        sound_if_due setting.net setting.inputs old (is_down old.node.mode) _
+        (λ down. sound_unless_spent setting.net setting.inputs old true _
+        (Planned (record {
+          node = restored setting.net old.number old.node;
+          puts = true;
+          grows = false;
+          packets = [];
+          refused = [];
+        })) (λ less. back_sound setting.net setting.inputs old sound.named
+        (ltb-true old.node.kept.epoch MAX_COUNT less) sound.inv))
+    deed_sound k (event.Arm fault rounds) =
+        sound_becoming setting.net setting.inputs (with_armed fault.call rounds old.node) old
+        (moved_keeps setting.net setting.inputs (with_armed fault.call rounds old.node) old.failures old.turns old
+        sound.inv.kept sound.inv.runs) refl
+    deed_sound k event.Idle =
+        sound_becoming setting.net setting.inputs old.node old
+        (moved_keeps setting.net setting.inputs old.node old.failures old.turns old sound.inv.kept sound.inv.runs) refl
+
+    -- ---- what it sends may be written, also what it sends where its record is too large
+
+    written : (prospect : Prospect) → IsSoundProspect setting.net setting.inputs old prospect → IsWritten prospect
+    written Undue is = tt
+    written (Exhausted looks) is = tt
+    written (Planned plan) is =
+        (λ k d within. (is.sendable k d within).writable, λ k d within. (is.refusable k d within).writable)
+
+    pub deed_writable : (k : ℕ) (deed : Deed) → IsWritten (plan_of setting k deed old).prospect
+    deed_writable k deed = written (plan_of setting k deed old).prospect (deed_sound k deed)
+
+deed_sends : (setting : Setting) (k : ℕ) (deed : Deed) (station : StationView) (came : Outcome)
+    → is_down station.node.mode ≡ true → packets_by (plan_of setting k deed station).prospect came ≡ []
+deed_sends setting k (event.Deliver place) station came down =
+    down_hears setting.net place (due_bytes setting.round (flight_at setting k place)) station came down
+deed_sends setting k event.Grant station came down =
+    grant_sends (node_job setting.net setting.inputs setting.room station.node) station.node came
+deed_sends setting k event.Send station came down = undue_sends (not (is_down station.node.mode)) _ came (ap not down)
+deed_sends setting k event.Start station came down =
+    undue_sends (may_start station.node) _ came (down_start station.node down)
+deed_sends setting k event.Decide station came down =
+    undue_sends (may_decide station.number station.node.kept (live_in station.node.mode)) _ came
+    (down_decides station.number station.node down)
+deed_sends setting k (event.Crash fill rounds) station came down =
+    crash_sends (round_later setting.round rounds) station.node came
+deed_sends setting k event.Recover station came down =
+    recover_sends setting.net station.number station.node came
+deed_sends setting k (event.Arm fault rounds) station came down =
+    becoming_sends (with_armed fault.call rounds station.node) came
+deed_sends setting k event.Idle station came down = becoming_sends station.node came
+
+module _ (setting : Setting) (flying : TrafficIsSound setting.net setting.inputs setting.traffic) where
+  pub deed_is : (k : ℕ) (deed : Deed) (old : StationView) → old.number ≡ k
+      → is_dropped (plan_of setting k deed old).answer ≡ false
+  deed_is k (event.Deliver place) old here = came_is setting flying k place old here (flight_at setting k place) refl
+  deed_is k event.Grant old here = grant_is (node_job setting.net setting.inputs setting.room old.node)
+  deed_is k event.Send old here = refl
+  deed_is k event.Start old here = refl
+  deed_is k event.Decide old here = refl
+  deed_is k (event.Crash fill rounds) old here = refl
+  deed_is k event.Recover old here = back_is (restored_mode setting.net old.number (with_epoch old.node.kept))
+  deed_is k (event.Arm fault rounds) old here = refl
+  deed_is k event.Idle old here = refl
+
+pub only_nodes_that_are_up_send : OnlyNodesThatAreUpSend
+only_nodes_that_are_up_send setting (ByNode k deed) came station down =
+    ap (map sending_of) (deed_sends setting k deed station came down)
+only_nodes_that_are_up_send setting (Install done) came station down = refl
+only_nodes_that_are_up_send setting (Release k) came station down = refl
+only_nodes_that_are_up_send setting (ByNetwork k place act) came station down = refl

@@ -1,0 +1,413 @@
+-- What an event makes of a sound station is sound: its node takes an image, makes one permanent, drops one, or changes
+-- what it has in memory.
+use Rattle.std.proofs.Common.{◌≡◌, ◌⊎◌, inl, inr, ⊎_elim, ℕ, zero, suc, ◌+◌, ◌<◌, ◌≤◌, Bool, true, false, cond, List, ℤ, ◌∷◌, length}
+use Rattle.std.proofs.Common.{Option}
+use Rattle.std.proofs.Common.{Some, None, refl, sym, ap, subst, ◌∙◌, arith}
+use Rattle.std.specs.Prelude.{◌==◌}
+use Rattle.std.proofs.lemmas.Bool.{eqb-true}
+use Rattle.ckpt_codec.specs.SizeLaws.{IsRecordWithin, within_confirmed, within_without_tentative}
+use Rattle.ckpt_codec.specs.declared.lengths.TheConstants.{MAX_RETAINED_ITEMS}
+use Rattle.datagram.specs.declared.packet.Packet.{Packet}
+use Rattle.kahn_net.specs.Syntax.{Network}
+use Rattle.kahn_net.specs.Valid.{IsValid}
+use Rattle.kahn_net.specs.declared.limits.TheConstants.{MAX_COUNT}
+use Rattle.record.specs.DecisionView.{DecisionView}
+use Rattle.record.specs.Moves.{confirmed, highest_seen, with_confirmed, with_decision, with_tentative}
+use Rattle.record.specs.Moves.{without_tentative}
+use Rattle.record.specs.RecordView.{RecordView}
+use Rattle.record.specs.declared.record.Tentative.{Tentative}
+use Rattle.record.specs.declared.record.TheConstants.{MAX_DECISIONS}
+use Rattle.recovery_line.specs.Observers.{has_node}
+use Rattle.protocol.specs.Join.Joined.{IsJoined}
+use Rattle.protocol_laws.specs.Join.Crossings.{both_true}
+use Rattle.protocol.specs.Node.Answering.{holds}
+use Rattle.protocol.specs.Node.Beginning.{beginning, begun, live_in, may_start}
+use Rattle.protocol.specs.Node.Collecting.{given_up}
+use Rattle.protocol.specs.Node.Beginning.{collecting}
+use Rattle.protocol.specs.Node.Layout.{numbers_where}
+use Rattle.protocol.specs.Node.LiveView.{LiveView}
+use Rattle.protocol.specs.Node.Modes.{is_running, with_kept}
+use Rattle.protocol.specs.Node.NodeView.{NodeView, ModeView, Down, InDoubt, Runs, RunningView, RunningNode}
+use Rattle.protocol.specs.Node.NodeView.{running_node}
+use Rattle.protocol.specs.Node.NodeView.{running_in, on_mode, on_running}
+use Rattle.protocol.specs.Node.Recovering.{restored_running}
+use Rattle.protocol.specs.Node.Starting.{IsBehind, own_at, with_own, with_own_now}
+use Rattle.protocol.specs.Node.Verdicts.{after_verdict, concluded, decided_now, may_decide, mode_then, participants_of}
+use Rattle.protocol_laws.specs.Node.SizeLaws.{decided_within}
+use Rattle.protocol_laws.specs.Node.StepLaws.{lessened}
+use Rattle.protocol.specs.World.Invariant.{outputs_of, RunsSoundly, StationInvariant}
+use Rattle.protocol.specs.World.RecordSound.{RecordIsSound}
+use Rattle.protocol.specs.World.StationView.{StationView}
+use Rattle.protocol.specs.World.Steps.{moved_to}
+use Rattle.protocol_laws.specs.World.BoundLaws.{taken_bounded}
+use Rattle.protocol_laws.specs.World.OrderLaws.{behind_itself, order_decided, order_less, order_taken}
+use Rattle.protocol_laws.specs.World.PlanLaws.{KeepsStation, first_true, moved_keeps, restored_runs, runs_at, runs_now}
+use Rattle.protocol_laws.specs.World.RecordLaws.{current_sound, last_more, record_decided, record_less, record_of}
+use Rattle.protocol_laws.specs.World.RecordLaws.{record_taken}
+use Rattle.protocol_laws.specs.World.SoundLaws.{decided_sound, less_sound, taken_sound}
+
+-- ---- modes
+
+-- a node that runs after a change ran before it
+pub changed_from : (change : RunningView → RunningView) (mode : ModeView) (running : RunningView)
+    → on_mode change mode ≡ Runs running → (before : RunningView) × (mode ≡ Runs before) × (change before ≡ running)
+changed_from change Down running is = absurd (cc)
+changed_from change InDoubt running is = absurd (cc)
+changed_from change (Runs before) running is = (before, refl, (let same : change before ≡ running = cc in same))
+
+-- one that runs after a verdict ran before it, or was in doubt, and has restored its permanent image
+pub then_from : (net : Network) (home : ℕ) (kept : RecordView) (mode : ModeView) (running : RunningView)
+    → mode_then net home kept mode ≡ Runs running
+    → (mode ≡ Runs running) ⊎ (restored_running net home kept ≡ running)
+then_from net home kept Down running is = absurd (cc)
+then_from net home kept InDoubt running is =
+    inr (let same : restored_running net home kept ≡ running = cc in same)
+then_from net home kept (Runs before) running is = inl is
+
+-- of so many nodes no more than so many took part
+where_few : (test : ℕ → Bool) (first count : ℕ) → length (numbers_where test first count) ≤ count
+where_few test first zero = omega arith
+where_few test first (suc count) = by (test first) (where_few test (suc first) count)
+  where
+    by : (b : Bool) → length (numbers_where test (suc first) count) ≤ count
+        → length (cond b (first ∷ numbers_where test (suc first) count) (numbers_where test (suc first) count))
+        ≤ suc count
+    by true few = omega (arith, few)
+    by false few = omega (arith, few)
+
+-- Where a checkpoint may be decided there is room for the decision, since the image that is held is the node's own.
+room_for_decision : (net : Network) (old : StationView) → IsJoined net old → (o : Option LiveView)
+    → may_decide old.number old.node.kept o ≡ true → length old.node.kept.decisions < MAX_DECISIONS
+room_for_decision net old joined None may = absurd (cc)
+room_for_decision net old joined (Some live) may =
+    room old.node.kept.tentative refl (first_true (holds old.number live.number old.node.kept.tentative) _ may)
+  where
+    room : (held : Option Tentative) → old.node.kept.tentative ≡ held → holds old.number live.number held ≡ true
+        → length old.node.kept.decisions < MAX_DECISIONS
+    room None is has = absurd (cc)
+    room (Some held) is has =
+        joined.kept.room held is
+        (eqb-true held.initiator old.number
+        (both_true (held.initiator == old.number) (held.number == live.number) has).0)
+
+pub decision_room : (net : Network) (old : StationView) → IsJoined net old
+    → may_decide old.number old.node.kept (live_in old.node.mode) ≡ true
+    → length old.node.kept.decisions < MAX_DECISIONS
+decision_room net old joined may = room_for_decision net old joined (live_in old.node.mode) may
+
+-- And it names other nodes.
+pub decision_others : (net : Network) (old : StationView) → IsJoined net old → (live : LiveView)
+    → live_in old.node.mode ≡ Some live → has_node old.number live.takers ≡ false
+decision_others net old joined live is = by (has_node old.number live.takers) refl
+  where
+    by : (b : Bool) → has_node old.number live.takers ≡ b → has_node old.number live.takers ≡ false
+    by false none = none
+    by true own = absurd (((joined.live live is).takers old.number own).apart refl)
+
+module _ (net : Network) (inputs : List (List ℤ)) (old : StationView) (inv : StationInvariant net inputs old) where
+  -- a station with this node, whose record is sound and which runs soundly if it runs
+  pub node_keeps : (node : NodeView) → RecordIsSound net inputs node.kept (outputs_of old.outlets)
+      → ((running : RunningView) → node.mode ≡ Runs running
+      → RunsSoundly net inputs (running_node node.kept node.version running) (outputs_of old.outlets))
+      → StationInvariant net inputs (moved_to node old.failures old.turns old)
+  node_keeps node kept runs =
+      moved_keeps net inputs node old.failures old.turns old kept (λ run is. at node.mode refl run is)
+    where
+      at : (mode : ModeView) → node.mode ≡ mode → (run : RunningNode)
+          → running_in node.kept node.version mode ≡ Some run → RunsSoundly net inputs run (outputs_of old.outlets)
+      at Down mode run is = absurd (cc)
+      at InDoubt mode run is = absurd (cc)
+      at (Runs running) mode run is =
+          let same : running_node node.kept node.version running ≡ run = cc in
+          subst (λ (r : RunningNode). RunsSoundly net inputs r (outputs_of old.outlets)) same (runs running mode)
+
+  -- ---- a node that runs
+
+  module _ (running : RunningView) (is : old.node.mode ≡ Runs running) where
+    was : RunsSoundly net inputs (running_node old.node.kept old.node.version running) (outputs_of old.outlets)
+    was = runs_at net inputs old inv running is
+
+    -- it takes an image of what it has now, of whatever instance
+    taken_runs : (x n : ℕ)
+        → RunsSoundly net inputs
+        (running_node (with_tentative x n running.current old.node.kept) old.node.version running)
+        (outputs_of old.outlets)
+    taken_runs x n = record {
+      order = order_taken x n old.node.kept running.current was.order;
+      sound = taken_sound net inputs (outputs_of old.outlets) x n
+          (running_node old.node.kept old.node.version running) was.sound;
+    }
+
+    taken_record : IsValid net → (x n : ℕ)
+        → RecordIsSound net inputs (with_tentative x n running.current old.node.kept) (outputs_of old.outlets)
+    taken_record valid x n =
+        record_of net inputs (outputs_of old.outlets)
+        (running_node (with_tentative x n running.current old.node.kept) old.node.version running)
+        inv.kept.epoch (taken_bounded net inputs valid (outputs_of old.outlets) x n
+        (running_node old.node.kept old.node.version running) was.sound inv.kept.bounded) inv.kept.permanent
+        (record_taken net inputs (outputs_of old.outlets) x n old.node.kept running.current
+        (current_sound net inputs (outputs_of old.outlets) (running_node old.node.kept old.node.version running)
+        was.sound)) (taken_runs x n).order (taken_runs x n).sound
+
+    -- its tentative image becomes permanent
+    decided_runs : (number : ℕ) (nodes : List ℕ)
+        → RunsSoundly net inputs
+        (running_node (with_decision number nodes old.node.kept) old.node.version running) (outputs_of old.outlets)
+    decided_runs number nodes = record {
+      order = order_decided number nodes old.node.kept running.current was.order;
+      sound = decided_sound net inputs (outputs_of old.outlets) number nodes
+          (running_node old.node.kept old.node.version running)
+          (last_more net inputs (outputs_of old.outlets) old.node.kept inv.kept old.node.kept.tentative refl)
+          was.sound;
+    }
+
+    -- or stays, or is dropped
+    less_runs : (epoch : ℕ) (decisions : List DecisionView) (held : Option Tentative)
+        → ((t : Tentative) → held ≡ Some t → old.node.kept.tentative ≡ Some t)
+        → RunsSoundly net inputs
+        (running_node (lessened epoch decisions held old.node.kept) old.node.version running) (outputs_of old.outlets)
+    less_runs epoch decisions held still = record {
+      order = order_less epoch decisions held old.node.kept running.current still was.order;
+      sound = less_sound net inputs (outputs_of old.outlets) epoch decisions held
+          (running_node old.node.kept old.node.version running) still was.sound;
+    }
+
+  -- ---- an image is taken
+
+  -- under whatever instance, by a node that runs, and in this mode runs as it ran
+  pub taken_keeps : IsValid net → (x n : ℕ) (running : RunningView) → old.node.mode ≡ Runs running → (mode : ModeView)
+      → ((later : RunningView) → mode ≡ Runs later
+      → running_node (with_tentative x n running.current old.node.kept) old.node.version running
+      ≡ running_node (with_tentative x n running.current old.node.kept) old.node.version later)
+      → (packets refused : List Packet)
+      → KeepsStation net inputs old (record {
+        node = record old.node { kept = with_tentative x n running.current old.node.kept; mode = mode };
+        puts = true;
+        grows = true;
+        packets = packets;
+        refused = refused;
+      })
+  taken_keeps valid x n running is mode ran packets refused = record {
+    keeps = node_keeps _ (taken_record running is valid x n)
+        (λ later now. subst (λ (r : RunningNode). RunsSoundly net inputs r (outputs_of old.outlets)) (ran later now)
+        (taken_runs running is x n));
+    stays = λ none. absurd (cc);
+    same_node = refl;
+    ahead = behind_itself old.node.kept.permanent;
+  }
+
+  pub runs_same : (a b : RunningView) → old.node.mode ≡ Runs a → old.node.mode ≡ Runs b → a ≡ b
+  runs_same a b one other = (let both : Runs a ≡ Runs b = sym one ∙ other in cc)
+
+  -- ---- one becomes permanent, or is dropped
+
+  module _ (number : ℕ) (nodes : List ℕ)
+      (bounded : IsRecordWithin MAX_RETAINED_ITEMS (with_decision number nodes old.node.kept)) where
+    decided_record : RecordIsSound net inputs (with_decision number nodes old.node.kept) (outputs_of old.outlets)
+    decided_record = record_decided net inputs (outputs_of old.outlets) number nodes old.node.kept bounded inv.kept
+
+    decided_ahead : IsBehind old.node.kept.permanent (with_decision number nodes old.node.kept).permanent
+    decided_ahead = last_more net inputs (outputs_of old.outlets) old.node.kept inv.kept old.node.kept.tentative refl
+
+    -- by a node that collects nothing more
+    pub decision_keeps : (packets refused : List Packet)
+        → KeepsStation net inputs old (record {
+          node = with_kept (with_decision number nodes old.node.kept) (on_running (collecting None) old.node);
+          puts = true;
+          grows = false;
+          packets = packets;
+          refused = refused;
+        })
+    decision_keeps packets refused = record {
+      keeps = node_keeps _ decided_record (λ later now.
+          let before = changed_from (collecting None) old.node.mode later now in
+          subst (λ (r : RunningView). RunsSoundly net inputs
+          (running_node (with_decision number nodes old.node.kept) old.node.version r) (outputs_of old.outlets))
+          before.2 (decided_runs before.0 before.1 number nodes));
+      stays = λ none. absurd (cc);
+      same_node = refl;
+      ahead = decided_ahead;
+    }
+
+    -- by a node that hears the verdict
+    pub verdict_keeps : old.node.kept.node ≡ old.number → (packets refused : List Packet)
+        → KeepsStation net inputs old (record {
+          node = after_verdict net old.number (with_decision number nodes old.node.kept) old.node;
+          puts = true;
+          grows = false;
+          packets = packets;
+          refused = refused;
+        })
+    verdict_keeps named packets refused = record {
+      keeps = node_keeps _ decided_record (λ later now.
+          ⊎_elim (λ ran. decided_runs later ran number nodes)
+          (λ restored. subst (λ (r : RunningView). RunsSoundly net inputs
+          (running_node (with_decision number nodes old.node.kept) old.node.version r) (outputs_of old.outlets))
+          restored
+          (restored_runs net inputs old.number old.node.version (with_decision number nodes old.node.kept)
+          (outputs_of old.outlets) named refl decided_record))
+          (then_from net old.number (with_decision number nodes old.node.kept) old.node.mode later now));
+      stays = λ none. absurd (cc);
+      same_node = refl;
+      ahead = decided_ahead;
+    }
+
+  module _ (epoch : ℕ) (decisions : List DecisionView) (held : Option Tentative)
+      (still : (t : Tentative) → held ≡ Some t → old.node.kept.tentative ≡ Some t) (few : epoch ≤ MAX_COUNT)
+      (bounded : IsRecordWithin MAX_RETAINED_ITEMS (lessened epoch decisions held old.node.kept)) where
+    less_record : RecordIsSound net inputs (lessened epoch decisions held old.node.kept) (outputs_of old.outlets)
+    less_record =
+        record_less net inputs (outputs_of old.outlets) epoch decisions held old.node.kept still few bounded inv.kept
+
+    -- it runs as it ran
+    still_runs : (before later : RunningView) → old.node.mode ≡ Runs before
+        → running_node (lessened epoch decisions held old.node.kept) old.node.version before
+        ≡ running_node (lessened epoch decisions held old.node.kept) old.node.version later
+        → RunsSoundly net inputs
+        (running_node (lessened epoch decisions held old.node.kept) old.node.version later) (outputs_of old.outlets)
+    still_runs before later is same =
+        subst (λ (r : RunningNode). RunsSoundly net inputs r (outputs_of old.outlets)) same
+        (less_runs before is epoch decisions held still)
+
+    -- with a node in this mode, in which it runs soundly
+    pub less_keeps : (mode : ModeView)
+        → ((running : RunningView) → mode ≡ Runs running
+        → RunsSoundly net inputs
+        (running_node (lessened epoch decisions held old.node.kept) old.node.version running)
+        (outputs_of old.outlets))
+        → (packets refused : List Packet)
+        → KeepsStation net inputs old (record {
+          node = record old.node { kept = lessened epoch decisions held old.node.kept; mode = mode };
+          puts = true;
+          grows = false;
+          packets = packets;
+          refused = refused;
+        })
+    less_keeps mode soundly packets refused = record {
+      keeps = node_keeps _ less_record soundly;
+      stays = λ none. absurd (cc);
+      same_node = refl;
+      ahead = behind_itself old.node.kept.permanent;
+    }
+
+  -- the tentative image is dropped, by a node that gives up, or one that hears the verdict
+  dropped : (t : Tentative) → None ≡ Some t → old.node.kept.tentative ≡ Some t
+  dropped t is = absurd (cc)
+
+  pub gives_up_keeps : (packets refused : List Packet)
+      → KeepsStation net inputs old
+      (record { node = given_up old.node; puts = true; grows = false; packets = packets; refused = refused })
+  gives_up_keeps packets refused =
+      less_keeps old.node.kept.epoch old.node.kept.decisions None dropped inv.kept.epoch
+      (within_without_tentative MAX_RETAINED_ITEMS old.node.kept inv.kept.bounded)
+      (on_mode (collecting None) old.node.mode)
+      (λ later now. let before = changed_from (collecting None) old.node.mode later now in
+      still_runs old.node.kept.epoch old.node.kept.decisions None dropped inv.kept.epoch
+      (within_without_tentative MAX_RETAINED_ITEMS old.node.kept inv.kept.bounded) before.0 later before.1
+      (ap (running_node (without_tentative old.node.kept) old.node.version) before.2)) packets refused
+
+  -- the record without it
+  over_record : RecordIsSound net inputs (without_tentative old.node.kept) (outputs_of old.outlets)
+  over_record =
+      less_record old.node.kept.epoch old.node.kept.decisions None dropped inv.kept.epoch
+      (within_without_tentative MAX_RETAINED_ITEMS old.node.kept inv.kept.bounded)
+
+  pub over_keeps : old.node.kept.node ≡ old.number → (packets refused : List Packet)
+      → KeepsStation net inputs old
+      (record {
+        node = after_verdict net old.number (without_tentative old.node.kept) old.node;
+        puts = true;
+        grows = false;
+        packets = packets;
+        refused = refused;
+      })
+  over_keeps named packets refused =
+      less_keeps old.node.kept.epoch old.node.kept.decisions None dropped inv.kept.epoch
+      (within_without_tentative MAX_RETAINED_ITEMS old.node.kept inv.kept.bounded)
+      (mode_then net old.number (without_tentative old.node.kept) old.node.mode)
+      (λ later now.
+      ⊎_elim (λ ran. still_runs old.node.kept.epoch old.node.kept.decisions None dropped inv.kept.epoch
+      (within_without_tentative MAX_RETAINED_ITEMS old.node.kept inv.kept.bounded) later later ran refl)
+      (λ restored. subst (λ (r : RunningView). RunsSoundly net inputs
+      (running_node (without_tentative old.node.kept) old.node.version r) (outputs_of old.outlets)) restored
+      (restored_runs net inputs old.number old.node.version (without_tentative old.node.kept)
+      (outputs_of old.outlets) named refl over_record))
+      (then_from net old.number (without_tentative old.node.kept) old.node.mode later now))
+      packets refused
+
+  -- a decision is confirmed
+  pub confirmed_keeps : (n p : ℕ) (packets refused : List Packet)
+      → KeepsStation net inputs old
+      (record {
+        node = with_kept (with_confirmed n p old.node.kept) old.node;
+        puts = true;
+        grows = false;
+        packets = packets;
+        refused = refused;
+      })
+  confirmed_keeps n p packets refused =
+      less_keeps old.node.kept.epoch (confirmed n p old.node.kept.decisions) old.node.kept.tentative (λ t is. is)
+      inv.kept.epoch (within_confirmed MAX_RETAINED_ITEMS old.node.kept inv.kept.bounded n p) old.node.mode
+      (λ later now. still_runs old.node.kept.epoch (confirmed n p old.node.kept.decisions) old.node.kept.tentative
+      (λ t is. is) inv.kept.epoch (within_confirmed MAX_RETAINED_ITEMS old.node.kept inv.kept.bounded n p) later later
+      now refl) packets refused
+
+  -- ---- a start, and a decision
+
+  -- the record of a node that runs with what it has now as its own image
+  own_is : (number : ℕ) (running : RunningView) → old.node.mode ≡ Runs running
+      → with_own_now number old.node ≡ with_own number running.current old.node.kept
+  own_is number running is =
+      ap (λ (m : ModeView). own_at number old.node.kept (running_in old.node.kept old.node.version m)) is
+
+  pub start_keeps : IsValid net → may_start old.node ≡ true → (packets refused : List Packet)
+      → KeepsStation net inputs old
+      (record {
+        node = begun net old.number old.node;
+        puts = true;
+        grows = true;
+        packets = packets;
+        refused = refused;
+      })
+  start_keeps valid due packets refused =
+      let now = runs_now old.node.mode (first_true (is_running old.node.mode) _ due) in
+      subst (λ (kept : RecordView). KeepsStation net inputs old
+      (record {
+        node = with_kept kept (on_running (beginning net old.number old.node.kept) old.node);
+        puts = true;
+        grows = true;
+        packets = packets;
+        refused = refused;
+      })) (sym (own_is old.number now.0 now.1))
+      (taken_keeps valid old.number (highest_seen old.number old.node.kept + 1) now.0 now.1
+      (on_mode (beginning net old.number old.node.kept) old.node.mode)
+      (λ later is.
+      let before = changed_from (beginning net old.number old.node.kept) old.node.mode later is in
+      let next = with_own old.number now.0.current old.node.kept in
+      ap (running_node next old.node.version) (runs_same now.0 before.0 now.1 before.1)
+      ∙ ap (running_node next old.node.version) before.2) packets refused)
+
+  pub decide_keeps : IsJoined net old → may_decide old.number old.node.kept (live_in old.node.mode) ≡ true
+      → (packets refused : List Packet)
+      → KeepsStation net inputs old
+      (record { node = concluded old.node; puts = true; grows = false; packets = packets; refused = refused })
+  decide_keeps joined due packets refused = by (live_in old.node.mode) due
+    where
+      by : (o : Option LiveView) → may_decide old.number old.node.kept o ≡ true
+          → KeepsStation net inputs old
+          (record {
+            node = with_kept (decided_now o old.node.kept) (on_running (collecting None) old.node);
+            puts = true;
+            grows = false;
+            packets = packets;
+            refused = refused;
+          })
+      by None may = absurd (cc)
+      by (Some live) may =
+          let nodes = participants_of (length old.node.kept.highest) live.takers in
+          let few = where_few (λ (p : ℕ). has_node p live.takers) 0 (length old.node.kept.highest) in
+          let most = inv.kept.bounded.nodes in
+          decision_keeps live.number (participants_of (length old.node.kept.highest) live.takers)
+          (decided_within live.number (participants_of (length old.node.kept.highest) live.takers) old.node.kept
+          (omega (arith, few, most))
+          (room_for_decision net old joined (Some live) may) inv.kept.bounded) packets refused
