@@ -7,11 +7,11 @@ use Rattle.wire.specs.declared.queue.Flight.{Flight}
 use Rattle.station.specs.ReplyView.{reply_view}
 use Rattle.station.specs.ReplyView.{Reply}
 use Rattle.station.proofs.Ready.{flying_seen}
-use Rattle.kahn_net.specs.Syntax.{network_of}
 use Rattle.wire.specs.Traffic.{traffic_of}
 use Rattle.station.specs.StationView.{station_view}
 use Rattle.station.proofs.Cells.{untouched}
 use Rattle.station.proofs.Planned.{came_heard}
+use Rattle.station.specs.Lending.{net_lent}
 use Rattle.station.proofs.station.Station.deliver.Goals as goal
 
 pub returns-in_default-clause-leaves : goal.returns-in_default-clause-leaves
@@ -55,8 +55,8 @@ returns-in-Some-2-clause-come g c =
     let spelled = sym c.in-Some-2.is ∙ c.in_ok-packet.ensures in
     let up = sym c.is_down.ensures ∙ c.if-is_down.false in
     reply_by c.hear.result
-    (λ r heard. came_heard (fits_in (g.C.SlotCell.slot_capacity (cell_in was.node.store))) c.args.round
-    (network_of c.args.net.now.program) c.args.to c.args.place
+    (λ r heard. came_heard (fits_in (g.C.SlotCell.slot_capacity (cell_in was.node.store))) c.args.lent.round
+    (net_lent c.args.lent) c.args.to c.args.place
     (station_view g.O.Outlet.taken g.O.Outlet.failures was)
     (station_view g.O.Outlet.taken g.O.Outlet.failures c.hear.new.self)
     (reply_view r) (traffic_of c.args.wire.now) (traffic_of c.hear.new.wire)

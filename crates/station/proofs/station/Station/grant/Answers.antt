@@ -1,5 +1,4 @@
 use Rattle.std.proofs.Common.{ap}
-use Rattle.kahn_net.specs.Syntax.{network_of}
 use Rattle.ckpt_store.specs.Spelling.{fits_in}
 use Rattle.ckpt_store.specs.StoreView.{cell_in}
 use Rattle.ckpt_store.specs.declared.store.Store.{Store}
@@ -7,6 +6,7 @@ use Rattle.node.specs.NodeOf.{view_of}
 use Rattle.protocol.specs.Node.Choosing.{node_job}
 use Rattle.station.specs.StationView.{station_view}
 use Rattle.station.proofs.Planned.{grants}
+use Rattle.station.specs.Lending.{inputs_lent, net_lent}
 use Rattle.station.proofs.station.Station.grant.Goals as goal
 
 pub returns-clause-step : goal.returns-clause-step
@@ -15,8 +15,8 @@ returns-clause-step g c =
     let cell = g.C.StableCell in
     let slots = g.C.SlotCell in
     let granted = c.in_ok-granted in
-    grants (fits_in (slots.slot_capacity (cell_in was.node.store))) c.args.round
-    (node_job (network_of c.args.net.now.value.program) c.args.inputs.now c.args.room (view_of was.node))
+    grants (fits_in (slots.slot_capacity (cell_in was.node.store))) c.args.lent.round
+    (node_job (net_lent c.args.lent) (inputs_lent c.args.lent) c.args.lent.room (view_of was.node))
     granted.granted
     (station_view g.O.Outlet.taken g.O.Outlet.failures was) _ _ _ _ _ granted.ensures.job c.note_grant.ensures.reply
     granted.ensures.state c.grant.ensures.same.1

@@ -1,5 +1,4 @@
 use Rattle.std.proofs.Common.{ap, ◌∙◌}
-use Rattle.kahn_net.specs.Syntax.{network_of}
 use Rattle.ckpt_store.specs.StoreView.{cell_in}
 use Rattle.node.specs.NodeOf.{view_of}
 use Rattle.node.specs.NodeView.{mode_view}
@@ -14,6 +13,7 @@ use Rattle.protocol.specs.WorldLaws.DeedLaws.{recover_sends}
 use Rattle.station.specs.StationView.{station_view}
 use Rattle.station.proofs.Cells.{through}
 use Rattle.station.proofs.Planned.{answer_then, back_mode, seen_moved, silent_allowed, turns_kept}
+use Rattle.station.specs.Lending.{net_lent}
 use Rattle.station.proofs.station.Station.recover.Goals as goal
 
 pub returns-in-Err-clause-leaves : goal.returns-in-Err-clause-leaves
@@ -44,12 +44,12 @@ returns-in-Ok-clause-step g c =
         put = event.put;
         answers = c.answer_by.ensures
             ∙ (ap (λ (r : ReplyView). answer_by r (Refused TooLarge) came) c.back_reply-back.ensures
-            ∙ answer_then (back_reply mode) (recover_plan (network_of c.args.net.now.program) seen).answer (Refused TooLarge) came
+            ∙ answer_then (back_reply mode) (recover_plan (net_lent c.args.lent) seen).answer (Refused TooLarge) came
             (λ made. ap back_reply
-            (back_mode (network_of c.args.net.now.program) was.node.number (restart_after (view_of was.node).armed call c.args.round) (view_of was.node)
+            (back_mode (net_lent c.args.lent) was.node.number (restart_after (view_of was.node).armed call c.args.lent.round) (view_of was.node)
             (view_of c.recover.new.self) came event.step made)));
-        allowed = silent_allowed (packets_by (recover_plan (network_of c.args.net.now.program) seen).prospect came)
-            (recover_sends (network_of c.args.net.now.program) was.node.number (view_of was.node) came);
+        allowed = silent_allowed (packets_by (recover_plan (net_lent c.args.lent) seen).prospect came)
+            (recover_sends (net_lent c.args.lent) was.node.number (view_of was.node) came);
         same = seen_moved seen _ _ _ _ _ c.recover.ensures.same_number (turns_kept was.turns came);
       },
     )
