@@ -34,8 +34,8 @@ use wire::Wire;
 
 impl<C: SlotCell, O: Outlet> Station<C, O> {
     // The node sends what is due to the others.
-    fn send(&mut self, lent: Lent, wire: &mut Wire) -> Result<Reply, AllocError>
-        requires { All IsWritable (turn_packets (net_lent lent) self.old.node.number
+    fn send(&mut self, lent: &Lent, wire: &mut Wire) -> Result<Reply, AllocError>
+        requires { All IsWritable (turn_packets (net_lent lent.now) self.old.node.number
             (view_of self.old.node).kept (view_of self.old.node).mode) }
         ensures outputs { outlet_views O.taken O.failures self.new.outputs.items
             ≡ outlet_views O.taken O.failures self.old.outputs.items }
@@ -44,7 +44,7 @@ impl<C: SlotCell, O: Outlet> Station<C, O> {
             (station_view O.taken O.failures self.new ≡ station_view O.taken O.failures self.old) }
         ensures come { (k : ℕ) → IfOk result
             (λ reply. ComesOut (fits_in (C.slot_capacity (cell_in self.old.node.store)))
-            lent.round (send_plan (net_lent lent) lent.round (station_view O.taken O.failures self.old))
+            lent.now.round (send_plan (net_lent lent.now) lent.now.round (station_view O.taken O.failures self.old))
             (station_view O.taken O.failures self.old) (reply_view reply)
             (station_view O.taken O.failures self.new) k
             (traffic_of wire.old) (traffic_of wire.new)) }
@@ -81,14 +81,14 @@ impl<C: SlotCell, O: Outlet> Station<C, O> {
     }
 
     /// An event of this station's node. An `Idle` is noted, and the round may then advance.
-    pub fn act(&mut self, lent: Lent, wire: &mut Wire, event: &Event) -> Result<Reply, AllocError>
-        requires sure { IsSoundSetting (setting_by lent (traffic_of wire.old)) }
-        requires sound { IsSoundStation (setting_by lent (traffic_of wire.old))
+    pub fn act(&mut self, lent: &Lent, wire: &mut Wire, event: &Event) -> Result<Reply, AllocError>
+        requires sure { IsSoundSetting (setting_by lent.now (traffic_of wire.old)) }
+        requires sound { IsSoundStation (setting_by lent.now (traffic_of wire.old))
             (station_view O.taken O.failures self.old) }
         requires node { event_node (event_view event.now) < NODES }
         ensures moved { HasMoved C.moment C.left_since_whole (cell_in self.old.node.store)
             (cell_in self.new.node.store) (view_of self.old.node).kept
-            (next_kept (setting_by lent (traffic_of wire.old)) (event_view event.now)
+            (next_kept (setting_by lent.now (traffic_of wire.old)) (event_view event.now)
             (station_view O.taken O.failures self.old))
             (outlet_views O.taken O.failures self.old.outputs.items)
             (outlet_views O.taken O.failures self.new.outputs.items) }
@@ -96,7 +96,7 @@ impl<C: SlotCell, O: Outlet> Station<C, O> {
             ((station_view O.taken O.failures self.new ≡ station_view O.taken O.failures self.old)
             × TakesMemory (event_view event.now)) }
         ensures come { IfOk result
-            (λ reply. HasCome (setting_by lent (traffic_of wire.old))
+            (λ reply. HasCome (setting_by lent.now (traffic_of wire.old))
             (fits_in (C.slot_capacity (cell_in self.old.node.store))) (event_view event.now)
             (station_view O.taken O.failures self.old) (reply_view reply)
             (station_view O.taken O.failures self.new) (traffic_of wire.new)) }
@@ -108,7 +108,7 @@ impl<C: SlotCell, O: Outlet> Station<C, O> {
         ensures unchanged { LeavesCells (event_view event.now) (answer_view result)
             → IsCellUnchanged self.old self.new }
         ensures armed { IfOk result (λ reply. reply_view reply ≡ Down
-            → RestartsAsArmed lent.round self.old self.new) }
+            → RestartsAsArmed lent.now.round self.old self.new) }
         ensures held { OnErr result (LeavesWhatItFound (event_view event.now) self.old self.new) }
     {
         match event {

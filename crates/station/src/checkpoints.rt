@@ -67,17 +67,17 @@ impl<C: SlotCell, O: Outlet> Station<C, O> {
     // What its node says by what an event comes to, made ready to be sent.
     pub(crate) fn ready_for(
         &self,
-        lent: Lent,
+        lent: &Lent,
         wire: &mut Wire,
         prospect: &Prospect,
     ) -> Result<Ready, AllocError>
         requires { (came : OutcomeValue) → All IsPacket (packets_by
             (prospect_view (view_of self.now.node) prospect.now) came) }
         ensures same { traffic_of wire.new ≡ traffic_of wire.old }
-        ensures made { IfOk result (λ ready. IsReadyFor wire.new lent.round
+        ensures made { IfOk result (λ ready. IsReadyFor wire.new lent.now.round
             (map sending_of (packets_by (prospect_view (view_of self.now.node) prospect.now)
             Outcome.Made)) ready.made) }
-        ensures declined { IfOk result (λ ready. IsReadyFor wire.new lent.round
+        ensures declined { IfOk result (λ ready. IsReadyFor wire.new lent.now.round
             (map sending_of (packets_by (prospect_view (view_of self.now.node) prospect.now)
             (Outcome.Refused Refusal.TooLarge))) ready.declined) }
     {
@@ -90,21 +90,21 @@ impl<C: SlotCell, O: Outlet> Station<C, O> {
     // Carries out what an event comes to, and sends what its node says by what came of it.
     fn carry_out(
         &mut self,
-        lent: Lent,
+        lent: &Lent,
         wire: &mut Wire,
         prospect: Prospect,
     ) -> Result<Outcome, AllocError>
         requires can { CanBeMade (view_of self.old.node) prospect }
         requires allowed { (came : OutcomeValue) → All IsPacket (packets_by
             (prospect_view (view_of self.old.node) prospect) came) }
-        ensures event { IsPutEvent (prospect_view (view_of self.old.node) prospect) lent.round
+        ensures event { IsPutEvent (prospect_view (view_of self.old.node) prospect) lent.now.round
             (view_of self.old.node) (view_of self.new.node) self.old.node.store
             self.new.node.store result }
         ensures unchanged { LeavesCell result
             → cell_in self.new.node.store ≡ cell_in self.old.node.store }
         ensures same { (self.new.node.number ≡ self.old.node.number)
             × ((self.new.outputs ≡ self.old.outputs) × (self.new.turns ≡ self.old.turns)) }
-        ensures traffic { IfOk result (λ came. traffic_of wire.new ≡ all_sent lent.round
+        ensures traffic { IfOk result (λ came. traffic_of wire.new ≡ all_sent lent.now.round
             (map sending_of (packets_by (prospect_view (view_of self.old.node) prospect) came))
             (traffic_of wire.old)) }
         ensures same_traffic { OnErr result (traffic_of wire.new ≡ traffic_of wire.old) }
@@ -117,31 +117,31 @@ impl<C: SlotCell, O: Outlet> Station<C, O> {
 
     /// Begins a checkpoint, and asks. That counts as the start of the round also where it is refused or the device fails; the
     /// questions are sent where it is made.
-    pub(crate) fn start(&mut self, lent: Lent, wire: &mut Wire) -> Result<Reply, AllocError>
+    pub(crate) fn start(&mut self, lent: &Lent, wire: &mut Wire) -> Result<Reply, AllocError>
         requires like { IsLikeNow (view_of self.old.node) }
         requires allowed { (came : OutcomeValue) → All IsPacket (packets_by
-            (start_prospect (net_lent lent) self.old.node.number
+            (start_prospect (net_lent lent.now) self.old.node.number
             (view_of self.old.node)) came) }
         ensures outputs { outlet_views O.taken O.failures self.new.outputs.items
             ≡ outlet_views O.taken O.failures self.old.outputs.items }
         ensures leaves { LeaveEitherSince C.moment C.left_since_whole (cell_in self.old.node.store)
             (cell_in self.new.node.store) (view_of self.old.node).kept
-            (next_record (start_prospect (net_lent lent) self.old.node.number
+            (next_record (start_prospect (net_lent lent.now) self.old.node.number
             (view_of self.old.node)) (view_of self.old.node).kept) }
         ensures later { C.moment (cell_in self.old.node.store) ≤ C.moment (cell_in self.new.node.store) }
         ensures same_setup { LeavesDevice self.old.node.store self.new.node.store }
         ensures refused { OnErr result
             (station_view O.taken O.failures self.new ≡ station_view O.taken O.failures self.old) }
         ensures come { (k : ℕ) → IfOk result
-            (λ reply. ComesOut (fits_in (C.slot_capacity (cell_in self.old.node.store))) lent.round
-            (start_plan (net_lent lent) lent.round
+            (λ reply. ComesOut (fits_in (C.slot_capacity (cell_in self.old.node.store))) lent.now.round
+            (start_plan (net_lent lent.now) lent.now.round
             (station_view O.taken O.failures self.old))
             (station_view O.taken O.failures self.old) (reply_view reply)
             (station_view O.taken O.failures self.new) k
             (traffic_of wire.old) (traffic_of wire.new)) }
         ensures same_traffic { OnErr result (traffic_of wire.new ≡ traffic_of wire.old) }
         ensures armed { IfOk result
-            (λ reply. reply_view reply ≡ Down → RestartsAsArmed lent.round self.old self.new) }
+            (λ reply. reply_view reply ≡ Down → RestartsAsArmed lent.now.round self.old self.new) }
         ensures unchanged { AnswerLeaves (answer_view result)
             → IsCellUnchanged self.old self.new }
     {
@@ -153,7 +153,7 @@ impl<C: SlotCell, O: Outlet> Station<C, O> {
     }
 
     /// Decides the checkpoint for which answers were collected: its image becomes permanent, and those who took part are told.
-    pub(crate) fn decide(&mut self, lent: Lent, wire: &mut Wire) -> Result<Reply, AllocError>
+    pub(crate) fn decide(&mut self, lent: &Lent, wire: &mut Wire) -> Result<Reply, AllocError>
         requires decided { MayBeDecided self.old.node.number (view_of self.old.node) }
         requires allowed { (came : OutcomeValue) → All IsPacket (packets_by
             (decide_prospect self.old.node.number (view_of self.old.node)) came) }
@@ -168,14 +168,14 @@ impl<C: SlotCell, O: Outlet> Station<C, O> {
         ensures refused { OnErr result
             (station_view O.taken O.failures self.new ≡ station_view O.taken O.failures self.old) }
         ensures come { (k : ℕ) → IfOk result
-            (λ reply. ComesOut (fits_in (C.slot_capacity (cell_in self.old.node.store))) lent.round
+            (λ reply. ComesOut (fits_in (C.slot_capacity (cell_in self.old.node.store))) lent.now.round
             (decide_plan (station_view O.taken O.failures self.old))
             (station_view O.taken O.failures self.old) (reply_view reply)
             (station_view O.taken O.failures self.new) k
             (traffic_of wire.old) (traffic_of wire.new)) }
         ensures same_traffic { OnErr result (traffic_of wire.new ≡ traffic_of wire.old) }
         ensures armed { IfOk result
-            (λ reply. reply_view reply ≡ Down → RestartsAsArmed lent.round self.old self.new) }
+            (λ reply. reply_view reply ≡ Down → RestartsAsArmed lent.now.round self.old self.new) }
         ensures unchanged { AnswerLeaves (answer_view result)
             → IsCellUnchanged self.old self.new }
     {

@@ -45,7 +45,7 @@ impl<C: SlotCell, O: Outlet> Station<C, O> {
     // it is sent.
     fn hear(
         &mut self,
-        lent: Lent,
+        lent: &Lent,
         wire: &mut Wire,
         to: u8,
         place: usize,
@@ -55,33 +55,33 @@ impl<C: SlotCell, O: Outlet> Station<C, O> {
         requires there { place < length (flights_to (traffic_of wire.old) to) }
         requires up { is_down (view_of self.old.node).mode ≡ false }
         requires like { IsLikeNow (view_of self.old.node) }
-        requires right { IsHeard (net_lent lent) self.old.node.number packet.now }
+        requires right { IsHeard (net_lent lent.now) self.old.node.number packet.now }
         requires listed { length (view_of self.old.node).kept.highest
-            ≡ node_count (net_lent lent) }
+            ≡ node_count (net_lent lent.now) }
         requires bounded { IsRecordWithin MAX_RETAINED_ITEMS (view_of self.old.node).kept }
         requires allowed { (came : OutcomeValue) → All IsPacket (packets_by
-            (hear_prospect (net_lent lent) self.old.node.number packet.now.from
+            (hear_prospect (net_lent lent.now) self.old.node.number packet.now.from
             packet.now.body (view_of self.old.node)) came) }
         ensures outputs { outlet_views O.taken O.failures self.new.outputs.items
             ≡ outlet_views O.taken O.failures self.old.outputs.items }
         ensures leaves { LeaveEitherSince C.moment C.left_since_whole (cell_in self.old.node.store)
             (cell_in self.new.node.store) (view_of self.old.node).kept
-            (next_record (hear_prospect (net_lent lent) self.old.node.number
+            (next_record (hear_prospect (net_lent lent.now) self.old.node.number
             packet.now.from packet.now.body (view_of self.old.node)) (view_of self.old.node).kept) }
         ensures later { C.moment (cell_in self.old.node.store) ≤ C.moment (cell_in self.new.node.store) }
         ensures same_setup { LeavesDevice self.old.node.store self.new.node.store }
         ensures refused { OnErr result
             (station_view O.taken O.failures self.new ≡ station_view O.taken O.failures self.old) }
         ensures come { IfOk result
-            (λ reply. ComesHeard (fits_in (C.slot_capacity (cell_in self.old.node.store))) lent.round
-            (hear_prospect (net_lent lent) self.old.node.number packet.now.from
+            (λ reply. ComesHeard (fits_in (C.slot_capacity (cell_in self.old.node.store))) lent.now.round
+            (hear_prospect (net_lent lent.now) self.old.node.number packet.now.from
             packet.now.body (view_of self.old.node))
             (station_view O.taken O.failures self.old) (reply_view reply)
             (station_view O.taken O.failures self.new) to place
             (traffic_of wire.old) (traffic_of wire.new)) }
         ensures same_traffic { OnErr result (traffic_of wire.new ≡ traffic_of wire.old) }
         ensures armed { IfOk result
-            (λ reply. reply_view reply ≡ Down → RestartsAsArmed lent.round self.old self.new) }
+            (λ reply. reply_view reply ≡ Down → RestartsAsArmed lent.now.round self.old self.new) }
         ensures unchanged { AnswerLeaves (answer_view result)
             → IsCellUnchanged self.old self.new }
     {
@@ -96,7 +96,7 @@ impl<C: SlotCell, O: Outlet> Station<C, O> {
     /// what the node says to it is sent, unless its device failed in the event.
     pub(crate) fn deliver(
         &mut self,
-        lent: Lent,
+        lent: &Lent,
         wire: &mut Wire,
         to: u8,
         place: usize,
@@ -104,40 +104,40 @@ impl<C: SlotCell, O: Outlet> Station<C, O> {
         requires to { to < NODES }
         requires like { IsLikeNow (view_of self.old.node) }
         requires listed { length (view_of self.old.node).kept.highest
-            ≡ node_count (net_lent lent) }
+            ≡ node_count (net_lent lent.now) }
         requires bounded { IsRecordWithin MAX_RETAINED_ITEMS (view_of self.old.node).kept }
         requires right { (bytes : List ℕ) (packet : PacketValue)
-            → due_bytes lent.round (slice_get (flights_to (traffic_of wire.old) to) place) ≡ Some bytes
-            → packet_for (net_lent lent) self.old.node.number bytes ≡ Some packet
-            → IsHeard (net_lent lent) self.old.node.number packet }
+            → due_bytes lent.now.round (slice_get (flights_to (traffic_of wire.old) to) place) ≡ Some bytes
+            → packet_for (net_lent lent.now) self.old.node.number bytes ≡ Some packet
+            → IsHeard (net_lent lent.now) self.old.node.number packet }
         requires allowed { (bytes : List ℕ) (packet : PacketValue)
-            → due_bytes lent.round (slice_get (flights_to (traffic_of wire.old) to) place) ≡ Some bytes
-            → packet_for (net_lent lent) self.old.node.number bytes ≡ Some packet
+            → due_bytes lent.now.round (slice_get (flights_to (traffic_of wire.old) to) place) ≡ Some bytes
+            → packet_for (net_lent lent.now) self.old.node.number bytes ≡ Some packet
             → (came : OutcomeValue) → All IsPacket (packets_by
-            (hear_prospect (net_lent lent) self.old.node.number packet.from
+            (hear_prospect (net_lent lent.now) self.old.node.number packet.from
             packet.body (view_of self.old.node)) came) }
         ensures outputs { outlet_views O.taken O.failures self.new.outputs.items
             ≡ outlet_views O.taken O.failures self.old.outputs.items }
         ensures leaves { LeaveEitherSince C.moment C.left_since_whole (cell_in self.old.node.store)
             (cell_in self.new.node.store) (view_of self.old.node).kept
-            (next_record (deliver_plan (net_lent lent) place
-            (due_bytes lent.round (slice_get (flights_to (traffic_of wire.old) to) place))
+            (next_record (deliver_plan (net_lent lent.now) place
+            (due_bytes lent.now.round (slice_get (flights_to (traffic_of wire.old) to) place))
             (station_view O.taken O.failures self.old)).prospect (view_of self.old.node).kept) }
         ensures later { C.moment (cell_in self.old.node.store) ≤ C.moment (cell_in self.new.node.store) }
         ensures same_setup { LeavesDevice self.old.node.store self.new.node.store }
         ensures refused { OnErr result
             (station_view O.taken O.failures self.new ≡ station_view O.taken O.failures self.old) }
         ensures come { IfOk result
-            (λ reply. ComesOut (fits_in (C.slot_capacity (cell_in self.old.node.store))) lent.round
-            (deliver_plan (net_lent lent) place
-            (due_bytes lent.round (slice_get (flights_to (traffic_of wire.old) to) place))
+            (λ reply. ComesOut (fits_in (C.slot_capacity (cell_in self.old.node.store))) lent.now.round
+            (deliver_plan (net_lent lent.now) place
+            (due_bytes lent.now.round (slice_get (flights_to (traffic_of wire.old) to) place))
             (station_view O.taken O.failures self.old))
             (station_view O.taken O.failures self.old) (reply_view reply)
             (station_view O.taken O.failures self.new) to
             (traffic_of wire.old) (traffic_of wire.new)) }
         ensures same_traffic { OnErr result (traffic_of wire.new ≡ traffic_of wire.old) }
         ensures armed { IfOk result
-            (λ reply. reply_view reply ≡ Down → RestartsAsArmed lent.round self.old self.new) }
+            (λ reply. reply_view reply ≡ Down → RestartsAsArmed lent.now.round self.old self.new) }
         ensures unchanged { AnswerLeaves (answer_view result)
             → IsCellUnchanged self.old self.new }
     {

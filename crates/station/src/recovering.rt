@@ -74,12 +74,12 @@ impl<C: SlotCell, O: Outlet> Station<C, O> {
     }
 
     /// Its node, if it is down, comes back.
-    pub(crate) fn recover(&mut self, lent: Lent) -> Result<Reply, AllocError>
+    pub(crate) fn recover(&mut self, lent: &Lent) -> Result<Reply, AllocError>
         ensures outputs { outlet_views O.taken O.failures self.new.outputs.items
             ≡ outlet_views O.taken O.failures self.old.outputs.items }
         ensures leaves { LeaveEitherSince C.moment C.left_since_whole (cell_in self.old.node.store)
             (cell_in self.new.node.store) (view_of self.old.node).kept
-            (next_record (recover_prospect (net_lent lent) self.old.node.number
+            (next_record (recover_prospect (net_lent lent.now) self.old.node.number
             (view_of self.old.node)) (view_of self.old.node).kept) }
         ensures later { C.moment (cell_in self.old.node.store)
             ≤ C.moment (cell_in self.new.node.store) }
@@ -88,11 +88,11 @@ impl<C: SlotCell, O: Outlet> Station<C, O> {
             (station_view O.taken O.failures self.new ≡ station_view O.taken O.failures self.old) }
         ensures step { IfOk result
             (λ reply. ComesBy (fits_in (C.slot_capacity (cell_in self.old.node.store)))
-            lent.round (recover_plan (net_lent lent) (station_view O.taken O.failures self.old))
+            lent.now.round (recover_plan (net_lent lent.now) (station_view O.taken O.failures self.old))
             (station_view O.taken O.failures self.old) (reply_view reply)
             (station_view O.taken O.failures self.new)) }
         ensures armed { IfOk result
-            (λ reply. reply_view reply ≡ Down → RestartsAsArmed lent.round self.old self.new) }
+            (λ reply. reply_view reply ≡ Down → RestartsAsArmed lent.now.round self.old self.new) }
         ensures unchanged { IfOk result
             (λ reply. reply_view reply ≡ NotDue → IsCellUnchanged self.old self.new) }
         ensures held { OnErr result (LeavesAsBefore self.old.node.store self.new.node.store) }

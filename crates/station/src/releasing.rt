@@ -62,13 +62,13 @@ pub(crate) fn next_output<O: Outlet>(
 // Lets the next item of an output leave, which some approximation has. The shares for the answer come first, since they
 // may be refused.
 fn release_at<C: SlotCell, O: Outlet>(
-    lent: Lent,
+    lent: &Lent,
     node: &mut Node<C>,
     output: &mut Output<O>,
 ) -> Result<Reply, AllocError>
     requires next { HasNext (current_log output.old.channel (view_of node.old).mode)
         (length (O.taken output.old.outlet)) }
-    requires reached { HistoryReaches (net_lent lent) (inputs_lent lent)
+    requires reached { HistoryReaches (net_lent lent.now) (inputs_lent lent.now)
         output.old.channel (length (O.taken output.old.outlet) + 1) }
     ensures refused { OnErr result
         ((view_of node.new ≡ view_of node.old)
@@ -78,7 +78,7 @@ fn release_at<C: SlotCell, O: Outlet>(
         (length (O.taken output.new.outlet)) (view_of node.old)) }
     ensures same { (node.new.store ≡ node.old.store) × (node.new.number ≡ node.old.number) }
     ensures handed { IfOk result
-        (λ reply. IsHanded lent.round (current_log output.old.channel (view_of node.old).mode)
+        (λ reply. IsHanded lent.now.round (current_log output.old.channel (view_of node.old).mode)
         (outlet_view O.taken O.failures output.old) (reply_view reply)
         (outlet_view O.taken O.failures output.new)) }
 {
@@ -117,22 +117,22 @@ impl<C: SlotCell, O: Outlet> Station<C, O> {
     }
 
     /// Lets one item leave, which its log has, and some approximation, where an outlet waits for it.
-    pub(crate) fn release(&mut self, lent: Lent) -> Result<Reply, AllocError>
+    pub(crate) fn release(&mut self, lent: &Lent) -> Result<Reply, AllocError>
         requires next { (place : ℕ) (outlet : OutletView)
-            → next_release lent.round (station_view O.taken O.failures self.old) ≡ Some place
+            → next_release lent.now.round (station_view O.taken O.failures self.old) ≡ Some place
             → slice_get (outlet_views O.taken O.failures self.old.outputs.items) place ≡ Some outlet
             → HasNext (current_log outlet.channel (view_of self.old.node).mode)
             (length outlet.taken) }
         requires reached { (place : ℕ) (outlet : OutletView)
-            → next_release lent.round (station_view O.taken O.failures self.old) ≡ Some place
+            → next_release lent.now.round (station_view O.taken O.failures self.old) ≡ Some place
             → slice_get (outlet_views O.taken O.failures self.old.outputs.items) place ≡ Some outlet
-            → HistoryReaches (net_lent lent) (inputs_lent lent) outlet.channel
+            → HistoryReaches (net_lent lent.now) (inputs_lent lent.now) outlet.channel
             (length outlet.taken + 1) }
         ensures cell { self.new.node.store ≡ self.old.node.store }
         ensures refused { OnErr result
             (station_view O.taken O.failures self.new ≡ station_view O.taken O.failures self.old) }
         ensures step { IfOk result
-            (λ reply. IsRelease lent.round (next_release lent.round (station_view O.taken O.failures self.old))
+            (λ reply. IsRelease lent.now.round (next_release lent.now.round (station_view O.taken O.failures self.old))
             (station_view O.taken O.failures self.old) (reply_view reply)
             (station_view O.taken O.failures self.new)) }
     {

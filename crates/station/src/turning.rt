@@ -42,7 +42,7 @@ fn note_grant(turns: &mut RoundTurns, granted: Option<Arc<Job>>, round: u64) -> 
 
 impl<C: SlotCell, O: Outlet> Station<C, O> {
     /// Grants a job, where a channel has so much room.
-    pub(crate) fn grant(&mut self, lent: Lent) -> Result<Reply, AllocError>
+    pub(crate) fn grant(&mut self, lent: &Lent) -> Result<Reply, AllocError>
         ensures outputs { outlet_views O.taken O.failures self.new.outputs.items
             ≡ outlet_views O.taken O.failures self.old.outputs.items }
         ensures cell { self.new.node.store ≡ self.old.node.store }
@@ -50,21 +50,20 @@ impl<C: SlotCell, O: Outlet> Station<C, O> {
             (station_view O.taken O.failures self.new ≡ station_view O.taken O.failures self.old) }
         ensures step { IfOk result
             (λ reply. ComesBy (fits_in (C.slot_capacity (cell_in self.old.node.store)))
-            lent.round (grant_plan (node_job (net_lent lent) (inputs_lent lent) lent.room
-            (view_of self.old.node)) lent.round (station_view O.taken O.failures self.old))
+            lent.now.round (grant_plan (node_job (net_lent lent.now) (inputs_lent lent.now) lent.now.room
+            (view_of self.old.node)) lent.now.round (station_view O.taken O.failures self.old))
             (station_view O.taken O.failures self.old) (reply_view reply)
             (station_view O.taken O.failures self.new)) }
     {
-        let granted = self
-            .node
-            .grant(lent.alloc, lent.net, lent.inputs, lent.room)?;
+        let node = &mut self.node;
+        let granted = node.grant(lent.alloc, lent.net, lent.inputs, lent.room)?;
         Ok(note_grant(&mut self.turns, granted, lent.round))
     }
 
     /// Takes in what came of a job, which fits where the job is out.
-    pub(crate) fn install(&mut self, lent: Lent, done: &Done) -> Result<Reply, AllocError>
+    pub(crate) fn install(&mut self, lent: &Lent, done: &Done) -> Result<Reply, AllocError>
         requires { IsOut (job_view done.now.job.value) (view_of self.old.node).mode
-            → TakesTurn (net_lent lent).channels done.now.job.value.process
+            → TakesTurn (net_lent lent.now).channels done.now.job.value.process
             done.now.taken.items done.now.sent.items (view_of self.old.node).mode }
         ensures outputs { outlet_views O.taken O.failures self.new.outputs.items
             ≡ outlet_views O.taken O.failures self.old.outputs.items }
@@ -72,7 +71,7 @@ impl<C: SlotCell, O: Outlet> Station<C, O> {
         ensures refused { OnErr result
             (station_view O.taken O.failures self.new ≡ station_view O.taken O.failures self.old) }
         ensures step { IfOk result
-            (λ reply. IsInstalled (net_lent lent).channels (done_view done.now)
+            (λ reply. IsInstalled (net_lent lent.now).channels (done_view done.now)
             (station_view O.taken O.failures self.old) (reply_view reply)
             (station_view O.taken O.failures self.new)) }
     {

@@ -55,32 +55,32 @@ pub struct World<C: SlotCell, O: Outlet> {
 
 // An event at the station of this number, where there is one.
 fn act_at<C: SlotCell, O: Outlet>(
-    lent: Lent,
+    lent: &Lent,
     stations: &mut Vec<Station<C, O>>,
     wire: &mut Wire,
     number: usize,
     event: &Event,
 ) -> Result<Reply, AllocError>
-    requires fits { Fits (net_lent lent) (inputs_lent lent) }
-    requires sound { AreSound (net_lent lent) (inputs_lent lent)
+    requires fits { Fits (net_lent lent.now) (inputs_lent lent.now) }
+    requires sound { AreSound (net_lent lent.now) (inputs_lent lent.now)
         (map (station_view O.taken O.failures) stations.old.items) }
-    requires joined { AreJoined (net_lent lent)
+    requires joined { AreJoined (net_lent lent.now)
         (map (station_view O.taken O.failures) stations.old.items) }
-    requires flying { TrafficIsSound (net_lent lent) (inputs_lent lent)
+    requires flying { TrafficIsSound (net_lent lent.now) (inputs_lent lent.now)
         (traffic_of wire.old) }
     requires numbered { IsNumbered (map (station_view O.taken O.failures) stations.old.items) }
-    requires count { length stations.old.items ≡ node_count (net_lent lent) }
+    requires count { length stations.old.items ≡ node_count (net_lent lent.now) }
     requires at { event_node (event_view event.now) ≡ number }
     ensures grown { AllZip (IsGrown O.taken) stations.old.items stations.new.items }
     ensures line { AllZip (StaysInLine O.taken O.failures
-        (setting_by lent (traffic_of wire.old)) (event_view event.now))
+        (setting_by lent.now (traffic_of wire.old)) (event_view event.now))
         stations.old.items stations.new.items }
     ensures refused { OnErr result
         ((map (station_view O.taken O.failures) stations.new.items
         ≡ map (station_view O.taken O.failures) stations.old.items)
         × TakesMemory (event_view event.now)) }
     ensures come { IfOk result
-        (λ reply. HasActed (setting_by lent (traffic_of wire.old)) number
+        (λ reply. HasActed (setting_by lent.now (traffic_of wire.old)) number
         (rooms stations.old.items) (event_view event.now)
         (map (station_view O.taken O.failures) stations.old.items) (reply_view reply)
         (map (station_view O.taken O.failures) stations.new.items) (traffic_of wire.new)) }
@@ -93,7 +93,7 @@ fn act_at<C: SlotCell, O: Outlet>(
     ensures others { AreSameElsewhere (event_node (event_view event.now)) stations.old.items
         stations.new.items }
     ensures armed { IfOk result (λ reply. reply_view reply ≡ Down
-        → RestartsAsArmedAt lent.round (event_node (event_view event.now))
+        → RestartsAsArmedAt lent.now.round (event_node (event_view event.now))
         stations.old.items stations.new.items) }
     ensures held { OnErr result (LeavesWhatItFoundAt (event_view event.now)
         (event_node (event_view event.now)) stations.old.items stations.new.items) }
@@ -216,7 +216,7 @@ impl<C: SlotCell, O: Outlet> World<C, O> {
             round: self.round,
             room: self.room,
         };
-        match act_at(lent, &mut self.stations, &mut self.wire, number, &event) {
+        match act_at(&lent, &mut self.stations, &mut self.wire, number, &event) {
             Ok(reply) => {
                 self.round = round_after(&reply, self.round, &self.stations);
                 Ok(reply)

@@ -50,28 +50,28 @@ deed_seen {k = k} is by what =
 
 pub install-requires : goal.install-requires
 install-requires g c = λ out.
-    let net = c.args.lent.net.now.value in
+    let net = c.args.lent.now.net.now.value in
     let was = station_view g.O.Outlet.taken g.O.Outlet.failures c.args.self.now in
     let done = done_view c.in-Install.done in
-    takes_turn (network_of net.program) c.args.lent.inputs.now.value net.valid c.requires.sure.fits was c.requires.sound.inv
+    takes_turn (network_of net.program) c.args.lent.now.inputs.now.value net.valid c.requires.sure.fits was c.requires.sound.inv
     done c.in-Install.done.turn out
 
 pub start-requires : goal.start-requires
 start-requires g c =
-    let net = c.args.lent.net.now.value in
+    let net = c.args.lent.now.net.now.value in
     let was = station_view g.O.Outlet.taken g.O.Outlet.failures c.args.self.now in
     record {
-      like = like_now (network_of net.program) c.args.lent.inputs.now.value net.valid c.requires.sure.fits was
+      like = like_now (network_of net.program) c.args.lent.now.inputs.now.value net.valid c.requires.sure.fits was
           c.requires.sound.inv;
-      allowed = start_allowed (network_of net.program) c.args.lent.inputs.now.value net.valid was c.requires.sound.inv
+      allowed = start_allowed (network_of net.program) c.args.lent.now.inputs.now.value net.valid was c.requires.sound.inv
           c.requires.sound.named c.requires.sound.below c.requires.sound.joined;
     }
 
 pub decide-requires : goal.decide-requires
 decide-requires g c =
-    let net = network_of c.args.lent.net.now.value.program in
+    let net = network_of c.args.lent.now.net.now.value.program in
     let was = station_view g.O.Outlet.taken g.O.Outlet.failures c.args.self.now in
-    let few = nodes_few net c.args.lent.net.now.value.valid in
+    let few = nodes_few net c.args.lent.now.net.now.value.valid in
     let listed = c.requires.sound.joined.kept.listed in
     record {
       decided = record {
@@ -80,18 +80,18 @@ decide-requires g c =
         few = omega (arith, few, listed);
         bounded = c.requires.sound.inv.kept.bounded;
       };
-      allowed = decide_allowed net c.args.lent.inputs.now.value c.args.lent.net.now.value.valid was c.requires.sound.inv
+      allowed = decide_allowed net c.args.lent.now.inputs.now.value c.args.lent.now.net.now.value.valid was c.requires.sound.inv
           c.requires.sound.named c.requires.sound.below c.requires.sound.joined;
     }
 
 pub deliver-requires : goal.deliver-requires
 deliver-requires g c =
-    let net = c.args.lent.net.now.value in
+    let net = c.args.lent.now.net.now.value in
     let was = station_view g.O.Outlet.taken g.O.Outlet.failures c.args.self.now in
-    let setting = setting_by c.args.lent (traffic_of c.args.wire.now) in
+    let setting = setting_by c.args.lent.now (traffic_of c.args.wire.now) in
     record {
       to = subst (λ (e : EventView). event_node e < NODES) (deed_seen c.in-Plain.is c.in-ByNode.is c.in-Deliver.is) c.requires.node;
-      like = like_now (network_of net.program) c.args.lent.inputs.now.value net.valid c.requires.sure.fits was
+      like = like_now (network_of net.program) c.args.lent.now.inputs.now.value net.valid c.requires.sure.fits was
           c.requires.sound.inv;
       listed = c.requires.sound.joined.kept.listed;
       bounded = c.requires.sound.inv.kept.bounded;
@@ -103,20 +103,20 @@ deliver-requires g c =
 
 pub release-requires : goal.release-requires
 release-requires g c =
-    let net = network_of c.args.lent.net.now.value.program in
+    let net = network_of c.args.lent.now.net.now.value.program in
     let was = station_view g.O.Outlet.taken g.O.Outlet.failures c.args.self.now in
     record {
-      next = λ place outlet next there. next_there net c.args.lent.inputs.now.value was c.args.lent.round place outlet
+      next = λ place outlet next there. next_there net c.args.lent.now.inputs.now.value was c.args.lent.now.round place outlet
           c.requires.sound.inv next there;
-      reached = λ place outlet next there. next_reached net c.args.lent.inputs.now.value was c.args.lent.round place outlet
+      reached = λ place outlet next there. next_reached net c.args.lent.now.inputs.now.value was c.args.lent.now.round place outlet
           c.requires.sound.inv next there;
     }
 
 pub send-requires : goal.send-requires
 send-requires g c =
-    let net = c.args.lent.net.now.value in
+    let net = c.args.lent.now.net.now.value in
     let was = station_view g.O.Outlet.taken g.O.Outlet.failures c.args.self.now in
-    station_writable (network_of net.program) c.args.lent.inputs.now.value net.valid was c.requires.sound.inv
+    station_writable (network_of net.program) c.args.lent.now.inputs.now.value net.valid was c.requires.sound.inv
     c.requires.sound.named c.requires.sound.below c.requires.sound.joined
 
 -- ---- how it came out
@@ -126,9 +126,9 @@ returns-in-Deliver-clause-come g c =
     let was =
     station_view {cell = g.C.StableCell} {slots = g.C.SlotCell} g.O.Outlet.taken g.O.Outlet.failures
     c.args.self.now in
-    let setting = setting_by c.args.lent (traffic_of c.args.wire.now) in
+    let setting = setting_by c.args.lent.now (traffic_of c.args.wire.now) in
     let fits = fits_in (g.C.SlotCell.slot_capacity (cell_in c.args.self.now.node.store)) in
-    let found = due_bytes c.args.lent.round
+    let found = due_bytes c.args.lent.now.round
     (slice_get (flights_to (traffic_of c.args.wire.now) c.in-ByNode.node) c.in-Deliver.place) in
     deed_came setting fits (event_view c.args.event.now) was _ (traffic_of c.deliver.new.wire) c.deliver.result
     c.in-ByNode.node (view.Deliver c.in-Deliver.place)
@@ -140,7 +140,7 @@ returns-in-Grant-clause-come g c =
     let was =
     station_view {cell = g.C.StableCell} {slots = g.C.SlotCell} g.O.Outlet.taken g.O.Outlet.failures
     c.args.self.now in
-    let setting = setting_by c.args.lent (traffic_of c.args.wire.now) in
+    let setting = setting_by c.args.lent.now (traffic_of c.args.wire.now) in
     let fits = fits_in (g.C.SlotCell.slot_capacity (cell_in c.args.self.now.node.store)) in
     quiet_came setting fits (event_view c.args.event.now) was _ (traffic_of c.args.wire.now) c.grant.result
     _ view.Grant _
@@ -153,7 +153,7 @@ returns-in-Install-clause-come g c =
     let was =
     station_view {cell = g.C.StableCell} {slots = g.C.SlotCell} g.O.Outlet.taken g.O.Outlet.failures
     c.args.self.now in
-    let setting = setting_by c.args.lent (traffic_of c.args.wire.now) in
+    let setting = setting_by c.args.lent.now (traffic_of c.args.wire.now) in
     let fits = fits_in (g.C.SlotCell.slot_capacity (cell_in c.args.self.now.node.store)) in
     installed_came setting fits (event_view c.args.event.now) was _ (traffic_of c.args.wire.now) c.install.result
     (done_view c.in-Install.done) (ap event_view c.in-Install.is) refl
@@ -164,10 +164,10 @@ returns-in-Send-clause-come g c =
     let was =
     station_view {cell = g.C.StableCell} {slots = g.C.SlotCell} g.O.Outlet.taken g.O.Outlet.failures
     c.args.self.now in
-    let setting = setting_by c.args.lent (traffic_of c.args.wire.now) in
+    let setting = setting_by c.args.lent.now (traffic_of c.args.wire.now) in
     let fits = fits_in (g.C.SlotCell.slot_capacity (cell_in c.args.self.now.node.store)) in
     deed_came setting fits (event_view c.args.event.now) was _ (traffic_of c.send.new.wire) c.send.result _ view.Send
-    (send_plan setting.net c.args.lent.round was) (deed_seen c.in-Plain.is c.in-ByNode.is c.in-Send.is) refl
+    (send_plan setting.net c.args.lent.now.round was) (deed_seen c.in-Plain.is c.in-ByNode.is c.in-Send.is) refl
     (c.send.ensures.come _)
 
 pub returns-in-Start-clause-come : goal.returns-in-Start-clause-come
@@ -175,10 +175,10 @@ returns-in-Start-clause-come g c =
     let was =
     station_view {cell = g.C.StableCell} {slots = g.C.SlotCell} g.O.Outlet.taken g.O.Outlet.failures
     c.args.self.now in
-    let setting = setting_by c.args.lent (traffic_of c.args.wire.now) in
+    let setting = setting_by c.args.lent.now (traffic_of c.args.wire.now) in
     let fits = fits_in (g.C.SlotCell.slot_capacity (cell_in c.args.self.now.node.store)) in
     deed_came setting fits (event_view c.args.event.now) was _ (traffic_of c.start.new.wire) c.start.result _ view.Start
-    (start_plan setting.net c.args.lent.round was) (deed_seen c.in-Plain.is c.in-ByNode.is c.in-Start.is) refl
+    (start_plan setting.net c.args.lent.now.round was) (deed_seen c.in-Plain.is c.in-ByNode.is c.in-Start.is) refl
     (c.start.ensures.come _)
 
 pub returns-in-Decide-clause-come : goal.returns-in-Decide-clause-come
@@ -186,7 +186,7 @@ returns-in-Decide-clause-come g c =
     let was =
     station_view {cell = g.C.StableCell} {slots = g.C.SlotCell} g.O.Outlet.taken g.O.Outlet.failures
     c.args.self.now in
-    let setting = setting_by c.args.lent (traffic_of c.args.wire.now) in
+    let setting = setting_by c.args.lent.now (traffic_of c.args.wire.now) in
     let fits = fits_in (g.C.SlotCell.slot_capacity (cell_in c.args.self.now.node.store)) in
     deed_came setting fits (event_view c.args.event.now) was _ (traffic_of c.decide.new.wire) c.decide.result
     _ view.Decide
@@ -197,7 +197,7 @@ returns-in-Release-clause-come g c =
     let was =
     station_view {cell = g.C.StableCell} {slots = g.C.SlotCell} g.O.Outlet.taken g.O.Outlet.failures
     c.args.self.now in
-    let setting = setting_by c.args.lent (traffic_of c.args.wire.now) in
+    let setting = setting_by c.args.lent.now (traffic_of c.args.wire.now) in
     let fits = fits_in (g.C.SlotCell.slot_capacity (cell_in c.args.self.now.node.store)) in
     released_came setting fits (event_view c.args.event.now) was _ (traffic_of c.args.wire.now) c.release.result _
     (ap event_view c.in-Plain.is ∙ ap plain_view c.in-Release.is) refl c.release.ensures.step
@@ -207,9 +207,9 @@ returns-in-Crash-clause-come g c =
     let was =
     station_view {cell = g.C.StableCell} {slots = g.C.SlotCell} g.O.Outlet.taken g.O.Outlet.failures
     c.args.self.now in
-    let setting = setting_by c.args.lent (traffic_of c.args.wire.now) in
+    let setting = setting_by c.args.lent.now (traffic_of c.args.wire.now) in
     let fits = fits_in (g.C.SlotCell.slot_capacity (cell_in c.args.self.now.node.store)) in
-    let restart = round_later c.args.lent.round c.in-Crash.rounds in
+    let restart = round_later c.args.lent.now.round c.in-Crash.rounds in
     quiet_came setting fits (event_view c.args.event.now) was _ (traffic_of c.args.wire.now) (Ok c.crash.result) _
     (view.Crash c.in-Crash.fill c.in-Crash.rounds) (crash_plan restart was) (deed_seen c.in-Plain.is c.in-ByNode.is c.in-Crash.is) refl refl refl
     (λ came. crash_sends restart was.node came) c.crash.ensures.step
@@ -219,7 +219,7 @@ returns-in-Recover-clause-come g c =
     let was =
     station_view {cell = g.C.StableCell} {slots = g.C.SlotCell} g.O.Outlet.taken g.O.Outlet.failures
     c.args.self.now in
-    let setting = setting_by c.args.lent (traffic_of c.args.wire.now) in
+    let setting = setting_by c.args.lent.now (traffic_of c.args.wire.now) in
     let fits = fits_in (g.C.SlotCell.slot_capacity (cell_in c.args.self.now.node.store)) in
     quiet_came setting fits (event_view c.args.event.now) was _ (traffic_of c.args.wire.now) c.recover.result _
     view.Recover (recover_plan setting.net was) (deed_seen c.in-Plain.is c.in-ByNode.is c.in-Recover.is) refl refl refl
@@ -230,7 +230,7 @@ returns-in-Arm-clause-come g c =
     let was =
     station_view {cell = g.C.StableCell} {slots = g.C.SlotCell} g.O.Outlet.taken g.O.Outlet.failures
     c.args.self.now in
-    let setting = setting_by c.args.lent (traffic_of c.args.wire.now) in
+    let setting = setting_by c.args.lent.now (traffic_of c.args.wire.now) in
     let fits = fits_in (g.C.SlotCell.slot_capacity (cell_in c.args.self.now.node.store)) in
     quiet_came setting fits (event_view c.args.event.now) was _ (traffic_of c.args.wire.now) c.arm.result _
     (view.Arm c.in-Arm.fault c.in-Arm.rounds) (arm_plan c.in-Arm.fault.call c.in-Arm.rounds was)
@@ -242,11 +242,11 @@ returns-in-Idle-clause-come g c =
     let was =
     station_view {cell = g.C.StableCell} {slots = g.C.SlotCell} g.O.Outlet.taken g.O.Outlet.failures
     c.args.self.now in
-    let setting = setting_by c.args.lent (traffic_of c.args.wire.now) in
+    let setting = setting_by c.args.lent.now (traffic_of c.args.wire.now) in
     let fits = fits_in (g.C.SlotCell.slot_capacity (cell_in c.args.self.now.node.store)) in
     quiet_came setting fits (event_view c.args.event.now) was _ (traffic_of c.args.wire.now) (Ok c.idle.result)
     _ view.Idle
-    (idle_plan c.args.lent.round was) (deed_seen c.in-Plain.is c.in-ByNode.is c.in-Idle.is) refl refl refl (λ came. becoming_sends was.node came)
+    (idle_plan c.args.lent.now.round was) (deed_seen c.in-Plain.is c.in-ByNode.is c.in-Idle.is) refl refl refl (λ came. becoming_sends was.node came)
     c.idle.ensures.step
 
 pub returns-in-ByNetwork-clause-come : goal.returns-in-ByNetwork-clause-come
@@ -254,7 +254,7 @@ returns-in-ByNetwork-clause-come g c =
     let was =
     station_view {cell = g.C.StableCell} {slots = g.C.SlotCell} g.O.Outlet.taken g.O.Outlet.failures
     c.args.self.now in
-    let setting = setting_by c.args.lent (traffic_of c.args.wire.now) in
+    let setting = setting_by c.args.lent.now (traffic_of c.args.wire.now) in
     let fits = fits_in (g.C.SlotCell.slot_capacity (cell_in c.args.self.now.node.store)) in
     acted_came setting fits (event_view c.args.event.now) was was (traffic_of c.act_by_network.new.wire)
     c.act_by_network.result c.in-ByNetwork.node c.in-ByNetwork.place c.in-ByNetwork.act
@@ -268,9 +268,9 @@ returns-in-Deliver-clause-moved g c =
     let was =
     station_view {cell = g.C.StableCell} {slots = g.C.SlotCell} g.O.Outlet.taken g.O.Outlet.failures
     c.args.self.now in
-    let setting = setting_by c.args.lent (traffic_of c.args.wire.now) in
+    let setting = setting_by c.args.lent.now (traffic_of c.args.wire.now) in
     let fits = fits_in (g.C.SlotCell.slot_capacity (cell_in c.args.self.now.node.store)) in
-    let found = due_bytes c.args.lent.round
+    let found = due_bytes c.args.lent.now.round
     (slice_get (flights_to (traffic_of c.args.wire.now) c.in-ByNode.node) c.in-Deliver.place) in
     let seen = deed_seen c.in-Plain.is c.in-ByNode.is c.in-Deliver.is in
     subst (λ (e : EventView). HasMoved g.C.StableCell.moment g.C.SlotCell.left_since_whole
@@ -291,7 +291,7 @@ returns-in-Start-clause-moved g c =
     let was =
     station_view {cell = g.C.StableCell} {slots = g.C.SlotCell} g.O.Outlet.taken g.O.Outlet.failures
     c.args.self.now in
-    let setting = setting_by c.args.lent (traffic_of c.args.wire.now) in
+    let setting = setting_by c.args.lent.now (traffic_of c.args.wire.now) in
     let fits = fits_in (g.C.SlotCell.slot_capacity (cell_in c.args.self.now.node.store)) in
     let seen = deed_seen c.in-Plain.is c.in-ByNode.is c.in-Start.is in
     subst (λ (e : EventView). HasMoved g.C.StableCell.moment g.C.SlotCell.left_since_whole

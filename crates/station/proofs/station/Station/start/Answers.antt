@@ -67,11 +67,11 @@ returns-clause-come g c = λ k.
     let answer : Result Outcome AllocError = Ok came in
     let told = c.in_ok-prospect.ensures.view
     ∙ ap (λ (n : Net). start_prospect (network_of n.program) was.node.number (view_of was.node)) c.deref.ensures in
-    let prospect = start_prospect (net_lent c.args.lent) was.node.number (view_of was.node) in
-    let event : IsPutEvent prospect c.args.lent.round (view_of was.node) (view_of now.node) was.node.store now.node.store answer =
-    subst (λ (p : Prospect). IsPutEvent p c.args.lent.round (view_of was.node) (view_of now.node) was.node.store now.node.store
+    let prospect = start_prospect (net_lent c.args.lent.now) was.node.number (view_of was.node) in
+    let event : IsPutEvent prospect c.args.lent.now.round (view_of was.node) (view_of now.node) was.node.store now.node.store answer =
+    subst (λ (p : Prospect). IsPutEvent p c.args.lent.now.round (view_of was.node) (view_of now.node) was.node.store now.node.store
     answer) told c.in_ok-outcome.ensures.event in
-    let noted : c.with_start-noted.result ≡ count_start (turns_of c.args.lent.round now.turns) = search rules in
+    let noted : c.with_start-noted.result ≡ count_start (turns_of c.args.lent.now.round now.turns) = search rules in
     record {
       came = came;
       step = record {
@@ -89,11 +89,11 @@ returns-clause-come g c = λ k.
         } in view) c.carry_out.ensures.same.1.0
             ∙ seen_moved seen _ _ _ _ _ c.carry_out.ensures.same.0 (c.note.ensures
             ∙ (ap (λ (noted : RoundTurns). turns_by noted now.turns came) noted
-            ∙ ap (λ (turns : RoundTurns). turns_by (count_start (turns_of c.args.lent.round turns)) turns came)
+            ∙ ap (λ (turns : RoundTurns). turns_by (count_start (turns_of c.args.lent.now.round turns)) turns came)
             c.carry_out.ensures.same.1.1));
       };
-      traffic = own_traffic c.args.lent.round prospect came Started (Refused TooLarge) _ (traffic_of c.args.wire.now)
+      traffic = own_traffic c.args.lent.now.round prospect came Started (Refused TooLarge) _ (traffic_of c.args.wire.now)
           (traffic_of c.carry_out.new.wire) c.answer_by.ensures refl refl (undue_silent prospect)
-          (c.in_ok-outcome.ensures.traffic ∙ ap (λ (p : Prospect). all_sent c.args.lent.round (map sending_of (packets_by p came))
+          (c.in_ok-outcome.ensures.traffic ∙ ap (λ (p : Prospect). all_sent c.args.lent.now.round (map sending_of (packets_by p came))
           (traffic_of c.args.wire.now)) told);
     }
