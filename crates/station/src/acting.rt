@@ -1,6 +1,5 @@
 // An event at its station.
 ghost use Rattle.std.specs.Prelude.{◌≡◌, ℕ, ◌<◌, All, IfOk, OnErr};
-ghost use Rattle.kahn_net.specs.Syntax.{network_of};
 ghost use Rattle.ckpt_store.specs.Spelling.{fits_in};
 ghost use Rattle.ckpt_store.specs.StoreView.{cell_in};
 ghost use Rattle.node.specs.NodeOf.{view_of};
@@ -15,34 +14,28 @@ ghost use Rattle.protocol.specs.World.Pairs.{HasMoved};
 ghost use Rattle.protocol.specs.World.RecoveryLine.{next_kept};
 ghost use Rattle.protocol.specs.World.Replies.{LeavesCells, TakesMemory};
 ghost use Rattle.protocol.specs.declared.reply.Reply.TheVariants.{Down};
+ghost use Rattle.station.specs.Lending.{net_lent, setting_by};
 ghost use Rattle.station.specs.ReplyView.{answer_view, reply_view};
 ghost use Rattle.station.specs.StationView.{outlet_views};
-ghost use Rattle.protocol.specs.World.Steps.{idle_plan, send_plan, setting_in};
+ghost use Rattle.protocol.specs.World.Steps.{idle_plan, send_plan};
 ghost use Rattle.protocol.specs.World.Invariant.{IsSoundSetting, IsSoundStation};
 ghost use Rattle.station.specs.Leaving.{IsCellUnchanged, LeavesDeviceBy, LeavesWhatItFound, RestartsAsArmed};
 ghost use Rattle.station.specs.StationView.{station_view};
 
 use crate::event::{Event, Reply};
+use crate::lent::Lent;
 use crate::network::{act_by_network, spell_all};
 use crate::station::Station;
 use gate_cell::SlotCell;
-use net_check::{Inputs, Net};
 use outlet::Outlet;
 use protocol::{Deed, PlainEvent};
-use std::alloc::{AllocError, Global};
-use std::sync::Arc;
+use std::alloc::AllocError;
 use wire::Wire;
 
 impl<C: SlotCell, O: Outlet> Station<C, O> {
     // The node sends what is due to the others.
-    fn send(
-        &mut self,
-        alloc: Global,
-        net: &Net,
-        wire: &mut Wire,
-        round: u64,
-    ) -> Result<Reply, AllocError>
-        requires { All IsWritable (turn_packets (network_of net.now.program) self.old.node.number
+    fn send(&mut self, lent: &Lent, wire: &mut Wire) -> Result<Reply, AllocError>
+        requires { All IsWritable (turn_packets (net_lent lent.now) self.old.node.number
             (view_of self.old.node).kept (view_of self.old.node).mode) }
         ensures outputs { outlet_views O.taken O.failures self.new.outputs.items
             ≡ outlet_views O.taken O.failures self.old.outputs.items }
@@ -50,8 +43,8 @@ impl<C: SlotCell, O: Outlet> Station<C, O> {
         ensures refused { OnErr result
             (station_view O.taken O.failures self.new ≡ station_view O.taken O.failures self.old) }
         ensures come { (k : ℕ) → IfOk result
-            (λ reply. ComesOut (fits_in (C.slot_capacity (cell_in self.old.node.store))) round
-            (send_plan (network_of net.now.program) round (station_view O.taken O.failures self.old))
+            (λ reply. ComesOut (fits_in (C.slot_capacity (cell_in self.old.node.store)))
+            lent.now.round (send_plan (net_lent lent.now) lent.now.round (station_view O.taken O.failures self.old))
             (station_view O.taken O.failures self.old) (reply_view reply)
             (station_view O.taken O.failures self.new) k
             (traffic_of wire.old) (traffic_of wire.new)) }
@@ -66,10 +59,10 @@ impl<C: SlotCell, O: Outlet> Station<C, O> {
             return Ok(Reply::NotDue);
         };
         let holding = kept.tentative.is_some();
-        let packets = node.packets(alloc, net)?;
-        let sendings = spell_all(alloc, packets.as_slice())?;
-        wire.send_all(alloc, sendings, round)?;
-        self.turns = self.turns.of(round).with_send(holding);
+        let packets = node.packets(lent.alloc, lent.net)?;
+        let sendings = spell_all(lent.alloc, packets.as_slice())?;
+        wire.send_all(lent.alloc, sendings, lent.round)?;
+        self.turns = self.turns.of(lent.round).with_send(holding);
         Ok(Reply::Sent)
     }
 
@@ -88,26 +81,14 @@ impl<C: SlotCell, O: Outlet> Station<C, O> {
     }
 
     /// An event of this station's node. An `Idle` is noted, and the round may then advance.
-    pub fn act(
-        &mut self,
-        alloc: Global,
-        net: &Arc<Net>,
-        inputs: &Arc<Inputs>,
-        wire: &mut Wire,
-        round: u64,
-        room: usize,
-        event: &Event,
-    ) -> Result<Reply, AllocError>
-        requires sure { IsSoundSetting (setting_in (network_of net.now.value.program) inputs.now.value
-            (traffic_of wire.old) round room) }
-        requires sound { IsSoundStation (setting_in (network_of net.now.value.program)
-            inputs.now.value (traffic_of wire.old) round room)
+    pub fn act(&mut self, lent: &Lent, wire: &mut Wire, event: &Event) -> Result<Reply, AllocError>
+        requires sure { IsSoundSetting (setting_by lent.now (traffic_of wire.old)) }
+        requires sound { IsSoundStation (setting_by lent.now (traffic_of wire.old))
             (station_view O.taken O.failures self.old) }
         requires node { event_node (event_view event.now) < NODES }
         ensures moved { HasMoved C.moment C.left_since_whole (cell_in self.old.node.store)
             (cell_in self.new.node.store) (view_of self.old.node).kept
-            (next_kept (setting_in (network_of net.now.value.program) inputs.now.value
-            (traffic_of wire.old) round room) (event_view event.now)
+            (next_kept (setting_by lent.now (traffic_of wire.old)) (event_view event.now)
             (station_view O.taken O.failures self.old))
             (outlet_views O.taken O.failures self.old.outputs.items)
             (outlet_views O.taken O.failures self.new.outputs.items) }
@@ -115,8 +96,7 @@ impl<C: SlotCell, O: Outlet> Station<C, O> {
             ((station_view O.taken O.failures self.new ≡ station_view O.taken O.failures self.old)
             × TakesMemory (event_view event.now)) }
         ensures come { IfOk result
-            (λ reply. HasCome (setting_in (network_of net.now.value.program) inputs.now.value
-            (traffic_of wire.old) round room)
+            (λ reply. HasCome (setting_by lent.now (traffic_of wire.old))
             (fits_in (C.slot_capacity (cell_in self.old.node.store))) (event_view event.now)
             (station_view O.taken O.failures self.old) (reply_view reply)
             (station_view O.taken O.failures self.new) (traffic_of wire.new)) }
@@ -128,28 +108,26 @@ impl<C: SlotCell, O: Outlet> Station<C, O> {
         ensures unchanged { LeavesCells (event_view event.now) (answer_view result)
             → IsCellUnchanged self.old self.new }
         ensures armed { IfOk result (λ reply. reply_view reply ≡ Down
-            → RestartsAsArmed round self.old self.new) }
+            → RestartsAsArmed lent.now.round self.old self.new) }
         ensures held { OnErr result (LeavesWhatItFound (event_view event.now) self.old self.new) }
     {
         match event {
-            Event::Install(done) => self.install(alloc, net, done),
+            Event::Install(done) => self.install(lent, done),
             Event::Plain(event) => match event {
-                PlainEvent::Release(_) => self.release(net, inputs, round),
+                PlainEvent::Release(_) => self.release(lent),
                 PlainEvent::ByNode { node, deed } => match deed {
-                    Deed::Deliver { place } => {
-                        self.deliver(alloc, net, wire, *node, *place, round)
-                    }
-                    Deed::Grant => self.grant(alloc, net, inputs, room, round),
-                    Deed::Send => self.send(alloc, net, wire, round),
-                    Deed::Start => self.start(alloc, net, wire, round),
-                    Deed::Decide => self.decide(alloc, wire, round),
-                    Deed::Crash { fill, rounds } => Ok(self.crash(round, *fill, *rounds)),
-                    Deed::Recover => self.recover(alloc, net, round),
-                    Deed::Arm { fault, rounds } => self.arm(*fault, *rounds, round),
-                    Deed::Idle => Ok(self.idle(round)),
+                    Deed::Deliver { place } => self.deliver(lent, wire, *node, *place),
+                    Deed::Grant => self.grant(lent),
+                    Deed::Send => self.send(lent, wire),
+                    Deed::Start => self.start(lent, wire),
+                    Deed::Decide => self.decide(lent, wire),
+                    Deed::Crash { fill, rounds } => Ok(self.crash(lent.round, *fill, *rounds)),
+                    Deed::Recover => self.recover(lent),
+                    Deed::Arm { fault, rounds } => self.arm(*fault, *rounds, lent.round),
+                    Deed::Idle => Ok(self.idle(lent.round)),
                 },
                 PlainEvent::ByNetwork { node, place, act } => {
-                    act_by_network(alloc, wire, *node, *place, *act)
+                    act_by_network(lent.alloc, wire, *node, *place, *act)
                 }
             },
         }

@@ -6,7 +6,6 @@ ghost use Rattle.std.specs.Prelude.{◌≡◌, ℕ, ◌≤◌, All, IfOk, OnErr,
 ghost use Rattle.ckpt_store.specs.Spelling.{fits_in};
 ghost use Rattle.ckpt_store.specs.StoreView.{cell_in};
 ghost use Rattle.datagram.specs.PacketText.{IsPacket};
-ghost use Rattle.kahn_net.specs.Syntax.{network_of};
 ghost use Rattle.node.specs.NodeOf.{view_of};
 ghost use Rattle.node.specs.Planned.{CanBeMade, prospect_view};
 ghost use Rattle.node.specs.Putting.{IsPutEvent};
@@ -23,20 +22,21 @@ ghost use Rattle.protocol.specs.World.Steps.{decide_plan, sending_of, start_plan
 ghost use Rattle.protocol.specs.declared.outcome.Outcome.{Outcome as OutcomeValue};
 ghost use Rattle.wire.specs.Traffic.{all_sent, traffic_of};
 ghost use Rattle.station.specs.Coming.{ComesOut, IsReadyFor};
+ghost use Rattle.station.specs.Lending.{net_lent};
 ghost use Rattle.station.specs.ReplyView.{answer_view, reply_view};
 ghost use Rattle.station.specs.StationView.{outlet_views};
 ghost use Rattle.station.specs.StationView.{station_view};
 ghost use Rattle.station.specs.Leaving.{IsCellUnchanged, RestartsAsArmed};
 
 use crate::event::Reply;
+use crate::lent::Lent;
 use crate::network::{Ready, nothing, prepare, send_by};
 use crate::station::Station;
 use gate_cell::SlotCell;
-use net_check::Net;
 use node::{Outcome, Prospect, Refusal};
 use outlet::Outlet;
 use protocol::RoundTurns;
-use std::alloc::{AllocError, Global};
+use std::alloc::AllocError;
 use wire::Wire;
 
 /// What is answered to a deed of a node that came out so, where it is answered by `made` if it was made, and by `declined` if its
@@ -67,106 +67,93 @@ impl<C: SlotCell, O: Outlet> Station<C, O> {
     // What its node says by what an event comes to, made ready to be sent.
     pub(crate) fn ready_for(
         &self,
-        alloc: Global,
+        lent: &Lent,
         wire: &mut Wire,
         prospect: &Prospect,
-        round: u64,
     ) -> Result<Ready, AllocError>
         requires { (came : OutcomeValue) → All IsPacket (packets_by
             (prospect_view (view_of self.now.node) prospect.now) came) }
         ensures same { traffic_of wire.new ≡ traffic_of wire.old }
-        ensures made { IfOk result (λ ready. IsReadyFor wire.new round
+        ensures made { IfOk result (λ ready. IsReadyFor wire.new lent.now.round
             (map sending_of (packets_by (prospect_view (view_of self.now.node) prospect.now)
             Outcome.Made)) ready.made) }
-        ensures declined { IfOk result (λ ready. IsReadyFor wire.new round
+        ensures declined { IfOk result (λ ready. IsReadyFor wire.new lent.now.round
             (map sending_of (packets_by (prospect_view (view_of self.now.node) prospect.now)
             (Outcome.Refused Refusal.TooLarge))) ready.declined) }
     {
         match prospect {
             Prospect::Undue | Prospect::Exhausted => Ok(nothing()),
-            Prospect::Planned(plan) => prepare(alloc, wire, &plan.said, round),
+            Prospect::Planned(plan) => prepare(lent.alloc, wire, &plan.said, lent.round),
         }
     }
 
     // Carries out what an event comes to, and sends what its node says by what came of it.
     fn carry_out(
         &mut self,
-        alloc: Global,
+        lent: &Lent,
         wire: &mut Wire,
         prospect: Prospect,
-        round: u64,
     ) -> Result<Outcome, AllocError>
         requires can { CanBeMade (view_of self.old.node) prospect }
         requires allowed { (came : OutcomeValue) → All IsPacket (packets_by
             (prospect_view (view_of self.old.node) prospect) came) }
-        ensures event { IsPutEvent (prospect_view (view_of self.old.node) prospect) round
+        ensures event { IsPutEvent (prospect_view (view_of self.old.node) prospect) lent.now.round
             (view_of self.old.node) (view_of self.new.node) self.old.node.store
             self.new.node.store result }
         ensures unchanged { LeavesCell result
             → cell_in self.new.node.store ≡ cell_in self.old.node.store }
         ensures same { (self.new.node.number ≡ self.old.node.number)
             × ((self.new.outputs ≡ self.old.outputs) × (self.new.turns ≡ self.old.turns)) }
-        ensures traffic { IfOk result (λ came. traffic_of wire.new ≡ all_sent round
+        ensures traffic { IfOk result (λ came. traffic_of wire.new ≡ all_sent lent.now.round
             (map sending_of (packets_by (prospect_view (view_of self.old.node) prospect) came))
             (traffic_of wire.old)) }
         ensures same_traffic { OnErr result (traffic_of wire.new ≡ traffic_of wire.old) }
     {
-        let ready = self.ready_for(alloc, wire, &prospect, round)?;
-        let outcome = self.node.carry_out(alloc, prospect, round)?;
+        let ready = self.ready_for(lent, wire, &prospect)?;
+        let outcome = self.node.carry_out(lent.alloc, prospect, lent.round)?;
         send_by(wire, ready, outcome);
         Ok(outcome)
     }
 
     /// Begins a checkpoint, and asks. That counts as the start of the round also where it is refused or the device fails; the
     /// questions are sent where it is made.
-    pub(crate) fn start(
-        &mut self,
-        alloc: Global,
-        net: &Net,
-        wire: &mut Wire,
-        round: u64,
-    ) -> Result<Reply, AllocError>
+    pub(crate) fn start(&mut self, lent: &Lent, wire: &mut Wire) -> Result<Reply, AllocError>
         requires like { IsLikeNow (view_of self.old.node) }
         requires allowed { (came : OutcomeValue) → All IsPacket (packets_by
-            (start_prospect (network_of net.now.program) self.old.node.number
+            (start_prospect (net_lent lent.now) self.old.node.number
             (view_of self.old.node)) came) }
         ensures outputs { outlet_views O.taken O.failures self.new.outputs.items
             ≡ outlet_views O.taken O.failures self.old.outputs.items }
         ensures leaves { LeaveEitherSince C.moment C.left_since_whole (cell_in self.old.node.store)
             (cell_in self.new.node.store) (view_of self.old.node).kept
-            (next_record (start_prospect (network_of net.now.program) self.old.node.number
+            (next_record (start_prospect (net_lent lent.now) self.old.node.number
             (view_of self.old.node)) (view_of self.old.node).kept) }
         ensures later { C.moment (cell_in self.old.node.store) ≤ C.moment (cell_in self.new.node.store) }
         ensures same_setup { LeavesDevice self.old.node.store self.new.node.store }
         ensures refused { OnErr result
             (station_view O.taken O.failures self.new ≡ station_view O.taken O.failures self.old) }
         ensures come { (k : ℕ) → IfOk result
-            (λ reply. ComesOut (fits_in (C.slot_capacity (cell_in self.old.node.store))) round
-            (start_plan (network_of net.now.program) round
+            (λ reply. ComesOut (fits_in (C.slot_capacity (cell_in self.old.node.store))) lent.now.round
+            (start_plan (net_lent lent.now) lent.now.round
             (station_view O.taken O.failures self.old))
             (station_view O.taken O.failures self.old) (reply_view reply)
             (station_view O.taken O.failures self.new) k
             (traffic_of wire.old) (traffic_of wire.new)) }
         ensures same_traffic { OnErr result (traffic_of wire.new ≡ traffic_of wire.old) }
         ensures armed { IfOk result
-            (λ reply. reply_view reply ≡ Down → RestartsAsArmed round self.old self.new) }
+            (λ reply. reply_view reply ≡ Down → RestartsAsArmed lent.now.round self.old self.new) }
         ensures unchanged { AnswerLeaves (answer_view result)
             → IsCellUnchanged self.old self.new }
     {
-        let prospect = self.node.plan_start(alloc, net)?;
-        let outcome = self.carry_out(alloc, wire, prospect, round)?;
-        let noted = self.turns.of(round).with_start();
+        let prospect = self.node.plan_start(lent.alloc, lent.net)?;
+        let outcome = self.carry_out(lent, wire, prospect)?;
+        let noted = self.turns.of(lent.round).with_start();
         note(&mut self.turns, noted, outcome);
         Ok(answer_by(Reply::Started, Reply::Refused(Refusal::TooLarge), outcome))
     }
 
     /// Decides the checkpoint for which answers were collected: its image becomes permanent, and those who took part are told.
-    pub(crate) fn decide(
-        &mut self,
-        alloc: Global,
-        wire: &mut Wire,
-        round: u64,
-    ) -> Result<Reply, AllocError>
+    pub(crate) fn decide(&mut self, lent: &Lent, wire: &mut Wire) -> Result<Reply, AllocError>
         requires decided { MayBeDecided self.old.node.number (view_of self.old.node) }
         requires allowed { (came : OutcomeValue) → All IsPacket (packets_by
             (decide_prospect self.old.node.number (view_of self.old.node)) came) }
@@ -181,19 +168,19 @@ impl<C: SlotCell, O: Outlet> Station<C, O> {
         ensures refused { OnErr result
             (station_view O.taken O.failures self.new ≡ station_view O.taken O.failures self.old) }
         ensures come { (k : ℕ) → IfOk result
-            (λ reply. ComesOut (fits_in (C.slot_capacity (cell_in self.old.node.store))) round
+            (λ reply. ComesOut (fits_in (C.slot_capacity (cell_in self.old.node.store))) lent.now.round
             (decide_plan (station_view O.taken O.failures self.old))
             (station_view O.taken O.failures self.old) (reply_view reply)
             (station_view O.taken O.failures self.new) k
             (traffic_of wire.old) (traffic_of wire.new)) }
         ensures same_traffic { OnErr result (traffic_of wire.new ≡ traffic_of wire.old) }
         ensures armed { IfOk result
-            (λ reply. reply_view reply ≡ Down → RestartsAsArmed round self.old self.new) }
+            (λ reply. reply_view reply ≡ Down → RestartsAsArmed lent.now.round self.old self.new) }
         ensures unchanged { AnswerLeaves (answer_view result)
             → IsCellUnchanged self.old self.new }
     {
-        let prospect = self.node.plan_decide(alloc)?;
-        let outcome = self.carry_out(alloc, wire, prospect, round)?;
+        let prospect = self.node.plan_decide(lent.alloc)?;
+        let outcome = self.carry_out(lent, wire, prospect)?;
         Ok(answer_by(Reply::Decided, Reply::Refused(Refusal::TooLarge), outcome))
     }
 }

@@ -7,7 +7,6 @@ ghost use Rattle.ckpt_store.specs.StoreView.{cell_in};
 ghost use Rattle.datagram.specs.PacketText.{IsPacket};
 ghost use Rattle.datagram.specs.declared.packet.Packet.{Packet as PacketValue};
 ghost use Rattle.kahn_net.specs.Nodes.{node_count};
-ghost use Rattle.kahn_net.specs.Syntax.{network_of};
 ghost use Rattle.node.specs.NodeOf.{view_of};
 ghost use Rattle.node.specs.StoredView.{LeavesDevice};
 ghost use Rattle.protocol.specs.Node.Delivering.{packet_for};
@@ -24,6 +23,7 @@ ghost use Rattle.protocol.specs.declared.outcome.Outcome.{Outcome as OutcomeValu
 ghost use Rattle.wire.specs.Traffic.{flights_to, traffic_of};
 ghost use Rattle.wire.specs.declared.queue.TheConstants.{NODES};
 ghost use Rattle.station.specs.Coming.{ComesHeard, ComesOut};
+ghost use Rattle.station.specs.Lending.{net_lent};
 ghost use Rattle.station.specs.ReplyView.{answer_view, reply_view};
 ghost use Rattle.station.specs.StationView.{outlet_views};
 ghost use Rattle.station.specs.StationView.{station_view};
@@ -31,13 +31,13 @@ ghost use Rattle.station.specs.Leaving.{IsCellUnchanged, RestartsAsArmed};
 
 use crate::checkpoints::answer_by;
 use crate::event::Reply;
+use crate::lent::Lent;
 use crate::network::{due_packet, take_by};
 use crate::station::Station;
 use datagram::Packet;
 use gate_cell::SlotCell;
-use net_check::Net;
 use outlet::Outlet;
-use std::alloc::{AllocError, Global};
+use std::alloc::AllocError;
 use wire::Wire;
 
 impl<C: SlotCell, O: Outlet> Station<C, O> {
@@ -45,51 +45,49 @@ impl<C: SlotCell, O: Outlet> Station<C, O> {
     // it is sent.
     fn hear(
         &mut self,
-        alloc: Global,
-        net: &Net,
+        lent: &Lent,
         wire: &mut Wire,
         to: u8,
         place: usize,
         packet: &Packet,
-        round: u64,
     ) -> Result<Reply, AllocError>
         requires to { to < NODES }
         requires there { place < length (flights_to (traffic_of wire.old) to) }
         requires up { is_down (view_of self.old.node).mode ≡ false }
         requires like { IsLikeNow (view_of self.old.node) }
-        requires right { IsHeard (network_of net.now.program) self.old.node.number packet.now }
+        requires right { IsHeard (net_lent lent.now) self.old.node.number packet.now }
         requires listed { length (view_of self.old.node).kept.highest
-            ≡ node_count (network_of net.now.program) }
+            ≡ node_count (net_lent lent.now) }
         requires bounded { IsRecordWithin MAX_RETAINED_ITEMS (view_of self.old.node).kept }
         requires allowed { (came : OutcomeValue) → All IsPacket (packets_by
-            (hear_prospect (network_of net.now.program) self.old.node.number packet.now.from
+            (hear_prospect (net_lent lent.now) self.old.node.number packet.now.from
             packet.now.body (view_of self.old.node)) came) }
         ensures outputs { outlet_views O.taken O.failures self.new.outputs.items
             ≡ outlet_views O.taken O.failures self.old.outputs.items }
         ensures leaves { LeaveEitherSince C.moment C.left_since_whole (cell_in self.old.node.store)
             (cell_in self.new.node.store) (view_of self.old.node).kept
-            (next_record (hear_prospect (network_of net.now.program) self.old.node.number
+            (next_record (hear_prospect (net_lent lent.now) self.old.node.number
             packet.now.from packet.now.body (view_of self.old.node)) (view_of self.old.node).kept) }
         ensures later { C.moment (cell_in self.old.node.store) ≤ C.moment (cell_in self.new.node.store) }
         ensures same_setup { LeavesDevice self.old.node.store self.new.node.store }
         ensures refused { OnErr result
             (station_view O.taken O.failures self.new ≡ station_view O.taken O.failures self.old) }
         ensures come { IfOk result
-            (λ reply. ComesHeard (fits_in (C.slot_capacity (cell_in self.old.node.store))) round
-            (hear_prospect (network_of net.now.program) self.old.node.number packet.now.from
+            (λ reply. ComesHeard (fits_in (C.slot_capacity (cell_in self.old.node.store))) lent.now.round
+            (hear_prospect (net_lent lent.now) self.old.node.number packet.now.from
             packet.now.body (view_of self.old.node))
             (station_view O.taken O.failures self.old) (reply_view reply)
             (station_view O.taken O.failures self.new) to place
             (traffic_of wire.old) (traffic_of wire.new)) }
         ensures same_traffic { OnErr result (traffic_of wire.new ≡ traffic_of wire.old) }
         ensures armed { IfOk result
-            (λ reply. reply_view reply ≡ Down → RestartsAsArmed round self.old self.new) }
+            (λ reply. reply_view reply ≡ Down → RestartsAsArmed lent.now.round self.old self.new) }
         ensures unchanged { AnswerLeaves (answer_view result)
             → IsCellUnchanged self.old self.new }
     {
-        let prospect = self.node.plan_packet(alloc, net, packet)?;
-        let ready = self.ready_for(alloc, wire, &prospect, round)?;
-        let outcome = self.node.carry_out(alloc, prospect, round)?;
+        let prospect = self.node.plan_packet(lent.alloc, lent.net, packet)?;
+        let ready = self.ready_for(lent, wire, &prospect)?;
+        let outcome = self.node.carry_out(lent.alloc, prospect, lent.round)?;
         take_by(wire, to, place, ready, outcome);
         Ok(answer_by(Reply::Delivered, Reply::Delivered, outcome))
     }
@@ -98,62 +96,60 @@ impl<C: SlotCell, O: Outlet> Station<C, O> {
     /// what the node says to it is sent, unless its device failed in the event.
     pub(crate) fn deliver(
         &mut self,
-        alloc: Global,
-        net: &Net,
+        lent: &Lent,
         wire: &mut Wire,
         to: u8,
         place: usize,
-        round: u64,
     ) -> Result<Reply, AllocError>
         requires to { to < NODES }
         requires like { IsLikeNow (view_of self.old.node) }
         requires listed { length (view_of self.old.node).kept.highest
-            ≡ node_count (network_of net.now.program) }
+            ≡ node_count (net_lent lent.now) }
         requires bounded { IsRecordWithin MAX_RETAINED_ITEMS (view_of self.old.node).kept }
         requires right { (bytes : List ℕ) (packet : PacketValue)
-            → due_bytes round (slice_get (flights_to (traffic_of wire.old) to) place) ≡ Some bytes
-            → packet_for (network_of net.now.program) self.old.node.number bytes ≡ Some packet
-            → IsHeard (network_of net.now.program) self.old.node.number packet }
+            → due_bytes lent.now.round (slice_get (flights_to (traffic_of wire.old) to) place) ≡ Some bytes
+            → packet_for (net_lent lent.now) self.old.node.number bytes ≡ Some packet
+            → IsHeard (net_lent lent.now) self.old.node.number packet }
         requires allowed { (bytes : List ℕ) (packet : PacketValue)
-            → due_bytes round (slice_get (flights_to (traffic_of wire.old) to) place) ≡ Some bytes
-            → packet_for (network_of net.now.program) self.old.node.number bytes ≡ Some packet
+            → due_bytes lent.now.round (slice_get (flights_to (traffic_of wire.old) to) place) ≡ Some bytes
+            → packet_for (net_lent lent.now) self.old.node.number bytes ≡ Some packet
             → (came : OutcomeValue) → All IsPacket (packets_by
-            (hear_prospect (network_of net.now.program) self.old.node.number packet.from
+            (hear_prospect (net_lent lent.now) self.old.node.number packet.from
             packet.body (view_of self.old.node)) came) }
         ensures outputs { outlet_views O.taken O.failures self.new.outputs.items
             ≡ outlet_views O.taken O.failures self.old.outputs.items }
         ensures leaves { LeaveEitherSince C.moment C.left_since_whole (cell_in self.old.node.store)
             (cell_in self.new.node.store) (view_of self.old.node).kept
-            (next_record (deliver_plan (network_of net.now.program) place
-            (due_bytes round (slice_get (flights_to (traffic_of wire.old) to) place))
+            (next_record (deliver_plan (net_lent lent.now) place
+            (due_bytes lent.now.round (slice_get (flights_to (traffic_of wire.old) to) place))
             (station_view O.taken O.failures self.old)).prospect (view_of self.old.node).kept) }
         ensures later { C.moment (cell_in self.old.node.store) ≤ C.moment (cell_in self.new.node.store) }
         ensures same_setup { LeavesDevice self.old.node.store self.new.node.store }
         ensures refused { OnErr result
             (station_view O.taken O.failures self.new ≡ station_view O.taken O.failures self.old) }
         ensures come { IfOk result
-            (λ reply. ComesOut (fits_in (C.slot_capacity (cell_in self.old.node.store))) round
-            (deliver_plan (network_of net.now.program) place
-            (due_bytes round (slice_get (flights_to (traffic_of wire.old) to) place))
+            (λ reply. ComesOut (fits_in (C.slot_capacity (cell_in self.old.node.store))) lent.now.round
+            (deliver_plan (net_lent lent.now) place
+            (due_bytes lent.now.round (slice_get (flights_to (traffic_of wire.old) to) place))
             (station_view O.taken O.failures self.old))
             (station_view O.taken O.failures self.old) (reply_view reply)
             (station_view O.taken O.failures self.new) to
             (traffic_of wire.old) (traffic_of wire.new)) }
         ensures same_traffic { OnErr result (traffic_of wire.new ≡ traffic_of wire.old) }
         ensures armed { IfOk result
-            (λ reply. reply_view reply ≡ Down → RestartsAsArmed round self.old self.new) }
+            (λ reply. reply_view reply ≡ Down → RestartsAsArmed lent.now.round self.old self.new) }
         ensures unchanged { AnswerLeaves (answer_view result)
             → IsCellUnchanged self.old self.new }
     {
-        let Some(bytes) = due_packet(wire, to, place, round) else {
+        let Some(bytes) = due_packet(wire, to, place, lent.round) else {
             return Ok(Reply::NotDue);
         };
         let node = &self.node;
         if node.state.is_down() {
             return Ok(Reply::NotDue);
         }
-        match node.read(alloc, net, bytes)? {
-            Some(packet) => self.hear(alloc, net, wire, to, place, &packet, round),
+        match node.read(lent.alloc, lent.net, bytes)? {
+            Some(packet) => self.hear(lent, wire, to, place, &packet),
             None => {
                 wire.lose(to, place);
                 Ok(Reply::Dropped)

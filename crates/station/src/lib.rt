@@ -9,6 +9,7 @@ mod acting;
 mod checkpoints;
 mod delivering;
 mod event;
+mod lent;
 mod network;
 mod output;
 mod picking;
@@ -20,5 +21,6 @@ mod still;
 mod turning;
 
 pub use event::{Event, Refused, Reply};
+pub use lent::Lent;
 pub use output::Output;
 pub use station::Station;

@@ -1,6 +1,5 @@
 // A station's node crashes, and comes back.
 ghost use Rattle.std.specs.Prelude.{◌≡◌, ◌≤◌, if◌then◌else◌, IfOk, OnErr};
-ghost use Rattle.kahn_net.specs.Syntax.{network_of};
 ghost use Rattle.ckpt_store.specs.Spelling.{fits_in};
 ghost use Rattle.ckpt_store.specs.StoreView.{cell_in};
 ghost use Rattle.node.specs.NodeOf.{view_of};
@@ -16,6 +15,7 @@ ghost use Rattle.protocol.specs.World.Replies.{back_reply};
 ghost use Rattle.protocol.specs.declared.reply.Reply.TheVariants.{Crashed, Down, NotDue};
 ghost use Rattle.protocol.specs.World.Steps.{arm_plan, crash_plan, recover_plan};
 ghost use Rattle.station.specs.Coming.{ComesBy};
+ghost use Rattle.station.specs.Lending.{net_lent};
 ghost use Rattle.station.specs.ReplyView.{answer_view, reply_view};
 ghost use Rattle.station.specs.StationView.{outlet_views};
 ghost use Rattle.station.specs.Leaving.{armed_then, IsCellUnchanged, RestartsAsArmed};
@@ -23,13 +23,13 @@ ghost use Rattle.station.specs.StationView.{station_view};
 
 use crate::checkpoints::answer_by;
 use crate::event::Reply;
+use crate::lent::Lent;
 use crate::station::Station;
 use gate_cell::SlotCell;
-use net_check::Net;
 use node::{Mode, Refusal, round_later};
 use outlet::Outlet;
 use sector_disk::ArmedFault;
-use std::alloc::{AllocError, Global};
+use std::alloc::AllocError;
 
 // What is answered to a crash of a node that was up, or wasn't.
 fn crash_reply(was_up: bool) -> Reply
@@ -74,17 +74,12 @@ impl<C: SlotCell, O: Outlet> Station<C, O> {
     }
 
     /// Its node, if it is down, comes back.
-    pub(crate) fn recover(
-        &mut self,
-        alloc: Global,
-        net: &Net,
-        round: u64,
-    ) -> Result<Reply, AllocError>
+    pub(crate) fn recover(&mut self, lent: &Lent) -> Result<Reply, AllocError>
         ensures outputs { outlet_views O.taken O.failures self.new.outputs.items
             ≡ outlet_views O.taken O.failures self.old.outputs.items }
         ensures leaves { LeaveEitherSince C.moment C.left_since_whole (cell_in self.old.node.store)
             (cell_in self.new.node.store) (view_of self.old.node).kept
-            (next_record (recover_prospect (network_of net.now.program) self.old.node.number
+            (next_record (recover_prospect (net_lent lent.now) self.old.node.number
             (view_of self.old.node)) (view_of self.old.node).kept) }
         ensures later { C.moment (cell_in self.old.node.store)
             ≤ C.moment (cell_in self.new.node.store) }
@@ -92,17 +87,17 @@ impl<C: SlotCell, O: Outlet> Station<C, O> {
         ensures refused { OnErr result
             (station_view O.taken O.failures self.new ≡ station_view O.taken O.failures self.old) }
         ensures step { IfOk result
-            (λ reply. ComesBy (fits_in (C.slot_capacity (cell_in self.old.node.store))) round
-            (recover_plan (network_of net.now.program) (station_view O.taken O.failures self.old))
+            (λ reply. ComesBy (fits_in (C.slot_capacity (cell_in self.old.node.store)))
+            lent.now.round (recover_plan (net_lent lent.now) (station_view O.taken O.failures self.old))
             (station_view O.taken O.failures self.old) (reply_view reply)
             (station_view O.taken O.failures self.new)) }
         ensures armed { IfOk result
-            (λ reply. reply_view reply ≡ Down → RestartsAsArmed round self.old self.new) }
+            (λ reply. reply_view reply ≡ Down → RestartsAsArmed lent.now.round self.old self.new) }
         ensures unchanged { IfOk result
             (λ reply. reply_view reply ≡ NotDue → IsCellUnchanged self.old self.new) }
         ensures held { OnErr result (LeavesAsBefore self.old.node.store self.new.node.store) }
     {
-        match self.node.recover(alloc, net, round) {
+        match self.node.recover(lent.alloc, lent.net, lent.round) {
             Ok(outcome) => {
                 let state = &self.node.state;
                 let back = back_reply(&state.mode);

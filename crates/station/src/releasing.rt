@@ -1,9 +1,9 @@
 // A station's outputs: one item leaves the system.
 ghost use Rattle.std.specs.Prelude.{◌≡◌, ◌<◌, ◌+◌, ℕ, length, IfSome, IfOk, OnErr, Some, slice_get};
-ghost use Rattle.kahn_net.specs.Syntax.{network_of};
 ghost use Rattle.node.specs.NodeOf.{view_of};
 ghost use Rattle.protocol.specs.Node.Trimming.{HasNext, current_log, trimmed_node};
 ghost use Rattle.stream_eq.specs.Reached.{HistoryReaches};
+ghost use Rattle.station.specs.Lending.{inputs_lent, net_lent};
 ghost use Rattle.station.specs.ReplyView.{reply_view};
 ghost use Rattle.protocol.specs.World.StationView.{OutletView};
 ghost use Rattle.station.specs.StationView.{outlet_view, outlet_views};
@@ -11,10 +11,10 @@ ghost use Rattle.protocol.specs.World.Steps.{has_failed_in, is_waiting, first_wa
 ghost use Rattle.station.specs.StationView.{station_view};
 
 use crate::event::Reply;
+use crate::lent::Lent;
 use crate::output::Output;
 use crate::station::Station;
 use gate_cell::SlotCell;
-use net_check::{Inputs, Net};
 use node::Node;
 use outlet::{Outlet, OutletFault};
 use record::Record;
@@ -62,15 +62,13 @@ pub(crate) fn next_output<O: Outlet>(
 // Lets the next item of an output leave, which some approximation has. The shares for the answer come first, since they
 // may be refused.
 fn release_at<C: SlotCell, O: Outlet>(
-    net: &Arc<Net>,
-    inputs: &Arc<Inputs>,
+    lent: &Lent,
     node: &mut Node<C>,
     output: &mut Output<O>,
-    round: u64,
 ) -> Result<Reply, AllocError>
     requires next { HasNext (current_log output.old.channel (view_of node.old).mode)
         (length (O.taken output.old.outlet)) }
-    requires reached { HistoryReaches (network_of net.now.value.program) inputs.now.value
+    requires reached { HistoryReaches (net_lent lent.now) (inputs_lent lent.now)
         output.old.channel (length (O.taken output.old.outlet) + 1) }
     ensures refused { OnErr result
         ((view_of node.new ≡ view_of node.old)
@@ -80,13 +78,13 @@ fn release_at<C: SlotCell, O: Outlet>(
         (length (O.taken output.new.outlet)) (view_of node.old)) }
     ensures same { (node.new.store ≡ node.old.store) × (node.new.number ≡ node.old.number) }
     ensures handed { IfOk result
-        (λ reply. IsHanded round (current_log output.old.channel (view_of node.old).mode)
+        (λ reply. IsHanded lent.now.round (current_log output.old.channel (view_of node.old).mode)
         (outlet_view O.taken O.failures output.old) (reply_view reply)
         (outlet_view O.taken O.failures output.new)) }
 {
     let channel = output.channel;
-    let net = Arc::try_clone(net)?;
-    let inputs = Arc::try_clone(inputs)?;
+    let net = Arc::try_clone(lent.net)?;
+    let inputs = Arc::try_clone(lent.inputs)?;
     match node.release(channel, &mut output.outlet) {
         Ok(()) => Ok(Reply::Released(Freed {
             net,
@@ -96,7 +94,7 @@ fn release_at<C: SlotCell, O: Outlet>(
         })),
         Err(OutletFault::NoMemory) => Err(AllocError),
         Err(OutletFault::Failed) => {
-            output.failed = Some(round);
+            output.failed = Some(lent.round);
             Ok(Reply::OutletFailed)
         }
     }
@@ -119,33 +117,28 @@ impl<C: SlotCell, O: Outlet> Station<C, O> {
     }
 
     /// Lets one item leave, which its log has, and some approximation, where an outlet waits for it.
-    pub(crate) fn release(
-        &mut self,
-        net: &Arc<Net>,
-        inputs: &Arc<Inputs>,
-        round: u64,
-    ) -> Result<Reply, AllocError>
+    pub(crate) fn release(&mut self, lent: &Lent) -> Result<Reply, AllocError>
         requires next { (place : ℕ) (outlet : OutletView)
-            → next_release round (station_view O.taken O.failures self.old) ≡ Some place
+            → next_release lent.now.round (station_view O.taken O.failures self.old) ≡ Some place
             → slice_get (outlet_views O.taken O.failures self.old.outputs.items) place ≡ Some outlet
             → HasNext (current_log outlet.channel (view_of self.old.node).mode)
             (length outlet.taken) }
         requires reached { (place : ℕ) (outlet : OutletView)
-            → next_release round (station_view O.taken O.failures self.old) ≡ Some place
+            → next_release lent.now.round (station_view O.taken O.failures self.old) ≡ Some place
             → slice_get (outlet_views O.taken O.failures self.old.outputs.items) place ≡ Some outlet
-            → HistoryReaches (network_of net.now.value.program) inputs.now.value outlet.channel
+            → HistoryReaches (net_lent lent.now) (inputs_lent lent.now) outlet.channel
             (length outlet.taken + 1) }
         ensures cell { self.new.node.store ≡ self.old.node.store }
         ensures refused { OnErr result
             (station_view O.taken O.failures self.new ≡ station_view O.taken O.failures self.old) }
         ensures step { IfOk result
-            (λ reply. IsRelease round (next_release round (station_view O.taken O.failures self.old))
+            (λ reply. IsRelease lent.now.round (next_release lent.now.round (station_view O.taken O.failures self.old))
             (station_view O.taken O.failures self.old) (reply_view reply)
             (station_view O.taken O.failures self.new)) }
     {
-        let Some(j) = self.next_release(round) else {
+        let Some(j) = self.next_release(lent.round) else {
             return Ok(Reply::NotDue);
         };
-        release_at(net, inputs, &mut self.node, &mut self.outputs[j], round)
+        release_at(lent, &mut self.node, &mut self.outputs[j])
     }
 }

@@ -1,6 +1,5 @@
 // A station's jobs: they are granted, and what came of them comes back.
 ghost use Rattle.std.specs.Prelude.{◌≡◌, true, if◌then◌else◌, is_some, IfOk, OnErr, Some, option_map};
-ghost use Rattle.kahn_net.specs.Syntax.{network_of};
 ghost use Rattle.ckpt_store.specs.Spelling.{fits_in};
 ghost use Rattle.ckpt_store.specs.StoreView.{cell_in};
 ghost use Rattle.node.specs.NodeOf.{view_of};
@@ -9,6 +8,7 @@ ghost use Rattle.protocol.specs.Node.Choosing.{node_job};
 ghost use Rattle.protocol.specs.Node.Installing.{IsOut, TakesTurn};
 ghost use Rattle.station.specs.DoneView.{done_view};
 ghost use Rattle.protocol.specs.World.Replies.{grant_reply};
+ghost use Rattle.station.specs.Lending.{inputs_lent, net_lent};
 ghost use Rattle.station.specs.ReplyView.{reply_view};
 ghost use Rattle.station.specs.StationView.{outlet_views};
 ghost use Rattle.protocol.specs.World.Turns.{count_grant, turns_of};
@@ -17,13 +17,13 @@ ghost use Rattle.station.specs.Coming.{ComesBy};
 ghost use Rattle.station.specs.StationView.{station_view};
 
 use crate::event::Reply;
+use crate::lent::Lent;
 use crate::station::Station;
 use gate_cell::SlotCell;
-use net_check::{Inputs, Net};
 use outlet::Outlet;
 use proc_step::{Done, Job};
 use protocol::RoundTurns;
-use std::alloc::{AllocError, Global};
+use std::alloc::AllocError;
 use std::sync::Arc;
 
 // What is answered where a job was granted, or none, which is noted.
@@ -42,39 +42,28 @@ fn note_grant(turns: &mut RoundTurns, granted: Option<Arc<Job>>, round: u64) -> 
 
 impl<C: SlotCell, O: Outlet> Station<C, O> {
     /// Grants a job, where a channel has so much room.
-    pub(crate) fn grant(
-        &mut self,
-        alloc: Global,
-        net: &Arc<Net>,
-        inputs: &Inputs,
-        room: usize,
-        round: u64,
-    ) -> Result<Reply, AllocError>
+    pub(crate) fn grant(&mut self, lent: &Lent) -> Result<Reply, AllocError>
         ensures outputs { outlet_views O.taken O.failures self.new.outputs.items
             ≡ outlet_views O.taken O.failures self.old.outputs.items }
         ensures cell { self.new.node.store ≡ self.old.node.store }
         ensures refused { OnErr result
             (station_view O.taken O.failures self.new ≡ station_view O.taken O.failures self.old) }
         ensures step { IfOk result
-            (λ reply. ComesBy (fits_in (C.slot_capacity (cell_in self.old.node.store))) round
-            (grant_plan (node_job (network_of net.now.value.program) inputs.now room
-            (view_of self.old.node)) round (station_view O.taken O.failures self.old))
+            (λ reply. ComesBy (fits_in (C.slot_capacity (cell_in self.old.node.store)))
+            lent.now.round (grant_plan (node_job (net_lent lent.now) (inputs_lent lent.now) lent.now.room
+            (view_of self.old.node)) lent.now.round (station_view O.taken O.failures self.old))
             (station_view O.taken O.failures self.old) (reply_view reply)
             (station_view O.taken O.failures self.new)) }
     {
-        let granted = self.node.grant(alloc, net, inputs, room)?;
-        Ok(note_grant(&mut self.turns, granted, round))
+        let node = &mut self.node;
+        let granted = node.grant(lent.alloc, lent.net, lent.inputs, lent.room)?;
+        Ok(note_grant(&mut self.turns, granted, lent.round))
     }
 
     /// Takes in what came of a job, which fits where the job is out.
-    pub(crate) fn install(
-        &mut self,
-        alloc: Global,
-        net: &Net,
-        done: &Done,
-    ) -> Result<Reply, AllocError>
+    pub(crate) fn install(&mut self, lent: &Lent, done: &Done) -> Result<Reply, AllocError>
         requires { IsOut (job_view done.now.job.value) (view_of self.old.node).mode
-            → TakesTurn (network_of net.now.program).channels done.now.job.value.process
+            → TakesTurn (net_lent lent.now).channels done.now.job.value.process
             done.now.taken.items done.now.sent.items (view_of self.old.node).mode }
         ensures outputs { outlet_views O.taken O.failures self.new.outputs.items
             ≡ outlet_views O.taken O.failures self.old.outputs.items }
@@ -82,11 +71,14 @@ impl<C: SlotCell, O: Outlet> Station<C, O> {
         ensures refused { OnErr result
             (station_view O.taken O.failures self.new ≡ station_view O.taken O.failures self.old) }
         ensures step { IfOk result
-            (λ reply. IsInstalled (network_of net.now.program).channels (done_view done.now)
+            (λ reply. IsInstalled (net_lent lent.now).channels (done_view done.now)
             (station_view O.taken O.failures self.old) (reply_view reply)
             (station_view O.taken O.failures self.new)) }
     {
-        match self.node.install(alloc, &net.program.channels, done) {
+        match self
+            .node
+            .install(lent.alloc, &lent.net.program.channels, done)
+        {
             Ok(true) => Ok(Reply::Installed),
             Ok(false) => Ok(Reply::Discarded),
             Err(_) => Err(AllocError),

@@ -15,10 +15,11 @@ ghost use Rattle.wire.specs.Traffic.{traffic_of};
 ghost use Rattle.world.specs.Acting.{HasActed};
 ghost use Rattle.world.specs.RecoveryLine.{StaysInLine, KeepsLine, HasOneLine};
 ghost use Rattle.protocol.specs.World.Replies.{IsDropped, IsGrantedAt, IsTooLarge, LeavesCells, TakesMemory};
+ghost use Rattle.station.specs.Lending.{inputs_lent, net_lent, setting_by};
 ghost use Rattle.station.specs.ReplyView.{answer_view, reply_view};
 ghost use Rattle.protocol.specs.declared.reply.Reply.TheVariants.{Down};
 ghost use Rattle.protocol.specs.World.Roomy.{HasFullRoom};
-ghost use Rattle.protocol.specs.World.Steps.{are_done_with, round_after, setting_in, IsStep};
+ghost use Rattle.protocol.specs.World.Steps.{are_done_with, round_after, IsStep};
 ghost use Rattle.world.specs.WorldView.{capacities, HoldsAsBeforeAt, IsGrown, LeavesDeviceAt, LeavesWhatItFoundAt, RestartsAsArmedAt, rooms, world_view};
 ghost use Rattle.station.specs.Leaving.{IsCellUnchanged};
 ghost use Rattle.station.specs.StationView.{station_view};
@@ -27,7 +28,7 @@ use gate_cell::SlotCell;
 use net_check::{Inputs, Net};
 use node::next_after;
 use outlet::Outlet;
-use station::{Event, Refused, Reply, Station};
+use station::{Event, Lent, Refused, Reply, Station};
 use std::alloc::{AllocError, Global};
 use std::sync::Arc;
 use wire::Wire;
@@ -54,38 +55,32 @@ pub struct World<C: SlotCell, O: Outlet> {
 
 // An event at the station of this number, where there is one.
 fn act_at<C: SlotCell, O: Outlet>(
-    alloc: Global,
-    net: &Arc<Net>,
-    inputs: &Arc<Inputs>,
+    lent: &Lent,
     stations: &mut Vec<Station<C, O>>,
     wire: &mut Wire,
     number: usize,
-    round: u64,
-    room: usize,
     event: &Event,
 ) -> Result<Reply, AllocError>
-    requires fits { Fits (network_of net.now.value.program) inputs.now.value }
-    requires sound { AreSound (network_of net.now.value.program) inputs.now.value
+    requires fits { Fits (net_lent lent.now) (inputs_lent lent.now) }
+    requires sound { AreSound (net_lent lent.now) (inputs_lent lent.now)
         (map (station_view O.taken O.failures) stations.old.items) }
-    requires joined { AreJoined (network_of net.now.value.program)
+    requires joined { AreJoined (net_lent lent.now)
         (map (station_view O.taken O.failures) stations.old.items) }
-    requires flying { TrafficIsSound (network_of net.now.value.program) inputs.now.value
+    requires flying { TrafficIsSound (net_lent lent.now) (inputs_lent lent.now)
         (traffic_of wire.old) }
     requires numbered { IsNumbered (map (station_view O.taken O.failures) stations.old.items) }
-    requires count { length stations.old.items ≡ node_count (network_of net.now.value.program) }
+    requires count { length stations.old.items ≡ node_count (net_lent lent.now) }
     requires at { event_node (event_view event.now) ≡ number }
     ensures grown { AllZip (IsGrown O.taken) stations.old.items stations.new.items }
     ensures line { AllZip (StaysInLine O.taken O.failures
-        (setting_in (network_of net.now.value.program) inputs.now.value (traffic_of wire.old)
-        round room) (event_view event.now))
+        (setting_by lent.now (traffic_of wire.old)) (event_view event.now))
         stations.old.items stations.new.items }
     ensures refused { OnErr result
         ((map (station_view O.taken O.failures) stations.new.items
         ≡ map (station_view O.taken O.failures) stations.old.items)
         × TakesMemory (event_view event.now)) }
     ensures come { IfOk result
-        (λ reply. HasActed (setting_in (network_of net.now.value.program) inputs.now.value
-        (traffic_of wire.old) round room) number
+        (λ reply. HasActed (setting_by lent.now (traffic_of wire.old)) number
         (rooms stations.old.items) (event_view event.now)
         (map (station_view O.taken O.failures) stations.old.items) (reply_view reply)
         (map (station_view O.taken O.failures) stations.new.items) (traffic_of wire.new)) }
@@ -98,7 +93,7 @@ fn act_at<C: SlotCell, O: Outlet>(
     ensures others { AreSameElsewhere (event_node (event_view event.now)) stations.old.items
         stations.new.items }
     ensures armed { IfOk result (λ reply. reply_view reply ≡ Down
-        → RestartsAsArmedAt round (event_node (event_view event.now))
+        → RestartsAsArmedAt lent.now.round (event_node (event_view event.now))
         stations.old.items stations.new.items) }
     ensures held { OnErr result (LeavesWhatItFoundAt (event_view event.now)
         (event_node (event_view event.now)) stations.old.items stations.new.items) }
@@ -106,7 +101,7 @@ fn act_at<C: SlotCell, O: Outlet>(
     if number >= stations.len() {
         return Ok(Reply::NotDue);
     }
-    stations[number].act(alloc, net, inputs, wire, round, room, event)
+    stations[number].act(lent, wire, event)
 }
 
 fn are_done_with<C: SlotCell, O: Outlet>(stations: &[Station<C, O>], round: u64) -> bool
@@ -214,17 +209,14 @@ impl<C: SlotCell, O: Outlet> World<C, O> {
         ensures handed_back { IfErr result (λ refused. refused.event ≡ event) }
     {
         let number = usize::from(event.node());
-        match act_at(
+        let lent = Lent {
             alloc,
-            &self.net,
-            &self.inputs,
-            &mut self.stations,
-            &mut self.wire,
-            number,
-            self.round,
-            self.room,
-            &event,
-        ) {
+            net: &self.net,
+            inputs: &self.inputs,
+            round: self.round,
+            room: self.room,
+        };
+        match act_at(&lent, &mut self.stations, &mut self.wire, number, &event) {
             Ok(reply) => {
                 self.round = round_after(&reply, self.round, &self.stations);
                 Ok(reply)

@@ -3,8 +3,8 @@ use Rattle.std.specs.Prelude.{slice_set}
 use Rattle.std.proofs.lemmas.List.{length-map}
 use Rattle.protocol_laws.specs.Node.PlaceLaws.{nodes_few}
 use Rattle.protocol.specs.World.EventView.{event_node}
-use Rattle.protocol.specs.World.Steps.{setting_in}
 use Rattle.wire.specs.Traffic.{traffic_of}
+use Rattle.station.specs.Lending.{setting_by}
 use Rattle.station.specs.ReplyView.{answer_view}
 use Rattle.std.proofs.lemmas.Option.{slice_get_read}
 use Rattle.kahn_net.specs.Syntax.{network_of}
@@ -24,7 +24,7 @@ use Rattle.world.proofs.world.act_at.Goals as goal
 
 pub act-requires : goal.act-requires
 act-requires g c =
-    let net = c.args.net.now.value in
+    let net = c.args.lent.now.net.now.value in
     let x = c.index_mut.result.now in
     let view = station_view {cell = g.C.StableCell} {slots = g.C.SlotCell} g.O.Outlet.taken g.O.Outlet.failures in
     let few = nodes_few (network_of net.program) net.valid in
@@ -33,9 +33,9 @@ act-requires g c =
     let within : c.args.number < length c.args.stations.now.items = search rules in
     record {
       sure = record { valid = net.valid; fits = c.requires.fits; traffic = c.requires.flying };
-      sound = sound_at view (network_of net.program) c.args.inputs.now.value (traffic_of c.args.wire.now)
-          c.args.stations.now.items c.args.number x c.args.round
-          c.args.room (length-map c.args.stations.now.items view ∙ c.requires.count)
+      sound = sound_at view (network_of net.program) c.args.lent.now.inputs.now.value (traffic_of c.args.wire.now)
+          c.args.stations.now.items c.args.number x c.args.lent.now.round
+          c.args.lent.now.room (length-map c.args.stations.now.items view ∙ c.requires.count)
           c.requires.numbered c.requires.sound c.requires.joined within c.index_mut.ensures.value;
       node = omega (arith, few, count, at, within);
     }
@@ -44,25 +44,23 @@ pub returns-then-number-len-clause-grown : goal.returns-then-number-len-clause-g
 returns-then-number-len-clause-grown g c =
     all_still {cell = g.C.StableCell} {slots = g.C.SlotCell} g.O.Outlet.taken g.O.Outlet.failures
     g.met.C.SlotCell.only_now_whole
-    (network_of c.args.net.now.value.program) c.args.inputs.now.value c.args.stations.now.items c.requires.sound
+    (network_of c.args.lent.now.net.now.value.program) c.args.lent.now.inputs.now.value c.args.stations.now.items c.requires.sound
 
 pub returns-then-number-len-clause-line : goal.returns-then-number-len-clause-line
 returns-then-number-len-clause-line g c =
-    let net = network_of c.args.net.now.value.program in
+    let net = network_of c.args.lent.now.net.now.value.program in
     all_still_in_line {cell = g.C.StableCell} {slots = g.C.SlotCell} g.O.Outlet.taken g.O.Outlet.failures
     g.met.C.SlotCell.only_now_whole
-    net c.args.inputs.now.value
-    (setting_in net c.args.inputs.now.value (traffic_of c.args.wire.now)
-    c.args.round c.args.room) (event_view c.args.event.now)
+    net c.args.lent.now.inputs.now.value
+    (setting_by c.args.lent.now (traffic_of c.args.wire.now)) (event_view c.args.event.now)
     c.args.stations.now.items
 
 pub returns-then-number-len-clause-come : goal.returns-then-number-len-clause-come
 returns-then-number-len-clause-come g c =
-    let net = network_of c.args.net.now.value.program in
+    let net = network_of c.args.lent.now.net.now.value.program in
     let past : length c.args.stations.now.items ≤ c.args.number = search rules in
     none_acted
-    (setting_in net c.args.inputs.now.value (traffic_of c.args.wire.now)
-    c.args.round c.args.room)
+    (setting_by c.args.lent.now (traffic_of c.args.wire.now))
     (station_view {cell = g.C.StableCell} {slots = g.C.SlotCell} g.O.Outlet.taken g.O.Outlet.failures)
     (λ (station : Station g.row.C.Denot g.row.O.Denot g.C.SlotCell g.C.StableCell). fits_in
     (g.C.SlotCell.slot_capacity (cell_in station.node.store))) (event_view c.args.event.now)
@@ -73,40 +71,38 @@ returns-then-number-len-clause-unchanged g c = λ h. pairs_refl _ _ (λ i statio
 
 pub returns-clause-grown : goal.returns-clause-grown
 returns-clause-grown g c =
-    let net = c.args.net.now.value in
+    let net = c.args.lent.now.net.now.value in
     let x = c.index_mut.result.now in
     let view = station_view {cell = g.C.StableCell} {slots = g.C.SlotCell} g.O.Outlet.taken g.O.Outlet.failures in
     all_grown {cell = g.C.StableCell} {slots = g.C.SlotCell} g.O.Outlet.taken g.O.Outlet.failures
     g.met.C.SlotCell.only_now_whole
-    (setting_in (network_of net.program) c.args.inputs.now.value (traffic_of c.args.wire.now)
-    c.args.round c.args.room)
+    (setting_by c.args.lent.now (traffic_of c.args.wire.now))
     (record { valid = net.valid; fits = c.requires.fits; traffic = c.requires.flying })
     (fits_in (g.C.SlotCell.slot_capacity (cell_in x.node.store))) (event_view c.args.event.now)
     c.args.stations.now.items c.args.number x _ _ c.act.result
-    (sound_at view (network_of net.program) c.args.inputs.now.value (traffic_of c.args.wire.now)
+    (sound_at view (network_of net.program) c.args.lent.now.inputs.now.value (traffic_of c.args.wire.now)
     c.args.stations.now.items
-    c.args.number x c.args.round c.args.room (length-map c.args.stations.now.items view ∙ c.requires.count)
+    c.args.number x c.args.lent.now.round c.args.lent.now.room (length-map c.args.stations.now.items view ∙ c.requires.count)
     c.requires.numbered c.requires.sound c.requires.joined (search rules) c.index_mut.ensures.value)
     c.requires.sound (search rules) c.index_mut.ensures.value c.act.ensures.moved c.act.ensures.come
     (on_err_map c.act.result c.act.ensures.refused (λ same. same.0))
 
 pub returns-clause-line : goal.returns-clause-line
 returns-clause-line g c =
-    let net = c.args.net.now.value in
+    let net = c.args.lent.now.net.now.value in
     let x = c.index_mut.result.now in
     let view = station_view {cell = g.C.StableCell} {slots = g.C.SlotCell} g.O.Outlet.taken g.O.Outlet.failures in
     let there =
     seen_at view c.args.stations.now.items c.args.number x (search rules) c.index_mut.ensures.value in
     all_in_line {cell = g.C.StableCell} {slots = g.C.SlotCell} g.O.Outlet.taken g.O.Outlet.failures
     g.met.C.SlotCell.only_now_whole
-    (setting_in (network_of net.program) c.args.inputs.now.value (traffic_of c.args.wire.now)
-    c.args.round c.args.room)
+    (setting_by c.args.lent.now (traffic_of c.args.wire.now))
     (record { valid = net.valid; fits = c.requires.fits; traffic = c.requires.flying })
     (fits_in (g.C.SlotCell.slot_capacity (cell_in x.node.store))) (event_view c.args.event.now)
     c.args.stations.now.items c.args.number x _ _ c.act.result
-    (sound_at view (network_of net.program) c.args.inputs.now.value (traffic_of c.args.wire.now)
+    (sound_at view (network_of net.program) c.args.lent.now.inputs.now.value (traffic_of c.args.wire.now)
     c.args.stations.now.items
-    c.args.number x c.args.round c.args.room (length-map c.args.stations.now.items view ∙ c.requires.count)
+    c.args.number x c.args.lent.now.round c.args.lent.now.room (length-map c.args.stations.now.items view ∙ c.requires.count)
     c.requires.numbered c.requires.sound c.requires.joined (search rules) c.index_mut.ensures.value)
     c.requires.sound (search rules) c.index_mut.ensures.value c.act.ensures.moved c.act.ensures.come
     (on_err_map c.act.result c.act.ensures.refused (λ same. same.0))
@@ -119,12 +115,12 @@ returns-clause-refused g c =
 
 pub returns-clause-come : goal.returns-clause-come
 returns-clause-come g c =
-    let net = network_of c.args.net.now.value.program in
+    let net = network_of c.args.lent.now.net.now.value.program in
     let view = station_view {cell = g.C.StableCell} {slots = g.C.SlotCell} g.O.Outlet.taken g.O.Outlet.failures in
     let room =
     λ (station : Station g.row.C.Denot g.row.O.Denot g.C.SlotCell g.C.StableCell). fits_in
     (g.C.SlotCell.slot_capacity (cell_in station.node.store)) in
-    acted (setting_in net c.args.inputs.now.value (traffic_of c.args.wire.now) c.args.round c.args.room)
+    acted (setting_by c.args.lent.now (traffic_of c.args.wire.now))
     view room (event_view c.args.event.now) c.args.stations.now.items c.args.number c.index_mut.result.now
     _ _ c.act.result (search rules) c.index_mut.ensures.value c.act.ensures.come
 
@@ -149,7 +145,7 @@ returns-clause-others g c =
 
 pub returns-clause-armed : goal.returns-clause-armed
 returns-clause-armed g c =
-    restarts_at c.args.round c.args.stations.now.items c.args.number (event_node (event_view c.args.event.now))
+    restarts_at c.args.lent.now.round c.args.stations.now.items c.args.number (event_node (event_view c.args.event.now))
     c.index_mut.result.now c.act.new.self c.act.result c.requires.at (search rules) c.index_mut.ensures.value
     c.act.ensures.armed
 

@@ -1,6 +1,6 @@
-use Rattle.std.proofs.Common.{◌≡◌, ◌<◌, Err, Result, ℕ, ℤ, List, Ok, refl, sym, subst, ap, ◌∙◌}
+use Rattle.std.proofs.Common.{◌≡◌, ◌<◌, Err, Result, ℕ, Ok, refl, sym, subst, ap, ◌∙◌}
 use Rattle.std.proofs.Common.{arith}
-use Rattle.std.specs.Prelude.{All, IfOk, slice_get}
+use Rattle.std.specs.Prelude.{IfOk, slice_get}
 use Rattle.std.specs.declared.alloc.AllocError.{AllocError}
 use Rattle.wire.specs.declared.queue.TheConstants.{NODES}
 use Rattle.protocol.specs.declared.reply.Reply.TheVariants.{Down}
@@ -12,27 +12,19 @@ use Rattle.protocol.specs.declared.event.PlainEvent.{PlainEvent}
 use Rattle.protocol.specs.declared.event.PlainEvent.TheVariants as plain_is
 use Rattle.station.specs.ReplyView.{Reply}
 use Rattle.kahn_net.specs.Syntax.{network_of}
-use Rattle.kahn_net.specs.Nodes.{node_count}
-use Rattle.datagram.specs.PacketText.{IsPacket}
-use Rattle.net_check.specs.declared.net.Net.{Net}
 use Rattle.ckpt_store.specs.Spelling.{fits_in}
 use Rattle.ckpt_store.specs.StoreView.{cell_in}
 use Rattle.wire.specs.Traffic.{flights_to, traffic_of}
 use Rattle.protocol.specs.Node.ArmedRestarts.{round_later, with_armed}
-use Rattle.protocol.specs.Node.Beginning.{start_prospect}
 use Rattle.protocol.specs.Node.Choosing.{node_job}
-use Rattle.protocol.specs.Node.Installing.{TakesTurn}
-use Rattle.protocol.specs.Node.Plans.{next_record, packets_by}
-use Rattle.protocol.specs.Node.Sending.{IsWritable}
-use Rattle.protocol.specs.Node.Telling.{turn_packets}
 use Rattle.protocol_laws.specs.Node.PlaceLaws.{nodes_few}
 use Rattle.protocol.specs.World.EventView.{ByNode, EventView, event_node, plain_view}
 use Rattle.protocol.specs.declared.event.Deed.TheVariants as view
 use Rattle.protocol.specs.World.Pairs.{HasMoved}
 use Rattle.protocol.specs.World.RecoveryLine.{next_kept}
-use Rattle.protocol.specs.World.Steps.{crash_plan, decide_plan, deliver_plan, due_bytes, grant_plan, idle_plan}
+use Rattle.protocol.specs.World.Steps.{crash_plan, decide_plan, deliver_plan, due_bytes, idle_plan}
 use Rattle.protocol.specs.World.Steps.{recover_plan}
-use Rattle.protocol.specs.World.Steps.{IsInstalled, arm_plan, send_plan, setting_in, start_plan}
+use Rattle.protocol.specs.World.Steps.{arm_plan, send_plan, start_plan}
 use Rattle.protocol_laws.specs.World.ActLaws.{takes_turn, like_now}
 use Rattle.protocol_laws.specs.World.DeedLaws.{becoming_sends, crash_sends, grant_sends, recover_sends}
 use Rattle.protocol_laws.specs.World.HandedLaws.{next_reached, next_there}
@@ -40,6 +32,7 @@ use Rattle.protocol_laws.specs.World.MoveLaws.{decision_others, decision_room}
 use Rattle.protocol_laws.specs.World.TellLaws.{decide_allowed, start_allowed, station_writable}
 use Rattle.station.specs.DoneView.{done_view}
 use Rattle.station.specs.EventView.{event_view}
+use Rattle.station.specs.Lending.{setting_by}
 use Rattle.station.specs.StationView.{outlet_views}
 use Rattle.station.specs.StationView.{station_view}
 use Rattle.station.proofs.Arriving.{arrives_allowed, arrives_heard}
@@ -57,33 +50,28 @@ deed_seen {k = k} is by what =
 
 pub install-requires : goal.install-requires
 install-requires g c = λ out.
-    let net = c.args.net.now.value in
+    let net = c.args.lent.now.net.now.value in
     let was = station_view g.O.Outlet.taken g.O.Outlet.failures c.args.self.now in
     let done = done_view c.in-Install.done in
-    subst (λ (n : Net). TakesTurn (network_of n.program).channels done.job.process done.taken done.sent was.node.mode)
-    (sym c.deref.ensures)
-    (takes_turn (network_of net.program) c.args.inputs.now.value net.valid c.requires.sure.fits was c.requires.sound.inv
-    done c.in-Install.done.turn out)
+    takes_turn (network_of net.program) c.args.lent.now.inputs.now.value net.valid c.requires.sure.fits was c.requires.sound.inv
+    done c.in-Install.done.turn out
 
 pub start-requires : goal.start-requires
 start-requires g c =
-    let net = c.args.net.now.value in
+    let net = c.args.lent.now.net.now.value in
     let was = station_view g.O.Outlet.taken g.O.Outlet.failures c.args.self.now in
     record {
-      like = like_now (network_of net.program) c.args.inputs.now.value net.valid c.requires.sure.fits was
+      like = like_now (network_of net.program) c.args.lent.now.inputs.now.value net.valid c.requires.sure.fits was
           c.requires.sound.inv;
-      allowed = λ came. subst
-          (λ (n : Net). All IsPacket (packets_by (start_prospect (network_of n.program) was.number was.node) came))
-          (sym c.deref-in-Start.ensures)
-          (start_allowed (network_of net.program) c.args.inputs.now.value net.valid was c.requires.sound.inv
-          c.requires.sound.named c.requires.sound.below c.requires.sound.joined came);
+      allowed = start_allowed (network_of net.program) c.args.lent.now.inputs.now.value net.valid was c.requires.sound.inv
+          c.requires.sound.named c.requires.sound.below c.requires.sound.joined;
     }
 
 pub decide-requires : goal.decide-requires
 decide-requires g c =
-    let net = network_of c.args.net.now.value.program in
+    let net = network_of c.args.lent.now.net.now.value.program in
     let was = station_view g.O.Outlet.taken g.O.Outlet.failures c.args.self.now in
-    let few = nodes_few net c.args.net.now.value.valid in
+    let few = nodes_few net c.args.lent.now.net.now.value.valid in
     let listed = c.requires.sound.joined.kept.listed in
     record {
       decided = record {
@@ -92,48 +80,44 @@ decide-requires g c =
         few = omega (arith, few, listed);
         bounded = c.requires.sound.inv.kept.bounded;
       };
-      allowed = decide_allowed net c.args.inputs.now.value c.args.net.now.value.valid was c.requires.sound.inv
+      allowed = decide_allowed net c.args.lent.now.inputs.now.value c.args.lent.now.net.now.value.valid was c.requires.sound.inv
           c.requires.sound.named c.requires.sound.below c.requires.sound.joined;
     }
 
 pub deliver-requires : goal.deliver-requires
 deliver-requires g c =
-    let net = c.args.net.now.value in
+    let net = c.args.lent.now.net.now.value in
     let was = station_view g.O.Outlet.taken g.O.Outlet.failures c.args.self.now in
-    let setting =
-    setting_in (network_of net.program) c.args.inputs.now.value (traffic_of c.args.wire.now) c.args.round c.args.room in
-    let is = ap (λ (n : Net). network_of n.program) (sym c.deref-in-Deliver.ensures) in
+    let setting = setting_by c.args.lent.now (traffic_of c.args.wire.now) in
     record {
       to = subst (λ (e : EventView). event_node e < NODES) (deed_seen c.in-Plain.is c.in-ByNode.is c.in-Deliver.is) c.requires.node;
-      like = like_now (network_of net.program) c.args.inputs.now.value net.valid c.requires.sure.fits was
+      like = like_now (network_of net.program) c.args.lent.now.inputs.now.value net.valid c.requires.sure.fits was
           c.requires.sound.inv;
-      listed = c.requires.sound.joined.kept.listed ∙ ap node_count is;
+      listed = c.requires.sound.joined.kept.listed;
       bounded = c.requires.sound.inv.kept.bounded;
       right = arrives_heard setting c.requires.sure was c.requires.sound c.in-ByNode.node c.in-Deliver.place
-          (network_of c.deref-in-Deliver.result.now.program) is;
+          setting.net refl;
       allowed = arrives_allowed setting c.requires.sure was c.requires.sound c.in-ByNode.node c.in-Deliver.place
-          (network_of c.deref-in-Deliver.result.now.program) is;
+          setting.net refl;
     }
 
 pub release-requires : goal.release-requires
 release-requires g c =
-    let net = network_of c.args.net.now.value.program in
+    let net = network_of c.args.lent.now.net.now.value.program in
     let was = station_view g.O.Outlet.taken g.O.Outlet.failures c.args.self.now in
     record {
-      next = λ place outlet next there. next_there net c.args.inputs.now.value was c.args.round place outlet
+      next = λ place outlet next there. next_there net c.args.lent.now.inputs.now.value was c.args.lent.now.round place outlet
           c.requires.sound.inv next there;
-      reached = λ place outlet next there. next_reached net c.args.inputs.now.value was c.args.round place outlet
+      reached = λ place outlet next there. next_reached net c.args.lent.now.inputs.now.value was c.args.lent.now.round place outlet
           c.requires.sound.inv next there;
     }
 
 pub send-requires : goal.send-requires
 send-requires g c =
-    let net = c.args.net.now.value in
+    let net = c.args.lent.now.net.now.value in
     let was = station_view g.O.Outlet.taken g.O.Outlet.failures c.args.self.now in
-    subst (λ (n : Net). All IsWritable (turn_packets (network_of n.program) was.number was.node.kept was.node.mode))
-    (sym c.deref-in-Send.ensures)
-    (station_writable (network_of net.program) c.args.inputs.now.value net.valid was c.requires.sound.inv
-    c.requires.sound.named c.requires.sound.below c.requires.sound.joined)
+    station_writable (network_of net.program) c.args.lent.now.inputs.now.value net.valid was c.requires.sound.inv
+    c.requires.sound.named c.requires.sound.below c.requires.sound.joined
 
 -- ---- how it came out
 
@@ -142,16 +126,13 @@ returns-in-Deliver-clause-come g c =
     let was =
     station_view {cell = g.C.StableCell} {slots = g.C.SlotCell} g.O.Outlet.taken g.O.Outlet.failures
     c.args.self.now in
-    let setting =
-    setting_in (network_of c.args.net.now.value.program) c.args.inputs.now.value (traffic_of c.args.wire.now)
-    c.args.round c.args.room in
+    let setting = setting_by c.args.lent.now (traffic_of c.args.wire.now) in
     let fits = fits_in (g.C.SlotCell.slot_capacity (cell_in c.args.self.now.node.store)) in
-    let found = due_bytes c.args.round
+    let found = due_bytes c.args.lent.now.round
     (slice_get (flights_to (traffic_of c.args.wire.now) c.in-ByNode.node) c.in-Deliver.place) in
     deed_came setting fits (event_view c.args.event.now) was _ (traffic_of c.deliver.new.wire) c.deliver.result
     c.in-ByNode.node (view.Deliver c.in-Deliver.place)
-    (deliver_plan (network_of c.deref-in-Deliver.result.now.program) c.in-Deliver.place found was) (deed_seen c.in-Plain.is c.in-ByNode.is c.in-Deliver.is)
-    (ap (λ (n : Net). deliver_plan (network_of n.program) c.in-Deliver.place found was) c.deref-in-Deliver.ensures)
+    (deliver_plan setting.net c.in-Deliver.place found was) (deed_seen c.in-Plain.is c.in-ByNode.is c.in-Deliver.is) refl
     c.deliver.ensures.come
 
 pub returns-in-Grant-clause-come : goal.returns-in-Grant-clause-come
@@ -159,16 +140,12 @@ returns-in-Grant-clause-come g c =
     let was =
     station_view {cell = g.C.StableCell} {slots = g.C.SlotCell} g.O.Outlet.taken g.O.Outlet.failures
     c.args.self.now in
-    let setting =
-    setting_in (network_of c.args.net.now.value.program) c.args.inputs.now.value (traffic_of c.args.wire.now)
-    c.args.round c.args.room in
+    let setting = setting_by c.args.lent.now (traffic_of c.args.wire.now) in
     let fits = fits_in (g.C.SlotCell.slot_capacity (cell_in c.args.self.now.node.store)) in
     quiet_came setting fits (event_view c.args.event.now) was _ (traffic_of c.args.wire.now) c.grant.result
     _ view.Grant _
     (deed_seen c.in-Plain.is c.in-ByNode.is c.in-Grant.is)
-    (ap (λ (i : List (List ℤ)). grant_plan (node_job setting.net i setting.room was.node) c.args.round was)
-    c.deref-in-Grant.ensures)
-    refl refl (λ came. grant_sends (node_job setting.net setting.inputs setting.room was.node) was.node came)
+    refl refl refl (λ came. grant_sends (node_job setting.net setting.inputs setting.room was.node) was.node came)
     c.grant.ensures.step
 
 pub returns-in-Install-clause-come : goal.returns-in-Install-clause-come
@@ -176,30 +153,21 @@ returns-in-Install-clause-come g c =
     let was =
     station_view {cell = g.C.StableCell} {slots = g.C.SlotCell} g.O.Outlet.taken g.O.Outlet.failures
     c.args.self.now in
-    let setting =
-    setting_in (network_of c.args.net.now.value.program) c.args.inputs.now.value (traffic_of c.args.wire.now)
-    c.args.round c.args.room in
+    let setting = setting_by c.args.lent.now (traffic_of c.args.wire.now) in
     let fits = fits_in (g.C.SlotCell.slot_capacity (cell_in c.args.self.now.node.store)) in
     installed_came setting fits (event_view c.args.event.now) was _ (traffic_of c.args.wire.now) c.install.result
     (done_view c.in-Install.done) (ap event_view c.in-Install.is) refl
-    (subst (λ (n : Net). IfOk c.install.result
-    (λ (r : Reply). IsInstalled n.program.channels.items (done_view c.in-Install.done)
-    was (reply_view r) (station_view g.O.Outlet.taken g.O.Outlet.failures c.install.new.self)))
-    c.deref.ensures
-    c.install.ensures.step)
+    c.install.ensures.step
 
 pub returns-in-Send-clause-come : goal.returns-in-Send-clause-come
 returns-in-Send-clause-come g c =
     let was =
     station_view {cell = g.C.StableCell} {slots = g.C.SlotCell} g.O.Outlet.taken g.O.Outlet.failures
     c.args.self.now in
-    let setting =
-    setting_in (network_of c.args.net.now.value.program) c.args.inputs.now.value (traffic_of c.args.wire.now)
-    c.args.round c.args.room in
+    let setting = setting_by c.args.lent.now (traffic_of c.args.wire.now) in
     let fits = fits_in (g.C.SlotCell.slot_capacity (cell_in c.args.self.now.node.store)) in
     deed_came setting fits (event_view c.args.event.now) was _ (traffic_of c.send.new.wire) c.send.result _ view.Send
-    (send_plan (network_of c.deref-in-Send.result.now.program) c.args.round was) (deed_seen c.in-Plain.is c.in-ByNode.is c.in-Send.is)
-    (ap (λ (n : Net). send_plan (network_of n.program) c.args.round was) c.deref-in-Send.ensures)
+    (send_plan setting.net c.args.lent.now.round was) (deed_seen c.in-Plain.is c.in-ByNode.is c.in-Send.is) refl
     (c.send.ensures.come _)
 
 pub returns-in-Start-clause-come : goal.returns-in-Start-clause-come
@@ -207,13 +175,10 @@ returns-in-Start-clause-come g c =
     let was =
     station_view {cell = g.C.StableCell} {slots = g.C.SlotCell} g.O.Outlet.taken g.O.Outlet.failures
     c.args.self.now in
-    let setting =
-    setting_in (network_of c.args.net.now.value.program) c.args.inputs.now.value (traffic_of c.args.wire.now)
-    c.args.round c.args.room in
+    let setting = setting_by c.args.lent.now (traffic_of c.args.wire.now) in
     let fits = fits_in (g.C.SlotCell.slot_capacity (cell_in c.args.self.now.node.store)) in
     deed_came setting fits (event_view c.args.event.now) was _ (traffic_of c.start.new.wire) c.start.result _ view.Start
-    (start_plan (network_of c.deref-in-Start.result.now.program) c.args.round was) (deed_seen c.in-Plain.is c.in-ByNode.is c.in-Start.is)
-    (ap (λ (n : Net). start_plan (network_of n.program) c.args.round was) c.deref-in-Start.ensures)
+    (start_plan setting.net c.args.lent.now.round was) (deed_seen c.in-Plain.is c.in-ByNode.is c.in-Start.is) refl
     (c.start.ensures.come _)
 
 pub returns-in-Decide-clause-come : goal.returns-in-Decide-clause-come
@@ -221,9 +186,7 @@ returns-in-Decide-clause-come g c =
     let was =
     station_view {cell = g.C.StableCell} {slots = g.C.SlotCell} g.O.Outlet.taken g.O.Outlet.failures
     c.args.self.now in
-    let setting =
-    setting_in (network_of c.args.net.now.value.program) c.args.inputs.now.value (traffic_of c.args.wire.now)
-    c.args.round c.args.room in
+    let setting = setting_by c.args.lent.now (traffic_of c.args.wire.now) in
     let fits = fits_in (g.C.SlotCell.slot_capacity (cell_in c.args.self.now.node.store)) in
     deed_came setting fits (event_view c.args.event.now) was _ (traffic_of c.decide.new.wire) c.decide.result
     _ view.Decide
@@ -234,9 +197,7 @@ returns-in-Release-clause-come g c =
     let was =
     station_view {cell = g.C.StableCell} {slots = g.C.SlotCell} g.O.Outlet.taken g.O.Outlet.failures
     c.args.self.now in
-    let setting =
-    setting_in (network_of c.args.net.now.value.program) c.args.inputs.now.value (traffic_of c.args.wire.now)
-    c.args.round c.args.room in
+    let setting = setting_by c.args.lent.now (traffic_of c.args.wire.now) in
     let fits = fits_in (g.C.SlotCell.slot_capacity (cell_in c.args.self.now.node.store)) in
     released_came setting fits (event_view c.args.event.now) was _ (traffic_of c.args.wire.now) c.release.result _
     (ap event_view c.in-Plain.is ∙ ap plain_view c.in-Release.is) refl c.release.ensures.step
@@ -246,11 +207,9 @@ returns-in-Crash-clause-come g c =
     let was =
     station_view {cell = g.C.StableCell} {slots = g.C.SlotCell} g.O.Outlet.taken g.O.Outlet.failures
     c.args.self.now in
-    let setting =
-    setting_in (network_of c.args.net.now.value.program) c.args.inputs.now.value (traffic_of c.args.wire.now)
-    c.args.round c.args.room in
+    let setting = setting_by c.args.lent.now (traffic_of c.args.wire.now) in
     let fits = fits_in (g.C.SlotCell.slot_capacity (cell_in c.args.self.now.node.store)) in
-    let restart = round_later c.args.round c.in-Crash.rounds in
+    let restart = round_later c.args.lent.now.round c.in-Crash.rounds in
     quiet_came setting fits (event_view c.args.event.now) was _ (traffic_of c.args.wire.now) (Ok c.crash.result) _
     (view.Crash c.in-Crash.fill c.in-Crash.rounds) (crash_plan restart was) (deed_seen c.in-Plain.is c.in-ByNode.is c.in-Crash.is) refl refl refl
     (λ came. crash_sends restart was.node came) c.crash.ensures.step
@@ -260,24 +219,18 @@ returns-in-Recover-clause-come g c =
     let was =
     station_view {cell = g.C.StableCell} {slots = g.C.SlotCell} g.O.Outlet.taken g.O.Outlet.failures
     c.args.self.now in
-    let setting =
-    setting_in (network_of c.args.net.now.value.program) c.args.inputs.now.value (traffic_of c.args.wire.now)
-    c.args.round c.args.room in
+    let setting = setting_by c.args.lent.now (traffic_of c.args.wire.now) in
     let fits = fits_in (g.C.SlotCell.slot_capacity (cell_in c.args.self.now.node.store)) in
     quiet_came setting fits (event_view c.args.event.now) was _ (traffic_of c.args.wire.now) c.recover.result _
-    view.Recover (recover_plan (network_of c.deref-in-Recover.result.now.program) was) (deed_seen c.in-Plain.is c.in-ByNode.is c.in-Recover.is)
-    (ap (λ (n : Net). recover_plan (network_of n.program) was) c.deref-in-Recover.ensures)
-    refl refl
-    (λ came. recover_sends (network_of c.args.net.now.value.program) was.number was.node came) c.recover.ensures.step
+    view.Recover (recover_plan setting.net was) (deed_seen c.in-Plain.is c.in-ByNode.is c.in-Recover.is) refl refl refl
+    (λ came. recover_sends setting.net was.number was.node came) c.recover.ensures.step
 
 pub returns-in-Arm-clause-come : goal.returns-in-Arm-clause-come
 returns-in-Arm-clause-come g c =
     let was =
     station_view {cell = g.C.StableCell} {slots = g.C.SlotCell} g.O.Outlet.taken g.O.Outlet.failures
     c.args.self.now in
-    let setting =
-    setting_in (network_of c.args.net.now.value.program) c.args.inputs.now.value (traffic_of c.args.wire.now)
-    c.args.round c.args.room in
+    let setting = setting_by c.args.lent.now (traffic_of c.args.wire.now) in
     let fits = fits_in (g.C.SlotCell.slot_capacity (cell_in c.args.self.now.node.store)) in
     quiet_came setting fits (event_view c.args.event.now) was _ (traffic_of c.args.wire.now) c.arm.result _
     (view.Arm c.in-Arm.fault c.in-Arm.rounds) (arm_plan c.in-Arm.fault.call c.in-Arm.rounds was)
@@ -289,13 +242,11 @@ returns-in-Idle-clause-come g c =
     let was =
     station_view {cell = g.C.StableCell} {slots = g.C.SlotCell} g.O.Outlet.taken g.O.Outlet.failures
     c.args.self.now in
-    let setting =
-    setting_in (network_of c.args.net.now.value.program) c.args.inputs.now.value (traffic_of c.args.wire.now)
-    c.args.round c.args.room in
+    let setting = setting_by c.args.lent.now (traffic_of c.args.wire.now) in
     let fits = fits_in (g.C.SlotCell.slot_capacity (cell_in c.args.self.now.node.store)) in
     quiet_came setting fits (event_view c.args.event.now) was _ (traffic_of c.args.wire.now) (Ok c.idle.result)
     _ view.Idle
-    (idle_plan c.args.round was) (deed_seen c.in-Plain.is c.in-ByNode.is c.in-Idle.is) refl refl refl (λ came. becoming_sends was.node came)
+    (idle_plan c.args.lent.now.round was) (deed_seen c.in-Plain.is c.in-ByNode.is c.in-Idle.is) refl refl refl (λ came. becoming_sends was.node came)
     c.idle.ensures.step
 
 pub returns-in-ByNetwork-clause-come : goal.returns-in-ByNetwork-clause-come
@@ -303,9 +254,7 @@ returns-in-ByNetwork-clause-come g c =
     let was =
     station_view {cell = g.C.StableCell} {slots = g.C.SlotCell} g.O.Outlet.taken g.O.Outlet.failures
     c.args.self.now in
-    let setting =
-    setting_in (network_of c.args.net.now.value.program) c.args.inputs.now.value (traffic_of c.args.wire.now)
-    c.args.round c.args.room in
+    let setting = setting_by c.args.lent.now (traffic_of c.args.wire.now) in
     let fits = fits_in (g.C.SlotCell.slot_capacity (cell_in c.args.self.now.node.store)) in
     acted_came setting fits (event_view c.args.event.now) was was (traffic_of c.act_by_network.new.wire)
     c.act_by_network.result c.in-ByNetwork.node c.in-ByNetwork.place c.in-ByNetwork.act
@@ -319,11 +268,9 @@ returns-in-Deliver-clause-moved g c =
     let was =
     station_view {cell = g.C.StableCell} {slots = g.C.SlotCell} g.O.Outlet.taken g.O.Outlet.failures
     c.args.self.now in
-    let setting =
-    setting_in (network_of c.args.net.now.value.program) c.args.inputs.now.value (traffic_of c.args.wire.now)
-    c.args.round c.args.room in
+    let setting = setting_by c.args.lent.now (traffic_of c.args.wire.now) in
     let fits = fits_in (g.C.SlotCell.slot_capacity (cell_in c.args.self.now.node.store)) in
-    let found = due_bytes c.args.round
+    let found = due_bytes c.args.lent.now.round
     (slice_get (flights_to (traffic_of c.args.wire.now) c.in-ByNode.node) c.in-Deliver.place) in
     let seen = deed_seen c.in-Plain.is c.in-ByNode.is c.in-Deliver.is in
     subst (λ (e : EventView). HasMoved g.C.StableCell.moment g.C.SlotCell.left_since_whole
@@ -337,17 +284,14 @@ returns-in-Deliver-clause-moved g c =
     (outlet_views g.O.Outlet.taken g.O.Outlet.failures c.args.self.now.outputs.items)
     (outlet_views g.O.Outlet.taken g.O.Outlet.failures c.deliver.new.self.outputs.items) _
     c.deliver.ensures.later c.deliver.ensures.outputs
-    (ap (λ (n : Net). next_record (deliver_plan (network_of n.program) c.in-Deliver.place found was).prospect
-    was.node.kept) c.deref-in-Deliver.ensures) c.deliver.ensures.leaves)
+    refl c.deliver.ensures.leaves)
 
 pub returns-in-Start-clause-moved : goal.returns-in-Start-clause-moved
 returns-in-Start-clause-moved g c =
     let was =
     station_view {cell = g.C.StableCell} {slots = g.C.SlotCell} g.O.Outlet.taken g.O.Outlet.failures
     c.args.self.now in
-    let setting =
-    setting_in (network_of c.args.net.now.value.program) c.args.inputs.now.value (traffic_of c.args.wire.now)
-    c.args.round c.args.room in
+    let setting = setting_by c.args.lent.now (traffic_of c.args.wire.now) in
     let fits = fits_in (g.C.SlotCell.slot_capacity (cell_in c.args.self.now.node.store)) in
     let seen = deed_seen c.in-Plain.is c.in-ByNode.is c.in-Start.is in
     subst (λ (e : EventView). HasMoved g.C.StableCell.moment g.C.SlotCell.left_since_whole
@@ -360,8 +304,7 @@ returns-in-Start-clause-moved g c =
     (outlet_views g.O.Outlet.taken g.O.Outlet.failures c.args.self.now.outputs.items)
     (outlet_views g.O.Outlet.taken g.O.Outlet.failures c.start.new.self.outputs.items) _
     c.start.ensures.later c.start.ensures.outputs
-    (ap (λ (n : Net). next_record (start_prospect (network_of n.program) was.number was.node) was.node.kept)
-    c.deref-in-Start.ensures) c.start.ensures.leaves)
+    refl c.start.ensures.leaves)
 
 -- what nobody answers needs no reason
 never_down : (P : Reply → Type 0) (result : Result Reply AllocError)

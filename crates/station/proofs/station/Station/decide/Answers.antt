@@ -53,8 +53,8 @@ returns-clause-come g c = λ k.
     let came = c.in_ok-outcome.outcome in
     let answer : Result Outcome AllocError = Ok came in
     let prospect = decide_prospect was.node.number (view_of was.node) in
-    let event : IsPutEvent prospect c.args.round (view_of was.node) (view_of now.node) was.node.store now.node.store answer =
-    subst (λ (p : Prospect). IsPutEvent p c.args.round (view_of was.node) (view_of now.node) was.node.store now.node.store
+    let event : IsPutEvent prospect c.args.lent.now.round (view_of was.node) (view_of now.node) was.node.store now.node.store answer =
+    subst (λ (p : Prospect). IsPutEvent p c.args.lent.now.round (view_of was.node) (view_of now.node) was.node.store now.node.store
     answer) c.in_ok-prospect.ensures.view c.in_ok-outcome.ensures.event in
     record {
       came = came;
@@ -73,8 +73,8 @@ returns-clause-come g c = λ k.
         } in view) c.carry_out.ensures.same.1.0
             ∙ seen_moved seen _ _ _ _ _ c.carry_out.ensures.same.0 (c.carry_out.ensures.same.1.1 ∙ turns_kept was.turns came);
       };
-      traffic = own_traffic c.args.round prospect came Decided (Refused TooLarge) _ (traffic_of c.args.wire.now)
+      traffic = own_traffic c.args.lent.now.round prospect came Decided (Refused TooLarge) _ (traffic_of c.args.wire.now)
           (traffic_of c.carry_out.new.wire) c.answer_by.ensures refl refl (undue_silent prospect)
-          (c.in_ok-outcome.ensures.traffic ∙ ap (λ (p : Prospect). all_sent c.args.round (map sending_of (packets_by p came))
+          (c.in_ok-outcome.ensures.traffic ∙ ap (λ (p : Prospect). all_sent c.args.lent.now.round (map sending_of (packets_by p came))
           (traffic_of c.args.wire.now)) c.in_ok-prospect.ensures.view);
     }

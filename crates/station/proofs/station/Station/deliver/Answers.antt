@@ -1,4 +1,4 @@
-use Rattle.std.proofs.Common.{◌<◌, ◌∙◌, refl, sym, subst, List, length, Result, Ok, Err}
+use Rattle.std.proofs.Common.{◌<◌, ◌∙◌, ap, refl, sym, subst, List, length, Result, Ok, Err}
 use Rattle.std.specs.Prelude.{IfOk}
 use Rattle.std.specs.declared.alloc.AllocError.{AllocError}
 use Rattle.ckpt_store.specs.Spelling.{fits_in}
@@ -7,11 +7,14 @@ use Rattle.wire.specs.declared.queue.Flight.{Flight}
 use Rattle.station.specs.ReplyView.{reply_view}
 use Rattle.station.specs.ReplyView.{Reply}
 use Rattle.station.proofs.Ready.{flying_seen}
-use Rattle.kahn_net.specs.Syntax.{network_of}
 use Rattle.wire.specs.Traffic.{traffic_of}
 use Rattle.station.specs.StationView.{station_view}
 use Rattle.station.proofs.Cells.{untouched}
 use Rattle.station.proofs.Planned.{came_heard}
+use Rattle.station.specs.Lending.{net_lent}
+use Rattle.net_check.specs.declared.net.Net.{Net}
+use Rattle.kahn_net.specs.Syntax.{network_of}
+use Rattle.protocol.specs.Node.Delivering.{packet_for}
 use Rattle.station.proofs.station.Station.deliver.Goals as goal
 
 pub returns-in_default-clause-leaves : goal.returns-in_default-clause-leaves
@@ -41,7 +44,8 @@ hear-requires-clause-there g c =
 
 pub hear-requires-clause-right : goal.hear-requires-clause-right
 hear-requires-clause-right g c =
-    let spelled = sym c.in_ok-packet.ensures ∙ c.in-Some-2.is in
+    let spelled = ap (λ (n : Net). packet_for (network_of n.program) c.args.self.now.node.number c.in-Some.bytes.now)
+    (sym c.deref.ensures) ∙ (sym c.in_ok-packet.ensures ∙ c.in-Some-2.is) in
     c.requires.right c.in-Some.bytes.now c.in-Some-2.packet (sym c.in-Some.ensures.bytes) spelled
 
 -- what holds of each reply that an event may answer
@@ -52,11 +56,12 @@ reply_by (Err e) by holds = holds
 pub returns-in-Some-2-clause-come : goal.returns-in-Some-2-clause-come
 returns-in-Some-2-clause-come g c =
     let was = c.args.self.now in
-    let spelled = sym c.in-Some-2.is ∙ c.in_ok-packet.ensures in
+    let spelled = sym c.in-Some-2.is ∙ (c.in_ok-packet.ensures
+    ∙ ap (λ (n : Net). packet_for (network_of n.program) was.node.number c.in-Some.bytes.now) c.deref.ensures) in
     let up = sym c.is_down.ensures ∙ c.if-is_down.false in
     reply_by c.hear.result
-    (λ r heard. came_heard (fits_in (g.C.SlotCell.slot_capacity (cell_in was.node.store))) c.args.round
-    (network_of c.args.net.now.program) c.args.to c.args.place
+    (λ r heard. came_heard (fits_in (g.C.SlotCell.slot_capacity (cell_in was.node.store))) c.args.lent.now.round
+    (net_lent c.args.lent.now) c.args.to c.args.place
     (station_view g.O.Outlet.taken g.O.Outlet.failures was)
     (station_view g.O.Outlet.taken g.O.Outlet.failures c.hear.new.self)
     (reply_view r) (traffic_of c.args.wire.now) (traffic_of c.hear.new.wire)

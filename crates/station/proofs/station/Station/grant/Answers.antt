@@ -1,12 +1,13 @@
-use Rattle.std.proofs.Common.{ap}
-use Rattle.kahn_net.specs.Syntax.{network_of}
+use Rattle.std.proofs.Common.{ℤ, List, Option, ap, ◌∙◌}
 use Rattle.ckpt_store.specs.Spelling.{fits_in}
 use Rattle.ckpt_store.specs.StoreView.{cell_in}
 use Rattle.ckpt_store.specs.declared.store.Store.{Store}
 use Rattle.node.specs.NodeOf.{view_of}
-use Rattle.protocol.specs.Node.Choosing.{node_job}
+use Rattle.protocol.specs.Node.Choosing.{node_job, with_grant}
 use Rattle.station.specs.StationView.{station_view}
 use Rattle.station.proofs.Planned.{grants}
+use Rattle.station.specs.Lending.{inputs_lent, net_lent}
+use Rattle.protocol.specs.Node.JobView.{JobView}
 use Rattle.station.proofs.station.Station.grant.Goals as goal
 
 pub returns-clause-step : goal.returns-clause-step
@@ -15,10 +16,14 @@ returns-clause-step g c =
     let cell = g.C.StableCell in
     let slots = g.C.SlotCell in
     let granted = c.in_ok-granted in
-    grants (fits_in (slots.slot_capacity (cell_in was.node.store))) c.args.round
-    (node_job (network_of c.args.net.now.value.program) c.args.inputs.now c.args.room (view_of was.node))
+    let next : List (List ℤ) → Option JobView =
+    (λ inputs. node_job (net_lent c.args.lent.now) inputs c.args.lent.now.room (view_of was.node)) in
+    grants (fits_in (slots.slot_capacity (cell_in was.node.store))) c.args.lent.now.round
+    (next (inputs_lent c.args.lent.now))
     granted.granted
-    (station_view g.O.Outlet.taken g.O.Outlet.failures was) _ _ _ _ _ granted.ensures.job c.note_grant.ensures.reply
-    granted.ensures.state c.grant.ensures.same.1
+    (station_view g.O.Outlet.taken g.O.Outlet.failures was) _ _ _ _ _
+    (granted.ensures.job ∙ ap next c.deref.ensures) c.note_grant.ensures.reply
+    (granted.ensures.state
+    ∙ ap (λ (inputs : List (List ℤ)). with_grant (next inputs) (view_of was.node)) c.deref.ensures) c.grant.ensures.same.1
     (ap (λ (store : Store _ slots cell). cell.failure_count (cell_in store)) c.grant.ensures.same.0)
     c.note_grant.ensures.turns

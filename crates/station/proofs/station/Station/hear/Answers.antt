@@ -18,22 +18,34 @@ use Rattle.station.specs.StationView.{station_view}
 use Rattle.station.proofs.Cells.{through, untouched}
 use Rattle.station.proofs.Planned.{seen_moved}
 use Rattle.station.proofs.Ready.{heard_sent, still_there}
+use Rattle.net_check.specs.declared.net.Net.{Net}
+use Rattle.station.specs.Lending.{net_lent}
+use Rattle.kahn_net.specs.Nodes.{node_count}
+use Rattle.protocol_laws.specs.World.HeardLaws.{IsHeard}
 use Rattle.station.proofs.station.Station.hear.Goals as goal
 
 pub plan_packet-requires : goal.plan_packet-requires
-plan_packet-requires g c = record {
-  up = c.requires.up;
-  like = c.requires.like;
-  bounded = c.requires.bounded;
-  right = c.requires.right.names;
-  allowed = c.requires.right.allowed;
-  here = c.requires.right.here;
-  listed = c.requires.listed;
-}
+plan_packet-requires g c =
+    let right = subst (λ (n : Net). IsHeard (network_of n.program) c.args.self.now.node.number c.args.packet.now)
+    (sym c.deref.ensures) c.requires.right in
+    record {
+      up = c.requires.up;
+      like = c.requires.like;
+      bounded = c.requires.bounded;
+      right = right.names;
+      allowed = right.allowed;
+      here = right.here;
+      listed = c.requires.listed ∙ ap (λ (n : Net). node_count (network_of n.program)) (sym c.deref.ensures);
+    }
 
 pub ready_for-requires : goal.ready_for-requires
 ready_for-requires g c = λ came.
-    subst (λ (p : Prospect). All IsPacket (packets_by p came)) (sym c.in_ok-prospect.ensures.view)
+    let was = c.args.self.now in
+    let packet = c.args.packet.now in
+    let told = c.in_ok-prospect.ensures.view
+    ∙ ap (λ (n : Net). hear_prospect (network_of n.program) was.node.number packet.from packet.body (view_of was.node))
+    c.deref.ensures in
+    subst (λ (p : Prospect). All IsPacket (packets_by p came)) (sym told)
     (c.requires.allowed came)
 
 pub take_by-requires : goal.take_by-requires
@@ -58,16 +70,24 @@ returns-in_err-ready-clause-leaves g c =
 pub returns-in_err-outcome-clause-leaves : goal.returns-in_err-outcome-clause-leaves
 returns-in_err-outcome-clause-leaves g c =
     let was = c.args.self.now in
+    let packet = c.args.packet.now in
+    let told = c.in_ok-prospect.ensures.view
+    ∙ ap (λ (n : Net). hear_prospect (network_of n.program) was.node.number packet.from packet.body (view_of was.node))
+    c.deref.ensures in
     through g.C.StableCell g.C.SlotCell was.node.store c.carry_out.new.self.store was.node.kept.settled
     _ (subst (λ (p : Prospect). LeavesNext (next_record p (view_of was.node).kept) was.node.store
-    c.carry_out.new.self.store) c.in_ok-prospect.ensures.view c.carry_out.ensures.event.any_moment)
+    c.carry_out.new.self.store) told c.carry_out.ensures.event.any_moment)
 
 pub returns-clause-leaves : goal.returns-clause-leaves
 returns-clause-leaves g c =
     let was = c.args.self.now in
+    let packet = c.args.packet.now in
+    let told = c.in_ok-prospect.ensures.view
+    ∙ ap (λ (n : Net). hear_prospect (network_of n.program) was.node.number packet.from packet.body (view_of was.node))
+    c.deref.ensures in
     through g.C.StableCell g.C.SlotCell was.node.store c.carry_out.new.self.store was.node.kept.settled
     _ (subst (λ (p : Prospect). LeavesNext (next_record p (view_of was.node).kept) was.node.store
-    c.carry_out.new.self.store) c.in_ok-prospect.ensures.view c.carry_out.ensures.event.any_moment)
+    c.carry_out.new.self.store) told c.carry_out.ensures.event.any_moment)
 
 pub returns-clause-come : goal.returns-clause-come
 returns-clause-come g c =
@@ -78,12 +98,15 @@ returns-clause-come g c =
     let came = c.in_ok-outcome.outcome in
     let answer : Result Outcome AllocError = Ok came in
     let packet = c.args.packet.now in
+    let told = c.in_ok-prospect.ensures.view
+    ∙ ap (λ (n : Net). hear_prospect (network_of n.program) was.node.number packet.from packet.body (view_of was.node))
+    c.deref.ensures in
     let ready = c.in_ok-ready.ensures in
     let planned = prospect_view (view_of was.node) c.in_ok-prospect.prospect in
-    let prospect = hear_prospect (network_of c.args.net.now.program) was.node.number packet.from packet.body (view_of was.node) in
-    let event : IsPutEvent prospect c.args.round (view_of was.node) (view_of now) was.node.store now.store answer =
-    subst (λ (p : Prospect). IsPutEvent p c.args.round (view_of was.node) (view_of now) was.node.store now.store answer)
-    c.in_ok-prospect.ensures.view c.in_ok-outcome.ensures.event in
+    let prospect = hear_prospect (net_lent c.args.lent.now) was.node.number packet.from packet.body (view_of was.node) in
+    let event : IsPutEvent prospect c.args.lent.now.round (view_of was.node) (view_of now) was.node.store now.store answer =
+    subst (λ (p : Prospect). IsPutEvent p c.args.lent.now.round (view_of was.node) (view_of now) was.node.store now.store answer)
+    told c.in_ok-outcome.ensures.event in
     record {
       call = cell.failed_call (cell_in now.store);
       came = came;
@@ -92,9 +115,9 @@ returns-clause-come g c =
       answers = c.answer_by.ensures;
       allowed = c.requires.allowed came;
       same = seen_moved seen _ _ _ _ _ c.carry_out.ensures.same_number refl;
-      traffic = heard_sent c.args.round planned came c.args.to c.args.place (traffic_of c.ready_for.new.wire)
+      traffic = heard_sent c.args.lent.now.round planned came c.args.to c.args.place (traffic_of c.ready_for.new.wire)
           (traffic_of c.args.wire.now) (traffic_of c.take_by.new.wire) c.ready_for.ensures.same
-          (c.take_by.ensures c.args.round _ _ ready.made.nodes ready.declined.nodes ready.made.staged ready.declined.staged)
-          ∙ ap (λ (p : Prospect). all_sent c.args.round (map sending_of (packets_by p came))
-          (taken_by came (traffic_of c.args.wire.now) c.args.to c.args.place)) c.in_ok-prospect.ensures.view;
+          (c.take_by.ensures c.args.lent.now.round _ _ ready.made.nodes ready.declined.nodes ready.made.staged ready.declined.staged)
+          ∙ ap (λ (p : Prospect). all_sent c.args.lent.now.round (map sending_of (packets_by p came))
+          (taken_by came (traffic_of c.args.wire.now) c.args.to c.args.place)) told;
     }

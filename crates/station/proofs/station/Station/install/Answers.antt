@@ -2,10 +2,14 @@ use Rattle.std.proofs.Common.{List, sym, subst}
 use Rattle.kahn_net.specs.declared.program.Channel.{Channel}
 use Rattle.protocol.specs.Node.Installing.{TakesTurn}
 use Rattle.node.specs.NodeOf.{view_of}
+use Rattle.net_check.specs.declared.net.Net.{Net}
+use Rattle.kahn_net.specs.Syntax.{network_of}
 use Rattle.station.proofs.station.Station.install.Goals as goal
 
 pub install-requires : goal.install-requires
 install-requires g c = λ out.
     let done = c.args.done.now in
     subst (λ (list : List Channel). TakesTurn list done.job.value.process done.taken.items done.sent.items
-    (view_of c.args.self.now.node).mode) (sym c.deref.ensures.value) (c.requires out)
+    (view_of c.args.self.now.node).mode) (sym c.deref-2.ensures.value)
+    (subst (λ (n : Net). TakesTurn (network_of n.program).channels done.job.value.process done.taken.items
+    done.sent.items (view_of c.args.self.now.node).mode) (sym c.deref.ensures) (c.requires out))

@@ -30,22 +30,22 @@ pub returns-in-Undue-clause-made : goal.returns-in-Undue-clause-made
 returns-in-Undue-clause-made g c =
     let view = view_of c.args.self.now.node in
     let silent : (p : Prospect) → c.args.prospect.now ≡ p → packets_by (prospect_view view p) outcome.Made ≡ []
-    → IsReadyFor c.args.wire.now c.args.round
+    → IsReadyFor c.args.wire.now c.args.lent.now.round
     (map sending_of (packets_by (prospect_view view c.args.prospect.now) outcome.Made)) c.nothing.result.made =
-    (λ p same none. subst (λ (packets : List Packet). IsReadyFor c.args.wire.now c.args.round (map sending_of packets)
+    (λ p same none. subst (λ (packets : List Packet). IsReadyFor c.args.wire.now c.args.lent.now.round (map sending_of packets)
     c.nothing.result.made) (sym (ap (λ (q : Prospect). packets_by (prospect_view view q) outcome.Made) same ∙ none))
-    (c.nothing.ensures c.args.wire.now c.args.round).0) in
+    (c.nothing.ensures c.args.wire.now c.args.lent.now.round).0) in
     ⊎_elim (λ undue. silent _ undue refl) (λ spent. silent _ spent refl) c.in-Undue.is
 
 pub returns-in-Undue-clause-declined : goal.returns-in-Undue-clause-declined
 returns-in-Undue-clause-declined g c =
     let view = view_of c.args.self.now.node in
     let silent : (p : Prospect) → c.args.prospect.now ≡ p → packets_by (prospect_view view p) (outcome.Refused TooLarge) ≡ []
-    → IsReadyFor c.args.wire.now c.args.round
+    → IsReadyFor c.args.wire.now c.args.lent.now.round
     (map sending_of (packets_by (prospect_view view c.args.prospect.now) (outcome.Refused TooLarge)))
     c.nothing.result.declined =
-    (λ p same none. subst (λ (packets : List Packet). IsReadyFor c.args.wire.now c.args.round (map sending_of packets)
+    (λ p same none. subst (λ (packets : List Packet). IsReadyFor c.args.wire.now c.args.lent.now.round (map sending_of packets)
     c.nothing.result.declined)
     (sym (ap (λ (q : Prospect). packets_by (prospect_view view q) (outcome.Refused TooLarge)) same ∙ none))
-    (c.nothing.ensures c.args.wire.now c.args.round).1) in
+    (c.nothing.ensures c.args.wire.now c.args.lent.now.round).1) in
     ⊎_elim (λ undue. silent _ undue refl) (λ spent. silent _ spent refl) c.in-Undue.is

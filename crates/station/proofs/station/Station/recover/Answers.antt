@@ -1,11 +1,15 @@
-use Rattle.std.proofs.Common.{ap, ◌∙◌}
-use Rattle.kahn_net.specs.Syntax.{network_of}
+use Rattle.std.proofs.Common.{Ok, Result, ap, subst, ◌∙◌}
+use Rattle.std.specs.declared.alloc.AllocError.{AllocError}
 use Rattle.ckpt_store.specs.StoreView.{cell_in}
 use Rattle.node.specs.NodeOf.{view_of}
 use Rattle.node.specs.NodeView.{mode_view}
 use Rattle.protocol.specs.Node.ArmedRestarts.{restart_after}
 use Rattle.protocol.specs.World.Replies.{answer_by, back_reply}
-use Rattle.protocol.specs.Node.Plans.{packets_by}
+use Rattle.node.specs.Putting.{IsPutEvent}
+use Rattle.node.specs.StoredView.{LeavesNext}
+use Rattle.protocol.specs.Node.Plans.{next_record, packets_by}
+use Rattle.protocol.specs.Node.Recovering.{recover_prospect}
+use Rattle.protocol.specs.declared.outcome.Outcome.{Outcome}
 use Rattle.protocol.specs.World.ReplyView.{ReplyView}
 use Rattle.protocol.specs.declared.reply.Reply.TheVariants.{Refused}
 use Rattle.protocol.specs.declared.outcome.Refusal.TheVariants.{TooLarge}
@@ -14,19 +18,26 @@ use Rattle.protocol_laws.specs.World.DeedLaws.{recover_sends}
 use Rattle.station.specs.StationView.{station_view}
 use Rattle.station.proofs.Cells.{through}
 use Rattle.station.proofs.Planned.{answer_then, back_mode, seen_moved, silent_allowed, turns_kept}
+use Rattle.station.specs.Lending.{net_lent}
+use Rattle.net_check.specs.declared.net.Net.{Net}
+use Rattle.kahn_net.specs.Syntax.{network_of}
 use Rattle.station.proofs.station.Station.recover.Goals as goal
 
 pub returns-in-Err-clause-leaves : goal.returns-in-Err-clause-leaves
 returns-in-Err-clause-leaves g c =
     let was = c.args.self.now in
     through g.C.StableCell g.C.SlotCell was.node.store c.recover.new.self.store was.node.kept.settled
-    _ c.recover.ensures.event.any_moment
+    _ (subst (λ (n : Net). LeavesNext (next_record (recover_prospect (network_of n.program) was.node.number
+    (view_of was.node)) (view_of was.node).kept) was.node.store c.recover.new.self.store) c.deref.ensures
+    c.recover.ensures.event.any_moment)
 
 pub returns-in-Ok-clause-leaves : goal.returns-in-Ok-clause-leaves
 returns-in-Ok-clause-leaves g c =
     let was = c.args.self.now in
     through g.C.StableCell g.C.SlotCell was.node.store c.recover.new.self.store was.node.kept.settled
-    _ c.recover.ensures.event.any_moment
+    _ (subst (λ (n : Net). LeavesNext (next_record (recover_prospect (network_of n.program) was.node.number
+    (view_of was.node)) (view_of was.node).kept) was.node.store c.recover.new.self.store) c.deref.ensures
+    c.recover.ensures.event.any_moment)
 
 pub returns-in-Ok-clause-step : goal.returns-in-Ok-clause-step
 returns-in-Ok-clause-step g c =
@@ -35,7 +46,13 @@ returns-in-Ok-clause-step g c =
     let call = cell.failed_call (cell_in c.recover.new.self.store) in
     let seen = station_view g.O.Outlet.taken g.O.Outlet.failures was in
     let came = c.in-Ok.outcome in
-    let event = c.in-Ok.ensures.event in
+    let answer : Result Outcome AllocError = Ok came in
+    let event : IsPutEvent (recover_prospect (net_lent c.args.lent.now) was.node.number (view_of was.node))
+    c.args.lent.now.round (view_of was.node) (view_of c.recover.new.self) was.node.store c.recover.new.self.store
+    answer =
+    subst (λ (n : Net). IsPutEvent (recover_prospect (network_of n.program) was.node.number (view_of was.node))
+    c.args.lent.now.round (view_of was.node) (view_of c.recover.new.self) was.node.store c.recover.new.self.store
+    answer) c.deref.ensures c.in-Ok.ensures.event in
     let mode = mode_view c.recover.new.self.state.mode in (
       came,
       record {
@@ -44,12 +61,12 @@ returns-in-Ok-clause-step g c =
         put = event.put;
         answers = c.answer_by.ensures
             ∙ (ap (λ (r : ReplyView). answer_by r (Refused TooLarge) came) c.back_reply-back.ensures
-            ∙ answer_then (back_reply mode) (recover_plan (network_of c.args.net.now.program) seen).answer (Refused TooLarge) came
+            ∙ answer_then (back_reply mode) (recover_plan (net_lent c.args.lent.now) seen).answer (Refused TooLarge) came
             (λ made. ap back_reply
-            (back_mode (network_of c.args.net.now.program) was.node.number (restart_after (view_of was.node).armed call c.args.round) (view_of was.node)
+            (back_mode (net_lent c.args.lent.now) was.node.number (restart_after (view_of was.node).armed call c.args.lent.now.round) (view_of was.node)
             (view_of c.recover.new.self) came event.step made)));
-        allowed = silent_allowed (packets_by (recover_plan (network_of c.args.net.now.program) seen).prospect came)
-            (recover_sends (network_of c.args.net.now.program) was.node.number (view_of was.node) came);
+        allowed = silent_allowed (packets_by (recover_plan (net_lent c.args.lent.now) seen).prospect came)
+            (recover_sends (net_lent c.args.lent.now) was.node.number (view_of was.node) came);
         same = seen_moved seen _ _ _ _ _ c.recover.ensures.same_number (turns_kept was.turns came);
       },
     )

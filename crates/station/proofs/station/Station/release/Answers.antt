@@ -32,7 +32,7 @@ returns-clause-refused g c =
     let j = c.in-Some.j in
     let made = c.release_at.ensures in
     let now = c.release_at.new in
-    release_refused c.args.round j was (outlet_view taken failures x) (outlet_view taken failures now.output)
+    release_refused c.args.lent.now.round j was (outlet_view taken failures x) (outlet_view taken failures now.output)
     (view_of now.node) _ now.node.number _ c.release_at.result
     (outlet_at taken failures c.args.self.now.outputs.items j x c.in-Some.ensures.within c.index_mut.ensures.value)
     made.same.1
@@ -42,7 +42,7 @@ returns-clause-refused g c =
 pub returns-in_default-clause-step : goal.returns-in_default-clause-step
 returns-in_default-clause-step g c =
     let was = station_view g.O.Outlet.taken g.O.Outlet.failures c.args.self.now in
-    subst (λ (next : Option ℕ). IsRelease c.args.round next was reply.NotDue was) c.in_default.ensures.next (refl, refl)
+    subst (λ (next : Option ℕ). IsRelease c.args.lent.now.round next was reply.NotDue was) c.in_default.ensures.next (refl, refl)
 
 pub returns-clause-step : goal.returns-clause-step
 returns-clause-step g c =
@@ -53,7 +53,7 @@ returns-clause-step g c =
     let j = c.in-Some.j in
     let made = c.release_at.ensures in
     let now = c.release_at.new in
-    release_step c.args.round j was (outlet_view taken failures x) (outlet_view taken failures now.output)
+    release_step c.args.lent.now.round j was (outlet_view taken failures x) (outlet_view taken failures now.output)
     (view_of now.node) _ now.node.number _ c.release_at.result
     (sym c.in-Some.ensures.next)
     (outlet_at taken failures c.args.self.now.outputs.items j x c.in-Some.ensures.within c.index_mut.ensures.value)

@@ -1,4 +1,4 @@
-use Rattle.std.proofs.Common.{rules, ◌≡◌, false, refl}
+use Rattle.std.proofs.Common.{rules, ◌≡◌, ◌∙◌, ap, false, refl}
 use Rattle.kahn_net.specs.Syntax.{network_of}
 use Rattle.ckpt_store.specs.Spelling.{fits_in}
 use Rattle.ckpt_store.specs.StoreView.{cell_in}
@@ -7,6 +7,9 @@ use Rattle.wire.specs.Traffic.{traffic_of}
 use Rattle.station.specs.StationView.{station_view}
 use Rattle.station.proofs.Packets.{are_nodes}
 use Rattle.station.proofs.Sends.{sends}
+use Rattle.net_check.specs.declared.net.Net.{Net}
+use Rattle.station.specs.Lending.{net_lent}
+use Rattle.protocol.specs.Node.Telling.{turn_packets}
 use Rattle.station.proofs.station.Station.send.Goals as goal
 
 pub send_all-requires : goal.send_all-requires
@@ -20,6 +23,8 @@ returns-clause-come g c = λ k.
     let seen = station_view {cell = g.C.StableCell} {slots = g.C.SlotCell} g.O.Outlet.taken g.O.Outlet.failures was in
     let up : is_down seen.node.mode ≡ false = search rules in
     let packets = c.in_ok-packets.packets.items in
-    sends (fits_in (g.C.SlotCell.slot_capacity (cell_in was.node.store))) c.args.round (network_of c.args.net.now.program)
-    seen _ _ (traffic_of c.args.wire.now) (traffic_of c.send_all.new.self) packets up c.in_ok-packets.ensures
+    sends (fits_in (g.C.SlotCell.slot_capacity (cell_in was.node.store))) c.args.lent.now.round (net_lent c.args.lent.now)
+    seen _ _ (traffic_of c.args.wire.now) (traffic_of c.send_all.new.self) packets up
+    (c.in_ok-packets.ensures ∙ ap (λ (n : Net). turn_packets (network_of n.program) was.node.number seen.node.kept
+    seen.node.mode) c.deref.ensures)
     (search rules) refl (search rules) (search rules) k

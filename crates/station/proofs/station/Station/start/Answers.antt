@@ -22,11 +22,16 @@ use Rattle.station.specs.StationView.{outlet_views}
 use Rattle.station.specs.StationView.{station_view}
 use Rattle.station.proofs.Cells.{through, untouched}
 use Rattle.station.proofs.Planned.{own_traffic, seen_moved, undue_silent}
+use Rattle.net_check.specs.declared.net.Net.{Net}
+use Rattle.station.specs.Lending.{net_lent}
 use Rattle.station.proofs.station.Station.start.Goals as goal
 
 pub carry_out-requires-clause-allowed : goal.carry_out-requires-clause-allowed
 carry_out-requires-clause-allowed g c = λ came.
-    subst (λ (p : Prospect). All IsPacket (packets_by p came)) (sym c.in_ok-prospect.ensures.view)
+    let was = c.args.self.now in
+    let told = c.in_ok-prospect.ensures.view
+    ∙ ap (λ (n : Net). start_prospect (network_of n.program) was.node.number (view_of was.node)) c.deref.ensures in
+    subst (λ (p : Prospect). All IsPacket (packets_by p came)) (sym told)
     (c.requires.allowed came)
 
 pub returns-in_err-prospect-clause-leaves : goal.returns-in_err-prospect-clause-leaves
@@ -37,16 +42,20 @@ returns-in_err-prospect-clause-leaves g c =
 pub returns-in_err-outcome-clause-leaves : goal.returns-in_err-outcome-clause-leaves
 returns-in_err-outcome-clause-leaves g c =
     let was = c.args.self.now in
+    let told = c.in_ok-prospect.ensures.view
+    ∙ ap (λ (n : Net). start_prospect (network_of n.program) was.node.number (view_of was.node)) c.deref.ensures in
     through g.C.StableCell g.C.SlotCell was.node.store c.carry_out.new.self.node.store was.node.kept.settled
     _ (subst (λ (p : Prospect). LeavesNext (next_record p (view_of was.node).kept) was.node.store
-    c.carry_out.new.self.node.store) c.in_ok-prospect.ensures.view c.carry_out.ensures.event.any_moment)
+    c.carry_out.new.self.node.store) told c.carry_out.ensures.event.any_moment)
 
 pub returns-clause-leaves : goal.returns-clause-leaves
 returns-clause-leaves g c =
     let was = c.args.self.now in
+    let told = c.in_ok-prospect.ensures.view
+    ∙ ap (λ (n : Net). start_prospect (network_of n.program) was.node.number (view_of was.node)) c.deref.ensures in
     through g.C.StableCell g.C.SlotCell was.node.store c.carry_out.new.self.node.store was.node.kept.settled
     _ (subst (λ (p : Prospect). LeavesNext (next_record p (view_of was.node).kept) was.node.store
-    c.carry_out.new.self.node.store) c.in_ok-prospect.ensures.view c.carry_out.ensures.event.any_moment)
+    c.carry_out.new.self.node.store) told c.carry_out.ensures.event.any_moment)
 
 pub returns-clause-come : goal.returns-clause-come
 returns-clause-come g c = λ k.
@@ -56,11 +65,13 @@ returns-clause-come g c = λ k.
     let seen = station_view g.O.Outlet.taken g.O.Outlet.failures was in
     let came = c.in_ok-outcome.outcome in
     let answer : Result Outcome AllocError = Ok came in
-    let prospect = start_prospect (network_of c.args.net.now.program) was.node.number (view_of was.node) in
-    let event : IsPutEvent prospect c.args.round (view_of was.node) (view_of now.node) was.node.store now.node.store answer =
-    subst (λ (p : Prospect). IsPutEvent p c.args.round (view_of was.node) (view_of now.node) was.node.store now.node.store
-    answer) c.in_ok-prospect.ensures.view c.in_ok-outcome.ensures.event in
-    let noted : c.with_start-noted.result ≡ count_start (turns_of c.args.round now.turns) = search rules in
+    let told = c.in_ok-prospect.ensures.view
+    ∙ ap (λ (n : Net). start_prospect (network_of n.program) was.node.number (view_of was.node)) c.deref.ensures in
+    let prospect = start_prospect (net_lent c.args.lent.now) was.node.number (view_of was.node) in
+    let event : IsPutEvent prospect c.args.lent.now.round (view_of was.node) (view_of now.node) was.node.store now.node.store answer =
+    subst (λ (p : Prospect). IsPutEvent p c.args.lent.now.round (view_of was.node) (view_of now.node) was.node.store now.node.store
+    answer) told c.in_ok-outcome.ensures.event in
+    let noted : c.with_start-noted.result ≡ count_start (turns_of c.args.lent.now.round now.turns) = search rules in
     record {
       came = came;
       step = record {
@@ -78,11 +89,11 @@ returns-clause-come g c = λ k.
         } in view) c.carry_out.ensures.same.1.0
             ∙ seen_moved seen _ _ _ _ _ c.carry_out.ensures.same.0 (c.note.ensures
             ∙ (ap (λ (noted : RoundTurns). turns_by noted now.turns came) noted
-            ∙ ap (λ (turns : RoundTurns). turns_by (count_start (turns_of c.args.round turns)) turns came)
+            ∙ ap (λ (turns : RoundTurns). turns_by (count_start (turns_of c.args.lent.now.round turns)) turns came)
             c.carry_out.ensures.same.1.1));
       };
-      traffic = own_traffic c.args.round prospect came Started (Refused TooLarge) _ (traffic_of c.args.wire.now)
+      traffic = own_traffic c.args.lent.now.round prospect came Started (Refused TooLarge) _ (traffic_of c.args.wire.now)
           (traffic_of c.carry_out.new.wire) c.answer_by.ensures refl refl (undue_silent prospect)
-          (c.in_ok-outcome.ensures.traffic ∙ ap (λ (p : Prospect). all_sent c.args.round (map sending_of (packets_by p came))
-          (traffic_of c.args.wire.now)) c.in_ok-prospect.ensures.view);
+          (c.in_ok-outcome.ensures.traffic ∙ ap (λ (p : Prospect). all_sent c.args.lent.now.round (map sending_of (packets_by p came))
+          (traffic_of c.args.wire.now)) told);
     }

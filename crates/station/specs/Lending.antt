@@ -1,0 +1,18 @@
+-- What an event is lent, as data.
+use Rattle.std.specs.Prelude.{ℤ, List}
+use Rattle.kahn_net.specs.Syntax.{Network, network_of}
+use Rattle.protocol.specs.World.Steps.{Setting, setting_in}
+use Rattle.wire.specs.Traffic.{Traffic}
+use Rattle.station.specs.declared.lent.Lent.{Lent}
+
+-- the network that is lent
+abbrev pub net_lent : Lent → Network
+net_lent lent = network_of lent.net.now.value.program
+
+-- the inputs
+abbrev pub inputs_lent : Lent → List (List ℤ)
+inputs_lent lent = lent.inputs.now.value
+
+-- what an event finds around its station, with this in flight
+abbrev pub setting_by : Lent → Traffic → Setting
+setting_by lent traffic = setting_in (net_lent lent) (inputs_lent lent) traffic lent.round lent.room

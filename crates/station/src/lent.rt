@@ -1,0 +1,16 @@
+//! What an event is lent.
+
+use net_check::{Inputs, Net};
+use std::alloc::Global;
+use std::sync::Arc;
+
+/// What the stations of a world have in common, and each event is lent; what is in flight is lent beside it.
+#[derive(Clone, Copy)]
+pub struct Lent<'a> {
+    pub alloc: Global,
+    pub net: &'a Arc<Net>,
+    pub inputs: &'a Arc<Inputs>,
+    pub round: u64,
+    /// How many items a channel retains at most, where its share of a record isn't less.
+    pub room: usize,
+}
