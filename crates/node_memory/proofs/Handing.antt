@@ -1,6 +1,6 @@
 -- One item that is handed to an outlet.
 use Rattle.std.proofs.Common.{◌≡◌, ◌⊎◌, inl, inr, ℕ, zero, suc, ◌+◌, ◌-◌, ◌<◌, ◌≤◌, ◌++◌, List, ℤ, length, take, drop, arith, refl, sym, ap, subst, ◌∙◌}
-use Rattle.std.proofs.Common.{append-nil, length-append, Option, Some, Ok, Err}
+use Rattle.std.proofs.Common.{append-nil, length-append, Some, Ok, Err}
 use Rattle.std.proofs.lemmas.List.{length-drop, length-take-le}
 use Rattle.std.specs.Prelude.{Result, OnOk, IsErrOf}
 use Rattle.kahn_net.specs.Laws.Prefixes.{prefix_of, prefix_refl}
@@ -10,7 +10,7 @@ use Rattle.outlet.specs.Released.{released_items, CanRelease, TookSome, TookSome
 use Rattle.outlet.specs.ReleaseLaws.{released_one, took_or_not}
 use Rattle.outlet.specs.declared.fault.OutletFault.{OutletFault}
 use Rattle.outlet.specs.declared.fault.OutletFault.TheVariants.{Failed, NoMemory}
-use Rattle.retained.specs.LogState.{LogState, IsLogOf, item_at, items_at, log_end}
+use Rattle.retained.specs.LogState.{LogState, IsLogOf, item_at, items_at}
 use Rattle.protocol.specs.Node.Trimming.{TookNext}
 use Rattle.node_memory.specs.Handing.{IsHandedTo}
 
