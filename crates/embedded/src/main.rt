@@ -3,7 +3,7 @@
 #![tactic(auto)]
 
 ghost use Rattle.std.specs.Prelude.{◌*◌, ◌^◌, ◌<◌};
-ghost use Rattle.sector_disk.specs.declared.TheConstants.{SECTOR_BYTES};
+ghost use Rattle.protocol.specs.Node.Common.{SECTOR_BYTES};
 
 use gate_cell::SplitCell;
 use net_check::{bind, check};

@@ -2,8 +2,7 @@
 use Rattle.std.proofs.Common.{◌≡◌, ◌∙◌, sym, ap, ℕ, ◌+◌, ◌<◌, List, ℤ, ◌∷◌, ◌++◌, drop, get_or, length, append_assoc}
 use Rattle.std.proofs.lemmas.List.{at_drop_more}
 use Rattle.net_text.specs.Names.{NameTree}
-use Rattle.kahn_net.specs.declared.program.Channel.{Channel}
-use Rattle.kahn_net.specs.declared.program.Port.{Port}
+use Rattle.protocol.specs.Node.Common.{Channel, Port}
 use Rattle.kahn_program.specs.Report.{one_if_output, output_count, output_line, output_lines, next_line, line_if_output}
 
 pub count_at : (cs : List Channel) (i : ℕ) (d : Channel) (port : Port) → i < length cs

@@ -7,33 +7,21 @@ use Rattle.std.proofs.lemmas.Bool.{and_parts, eq-eqb, eqb-true, lt-ltb}
 use Rattle.std.proofs.lemmas.List.{length-set}
 use Rattle.std.proofs.lemmas.List.Elements.{All-from_recursion}
 use Rattle.std.proofs.lemmas.Option.{slice_get_within}
-use Rattle.kahn_net.specs.Syntax.{Network}
-use Rattle.kahn_net.specs.declared.limits.TheConstants.{MAX_NODES}
-use Rattle.record.specs.RecordView.{RecordView}
-use Rattle.ckpt_store.specs.Spelling.{fits_in}
-use Rattle.datagram.specs.PacketText.{IsPacket}
-use Rattle.gate_cell.specs.SplitLayout.{slot_room_on}
-use Rattle.gate_cell.specs.declared.TheConstants.{SECTORS}
-use Rattle.wire.specs.declared.queue.Flight.{Flight}
-use Rattle.wire.specs.Queue.{is_due}
-use Rattle.wire.specs.Traffic.{flights_to}
-use Rattle.protocol.specs.Node.Beginning.{live_in, may_start}
-use Rattle.protocol.specs.Node.Choosing.{node_job}
-use Rattle.protocol.specs.Node.Modes.{is_down, is_none, next_number}
-use Rattle.protocol.specs.Node.NodeView.{NodeView, running_of}
-use Rattle.protocol.specs.Node.Verdicts.{may_decide}
-use Rattle.protocol.specs.World.Choice.{choice, choice_of, deliver_or, due_place, flying_to, has_more, has_turn, may_recover}
+use Rattle.protocol.specs.Node.Common.{Network, MAX_NODES, RecordView, fits_in, IsPacket, slot_room_on, SECTORS}
+use Rattle.protocol.specs.Node.Common.{live_in, may_start, node_job, is_down, is_none, next_number, NodeView}
+use Rattle.protocol.specs.Node.Common.{running_of, may_decide}
+use Rattle.protocol.specs.World.Common.{Flight, is_due, flights_to, choice, EventView, ByNode, Release, event_node}
+use Rattle.protocol.specs.World.Common.{WorldInvariant, ReplyView, StationView, WorldView, Setting, IsStep, IsActOf}
+use Rattle.protocol.specs.World.Common.{IsPlanned, next_release, moved_to, round_after, setting_of, traffic_after}
+use Rattle.protocol.specs.World.Common.{turns_of}
+use Rattle.protocol.specs.World.Choice.{choice_of, deliver_or, due_place, flying_to, has_more, has_turn, may_recover}
 use Rattle.protocol.specs.World.Choice.{own_choice}
-use Rattle.protocol.specs.World.EventView.{EventView, ByNode, Release, event_node}
 use Rattle.protocol.specs.declared.event.Deed.TheVariants.{Crash, Deliver, Idle}
 use Rattle.protocol.specs.declared.event.Deed.TheVariants as event
-use Rattle.protocol.specs.World.Invariant.{WorldInvariant}
-use Rattle.protocol.specs.World.ReplyView.{ReplyView}
 use Rattle.protocol.specs.declared.reply.Reply.TheVariants.{Granted, Idled, NotDue}
-use Rattle.protocol.specs.World.StationView.{StationView}
-use Rattle.protocol.specs.World.Steps.{WorldView, Setting, IsStep, IsActAt, IsActOf, IsPlanned, are_done_with, next_release}
-use Rattle.protocol.specs.World.Steps.{idle_plan, moved_to, round_after, setting_of, traffic_after}
-use Rattle.protocol.specs.World.Turns.{count_idle, no_turns, turns_of}
+use Rattle.protocol.specs.World.Steps.{IsActAt, are_done_with}
+use Rattle.protocol.specs.World.Steps.{idle_plan}
+use Rattle.protocol.specs.World.Turns.{count_idle, no_turns}
 use Rattle.protocol_laws.specs.World.OutputLaws.{map_at, set_cases, set_same}
 use Rattle.protocol.specs.declared.limits.TheConstants.{MAX_GRANTS}
 use Rattle.protocol.specs.declared.outcome.Outcome.{Outcome}

@@ -6,30 +6,20 @@ use Rattle.std.specs.Prelude.{Result, Ok, Err, IfOk, IfSome, slice_get, IsTrue, 
 use Rattle.std.specs.Io.KnownBytes.{Appends}
 use Rattle.std.proofs.Math.Logic.{∥∥₁_map}
 use Rattle.std.proofs.Math.Seq.{drop-cons}
-use Rattle.kahn_net.specs.Streams.{history_of, IsPrefix}
-use Rattle.kahn_net.specs.Syntax.{Network, network_of}
-use Rattle.kahn_net.specs.Approximations.{approximation}
-use Rattle.kahn_net.specs.declared.program.Channel.{Channel}
-use Rattle.protocol.specs.World.Sound.{goes_outside, output_channels}
-use Rattle.protocol.specs.World.Steps.{WorldView}
+use Rattle.protocol.specs.Node.Common.{history_of, IsPrefix, Network, network_of, approximation, Channel, Port}
+use Rattle.protocol.specs.Node.Common.{Outside, Process, Net, node_count}
+use Rattle.protocol.specs.World.Common.{goes_outside, output_channels, WorldView, output_of, outputs_of}
+use Rattle.protocol.specs.World.Common.{WorldInvariant, OutputView, are_quiet, StationView, released_of}
 use Rattle.protocol_laws.specs.World.OutputLaws.{channel_there, map_at}
 use Rattle.protocol_laws.specs.World.ShownLaws.{output_shown}
 use Rattle.protocol_laws.specs.World.PrefixLaws.{released_prefix}
-use Rattle.protocol.specs.World.Invariant.{output_of, outputs_of, WorldInvariant}
-use Rattle.protocol.specs.World.OutputView.{OutputView}
-use Rattle.protocol.specs.World.Quiet.{are_quiet, AreWhole}
-use Rattle.protocol.specs.World.StationView.{StationView}
-use Rattle.protocol.specs.World.Released.{released_of}
-use Rattle.kahn_net.specs.declared.program.Port.{Port}
-use Rattle.kahn_net.specs.declared.program.Port.TheVariants.{Outside, Process}
+use Rattle.protocol.specs.World.Quiet.{AreWhole}
 use Rattle.std.specs.List.{list_all}
-use Rattle.net_check.specs.declared.net.Net.{Net}
 use Rattle.kahn_program.specs.Report.{one_if_output, output_count, report_text}
 use Rattle.kahn_program.specs.Readings.{IsNetOf, AreInputsOf}
 use Rattle.kahn_program.specs.Statuses.{status_of_run}
 use Rattle.kahn_program.specs.Turning.{cut_at}
 use Rattle.fail_script.specs.declared.act.ScriptLine.{ScriptLine}
-use Rattle.kahn_net.specs.Nodes.{node_count}
 use Rattle.replay.specs.declared.kept.ScriptedEvent.{ScriptedEvent}
 use Rattle.kahn_program.specs.Runs.{released_streams, first_items, is_whole, run_text, IsRun, IsEnd, IsReport}
 use Rattle.kahn_program.specs.Runs.{IsReportOf, IsReported, IsScriptedReport, IsToldOf, HasWritten}

@@ -5,44 +5,33 @@ use Rattle.std.specs.List.{AllByRecursion}
 use Rattle.std.specs.Prelude.{replicate, IfOk, IsSome, Result}
 use Rattle.std.proofs.Math.Logic.{∥∥₁_map}
 use Rattle.replay.proofs.Replays.{replays_stay}
-use Rattle.kahn_net.specs.Nodes.{node_count}
-use Rattle.kahn_net.specs.Syntax.{Network}
-use Rattle.kahn_net.specs.Valid.{IsValid}
-use Rattle.gate_cell.specs.SplitLayout.{slot_room_on}
+use Rattle.protocol.specs.Node.Common.{node_count, Network, IsValid, slot_room_on, StoreFault, opening_record}
+use Rattle.protocol.specs.Node.Common.{RecordView, fits_in, Job, SECTORS}
 use Rattle.ckpt_codec.specs.declared.lengths.TheConstants.{MAX_RECORD_BYTES}
-use Rattle.ckpt_store.specs.declared.fault.StoreFault.{StoreFault}
 use Rattle.ckpt_store.specs.declared.fault.StoreFault.TheVariants.{NoMemory, Device, TooLarge, Reopen, Truncated}
 use Rattle.ckpt_store.specs.declared.fault.StoreFault.TheVariants.{Version, Malformed, HoldsOther, PastNumber, NotHeld}
 use Rattle.ckpt_store.specs.declared.fault.StoreFault.TheVariants.{Unsettled, Spent}
-use Rattle.protocol.specs.Node.Opening.{opening_record}
 use Rattle.protocol_laws.specs.Node.PlaceLaws.{nodes_few}
 use Rattle.protocol_laws.specs.Node.SizeLaws.{opening_within}
 use Rattle.protocol_laws.specs.World.RoomLaws.{bounded_image}
-use Rattle.record.specs.RecordView.{RecordView}
 use Rattle.gate_cell.specs.declared.cell.StableCell.{Ghosts as CellWords}
 use Rattle.gate_cell.specs.declared.slot_cell.SlotCell.{Ghosts as SlotWords}
-use Rattle.ckpt_store.specs.Spelling.{fits_in}
 use Rattle.std.specs.declared.alloc.Global.{Global}
 use Rattle.std.specs.declared.sync.Arc.{Arc}
-use Rattle.proc_step.specs.declared.job.Job.{Job}
-use Rattle.wire.specs.Traffic.{opening_traffic}
-use Rattle.protocol.specs.World.OpeningWorld.{opening_outlet, opening_stations, opening_world}
+use Rattle.protocol.specs.World.Common.{opening_traffic, opening_world, output_channels, OutletView, WorldView}
+use Rattle.protocol.specs.World.Common.{with_room, ReplyView}
+use Rattle.protocol.specs.World.OpeningWorld.{opening_outlet, opening_stations}
 use Rattle.world.specs.OpeningWorld.{IsUnused}
-use Rattle.protocol.specs.World.Sound.{output_channels}
-use Rattle.protocol.specs.World.StationView.{OutletView}
 use Rattle.station.specs.StationView.{outlet_view, outlet_views}
-use Rattle.protocol.specs.World.Steps.{WorldView, with_room}
 use Rattle.protocol.specs.declared.limits.TheConstants.{DEFAULT_ROOM}
 use Rattle.replay.specs.Armed.{ArmedEvent, ArmedView, IsArmedStep}
 use Rattle.replay.specs.Replay.{Happening, LeadsTo}
 use Rattle.replay.specs.declared.kept.ScriptedEvent.{ScriptedEvent}
 use Rattle.replay.specs.declared.kept.RunEvent.{RunEvent}
-use Rattle.protocol.specs.World.ReplyView.{ReplyView}
 use Rattle.station.specs.ReplyView.{reply_view}
 use Rattle.world.specs.WorldView.{capacities, rooms}
 use Rattle.station.specs.StationView.{station_view}
 use Rattle.world.specs.OpeningWorld.{opening_length, HasNoRoom, IsOpeningRefusal, IsWorldRefusal}
-use Rattle.gate_cell.specs.declared.TheConstants.{SECTORS}
 use Rattle.station.specs.ReplyView.{Reply}
 use Rattle.protocol.specs.declared.reply.Reply.TheVariants.{Granted}
 use Rattle.station.specs.declared.output.Output.{Output}

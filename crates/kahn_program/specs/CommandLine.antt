@@ -7,7 +7,7 @@ use Rattle.clap.specs.declared.builder.value_parser.ValueParser.TheVariants.{Uns
 use Rattle.kahn_program.specs.declared.asked.Options.{Options}
 use Rattle.kahn_program.specs.declared.asked.TheConstants.{MAX_ROUNDS, MAX_ITEMS, MAX_APPROXIMATION}
 use Rattle.protocol.specs.declared.limits.TheConstants.{MIN_ROOM}
-use Rattle.ckpt_codec.specs.declared.lengths.TheConstants.{MAX_RETAINED_ITEMS}
+use Rattle.protocol.specs.Node.Common.{MAX_RETAINED_ITEMS}
 
 -- an argument that has to be there
 abbrev pub required : Text → Rule

@@ -11,11 +11,9 @@ use Rattle.net_text.specs.declared.fault.TextFault.{TextFault}
 use Rattle.net_check.specs.Binding.{Binds, HasInputFault}
 use Rattle.net_check.specs.NetFaults.{HasFault}
 use Rattle.net_check.specs.Resolution.{Resolves}
-use Rattle.kahn_net.specs.Syntax.{Network, network_of}
-use Rattle.kahn_net.specs.Valid.{IsValid}
+use Rattle.protocol.specs.Node.Common.{Network, network_of, IsValid, Net, node_count}
 use Rattle.net_check.specs.declared.fault.NetFault.{NetFault}
 use Rattle.net_check.specs.declared.fault.NetFault.TheVariants as fault
-use Rattle.net_check.specs.declared.net.Net.{Net}
 use Rattle.fail_script.specs.Faults as script
 use Rattle.fail_script.specs.Lines.{IsScriptFault}
 use Rattle.fail_script.specs.declared.fault.ScriptFault.{ScriptFault}
@@ -25,7 +23,6 @@ use Rattle.kahn_program.specs.declared.failure.Failure.TheVariants.{NoMemory, Ot
 use Rattle.kahn_program.specs.Failures.{failure_line, status_of}
 use Rattle.kahn_program.specs.Runnable.{IsApproximationFailure, IsStoreFailure}
 use Rattle.kahn_program.specs.declared.asked.Options.{Options}
-use Rattle.kahn_net.specs.Nodes.{node_count}
 use Rattle.kahn_program.specs.declared.failure.Source.{Source}
 use Rattle.kahn_program.specs.declared.failure.Source.TheVariants as source
 

@@ -1,15 +1,10 @@
 -- Nodes that let their turns pass, and would do so again.
 use Rattle.std.specs.Prelude.{◌≡◌, ℕ, ℤ, Bool, true, false, List, length, Option, Some, None, slice_get, slice_set, replicate, if◌then◌else◌}
-use Rattle.kahn_net.specs.Syntax.{Network}
-use Rattle.kahn_net.specs.declared.limits.TheConstants.{MAX_NODES}
+use Rattle.protocol.specs.Node.Common.{Network, MAX_NODES}
 use Rattle.protocol.specs.World.Choice.{may_recover, own_choice}
-use Rattle.protocol.specs.World.EventView.{EventView, ByNode}
+use Rattle.protocol.specs.World.Common.{EventView, ByNode, ReplyView, StationView, WorldView, turns_of}
 use Rattle.protocol.specs.declared.event.Deed.TheVariants.{Idle}
-use Rattle.protocol.specs.World.ReplyView.{ReplyView}
 use Rattle.protocol.specs.declared.reply.Reply.TheVariants.{Granted}
-use Rattle.protocol.specs.World.StationView.{StationView}
-use Rattle.protocol.specs.World.Steps.{WorldView}
-use Rattle.protocol.specs.World.Turns.{turns_of}
 
 -- The node of this number, if there is one, has let a turn pass in this round, and would do so again if no packet came to
 -- it. (Of so many nodes, in a world of this network, these inputs and this room.)

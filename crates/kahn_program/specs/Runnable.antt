@@ -1,13 +1,11 @@
 -- Why a network on its inputs comes to no report.
 use Rattle.std.specs.Prelude.{◌≡◌, ◌⊎◌, ℕ, ℤ, Bool, false, List}
 use Rattle.std.specs.List.{AllByRecursion}
-use Rattle.kahn_net.specs.Syntax.{Network}
-use Rattle.sector_disk.specs.MemDisk.{failures_of, sectors_of}
+use Rattle.protocol.specs.Node.Common.{Network, sectors_of, SECTORS, StoreFault}
+use Rattle.sector_disk.specs.MemDisk.{failures_of}
 use Rattle.sector_disk.specs.declared.memory.MemDisk.{MemDisk}
-use Rattle.gate_cell.specs.declared.TheConstants.{SECTORS}
 use Rattle.stream_eq.specs.Limits.{HasLongHistory}
 use Rattle.ckpt_store.specs.StoreFault.{refusal_number}
-use Rattle.ckpt_store.specs.declared.fault.StoreFault.{StoreFault}
 use Rattle.ckpt_store.specs.declared.fault.StoreFault.TheVariants as fault
 use Rattle.run_log.specs.declared.answer.HubFault.{HubFault}
 use Rattle.run_log.specs.declared.answer.HubFault.TheVariants as hub

@@ -2,18 +2,11 @@
 use Rattle.std.specs.Prelude.{◌≡◌, ◌↔◌, ℕ, Bool, true, false, IsTrue, ℤ}
 use Rattle.std.specs.Prelude.{List, Option, Some, None, IfSome, length, map, take, slice_get}
 use Rattle.std.specs.Io.KnownBytes.{Appends}
-use Rattle.kahn_net.specs.Streams.{history_of, IsPrefix}
-use Rattle.kahn_net.specs.Nodes.{node_count}
-use Rattle.kahn_net.specs.Syntax.{Network, network_of}
-use Rattle.kahn_net.specs.Approximations.{approximation, IsReached, IsSolution}
-use Rattle.net_check.specs.declared.net.Net.{Net}
-use Rattle.protocol.specs.World.Sound.{output_channels}
-use Rattle.protocol.specs.World.Quiet.{are_quiet}
-use Rattle.protocol.specs.World.Released.{released_of}
-use Rattle.protocol.specs.World.StationView.{StationView}
+use Rattle.protocol.specs.Node.Common.{history_of, IsPrefix, node_count, Network, network_of, approximation, Net}
+use Rattle.kahn_net.specs.Approximations.{IsReached, IsSolution}
+use Rattle.protocol.specs.World.Common.{output_channels, are_quiet, released_of, StationView, WorldView}
 use Rattle.kahn_program.specs.Readings.{IsNetOf, AreInputsOf}
 use Rattle.kahn_program.specs.Report.{report_text}
-use Rattle.protocol.specs.World.Steps.{WorldView}
 use Rattle.fail_script.specs.declared.act.ScriptLine.{ScriptLine}
 use Rattle.replay.specs.Replay.{Happening, LeadsTo}
 use Rattle.replay.specs.declared.kept.ScriptedEvent.{ScriptedEvent}

@@ -2,26 +2,13 @@
 use Rattle.std.specs.Prelude.{◌≡◌, ◌==◌, ◌||◌, ◌⊎◌, ◌≤◌, ℕ, zero, suc, ◌+◌, ◌%◌, nat_le, nat_lt, if◌then◌else◌, Bool, true, false, ℤ, List}
 use Rattle.std.specs.Prelude.{[], length, map, min, max, replicate, Option, Some, None, is_some, slice_get}
 use Rattle.std.specs.List.{list_all}
-use Rattle.kahn_net.specs.Nodes.{node_count}
-use Rattle.kahn_net.specs.Syntax.{Network}
-use Rattle.gate_cell.specs.SplitLayout.{slot_room_on}
-use Rattle.record.specs.RecordView.{RecordView}
-use Rattle.ckpt_store.specs.Spelling.{fits_in}
-use Rattle.protocol.specs.World.Choice.{choice}
-use Rattle.protocol.specs.World.DoneView.{DoneView}
-use Rattle.protocol.specs.World.EventView.{Install}
-use Rattle.protocol.specs.World.OpeningWorld.{opening_world}
-use Rattle.protocol.specs.World.Quiet.{are_quiet}
-use Rattle.protocol.specs.World.Released.{released_of}
-use Rattle.protocol.specs.World.ReplyView.{ReplyView}
+use Rattle.protocol.specs.Node.Common.{node_count, Network, slot_room_on, RecordView, fits_in, MAX_RETAINED_ITEMS}
+use Rattle.protocol.specs.Node.Common.{SECTORS}
+use Rattle.protocol.specs.World.Common.{choice, DoneView, Install, opening_world, are_quiet, released_of, ReplyView}
+use Rattle.protocol.specs.World.Common.{output_channels, OutletView, StationView, WorldView, with_room}
 use Rattle.protocol.specs.declared.reply.Reply.TheVariants.{Granted}
-use Rattle.protocol.specs.World.Sound.{output_channels}
-use Rattle.protocol.specs.World.StationView.{OutletView, StationView}
-use Rattle.protocol.specs.World.Steps.{WorldView, with_room}
 use Rattle.protocol.specs.World.Still.{given_room}
 use Rattle.protocol.specs.declared.limits.TheConstants.{MIN_ROOM}
-use Rattle.ckpt_codec.specs.declared.lengths.TheConstants.{MAX_RETAINED_ITEMS}
-use Rattle.gate_cell.specs.declared.TheConstants.{SECTORS}
 use Rattle.replay.specs.Armed.{ArmedEvent, ArmedView, IsArmedStep, OfWorld, armed_at_first, with_world}
 use Rattle.kahn_program.specs.declared.turning.TheConstants.{MAX_TURNS}
 use Rattle.replay.specs.Plain.{run_view}

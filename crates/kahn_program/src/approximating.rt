@@ -1,13 +1,10 @@
 //! An approximation of a network's histories, and its report.
 
 ghost use Rattle.std.specs.Prelude.{◌≡◌, ◌≤◌, ◌++◌, ◌∷◌, [], if◌then◌else◌, length, map, IfErr, IfOk, OnOk};
-ghost use Rattle.kahn_net.specs.Fits.{Fits};
-ghost use Rattle.kahn_net.specs.Streams.{history_of};
-ghost use Rattle.kahn_net.specs.Syntax.{network_of};
-ghost use Rattle.protocol.specs.World.Sound.{goes_outside, output_channels};
+ghost use Rattle.protocol.specs.Node.Common.{Fits, history_of, network_of, MAX_CHANNELS};
+ghost use Rattle.protocol.specs.World.Common.{goes_outside, output_channels};
 ghost use Rattle.kahn_program.specs.Runnable.{IsApproximationFailure};
 ghost use Rattle.kahn_program.specs.Runs.{IsApproximated};
-ghost use Rattle.kahn_net.specs.declared.limits.TheConstants.{MAX_CHANNELS};
 
 use crate::failure::Failure;
 use crate::reporting::{Stream, report};

@@ -2,10 +2,8 @@
 
 ghost use Rattle.std.specs.Prelude.{◌≡◌, ◌≤◌, if◌then◌else◌, true, nat_le, length, map};
 ghost use Rattle.std.specs.List.{list_all};
-ghost use Rattle.kahn_net.specs.declared.limits.TheConstants.{MAX_CHANNELS, MAX_NODES};
-ghost use Rattle.protocol.specs.World.Quiet.{are_quiet};
-ghost use Rattle.protocol.specs.World.Released.{released_of};
-ghost use Rattle.protocol.specs.World.Sound.{goes_outside, output_channels};
+ghost use Rattle.protocol.specs.Node.Common.{MAX_CHANNELS, MAX_NODES};
+ghost use Rattle.protocol.specs.World.Common.{are_quiet, released_of, goes_outside, output_channels};
 ghost use Rattle.world.specs.WholeView.{world_of};
 ghost use Rattle.kahn_program.specs.Turning.{cut_at, is_over};
 

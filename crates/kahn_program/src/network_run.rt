@@ -1,17 +1,12 @@
 //! A network's run, and its report.
 
 ghost use Rattle.std.specs.Prelude.{◌≡◌, ◌*◌, ◌^◌, ◌<◌, ◌≤◌, ◌++◌, ◌∷◌, [], ℤ, Bool, false, if◌then◌else◌, List, length, map, replicate, IfErr, IfOk, IsTrue, OnOk};
-ghost use Rattle.kahn_net.specs.Fits.{Fits};
-ghost use Rattle.kahn_net.specs.Nodes.{node_count};
-ghost use Rattle.kahn_net.specs.Syntax.{network_of};
-ghost use Rattle.kahn_net.specs.declared.limits.TheConstants.{MAX_CHANNELS, MAX_NODES};
+ghost use Rattle.protocol.specs.Node.Common.{Fits, node_count, network_of, MAX_CHANNELS, MAX_NODES, sectors_of};
+ghost use Rattle.protocol.specs.Node.Common.{SECTOR_BYTES, SECTORS};
 ghost use Rattle.std.specs.List.{AllByRecursion};
-ghost use Rattle.sector_disk.specs.MemDisk.{failures_of, sectors_of};
-ghost use Rattle.sector_disk.specs.declared.TheConstants.{SECTOR_BYTES};
-ghost use Rattle.gate_cell.specs.declared.TheConstants.{SECTORS};
-ghost use Rattle.protocol.specs.World.Quiet.{AreWhole, are_quiet};
-ghost use Rattle.protocol.specs.World.Released.{released_of};
-ghost use Rattle.protocol.specs.World.Sound.{goes_outside, output_channels};
+ghost use Rattle.sector_disk.specs.MemDisk.{failures_of};
+ghost use Rattle.protocol.specs.World.Common.{are_quiet, released_of, goes_outside, output_channels};
+ghost use Rattle.protocol.specs.World.Quiet.{AreWhole};
 ghost use Rattle.replay.specs.Replay.{Happening, LeadsTo};
 ghost use Rattle.world.specs.WholeView.{world_of};
 ghost use Rattle.world.specs.WorldView.{capacities, rooms};

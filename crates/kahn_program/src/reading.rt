@@ -1,8 +1,7 @@
 //! The texts that the program reads, from any reader.
 
 ghost use Rattle.std.specs.Prelude.{◌≡◌, ℕ, Err, Option, IfErr, IfOk, IfSome, IsNone, IsOkUnless, IsUtf8, List, Some, option_and_then, string_bytes};
-ghost use Rattle.kahn_net.specs.Fits.{Fits};
-ghost use Rattle.kahn_net.specs.Syntax.{network_of};
+ghost use Rattle.protocol.specs.Node.Common.{Fits, network_of};
 ghost use Rattle.kahn_program.specs.Readings.{AreInputsOf, IsInputsFailure, IsInputsTextFailure, IsNetFailure, IsNetOf, IsNetTextFailure, IsOutside, IsReadFailure, IsTextOfInputs, IsTextOfNet, net_failure_of, text_failure_of};
 ghost use Rattle.fail_script.specs.Lines.{IsScript};
 ghost use Rattle.fail_script.specs.declared.act.ScriptLine.{ScriptLine as LineValue};

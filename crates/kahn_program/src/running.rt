@@ -1,9 +1,7 @@
 //! The program behind its words.
 
 ghost use Rattle.std.specs.Prelude.{◌≡◌, ◌⊎◌, ◌≤◌, Bool, IfErr, IfOk, option_and_then};
-ghost use Rattle.kahn_net.specs.Fits.{Fits};
-ghost use Rattle.kahn_net.specs.declared.limits.TheConstants.{MAX_NODES};
-ghost use Rattle.kahn_net.specs.Syntax.{network_of};
+ghost use Rattle.protocol.specs.Node.Common.{Fits, MAX_NODES, network_of};
 ghost use Rattle.kahn_program.specs.Readings.{HasTold, IsReportFailure, IsRunFailure, IsRunOrScriptFailure, IsScriptFailureOf};
 ghost use Rattle.kahn_program.specs.Runs.{HasWritten, IsReportOf, IsReported, IsScriptedReport};
 ghost use Rattle.kahn_program.specs.Scripts.{AreLinesOf};

@@ -2,8 +2,8 @@
 
 ghost use Rattle.std.specs.Prelude.{◌≡◌, ◌==◌, ◌<◌, ◌≤◌, ◌+◌, ℕ, if◌then◌else◌, length, IfOk, IsSome, OnOk, slice_get};
 ghost use Rattle.std.specs.List.{AllByRecursion};
-ghost use Rattle.kahn_net.specs.declared.limits.TheConstants.{MAX_CHANNELS, MAX_NODES};
-ghost use Rattle.protocol.specs.World.Sound.{output_channels};
+ghost use Rattle.protocol.specs.Node.Common.{MAX_CHANNELS, MAX_NODES};
+ghost use Rattle.protocol.specs.World.Common.{output_channels};
 ghost use Rattle.run_log.specs.ArmedWorlds.{armed_view};
 ghost use Rattle.protocol.specs.World.Still.{given_room};
 ghost use Rattle.replay.specs.Armed.{with_world};

@@ -3,7 +3,7 @@
 ghost use Rattle.std.specs.Prelude.{◌≡◌, ◌∷◌, [], IfErr, IfOk, codes, false, map, option_map, string_bytes};
 ghost use Rattle.clap.specs.Words.{HasKind, app_of, fault_of, first_value, found_of, matches_of, one_text, rule_of};
 ghost use Rattle.clap.specs.declared.error.kind.ErrorKind.TheVariants as kind;
-ghost use Rattle.ckpt_codec.specs.declared.lengths.TheConstants.{MAX_RETAINED_ITEMS};
+ghost use Rattle.protocol.specs.Node.Common.{MAX_RETAINED_ITEMS};
 ghost use Rattle.protocol.specs.declared.limits.TheConstants.{MIN_ROOM};
 ghost use Rattle.kahn_program.specs.CommandLine.{IsAsked, IsNumber, by_default, file_option, flag, kahnrun, number, required};
 

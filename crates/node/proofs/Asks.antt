@@ -6,27 +6,17 @@ use Rattle.std.specs.List.{list_all}
 use Rattle.std.proofs.lemmas.Bool.{le-ltb, eqb-true}
 use Rattle.std.proofs.lemmas.List.Elements.{All-cons, All-nil}
 use Rattle.std.proofs.lemmas.Option.{slice_get_within}
-use Rattle.datagram.specs.declared.packet.Need.{Need}
-use Rattle.datagram.specs.declared.packet.Body.{Body}
+use Rattle.protocol.specs.Node.Common.{Need, Body, Network, IsValid, MAX_CHANNELS, MAX_COUNT, Channel, ImageView}
+use Rattle.protocol.specs.Node.Common.{sent_of, highest_seen, with_tentative, RecordView, Tentative, are_nodes}
+use Rattle.protocol.specs.Node.Common.{names_run, AskAnswer, Silent, CoveredBefore, TookBefore, TakesNow, Declines}
+use Rattle.protocol.specs.Node.Common.{answer_to_ask, holds, with_current_as, comes_in, is_incoming, is_outgoing}
+use Rattle.protocol.specs.Node.Common.{is_down, ModeView, Down, InDoubt, Runs}
 use Rattle.datagram.specs.declared.packet.Body.TheVariants.{Took}
 use Rattle.datagram.specs.declared.packet.Reason.TheVariants.{Behind}
-use Rattle.kahn_net.specs.Syntax.{Network}
-use Rattle.kahn_net.specs.Valid.{IsValid}
-use Rattle.kahn_net.specs.declared.limits.TheConstants.{MAX_CHANNELS, MAX_COUNT}
-use Rattle.kahn_net.specs.declared.program.Channel.{Channel}
-use Rattle.record.specs.ImageView.{ImageView}
-use Rattle.record.specs.Ends.{sent_of}
-use Rattle.record.specs.Moves.{highest_seen, with_tentative}
-use Rattle.record.specs.RecordView.{RecordView}
-use Rattle.record.specs.declared.record.Tentative.{Tentative}
 use Rattle.ckpt_core.specs.AskView.{mode_with}
 use Rattle.ckpt_store.specs.Refusals.{is_full, is_other_held, refusal_to_take}
-use Rattle.protocol.specs.Node.Addresses.{are_nodes, names_run}
-use Rattle.protocol.specs.Node.Answering.{AskAnswer, Silent, CoveredBefore, TookBefore, TakesNow, Declines, answer_above}
-use Rattle.protocol.specs.Node.Answering.{answer_of_holder, answer_to_ask, holds, is_past, with_current_as}
-use Rattle.protocol.specs.Node.Layout.{comes_in, is_incoming, is_outgoing}
-use Rattle.protocol.specs.Node.Modes.{is_down}
-use Rattle.protocol.specs.Node.NodeView.{ModeView, Down, InDoubt, Runs}
+use Rattle.protocol.specs.Node.Answering.{answer_above}
+use Rattle.protocol.specs.Node.Answering.{answer_of_holder, is_past}
 use Rattle.node.specs.Said.{current_in}
 use Rattle.node.proofs.Starts.{all_false, both_of, none_other}
 

@@ -1,10 +1,8 @@
 -- What a node does that is told that the sender of a channel restored an image depends on no more of its memory than its
 -- inboxes.
 use Rattle.std.proofs.Common.{◌≡◌, ℕ, Option, Some, None, refl}
-use Rattle.record.specs.RecordView.{RecordView}
-use Rattle.record.specs.declared.record.Tentative.{Tentative}
+use Rattle.protocol.specs.Node.Common.{RecordView, Tentative, ModeView, Down, InDoubt, Runs}
 use Rattle.protocol.specs.Node.GoingBack.{answer_to_undone, answer_with}
-use Rattle.protocol.specs.Node.NodeView.{ModeView, Down, InDoubt, Runs}
 use Rattle.node.specs.Said.{inboxes_in}
 use Rattle.rollback_core.specs.RestoredView.{mode_with}
 

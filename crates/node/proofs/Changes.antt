@@ -1,6 +1,6 @@
 -- What every change of a record leaves alone.
 use Rattle.std.proofs.Common.{◌≡◌, length, length-set, refl}
-use Rattle.record.specs.RecordView.{RecordView}
+use Rattle.protocol.specs.Node.Common.{RecordView}
 use Rattle.node.specs.Planned.{changed}
 use Rattle.node.specs.declared.plan.Change.{Change}
 use Rattle.node.specs.declared.plan.Change.TheVariants as change_is

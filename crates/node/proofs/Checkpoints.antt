@@ -2,22 +2,15 @@
 use Rattle.std.proofs.Common.{◌≡◌, ◌⊎◌, inl, inr, ⊎_elim, ℕ, ◌<◌, ◌≤◌, Bool, true, false, cond, length, Option, Some}
 use Rattle.std.proofs.Common.{None, Result, Ok, Err, refl, sym, ◌∙◌, ap, subst}
 use Rattle.std.specs.Prelude.{IsTrue, IsErrOf, OnOk, OnErr, IfOk, IfErr, IsSome}
-use Rattle.sector_disk.specs.Clock.{Only}
+use Rattle.protocol.specs.Node.Common.{Only, Whole, RecordView, fits_in, cell_in, known_in, record_in, Changes, Store}
+use Rattle.protocol.specs.Node.Common.{StoreFault, NodeView, is_down, crashed, restart_after, Plan, Prospect, Planned}
+use Rattle.protocol.specs.Node.Common.{IsCarriedOut, IsMade, IsPut, next_record, room_for}
 use Rattle.gate_cell.specs.declared.cell.StableCell.{Ghosts as CellWords}
 use Rattle.gate_cell.specs.declared.slot_cell.SlotCell.{Ghosts as SlotWords}
-use Rattle.gate_cell.specs.Whole.{Whole}
-use Rattle.record.specs.RecordView.{RecordView}
-use Rattle.ckpt_store.specs.Spelling.{fits_in, IsLengthTold}
+use Rattle.ckpt_store.specs.Spelling.{IsLengthTold}
 use Rattle.ckpt_store.specs.StoreFault.{HasFailures, IsOfPut}
-use Rattle.ckpt_store.specs.StoreView.{cell_in, known_in, record_in, Changes}
-use Rattle.ckpt_store.specs.declared.store.Store.{Store}
-use Rattle.ckpt_store.specs.declared.fault.StoreFault.{StoreFault}
 use Rattle.ckpt_store.specs.declared.fault.StoreFault.TheVariants as fault
-use Rattle.protocol.specs.Node.NodeView.{NodeView}
 use Rattle.node.specs.NodeView.{node_view, mode_view}
-use Rattle.protocol.specs.Node.Modes.{is_down, crashed}
-use Rattle.protocol.specs.Node.ArmedRestarts.{restart_after}
-use Rattle.protocol.specs.Node.Plans.{Plan, Prospect, Planned, IsCarriedOut, IsMade, IsPut, next_record, room_for}
 use Rattle.node.specs.StoredView.{HasRecord, LeavesDevice, LeavesNext, IsCrashed, has_failed, put_outcome, IsAnswer}
 use Rattle.node.specs.declared.state.NodeState.{NodeState}
 use Rattle.protocol.specs.declared.outcome.Outcome.{Outcome}

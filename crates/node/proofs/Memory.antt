@@ -2,15 +2,9 @@
 use Rattle.std.proofs.Common.{◌≡◌, inl, ℕ, Bool, true, false, cond, Result, Ok, Err, refl, sym, ap, subst, arith}
 use Rattle.std.specs.Result.{IsErr}
 use Rattle.gate_cell.specs.Setup.{setup_stays}
-use Rattle.gate_cell.specs.Whole.{Whole}
+use Rattle.protocol.specs.Node.Common.{Whole, RecordView, fits_in, cell_in, Store, NodeView, Plan, Prospect, Planned}
 use Rattle.gate_cell.specs.declared.cell.StableCell.{Ghosts as CellWords}
 use Rattle.gate_cell.specs.declared.slot_cell.SlotCell.{Ghosts as SlotWords}
-use Rattle.record.specs.RecordView.{RecordView}
-use Rattle.ckpt_store.specs.Spelling.{fits_in}
-use Rattle.ckpt_store.specs.StoreView.{cell_in}
-use Rattle.ckpt_store.specs.declared.store.Store.{Store}
-use Rattle.protocol.specs.Node.NodeView.{NodeView}
-use Rattle.protocol.specs.Node.Plans.{Plan, Prospect, Planned}
 use Rattle.protocol.specs.declared.outcome.Outcome.{Outcome}
 use Rattle.protocol.specs.declared.outcome.Outcome.TheVariants.{Made}
 use Rattle.node.specs.Putting.{IsPutEvent}

@@ -1,11 +1,8 @@
 -- The ends of a node before its first event stand in order of their channels.
 use Rattle.std.proofs.Common.{◌≡◌, ℕ, ◌≤◌, List, ◌++◌, length, drop, sym, ap, subst, ◌∙◌}
 use Rattle.std.proofs.lemmas.List.{at_drop_all, append-nil}
-use Rattle.kahn_net.specs.Syntax.{Network}
-use Rattle.kahn_net.specs.declared.program.Channel.{Channel}
+use Rattle.protocol.specs.Node.Common.{Network, Channel, SavedEnd, opening_ends}
 use Rattle.record.specs.Ascending.{AreAscending}
-use Rattle.record.specs.declared.image.SavedEnd.{SavedEnd}
-use Rattle.protocol.specs.Node.Opening.{opening_ends}
 use Rattle.protocol_laws.specs.Node.OpeningLaws.{opening_ascends}
 
 -- once all channels were gone through

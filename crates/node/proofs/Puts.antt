@@ -1,19 +1,10 @@
 -- From a put that a store did, or refused, to the event that it ends, and to what the node's type keeps.
 use Rattle.std.proofs.Common.{◌≡◌, ℕ, ◌≤◌, true, false, length, Option, None, Result, Ok, Err, refl, ap, ◌∙◌}
 use Rattle.std.specs.Prelude.{IsTrue, OnOk, OnErr}
-use Rattle.sector_disk.specs.Clock.{Only}
+use Rattle.protocol.specs.Node.Common.{Only, Whole, RecordView, fits_in, cell_in, record_in, Changes, Store}
+use Rattle.protocol.specs.Node.Common.{StoreFault, restart_after, is_down, crashed, NodeView, Plan, Prospect, Planned}
 use Rattle.gate_cell.specs.declared.cell.StableCell.{Ghosts as CellWords}
 use Rattle.gate_cell.specs.declared.slot_cell.SlotCell.{Ghosts as SlotWords}
-use Rattle.gate_cell.specs.Whole.{Whole}
-use Rattle.record.specs.RecordView.{RecordView}
-use Rattle.ckpt_store.specs.Spelling.{fits_in}
-use Rattle.ckpt_store.specs.StoreView.{cell_in, record_in, Changes}
-use Rattle.ckpt_store.specs.declared.store.Store.{Store}
-use Rattle.ckpt_store.specs.declared.fault.StoreFault.{StoreFault}
-use Rattle.protocol.specs.Node.ArmedRestarts.{restart_after}
-use Rattle.protocol.specs.Node.Modes.{is_down, crashed}
-use Rattle.protocol.specs.Node.NodeView.{NodeView}
-use Rattle.protocol.specs.Node.Plans.{Plan, Prospect, Planned}
 use Rattle.protocol.specs.declared.outcome.Outcome.{Outcome}
 use Rattle.node.specs.NodeView.{mode_view, node_view}
 use Rattle.node.specs.Putting.{IsPutEvent}

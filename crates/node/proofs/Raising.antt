@@ -3,24 +3,18 @@ use Rattle.std.proofs.Common.{◌≡◌, ℕ, ◌<◌, ◌≤◌, Bool, true, fa
 use Rattle.std.proofs.Common.{inl, ◌∙◌, ap, subst, arith}
 use Rattle.std.specs.Prelude.{IsTrue, IsErrOf, OnOk, OnErr, IfOk, IfErr, IsSome, nat_lt, cond}
 use Rattle.std.proofs.lemmas.Bool.{ltb-true}
-use Rattle.sector_disk.specs.Clock.{LeavesOnly, Only}
+use Rattle.protocol.specs.Node.Common.{Only, Whole, Network, restored_mode, RecordView, with_epoch, MAX_COUNT}
+use Rattle.protocol.specs.Node.Common.{fits_in, cell_in, known_in, record_in, Changes, Store, StoreFault}
+use Rattle.sector_disk.specs.Clock.{LeavesOnly}
 use Rattle.gate_cell.specs.declared.cell.StableCell.{Ghosts as CellWords}
 use Rattle.gate_cell.specs.declared.slot_cell.SlotCell.{Ghosts as SlotWords}
-use Rattle.gate_cell.specs.Whole.{Whole}
-use Rattle.kahn_net.specs.Syntax.{Network}
-use Rattle.protocol.specs.Node.Recovering.{restored_mode}
 use Rattle.rollback_core.specs.RestoredView.{recovery_mode}
 use Rattle.rollback_core.specs.declared.restoring.Recovery.{Recovery}
-use Rattle.record.specs.RecordView.{RecordView}
-use Rattle.record.specs.Moves.{with_epoch}
-use Rattle.kahn_net.specs.declared.limits.TheConstants.{MAX_COUNT}
-use Rattle.ckpt_store.specs.Spelling.{fits_in, IsLengthTold}
+use Rattle.ckpt_store.specs.Spelling.{IsLengthTold}
 use Rattle.ckpt_store.specs.Loading.{IsOfReopening}
 use Rattle.ckpt_store.specs.Refusals.{refusal_to_raise, first_refusal, ComesFirst}
 use Rattle.ckpt_store.specs.StoreFault.{HasFailures, IsOfPut}
-use Rattle.ckpt_store.specs.StoreView.{cell_in, known_in, record_in, record_spelled, Changes, Reopens}
-use Rattle.ckpt_store.specs.declared.store.Store.{Store}
-use Rattle.ckpt_store.specs.declared.fault.StoreFault.{StoreFault}
+use Rattle.ckpt_store.specs.StoreView.{record_spelled, Reopens}
 use Rattle.ckpt_store.specs.declared.fault.StoreFault.TheVariants as fault
 use Rattle.node.specs.StoredView.{LeavesAsBefore, LeavesNext, IsRaised, IsRaiseRefusal}
 use Rattle.node.proofs.Records.{device_then, some_known, still_settled, looked, looked_on, looked_then, settled_ready}

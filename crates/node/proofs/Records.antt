@@ -3,18 +3,15 @@ use Rattle.std.proofs.Common.{◌≡◌, ◌⊎◌, inl, inr, ⊎_elim, ℕ, ◌
 use Rattle.std.proofs.Common.{◌∙◌, ap, subst}
 use Rattle.std.specs.Prelude.{IsTrue, IsErrOf, OnOk, OnErr, IfErr, IsSome, option_map}
 use Rattle.std.specs.Option.{ForSome}
-use Rattle.sector_disk.specs.Clock.{Only}
+use Rattle.protocol.specs.Node.Common.{Only, Whole, RecordView, Spells, fits_in, cell_in, known_in, record_in}
+use Rattle.protocol.specs.Node.Common.{Changes, Store, StoreFault}
 use Rattle.sector_disk.proofs.Moments.{joined, weakened}
 use Rattle.gate_cell.specs.declared.cell.StableCell.{Ghosts as CellWords}
 use Rattle.gate_cell.specs.declared.slot_cell.SlotCell.{Ghosts as SlotWords}
-use Rattle.gate_cell.specs.Whole.{Whole}
-use Rattle.record.specs.RecordView.{RecordView}
-use Rattle.ckpt_store.specs.Spelling.{Spells, SpellsAny, fits_in, fits_next, IsLengthTold}
+use Rattle.ckpt_store.specs.Spelling.{SpellsAny, fits_next, IsLengthTold}
 use Rattle.ckpt_store.specs.Refusals.{first_refusal, ComesFirst}
 use Rattle.ckpt_store.specs.StoreFault.{IsOfPut}
-use Rattle.ckpt_store.specs.StoreView.{cell_in, known_in, record_in, record_spelled, Holds, Changes}
-use Rattle.ckpt_store.specs.declared.store.Store.{Store}
-use Rattle.ckpt_store.specs.declared.fault.StoreFault.{StoreFault}
+use Rattle.ckpt_store.specs.StoreView.{record_spelled, Holds}
 use Rattle.ckpt_store.specs.declared.fault.StoreFault.TheVariants as fault
 use Rattle.ckpt_store.proofs.Seen.{spelled_is, known_is, ready_known}
 use Rattle.gate_cell.specs.Setup.{setup_then}

@@ -4,32 +4,23 @@ use Rattle.std.proofs.Common.{Result, Ok, Err, refl, sym, ◌∙◌, ap, subst, 
 use Rattle.std.specs.Prelude.{IsErrOf, IsTrue, OnErr, nat_lt}
 use Rattle.std.proofs.lemmas.Bool.{lt-ltb, ltb-true}
 use Rattle.std.specs.Option.{ForSome}
-use Rattle.sector_disk.specs.Clock.{Only}
+use Rattle.protocol.specs.Node.Common.{Only, Whole, RecordView, with_epoch, MAX_COUNT, cell_in, known_in, record_in}
+use Rattle.protocol.specs.Node.Common.{Store, NodeView, is_down, crashed, Prospect, Exhausted, if_due, next_record}
+use Rattle.protocol.specs.Node.Common.{putting, unless_spent, restart_after, fits_in, recover_prospect, restored}
+use Rattle.protocol.specs.Node.Common.{StoreFault, Network}
 use Rattle.gate_cell.specs.declared.cell.StableCell.{Ghosts as CellWords}
 use Rattle.gate_cell.specs.declared.slot_cell.SlotCell.{Ghosts as SlotWords}
-use Rattle.gate_cell.specs.Whole.{Whole}
-use Rattle.record.specs.RecordView.{RecordView}
-use Rattle.record.specs.Moves.{with_epoch}
-use Rattle.kahn_net.specs.declared.limits.TheConstants.{MAX_COUNT}
-use Rattle.ckpt_store.specs.StoreView.{cell_in, known_in, record_in, Holds}
-use Rattle.ckpt_store.specs.declared.store.Store.{Store}
-use Rattle.protocol.specs.Node.NodeView.{NodeView}
+use Rattle.ckpt_store.specs.StoreView.{Holds}
 use Rattle.node.specs.NodeView.{node_view, mode_view}
-use Rattle.protocol.specs.Node.Modes.{is_down, crashed}
-use Rattle.protocol.specs.Node.Plans.{Prospect, Exhausted, HasFailedAt, if_due, next_record, putting, unless_spent}
-use Rattle.protocol.specs.Node.ArmedRestarts.{restart_after}
+use Rattle.protocol.specs.Node.Plans.{HasFailedAt}
 use Rattle.protocol.specs.declared.outcome.Outcome.{Outcome}
 use Rattle.protocol.specs.declared.outcome.Outcome.TheVariants as outcome
 use Rattle.protocol.specs.declared.outcome.Refusal.TheVariants.{Spent}
-use Rattle.ckpt_store.specs.Spelling.{fits_in}
 use Rattle.node.specs.Putting.{IsPutEvent}
-use Rattle.protocol.specs.Node.Recovering.{recover_prospect, restored}
 use Rattle.node.specs.StoredView.{HasRecord, IsAnswer, IsCrashed, IsRaised, IsRaiseRefusal, LeavesAsBefore}
 use Rattle.node.specs.StoredView.{LeavesDevice, LeavesNext, has_failed, put_outcome}
 use Rattle.node.specs.declared.state.NodeState.{NodeState}
-use Rattle.ckpt_store.specs.declared.fault.StoreFault.{StoreFault}
 use Rattle.ckpt_store.specs.declared.fault.StoreFault.TheVariants as fault
-use Rattle.kahn_net.specs.Syntax.{Network}
 use Rattle.rollback_core.specs.declared.restoring.Recovery.{Recovery}
 use Rattle.std.specs.declared.alloc.AllocError.{AllocError}
 use Rattle.node.proofs.Records.{crash_keeps, device_then, looked, looked_on, one_of_both, then_crashed}

@@ -4,15 +4,9 @@ use Rattle.std.proofs.Math.Bridge.{le_prop}
 use Rattle.std.proofs.Math.Logic.{∥∥₁_elim}
 use Rattle.ckpt_store.proofs.Seen.{spelled_is}
 use Rattle.ckpt_store.proofs.Spelled.{spelled_is_record}
-use Rattle.ckpt_store.specs.StoreView.{record_in}
-use Rattle.ckpt_store.specs.declared.store.Store.{Store}
+use Rattle.protocol.specs.Node.Common.{record_in, Store, MAX_COUNT, IsRestorable, received_of, RecordView, Tentative}
 use Rattle.gate_cell.specs.declared.cell.StableCell.{Ghosts as CellWords}
 use Rattle.gate_cell.specs.declared.slot_cell.SlotCell.{Ghosts as SlotWords}
-use Rattle.kahn_net.specs.declared.limits.TheConstants.{MAX_COUNT}
-use Rattle.protocol.specs.Node.Recovering.{IsRestorable}
-use Rattle.record.specs.Ends.{received_of}
-use Rattle.record.specs.RecordView.{RecordView}
-use Rattle.record.specs.declared.record.Tentative.{Tentative}
 use Rattle.rollback_core.specs.StoredCounts.{HasCounts, record_counts}
 
 module _ {C : Type 0} (words : CellWords C) (slots : SlotWords C)

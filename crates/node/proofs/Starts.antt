@@ -3,23 +3,14 @@ use Rattle.std.proofs.Common.{◌≡◌, ℕ, ◌+◌, ◌<◌, Bool, true, fals
 use Rattle.std.proofs.Common.{refl, sym, ◌∙◌, ap, subst, arith, eqb}
 use Rattle.std.specs.Prelude.{cond, nat_le, nat_lt}
 use Rattle.std.proofs.lemmas.Bool.{le-ltb, lt-leb, lt-ltb, ltb-true}
-use Rattle.kahn_net.specs.Syntax.{Network}
-use Rattle.kahn_net.specs.declared.limits.TheConstants.{MAX_COUNT}
-use Rattle.record.specs.DecisionView.{DecisionView}
-use Rattle.record.specs.ImageView.{ImageView}
-use Rattle.record.specs.Moves.{highest_seen, with_tentative}
-use Rattle.record.specs.RecordView.{RecordView}
-use Rattle.record.specs.declared.record.Tentative.{Tentative}
-use Rattle.record.specs.declared.record.TheConstants.{MAX_DECISIONS}
+use Rattle.protocol.specs.Node.Common.{Network, MAX_COUNT, DecisionView, ImageView, highest_seen, with_tentative}
+use Rattle.protocol.specs.Node.Common.{RecordView, Tentative, MAX_DECISIONS, StoreFault, beginning, begun, collecting}
+use Rattle.protocol.specs.Node.Common.{live_asks, live_in, may_start, start_prospect, LiveView, is_none, is_running}
+use Rattle.protocol.specs.Node.Common.{with_kept, NodeView, ModeView, Runs, RunningView, on_mode, on_running}
+use Rattle.protocol.specs.Node.Common.{running_in, Prospect, Planned, if_due, unless_spent, own_at}
 use Rattle.ckpt_store.specs.Refusals.{is_full, is_other_held, refusal_to_take}
-use Rattle.ckpt_store.specs.declared.fault.StoreFault.{StoreFault}
-use Rattle.protocol.specs.Node.Beginning.{beginning, begun, collecting, live_asks, live_begun, live_in, may_start}
-use Rattle.protocol.specs.Node.Beginning.{start_prospect}
-use Rattle.protocol.specs.Node.LiveView.{LiveView}
-use Rattle.protocol.specs.Node.Modes.{is_none, is_running, with_kept}
-use Rattle.protocol.specs.Node.NodeView.{NodeView, ModeView, Runs, RunningView, on_mode, on_running, running_in}
-use Rattle.protocol.specs.Node.Plans.{Prospect, Planned, if_due, unless_spent}
-use Rattle.protocol.specs.Node.Starting.{own_at, with_own_now}
+use Rattle.protocol.specs.Node.Beginning.{live_begun}
+use Rattle.protocol.specs.Node.Starting.{with_own_now}
 use Rattle.protocol.specs.declared.armed_restart.ArmedRestart.{ArmedRestart}
 
 none_is : {A : Type 0} (o : Option A) → is_none o ≡ true → o ≡ None

@@ -7,33 +7,24 @@ use Rattle.std.proofs.lemmas.Bool.{le-leb, lt-ltb, eqb-true}
 use Rattle.std.proofs.lemmas.List.{length-append}
 use Rattle.std.proofs.lemmas.List.Elements.{All-cons, All-nil}
 use Rattle.ckpt_codec.specs.Fields.{AreAllowed, IsAllowed}
-use Rattle.ckpt_codec.specs.Lengths.{image_length, spelled_length}
+use Rattle.protocol.specs.Node.Common.{image_length, MAX_RETAINED_ITEMS, fits_in, numbers_where, mode_then}
+use Rattle.protocol.specs.Node.Common.{participants_of, MAX_NODES, DecisionView, ImageView, with_confirmed}
+use Rattle.protocol.specs.Node.Common.{with_decision, without_tentative, RecordView, Tentative, MAX_DECISIONS}
+use Rattle.protocol.specs.Node.Common.{StoreFault, holds, ModeView, Down, InDoubt, Runs, RunningView, Network}
+use Rattle.ckpt_codec.specs.Lengths.{spelled_length}
 use Rattle.ckpt_codec.specs.RecordText.{participants}
 use Rattle.ckpt_codec.specs.SizeLaws.{IsRecordWithin, within_confirmed, within_without_tentative}
-use Rattle.ckpt_codec.specs.declared.lengths.TheConstants.{MAX_RECORD_BYTES, MAX_RETAINED_ITEMS}
+use Rattle.ckpt_codec.specs.declared.lengths.TheConstants.{MAX_RECORD_BYTES}
 use Rattle.ckpt_store.proofs.Room.{decision_fits}
-use Rattle.ckpt_store.specs.Spelling.{AreOthers, fits_in, held_fits, images_fit, is_short}
+use Rattle.ckpt_store.specs.Spelling.{AreOthers, held_fits, images_fit, is_short}
 use Rattle.protocol_laws.specs.Node.SizeLaws.{decided_within}
 use Rattle.protocol_laws.specs.World.RoomLaws.{bounded_is_short}
 use Rattle.node.proofs.Starts.{both_of}
-use Rattle.recovery_line.specs.Observers.{has_node, names}
-use Rattle.protocol.specs.Node.Layout.{numbers_where}
+use Rattle.protocol.specs.World.Common.{has_node, names}
 use Rattle.protocol.specs.Node.Recovering.{restored_from}
-use Rattle.protocol.specs.Node.Verdicts.{mode_then, participants_of}
-use Rattle.kahn_net.specs.declared.limits.TheConstants.{MAX_NODES}
-use Rattle.record.specs.DecisionView.{DecisionView}
-use Rattle.record.specs.ImageView.{ImageView}
-use Rattle.record.specs.Moves.{decided_below, decided_by, decision_by, last_image, with_confirmed, with_decision}
-use Rattle.record.specs.Moves.{without_tentative}
-use Rattle.record.specs.RecordView.{RecordView}
-use Rattle.record.specs.declared.record.Tentative.{Tentative}
-use Rattle.record.specs.declared.record.TheConstants.{MAX_DECISIONS}
+use Rattle.record.specs.Moves.{decided_below, decided_by, decision_by, last_image}
 use Rattle.ckpt_store.specs.Refusals.{is_held, is_named_by, refusal_to_decide, refusal_unless_held}
-use Rattle.ckpt_store.specs.declared.fault.StoreFault.{StoreFault}
 use Rattle.ckpt_store.specs.declared.fault.StoreFault.TheVariants as fault
-use Rattle.protocol.specs.Node.Answering.{holds}
-use Rattle.protocol.specs.Node.NodeView.{ModeView, Down, InDoubt, Runs, RunningView}
-use Rattle.kahn_net.specs.Syntax.{Network}
 use Rattle.node.specs.Said.{held_image, restored_if_doubtful}
 use Rattle.rollback_core.specs.RestoredView.{restored_view}
 use Rattle.rollback_core.specs.declared.restoring.Restored.{Restored}

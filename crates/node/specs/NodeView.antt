@@ -1,6 +1,5 @@
 -- A node as data, its store aside.
-use Rattle.record.specs.RecordView.{RecordView}
-use Rattle.protocol.specs.Node.NodeView.{NodeView, ModeView, Down, InDoubt, Runs}
+use Rattle.protocol.specs.Node.Common.{RecordView, NodeView, ModeView, Down, InDoubt, Runs}
 use Rattle.node_memory.specs.RunningView.{running_view}
 use Rattle.node.specs.declared.mode.Mode.{Mode}
 use Rattle.node.specs.declared.mode.Mode.TheVariants as mode

@@ -2,14 +2,11 @@
 use Rattle.std.specs.Prelude.{◌≡◌, ℕ, ◌<◌, Bool, true, false, length, Option, Some, None}
 use Rattle.ckpt_store.specs.Refusals.{has_effect, no_refusal, refusal_to_decide, refusal_to_raise, refusal_to_take}
 use Rattle.ckpt_store.specs.Refusals.{refusal_unless_held}
-use Rattle.ckpt_store.specs.Spelling.{AreOthers, IsLike, fits_in}
-use Rattle.ckpt_store.specs.declared.fault.StoreFault.{StoreFault}
-use Rattle.record.specs.Moves.{with_confirmed, with_decision, with_epoch, with_permanent, with_tentative, without_tentative}
-use Rattle.record.specs.RecordView.{RecordView}
-use Rattle.protocol.specs.Node.Delivering.{hearing}
-use Rattle.protocol.specs.Node.Modes.{is_down, with_kept}
-use Rattle.protocol.specs.Node.NodeView.{NodeView, on_running}
-use Rattle.protocol.specs.Node.Plans.{Plan as PlanView, Prospect as ProspectView, Undue, Exhausted, Planned}
+use Rattle.protocol.specs.Node.Common.{fits_in, StoreFault, with_confirmed, with_decision, with_epoch, with_permanent}
+use Rattle.protocol.specs.Node.Common.{with_tentative, without_tentative, RecordView, hearing, is_down, with_kept}
+use Rattle.protocol.specs.Node.Common.{NodeView, on_running, Undue, Exhausted, Planned}
+use Rattle.ckpt_store.specs.Spelling.{AreOthers, IsLike}
+use Rattle.protocol.specs.Node.Plans.{Plan as PlanView, Prospect as ProspectView}
 use Rattle.node.specs.Then.{MayFollow, then_node}
 use Rattle.node.specs.declared.checkpoint.Then.{Then}
 use Rattle.node.specs.declared.plan.Change.{Change}

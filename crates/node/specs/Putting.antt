@@ -2,13 +2,9 @@
 use Rattle.std.specs.Prelude.{◌≡◌, ℕ, Result, IfOk, OnErr}
 use Rattle.gate_cell.specs.declared.cell.StableCell.{Ghosts as CellWords}
 use Rattle.gate_cell.specs.declared.slot_cell.SlotCell.{Ghosts as SlotWords}
-use Rattle.ckpt_store.specs.Spelling.{fits_in}
-use Rattle.ckpt_store.specs.StoreView.{cell_in}
-use Rattle.ckpt_store.specs.declared.store.Store.{Store}
+use Rattle.protocol.specs.Node.Common.{fits_in, cell_in, Store, restart_after, NodeView, Prospect, IsMade, IsPut}
+use Rattle.protocol.specs.Node.Common.{next_record, room_for}
 use Rattle.node.specs.StoredView.{LeavesDevice, LeavesNext}
-use Rattle.protocol.specs.Node.ArmedRestarts.{restart_after}
-use Rattle.protocol.specs.Node.NodeView.{NodeView}
-use Rattle.protocol.specs.Node.Plans.{Prospect, IsMade, IsPut, next_record, room_for}
 use Rattle.protocol.specs.declared.outcome.Outcome.{Outcome}
 
 -- The event comes out as its prospect says, at a node that was so and is so now, in this round.

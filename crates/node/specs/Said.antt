@@ -1,20 +1,11 @@
 -- What a node says to a packet, and what it runs from once it was in doubt.
 use Rattle.std.specs.Prelude.{◌≡◌, ◌<◌, ◌≤◌, ◌&&◌, ◌==◌, ℕ, true, false, if◌then◌else◌, List, length, Option, Some, None}
-use Rattle.datagram.specs.declared.packet.Packet.{Packet}
-use Rattle.record.specs.ImageView.{ImageView}
-use Rattle.record.specs.declared.record.Tentative.{Tentative}
+use Rattle.protocol.specs.Node.Common.{Packet, ImageView, Tentative, MAX_RETAINED_ITEMS, MAX_NODES, MAX_DECISIONS}
+use Rattle.protocol.specs.Node.Common.{live_in, LiveView, Network, NodeView, ModeView, Down, InDoubt, Runs}
+use Rattle.protocol.specs.Node.Common.{RunningView, Prospect, packets_by, may_decide}
 use Rattle.ckpt_codec.specs.SizeLaws.{IsRecordWithin}
-use Rattle.ckpt_codec.specs.declared.lengths.TheConstants.{MAX_RETAINED_ITEMS}
-use Rattle.kahn_net.specs.declared.limits.TheConstants.{MAX_NODES}
-use Rattle.record.specs.declared.record.TheConstants.{MAX_DECISIONS}
-use Rattle.recovery_line.specs.Observers.{has_node}
-use Rattle.protocol.specs.Node.Beginning.{live_in}
-use Rattle.protocol.specs.Node.LiveView.{LiveView}
-use Rattle.kahn_net.specs.Syntax.{Network}
+use Rattle.protocol.specs.World.Common.{has_node}
 use Rattle.protocol.specs.Node.Recovering.{restored_from}
-use Rattle.protocol.specs.Node.NodeView.{NodeView, ModeView, Down, InDoubt, Runs, RunningView}
-use Rattle.protocol.specs.Node.Plans.{Prospect, packets_by}
-use Rattle.protocol.specs.Node.Verdicts.{may_decide}
 use Rattle.protocol.specs.declared.links.Inbox.{Inbox}
 use Rattle.protocol.specs.declared.outcome.Outcome.TheVariants as outcome
 use Rattle.protocol.specs.declared.outcome.Refusal.TheVariants.{TooLarge}

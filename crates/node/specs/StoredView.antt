@@ -1,24 +1,15 @@
 -- A node's record, as its store has it.
 use Rattle.std.specs.Prelude.{◌≡◌, ◌⊎◌, ℕ, ◌<◌, ◌≤◌, Bool, true, false, length, Option, Some, None, IsSome, IsTrue}
 use Rattle.std.specs.Prelude.{Result, Ok, Err, IfOk, IfErr, OnOk, OnErr, IsErrOf}
-use Rattle.sector_disk.specs.Clock.{Only, LeavesOnly}
+use Rattle.protocol.specs.Node.Common.{Only, Whole, RecordView, Network, with_epoch, MAX_COUNT, Spells, fits_in}
+use Rattle.protocol.specs.Node.Common.{cell_in, known_in, record_in, Store, StoreFault, ModeView, is_down}
+use Rattle.protocol.specs.Node.Common.{restored_mode}
+use Rattle.sector_disk.specs.Clock.{LeavesOnly}
 use Rattle.gate_cell.specs.declared.cell.StableCell.{Ghosts as CellWords}
 use Rattle.gate_cell.specs.declared.slot_cell.SlotCell.{Ghosts as SlotWords}
 use Rattle.gate_cell.specs.Setup.{LeavesSetup}
-use Rattle.gate_cell.specs.Whole.{Whole}
-use Rattle.record.specs.RecordView.{RecordView}
-use Rattle.kahn_net.specs.Syntax.{Network}
-use Rattle.record.specs.Moves.{with_epoch}
-use Rattle.kahn_net.specs.declared.limits.TheConstants.{MAX_COUNT}
-use Rattle.ckpt_store.specs.Spelling.{Spells, fits_in}
 use Rattle.ckpt_store.specs.StoreFault.{HasFailures}
-use Rattle.ckpt_store.specs.StoreView.{cell_in, known_in, record_in}
-use Rattle.ckpt_store.specs.declared.store.Store.{Store}
-use Rattle.ckpt_store.specs.declared.fault.StoreFault.{StoreFault}
 use Rattle.ckpt_store.specs.declared.fault.StoreFault.TheVariants as fault
-use Rattle.protocol.specs.Node.NodeView.{ModeView}
-use Rattle.protocol.specs.Node.Modes.{is_down}
-use Rattle.protocol.specs.Node.Recovering.{restored_mode}
 use Rattle.rollback_core.specs.RestoredView.{recovery_mode}
 use Rattle.rollback_core.specs.declared.restoring.Recovery.{Recovery}
 use Rattle.protocol.specs.declared.outcome.Outcome.{Outcome}

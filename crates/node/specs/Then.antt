@@ -1,13 +1,10 @@
 -- What becomes of a node's memory: alone, or behind a put that was made.
 use Rattle.std.specs.Prelude.{◌≤◌, Option, Some, None}
-use Rattle.kahn_net.specs.declared.limits.TheConstants.{MAX_COUNT}
-use Rattle.protocol.specs.Node.GoingBack.{noting_undone, set_back_from}
-use Rattle.protocol.specs.Node.Modes.{next_number}
-use Rattle.protocol.specs.Node.Recovering.{IsRestorable}
-use Rattle.protocol.specs.Node.Beginning.{collecting}
-use Rattle.protocol.specs.Node.Collecting.{hearing_covered}
-use Rattle.protocol.specs.Node.NodeView.{NodeView, ModeView, Down, InDoubt, Runs, on_mode, on_running, with_mode}
-use Rattle.protocol.specs.Node.Trimming.{cut_at}
+use Rattle.protocol.specs.Node.Common.{MAX_COUNT, noting_undone, next_number, IsRestorable, collecting}
+use Rattle.protocol.specs.Node.Common.{hearing_covered, NodeView, ModeView, Down, InDoubt, Runs, on_mode, on_running}
+use Rattle.protocol.specs.Node.Common.{cut_at}
+use Rattle.protocol.specs.Node.GoingBack.{set_back_from}
+use Rattle.protocol.specs.Node.NodeView.{with_mode}
 use Rattle.rollback_core.specs.RestoredView.{restored_view}
 use Rattle.rollback_core.specs.declared.restoring.Restored.{Restored}
 use Rattle.node.specs.declared.checkpoint.Then.{Then}

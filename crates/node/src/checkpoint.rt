@@ -1,20 +1,12 @@
 // Checkpoints: a node begins one, and decides it; and how each event ends that puts the record.
 ghost use Rattle.std.specs.Prelude.{◌≡◌, ◌<◌, ◌≤◌, false, length, IfOk, IsTrue, OnErr, OnOk, Some};
-ghost use Rattle.ckpt_store.specs.StoreView.{cell_in};
-ghost use Rattle.protocol.specs.Node.ArmedRestarts.{restart_after};
-ghost use Rattle.protocol.specs.Node.Modes.{crashed};
-ghost use Rattle.protocol.specs.Node.Beginning.{start_prospect};
-ghost use Rattle.protocol.specs.Node.Starting.{IsLikeNow};
-ghost use Rattle.protocol.specs.Node.Verdicts.{decide_prospect};
+ghost use Rattle.protocol.specs.Node.Common.{cell_in, restart_after, crashed, start_prospect, IsLikeNow};
+ghost use Rattle.protocol.specs.Node.Common.{decide_prospect, network_of, MAX_NODES, highest_seen, RecordView};
 ghost use Rattle.node.specs.Planned.{CanBeMade, prospect_view};
 ghost use Rattle.node.specs.NodeView.{mode_view, node_view};
 ghost use Rattle.node.specs.StoredView.{IsCrashed, IsAnswer, has_failed, put_outcome};
 ghost use Rattle.node.specs.Then.{MayFollow, then_node};
 ghost use Rattle.node.specs.Said.{MayBeDecided};
-ghost use Rattle.kahn_net.specs.Syntax.{network_of};
-ghost use Rattle.kahn_net.specs.declared.limits.TheConstants.{MAX_NODES};
-ghost use Rattle.record.specs.Moves.{highest_seen};
-ghost use Rattle.record.specs.RecordView.{RecordView};
 
 use crate::mode::Mode;
 use crate::plan::{Change, Effect, Plan, Prospect, Said};

@@ -1,10 +1,7 @@
 // What a node in doubt says in its turn.
 ghost use Rattle.std.specs.Prelude.{◌≡◌, ◌<◌, map, IfOk};
-ghost use Rattle.kahn_net.specs.Syntax.{network_of};
-ghost use Rattle.protocol.specs.Node.Layout.{incoming_on};
-ghost use Rattle.protocol.specs.Node.NodeView.{InDoubt};
-ghost use Rattle.protocol.specs.Node.Telling.{kept_packet, turn_packets};
-ghost use Rattle.kahn_net.specs.declared.limits.TheConstants.{MAX_CHANNELS};
+ghost use Rattle.protocol.specs.Node.Common.{network_of, incoming_on, InDoubt, kept_packet, turn_packets};
+ghost use Rattle.protocol.specs.Node.Common.{MAX_CHANNELS};
 
 use datagram::{Body, Packet};
 use layout::{is_incoming, producer_node};

@@ -1,18 +1,11 @@
 // A packet comes to a node: what becomes of the node, and what it says.
 ghost use Rattle.std.specs.Prelude.{◌≡◌, ◌<◌, ◌≤◌, [], All, None, false, true, length, IfOk, option_copied, option_map};
-ghost use Rattle.kahn_net.specs.Nodes.{node_count};
-ghost use Rattle.kahn_net.specs.Syntax.{network_of};
+ghost use Rattle.protocol.specs.Node.Common.{node_count, network_of, MAX_RETAINED_ITEMS, names_right, in_front};
+ghost use Rattle.protocol.specs.Node.Common.{refused_prospect, took_prospect, hear_prospect, is_down, Planned};
+ghost use Rattle.protocol.specs.Node.Common.{IsLikeNow, commit_prospect, ended_prospect, settled_prospect};
+ghost use Rattle.protocol.specs.Node.Common.{undone_prospect, IsRestorable, IsPacket, MAX_CHANNELS, MAX_COUNT};
 ghost use Rattle.ckpt_codec.specs.SizeLaws.{IsRecordWithin};
-ghost use Rattle.ckpt_codec.specs.declared.lengths.TheConstants.{MAX_RETAINED_ITEMS};
-ghost use Rattle.protocol.specs.Node.Addresses.{names_right};
 ghost use Rattle.protocol.specs.Node.Answering.{ask_prospect};
-ghost use Rattle.protocol.specs.Node.Beginning.{in_front};
-ghost use Rattle.protocol.specs.Node.Collecting.{refused_prospect, took_prospect};
-ghost use Rattle.protocol.specs.Node.Hearing.{hear_prospect};
-ghost use Rattle.protocol.specs.Node.Modes.{is_down};
-ghost use Rattle.protocol.specs.Node.Plans.{Planned};
-ghost use Rattle.protocol.specs.Node.Starting.{IsLikeNow};
-ghost use Rattle.protocol.specs.Node.Verdicts.{commit_prospect, ended_prospect, settled_prospect};
 ghost use Rattle.node.specs.NodeView.{mode_view, node_view};
 ghost use Rattle.node.specs.Planned.{CanDo, plan_view};
 ghost use Rattle.node.specs.Said.{held_image, restored_if_doubtful};
@@ -21,10 +14,6 @@ ghost use Rattle.node.specs.declared.plan.Change.TheVariants as change_is;
 ghost use Rattle.node.specs.declared.plan.Effect.TheVariants as effect_is;
 ghost use Rattle.rollback_core.specs.RestoredView.{restored_view};
 ghost use Rattle.rollback_core.specs.StoredCounts.{HasCounts};
-ghost use Rattle.protocol.specs.Node.GoingBack.{undone_prospect};
-ghost use Rattle.protocol.specs.Node.Recovering.{IsRestorable};
-ghost use Rattle.datagram.specs.PacketText.{IsPacket};
-ghost use Rattle.kahn_net.specs.declared.limits.TheConstants.{MAX_CHANNELS, MAX_COUNT};
 
 use crate::checkpoint::Then;
 use crate::mode::Mode;

@@ -1,7 +1,6 @@
 // A fault is armed on a node's disk.
 ghost use Rattle.std.specs.Prelude.{◌≡◌, ◌++◌, [], ◌∷◌, OnErr, OnOk};
-ghost use Rattle.ckpt_store.specs.StoreView.{cell_in, record_in};
-ghost use Rattle.protocol.specs.Node.ArmedRestarts.{with_armed};
+ghost use Rattle.protocol.specs.Node.Common.{cell_in, record_in, with_armed};
 ghost use Rattle.node.specs.NodeView.{mode_view, node_view};
 ghost use Rattle.node.specs.StoredView.{HasRecord, LeavesAsBefore};
 

@@ -1,10 +1,7 @@
 // A node crashes, and comes back.
 ghost use Rattle.std.specs.Prelude.{◌≡◌, false, not, IfOk, IsSome, IsTrue, None, OnErr};
-ghost use Rattle.kahn_net.specs.Syntax.{network_of};
-ghost use Rattle.sector_disk.specs.Clock.{Only};
-ghost use Rattle.ckpt_store.specs.StoreView.{cell_in, known_in, record_in};
-ghost use Rattle.protocol.specs.Node.Modes.{crashed, is_down};
-ghost use Rattle.protocol.specs.Node.Recovering.{recover_prospect};
+ghost use Rattle.protocol.specs.Node.Common.{network_of, Only, cell_in, known_in, record_in, crashed, is_down};
+ghost use Rattle.protocol.specs.Node.Common.{recover_prospect};
 ghost use Rattle.rollback_core.specs.RestoredView.{recovery_mode};
 ghost use Rattle.node.specs.NodeView.{mode_view, node_view};
 ghost use Rattle.node.specs.Putting.{IsPutEvent};

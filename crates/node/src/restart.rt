@@ -1,6 +1,7 @@
 //! How long a failing device keeps its node down.
 ghost use Rattle.std.specs.Prelude.{◌≡◌};
-ghost use Rattle.protocol.specs.Node.ArmedRestarts.{round_later, rounds_at};
+ghost use Rattle.protocol.specs.Node.Common.{round_later};
+ghost use Rattle.protocol.specs.Node.ArmedRestarts.{rounds_at};
 
 use kahn_net::MAX_COUNT;
 use protocol::ArmedRestart;

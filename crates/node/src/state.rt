@@ -1,12 +1,8 @@
 //! What a node has beside its record.
 ghost use Rattle.std.specs.Prelude.{◌≡◌, OnErr, OnOk, option_copied};
-ghost use Rattle.record.specs.RecordView.{RecordView};
-ghost use Rattle.protocol.specs.Node.ArmedRestarts.{restart_after};
-ghost use Rattle.protocol.specs.Node.Delivering.{hearing};
-ghost use Rattle.protocol.specs.Node.Beginning.{live_in, may_start};
-ghost use Rattle.protocol.specs.Node.NodeView.{on_running};
+ghost use Rattle.protocol.specs.Node.Common.{RecordView, restart_after, hearing, live_in, may_start, on_running};
+ghost use Rattle.protocol.specs.Node.Common.{crashed, is_down, is_running, next_number};
 ghost use Rattle.node.specs.Said.{current_in, inboxes_in};
-ghost use Rattle.protocol.specs.Node.Modes.{crashed, is_down, is_running, next_number};
 
 use crate::mode::Mode;
 use crate::restart::{round_later, rounds_at};

@@ -1,8 +1,8 @@
 -- Who takes part, of so many nodes, is whoever said so of them.
 use Rattle.std.proofs.Common.{◌≡◌, ℕ, ◌<◌, Bool, true, false, not, IsTrue, List, refl, sym, ap, ◌∙◌, arith}
-use Rattle.recovery_line.specs.Observers.{has_node}
+use Rattle.protocol.specs.World.Common.{has_node}
 use Rattle.protocol_laws.specs.Join.NeedLaws.{has_where}
-use Rattle.protocol.specs.Node.Verdicts.{participants_of}
+use Rattle.protocol.specs.Node.Common.{participants_of}
 
 not_so : (b : Bool) → IsTrue (not b) → b ≡ false
 not_so false t = refl

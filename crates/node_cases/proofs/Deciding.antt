@@ -2,14 +2,9 @@
 use Rattle.std.proofs.Common.{◌≡◌, ℕ, ◌<◌, Bool, true, false, IsTrue, length, Option, Some, Result, Ok, Err, IfOk}
 use Rattle.std.proofs.Common.{sym, ap, ◌∙◌, subst}
 use Rattle.ckpt_codec.specs.SizeLaws.{IsRecordWithin}
-use Rattle.ckpt_codec.specs.declared.lengths.TheConstants.{MAX_RETAINED_ITEMS}
-use Rattle.record.specs.RecordView.{RecordView}
-use Rattle.record.specs.declared.record.TheConstants.{MAX_DECISIONS}
-use Rattle.recovery_line.specs.Observers.{has_node}
-use Rattle.protocol.specs.Node.Beginning.{live_in}
-use Rattle.protocol.specs.Node.LiveView.{LiveView}
-use Rattle.protocol.specs.Node.NodeView.{NodeView}
-use Rattle.protocol.specs.Node.Verdicts.{may_decide}
+use Rattle.protocol.specs.Node.Common.{MAX_RETAINED_ITEMS, RecordView, MAX_DECISIONS, live_in, LiveView, NodeView}
+use Rattle.protocol.specs.Node.Common.{may_decide}
+use Rattle.protocol.specs.World.Common.{has_node}
 use Rattle.node.specs.Said.{MayBeDecided}
 
 -- the node isn't one of those who take part

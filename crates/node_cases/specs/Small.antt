@@ -1,9 +1,7 @@
 -- What of a record's parts is within bounds.
 use Rattle.std.specs.Prelude.{◌≤◌, length}
-use Rattle.kahn_net.specs.declared.limits.TheConstants.{MAX_NODES, MAX_REPEATS, MAX_VARIABLES}
-use Rattle.record.specs.DecisionView.{DecisionView}
-use Rattle.record.specs.ProcessView.{SavedProcessView}
-use Rattle.ckpt_codec.specs.RecordText.{variables_of}
+use Rattle.protocol.specs.Node.Common.{MAX_NODES, DecisionView, SavedProcessView, variables_of}
+use Rattle.kahn_net.specs.declared.limits.TheConstants.{MAX_REPEATS, MAX_VARIABLES}
 use Rattle.ckpt_codec.specs.SizeLaws.{left_of}
 
 -- a process has no more variables and repetitions round it than a network's

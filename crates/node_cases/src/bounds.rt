@@ -3,12 +3,9 @@
 ghost use Rattle.std.specs.Prelude.{◌≡◌, ◌≤◌, IsTrue, length, sum_by};
 ghost use Rattle.std.specs.Option.{ForSome};
 ghost use Rattle.std.specs.List.{AllByRecursion};
-ghost use Rattle.kahn_net.specs.States.{standing_of};
-ghost use Rattle.kahn_net.specs.declared.limits.TheConstants.{MAX_NODES};
-ghost use Rattle.record.specs.declared.record.Tentative.{Tentative};
-ghost use Rattle.ckpt_codec.specs.RecordText.{items_of_end, variables_of};
+ghost use Rattle.protocol.specs.Node.Common.{standing_of, MAX_NODES, Tentative, variables_of, MAX_RETAINED_ITEMS};
+ghost use Rattle.ckpt_codec.specs.RecordText.{items_of_end};
 ghost use Rattle.ckpt_codec.specs.SizeLaws.{IsImageWithin, IsRecordWithin, items_at, left_of};
-ghost use Rattle.ckpt_codec.specs.declared.lengths.TheConstants.{MAX_RETAINED_ITEMS};
 ghost use Rattle.node.specs.NodeOf.{view_of};
 ghost use Rattle.node_cases.specs.Small.{IsSmall, NamesFew};
 

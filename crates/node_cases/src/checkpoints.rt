@@ -2,11 +2,8 @@
 //! not, so that is tested here first.
 
 ghost use Rattle.std.specs.Prelude.{◌≡◌, ◌<◌, true, false, IfOk, IsTrue, Some, length, option_copied};
-ghost use Rattle.record.specs.declared.record.TheConstants.{MAX_DECISIONS};
-ghost use Rattle.recovery_line.specs.Observers.{has_node};
-ghost use Rattle.protocol.specs.Node.LiveView.{LiveView};
-ghost use Rattle.protocol.specs.Node.Starting.{IsLikeNow};
-ghost use Rattle.protocol.specs.Node.Verdicts.{may_decide};
+ghost use Rattle.protocol.specs.Node.Common.{MAX_DECISIONS, LiveView, IsLikeNow, may_decide};
+ghost use Rattle.protocol.specs.World.Common.{has_node};
 ghost use Rattle.node.specs.NodeOf.{view_of};
 ghost use Rattle.node.specs.Said.{MayBeDecided};
 

@@ -2,9 +2,7 @@
 //! not, so that is tested here first.
 
 ghost use Rattle.std.specs.Prelude.{◌≡◌, IsTrue, false, length};
-ghost use Rattle.kahn_net.specs.Nodes.{node_count};
-ghost use Rattle.kahn_net.specs.Syntax.{network_of};
-ghost use Rattle.protocol.specs.Node.Modes.{is_down};
+ghost use Rattle.protocol.specs.Node.Common.{node_count, network_of, is_down};
 ghost use Rattle.protocol.specs.Node.Delivering.{IsHeard};
 ghost use Rattle.node.specs.NodeOf.{view_of};
 

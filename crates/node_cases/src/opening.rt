@@ -1,7 +1,7 @@
 //! How a case's node is made.
 
 ghost use Rattle.std.specs.Prelude.{◌*◌, ◌^◌, ◌<◌, ◌≤◌};
-ghost use Rattle.sector_disk.specs.declared.TheConstants.{SECTOR_BYTES};
+ghost use Rattle.protocol.specs.Node.Common.{SECTOR_BYTES};
 
 use crate::settings::Settings;
 use ckpt_codec::{is_image, read_record, write_header, write_image};

@@ -3,11 +3,11 @@
 
 ghost use Rattle.std.specs.Prelude.{◌≡◌, IsTrue, Some};
 ghost use Rattle.retained.specs.LogState.{Overfills};
-ghost use Rattle.record.specs.Ends.{received_at, log_at};
-ghost use Rattle.protocol.specs.Node.Granting.{is_process};
+ghost use Rattle.protocol.specs.Node.Common.{received_at, log_at, is_process, taken_from, put_on, ImageTakes};
+ghost use Rattle.protocol.specs.Node.Common.{TakesTurn};
 ghost use Rattle.node.specs.NodeView.{mode_view};
 ghost use Rattle.record.specs.Changes.{LogTakes};
-ghost use Rattle.protocol.specs.Node.Installing.{taken_from, put_on, EndTakes, ImageTakes, TakesTurn};
+ghost use Rattle.protocol.specs.Node.Installing.{EndTakes};
 
 use crate::opening::CaseNode;
 use kahn_net::{Channel, History, MAX_COUNT, Port};

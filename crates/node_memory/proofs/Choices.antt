@@ -4,19 +4,15 @@ use Rattle.std.proofs.Common.{Some, None, refl, sym, ap, subst, ◌∙◌, Bor, 
 use Rattle.std.specs.Prelude.{◌==◌, slice_get, find, cond, IfSome, option_copied}
 use Rattle.std.proofs.lemmas.Option.{slice_get_within}
 use Rattle.std.proofs.lemmas.List.{length-map}
-use Rattle.kahn_net.specs.Syntax.{Code, Network, code_of, network_of}
-use Rattle.kahn_net.specs.Processes.{Standing}
+use Rattle.protocol.specs.Node.Common.{Code, Network, code_of, network_of, Standing, IsValid, Channel}
+use Rattle.protocol.specs.Node.Common.{SavedProcessView, ImageView}
 use Rattle.kahn_net.specs.Laws.Valid.{code_at, code_past}
 use Rattle.kahn_net.specs.NextActs.{next_of}
-use Rattle.kahn_net.specs.Valid.{IsValid}
 use Rattle.kahn_net.specs.declared.limits.TheConstants.{MAX_PROCESSES}
-use Rattle.kahn_net.specs.declared.program.Channel.{Channel}
 use Rattle.kahn_net.specs.declared.program.Program.{Program}
 use Rattle.kahn_net.specs.declared.program.Process.{Process}
 use Rattle.proc_step.specs.NextView.{next_view}
 use Rattle.proc_step.specs.declared.next.NextAct.{NextAct}
-use Rattle.record.specs.ProcessView.{SavedProcessView}
-use Rattle.record.specs.ImageView.{ImageView}
 use Rattle.protocol.specs.declared.links.Inbox.{Inbox}
 use Rattle.turns.specs.Turns.{least_from}
 use Rattle.protocol.specs.Node.Choosing.{has_item, has_room, can_go, next_at, is_ready, ready_process, ready_processes}

@@ -6,9 +6,9 @@ use Rattle.std.proofs.lemmas.Bool.{ltb-true, le-leb, lt-ltb}
 use Rattle.std.proofs.lemmas.Bool.Decides.{leb_tells}
 use Rattle.std.proofs.Math.Dec.{leb}
 use Rattle.std.proofs.lemmas.List.{take_min, length-drop, length-take}
-use Rattle.retained.specs.LogState.{LogState, log_end, items_since}
+use Rattle.protocol.specs.Node.Common.{LogState, log_end, items_since, first_due}
 use Rattle.window_link.specs.Windows.{Sender, is_due}
-use Rattle.protocol.specs.Node.Sending.{first_due, items_due}
+use Rattle.protocol.specs.Node.Sending.{items_due}
 use Rattle.protocol.specs.declared.links.Outbox.{Outbox}
 
 le_or_lt : (a b : ℕ) → (a ≤ b) ⊎ (b < a)

@@ -4,14 +4,13 @@ use Rattle.std.proofs.Common.{append-nil, length-append, Some, Ok, Err}
 use Rattle.std.proofs.lemmas.List.{length-drop, length-take-le}
 use Rattle.std.specs.Prelude.{Result, OnOk, IsErrOf}
 use Rattle.kahn_net.specs.Laws.Prefixes.{prefix_of, prefix_refl}
-use Rattle.kahn_net.specs.Streams.{IsPrefix}
+use Rattle.protocol.specs.Node.Common.{IsPrefix, LogState, IsLogOf, TookNext}
 use Rattle.outlet.specs.Faults.{failures_after}
 use Rattle.outlet.specs.Released.{released_items, CanRelease, TookSome, TookSomeOrAll}
 use Rattle.outlet.specs.ReleaseLaws.{released_one, took_or_not}
 use Rattle.outlet.specs.declared.fault.OutletFault.{OutletFault}
 use Rattle.outlet.specs.declared.fault.OutletFault.TheVariants.{Failed, NoMemory}
-use Rattle.retained.specs.LogState.{LogState, IsLogOf, item_at, items_at}
-use Rattle.protocol.specs.Node.Trimming.{TookNext}
+use Rattle.retained.specs.LogState.{item_at, items_at}
 use Rattle.node_memory.specs.Handing.{IsHandedTo}
 
 module _ (log : LogState) (next : ℕ) (old new : List ℤ) (is : next ≡ length old)

@@ -5,15 +5,9 @@ use Rattle.std.specs.Prelude.{slice_get, slice_set, ◌==◌}
 use Rattle.std.proofs.lemmas.Option.{slice_get_read}
 use Rattle.std.proofs.lemmas.List.{get_or-set_same}
 use Rattle.std.proofs.lemmas.Bool.{eq-eqb}
-use Rattle.kahn_net.specs.Processes.{Standing}
-use Rattle.kahn_net.specs.declared.program.Channel.{Channel}
-use Rattle.record.specs.Ends.{received_at}
-use Rattle.record.specs.ProcessView.{SavedProcessView}
+use Rattle.protocol.specs.Node.Common.{Standing, Channel, received_at, SavedProcessView, moved, put_on, taken_from}
+use Rattle.protocol.specs.Node.Common.{saved_pushed, saved_counted, SavedEnd, End, Receives, Sends, Both}
 use Rattle.record.specs.Changes.{pushed, counted}
-use Rattle.protocol.specs.Node.Installing.{moved, put_on, taken_from, saved_pushed, saved_counted}
-use Rattle.record.specs.declared.image.SavedEnd.{SavedEnd}
-use Rattle.record.specs.declared.image.End.{End}
-use Rattle.record.specs.declared.image.End.TheVariants.{Receives, Sends, Both}
 
 -- an element is changed, and then changed back
 changed_back : {A : Type 0} (xs : List A) (k : ℕ) (x y z : A) → slice_get xs k ≡ Some x → z ≡ x

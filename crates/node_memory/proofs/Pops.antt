@@ -6,18 +6,15 @@ use Rattle.std.specs.Prelude.{slice_get, slice_set, nat_lt, MatchOption}
 use Rattle.std.proofs.lemmas.Bool.{ltb-true}
 use Rattle.std.proofs.lemmas.List.{length-append}
 use Rattle.std.proofs.lemmas.Option.{slice_get_read}
-use Rattle.kahn_net.specs.declared.limits.TheConstants.{MAX_COUNT}
-use Rattle.kahn_net.specs.declared.program.Channel.{Channel}
-use Rattle.retained.specs.LogState.{LogState, log_end}
-use Rattle.record.specs.Changes.{log_with, trimmed_log}
-use Rattle.window_link.specs.Windows.{Receiver, advanced, arrival_at, window_after, received, held_in, held_at, popped_times}
-use Rattle.window_link.specs.Windows.{ready_items}
+use Rattle.protocol.specs.Node.Common.{MAX_COUNT, Channel, LogState, log_end, log_with, trimmed_log, popped_times}
+use Rattle.protocol.specs.Node.Common.{ready_items, taking, taken_from, inbox_turned}
+use Rattle.window_link.specs.Windows.{Receiver, advanced, arrival_at, window_after, received, held_in, held_at}
 use Rattle.window_link.specs.Laws.Popping.{ready_padded}
 use Rattle.window_link.specs.declared.receiving.Arrival.{Arrival}
 use Rattle.window_link.specs.declared.receiving.Arrival.TheVariants.{Taken}
 use Rattle.protocol.specs.Node.Popping.{has_place, places_left, items_out, popping}
-use Rattle.protocol.specs.Node.Delivering.{with_arrival, after_arrival, taking, put_at, changed_at}
-use Rattle.protocol.specs.Node.Installing.{taken_from, inbox_taken, inbox_turned}
+use Rattle.protocol.specs.Node.Delivering.{with_arrival, after_arrival, put_at, changed_at}
+use Rattle.protocol.specs.Node.Installing.{inbox_taken}
 use Rattle.protocol.specs.declared.links.Inbox.{Inbox}
 use Rattle.protocol.specs.declared.limits.TheConstants.{MAX_INBOX_ITEMS}
 

@@ -6,7 +6,7 @@ use Rattle.std.specs.List.{range_with_len}
 use Rattle.std.proofs.lemmas.List.{at_drop_all, get_or-drop, length-drop}
 use Rattle.std.proofs.lemmas.List.FromFn.{length-map-range_with_len, get_or-map-range_with_len}
 use Rattle.turns.specs.Turns.{first_ready, least_from}
-use Rattle.record.specs.ProcessView.{SavedProcessView}
+use Rattle.protocol.specs.Node.Common.{SavedProcessView}
 use Rattle.node_memory.specs.Searching.{IsBefore}
 
 abbrev pub is_of : (SavedProcessView → Bool) → ℕ → SavedProcessView → Bool

@@ -1,11 +1,9 @@
 -- An outlet is handed the item of a log that comes next for it.
 use Rattle.std.specs.Prelude.{◌≡◌, ◌⊎◌, ◌+◌, ℕ, ℤ, List, Option, Result, Some, length, IsErrOf, OnOk}
-use Rattle.kahn_net.specs.Streams.{IsPrefix}
-use Rattle.retained.specs.LogState.{LogState, IsLogOf}
+use Rattle.protocol.specs.Node.Common.{IsPrefix, LogState, IsLogOf, TookNext}
 use Rattle.outlet.specs.Faults.{failures_after}
 use Rattle.outlet.specs.declared.fault.OutletFault.{OutletFault}
 use Rattle.outlet.specs.declared.fault.OutletFault.TheVariants.{Failed, NoMemory}
-use Rattle.protocol.specs.Node.Trimming.{TookNext}
 
 -- What came of that, by what it has taken and how often it has failed, before and after.
 pub record IsHandedTo (log : Option LogState) (old new : List ℤ) (failures later : ℕ)

@@ -1,11 +1,8 @@
 -- A job as data: two jobs are the same where these are equal.
 use Rattle.std.specs.Prelude.{slice_get}
-use Rattle.kahn_net.specs.Syntax.{network_of}
-use Rattle.kahn_net.specs.States.{standing_of}
+use Rattle.protocol.specs.Node.Common.{network_of, standing_of, Job, JobView}
 use Rattle.std.specs.declared.alloc.Global.{Global}
 use Rattle.std.specs.declared.sync.Arc.{Arc}
-use Rattle.proc_step.specs.declared.job.Job.{Job}
-use Rattle.protocol.specs.Node.JobView.{JobView}
 
 abbrev pub job_view : Job → JobView
 job_view job = record {

@@ -1,6 +1,6 @@
 -- What a node has in memory, as data.
 use Rattle.std.specs.Prelude.{option_map}
-use Rattle.protocol.specs.Node.NodeView.{RunningView}
+use Rattle.protocol.specs.Node.Common.{RunningView}
 use Rattle.node_memory.specs.JobView.{shared_view}
 use Rattle.node_memory.specs.declared.running.Running.{Running}
 

@@ -1,6 +1,6 @@
 -- The search for the ready process with the least number from one on.
 use Rattle.std.specs.Prelude.{◌≡◌, ℕ, ◌<◌, ◌≤◌, Bool, true, Option, Some, None, ⊤}
-use Rattle.record.specs.ProcessView.{SavedProcessView}
+use Rattle.protocol.specs.Node.Common.{SavedProcessView}
 
 -- this number comes before the one found so far
 abbrev pub IsBefore : ℕ → Option SavedProcessView → Type 0

@@ -1,12 +1,10 @@
 // Which process of a node goes on next.
 ghost use Rattle.std.specs.Prelude.{◌≡◌, ◌≤◌, ◌<◌, ◌&&◌, ◌↔◌, nat_lt, length, slice_get, IfSome, IsTrue, option_copied, option_map};
-ghost use Rattle.kahn_net.specs.Syntax.{network_of};
-ghost use Rattle.record.specs.Ends.{log_at, received_at, sent_in};
-ghost use Rattle.protocol.specs.Node.Granting.{first_log, inbox_log};
+ghost use Rattle.protocol.specs.Node.Common.{network_of, log_at, received_at, sent_in, first_log, inbox_log};
+ghost use Rattle.protocol.specs.Node.Common.{MAX_CHANNELS};
 ghost use Rattle.protocol.specs.Node.Choosing.{has_item, has_room, is_ready, ready_processes, process_at, next_process};
 ghost use Rattle.node_memory.specs.Searching.{ComesFirst};
 ghost use Rattle.turns.specs.Turns.{least_from};
-ghost use Rattle.kahn_net.specs.declared.limits.TheConstants.{MAX_CHANNELS};
 
 use crate::granting::{inbox_log, places};
 use kahn_net::{Channel, History, Port};

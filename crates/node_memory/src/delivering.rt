@@ -1,6 +1,7 @@
 // What comes of a channel, or of what is said of one.
 ghost use Rattle.std.specs.Prelude.{◌≡◌, ◌<◌, length, IfSome, OnErr, OnOk};
-ghost use Rattle.protocol.specs.Node.Delivering.{acknowledged, changed_at, inbox_place, outbox_place, taking};
+ghost use Rattle.protocol.specs.Node.Common.{taking};
+ghost use Rattle.protocol.specs.Node.Delivering.{acknowledged, changed_at, inbox_place, outbox_place};
 
 use crate::popping::take_next;
 use kahn_net::MAX_COUNT;

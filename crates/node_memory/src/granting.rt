@@ -1,9 +1,9 @@
 // The job that a process of a node is given.
 ghost use Rattle.std.specs.Prelude.{◌≡◌, ◌≤◌, ◌<◌, IfOk, length, take, drop, option_copied};
-ghost use Rattle.kahn_net.specs.Syntax.{network_of};
+ghost use Rattle.protocol.specs.Node.Common.{network_of, inbox_log, is_process, next_in_log, next_items, items_from};
+ghost use Rattle.protocol.specs.Node.Common.{room_from, source_of, MAX_CHANNELS};
 ghost use Rattle.node_memory.specs.JobView.{job_view};
-ghost use Rattle.protocol.specs.Node.Granting.{inbox_log, is_process, next_in_log, next_items, items_from, room_in, room_from, job_for, source_of};
-ghost use Rattle.kahn_net.specs.declared.limits.TheConstants.{MAX_CHANNELS};
+ghost use Rattle.protocol.specs.Node.Granting.{room_in, job_for};
 
 use kahn_net::{Channel, History, MAX_COUNT, Port};
 use net_check::{Inputs, Net};

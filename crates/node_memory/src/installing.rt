@@ -1,11 +1,9 @@
 // An image after a turn of one of its processes.
 ghost use Rattle.std.specs.Prelude.{◌≡◌, ◌≤◌, ◌+◌, ◌-◌, ◌++◌, ℕ, [], map, length, take, drop, slice_get, OnOk, OnErr, IsErrOf, Some};
-ghost use Rattle.kahn_net.specs.States.{standing_of};
-ghost use Rattle.record.specs.Ends.{received_at, log_at};
+ghost use Rattle.protocol.specs.Node.Common.{standing_of, received_at, log_at, taken_from, put_on, saved_pushed};
+ghost use Rattle.protocol.specs.Node.Common.{saved_counted, moved, installed, inbox_turned, ImageTakes, SavedEnd};
+ghost use Rattle.protocol.specs.Node.Common.{MAX_COUNT};
 ghost use Rattle.record.specs.Changes.{LogTakes};
-ghost use Rattle.protocol.specs.Node.Installing.{taken_from, put_on, saved_pushed, saved_counted, moved, installed, inbox_turned, ImageTakes};
-ghost use Rattle.record.specs.declared.image.SavedEnd.{SavedEnd};
-ghost use Rattle.kahn_net.specs.declared.limits.TheConstants.{MAX_COUNT};
 
 use crate::granting::is_at;
 use crate::popping::{turn_inbox, turned_log};

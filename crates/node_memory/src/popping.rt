@@ -1,10 +1,8 @@
 // What comes out of the window of an inbox in turn.
 ghost use Rattle.std.specs.Prelude.{◌≡◌, ◌≤◌, ◌+◌, ◌++◌, None, true, drop, take, IfOk, MatchOption, OnErr, OnOk};
 ghost use Rattle.arrayvec.specs.ArrayVec.{array_vec_len};
-ghost use Rattle.record.specs.Changes.{trimmed_log};
-ghost use Rattle.window_link.specs.Windows.{arrival_at, held_at, popped_times, ready_items};
-ghost use Rattle.protocol.specs.Node.Delivering.{taking};
-ghost use Rattle.protocol.specs.Node.Installing.{inbox_turned};
+ghost use Rattle.protocol.specs.Node.Common.{trimmed_log, popped_times, ready_items, taking, inbox_turned};
+ghost use Rattle.window_link.specs.Windows.{arrival_at, held_at};
 ghost use Rattle.protocol.specs.Node.Popping.{has_place, places_left};
 
 use crate::installing::count_taken;

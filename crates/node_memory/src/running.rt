@@ -1,19 +1,12 @@
 //! What a node has while it runs.
-ghost use Rattle.kahn_net.specs.declared.limits.TheConstants.{MAX_COUNT};
+ghost use Rattle.protocol.specs.Node.Common.{MAX_COUNT, network_of, standing_of, granted, may_grant, next_job};
+ghost use Rattle.protocol.specs.Node.Common.{hearing_covered, hearing, noting_undone, IsRestorable, Runs};
+ghost use Rattle.protocol.specs.Node.Common.{turn_packets, HasNext, cut_at, log_of, ImageTakes};
 ghost use Rattle.std.specs.Prelude.{◌≡◌, ◌↔◌, ◌<◌, ◌≤◌, if◌then◌else◌, length, IfOk, IfSome, IsErrOf, IsTrue, None, OnErr, OnOk, Some, is_some, option_copied, option_map};
-ghost use Rattle.kahn_net.specs.Syntax.{network_of};
-ghost use Rattle.kahn_net.specs.States.{standing_of};
-ghost use Rattle.protocol.specs.Node.Choosing.{granted, may_grant, next_job, next_process};
-ghost use Rattle.protocol.specs.Node.Collecting.{hearing_covered};
-ghost use Rattle.protocol.specs.Node.Delivering.{hearing};
-ghost use Rattle.protocol.specs.Node.GoingBack.{noting_undone, set_back_from};
-ghost use Rattle.protocol.specs.Node.Recovering.{IsRestorable};
-ghost use Rattle.protocol.specs.Node.NodeView.{Runs};
-ghost use Rattle.protocol.specs.Node.Telling.{turn_packets};
-ghost use Rattle.protocol.specs.Node.Trimming.{HasNext, cut_at};
-ghost use Rattle.record.specs.Ends.{log_of};
+ghost use Rattle.protocol.specs.Node.Choosing.{next_process};
+ghost use Rattle.protocol.specs.Node.GoingBack.{set_back_from};
 ghost use Rattle.node_memory.specs.Handing.{IsHandedTo};
-ghost use Rattle.protocol.specs.Node.Installing.{ImageTakes, IsTaken};
+ghost use Rattle.protocol.specs.Node.Installing.{IsTaken};
 ghost use Rattle.node_memory.specs.JobView.{job_view, shared_view};
 ghost use Rattle.rollback_core.specs.RestoredView.{restored_view};
 
@@ -55,7 +48,7 @@ pub struct Running {
 }
 
 impl Running {
-    ghost use Rattle.protocol.specs.Node.NodeView.{running_node};
+    ghost use Rattle.protocol.specs.Node.Common.{running_node};
     ghost use Rattle.node_memory.specs.RunningView.{running_view};
 
     /// What a node has in memory that restored this.

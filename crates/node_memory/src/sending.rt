@@ -1,10 +1,9 @@
 // What a node sends to the others.
 ghost use Rattle.std.specs.Prelude.{◌≡◌, ◌+◌, ◌<◌, ◌≤◌, ◌++◌, length, map, IfOk, OnOk};
 ghost use Rattle.std.specs.List.{flat_map};
-ghost use Rattle.kahn_net.specs.Syntax.{network_of};
+ghost use Rattle.protocol.specs.Node.Common.{network_of, first_due, inbox_packets, MAX_COUNT};
 ghost use Rattle.protocol.specs.Node.Telling.{undone_packet, undone_packets};
-ghost use Rattle.protocol.specs.Node.Sending.{data_packets, first_due, inbox_packets, items_due, outbox_packets};
-ghost use Rattle.kahn_net.specs.declared.limits.TheConstants.{MAX_COUNT};
+ghost use Rattle.protocol.specs.Node.Sending.{data_packets, items_due, outbox_packets};
 
 use datagram::{Body, Packet};
 use layout::{consumer_node, producer_node};

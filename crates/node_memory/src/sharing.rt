@@ -1,19 +1,11 @@
 // How many items each log of an image may have.
 ghost use Rattle.std.specs.Prelude.{◌≡◌, ◌<◌, ◌≤◌, ℕ, ℤ, List, length};
-ghost use Rattle.kahn_net.specs.Syntax.{Network};
-ghost use Rattle.kahn_net.specs.Valid.{IsValid};
-ghost use Rattle.kahn_net.specs.declared.limits.TheConstants.{MAX_NODES};
-ghost use Rattle.record.specs.ImageView.{ImageView};
-ghost use Rattle.record.specs.RecordView.{RecordView};
+ghost use Rattle.protocol.specs.Node.Common.{Network, IsValid, MAX_NODES, ImageView, RecordView, MAX_RETAINED_ITEMS};
+ghost use Rattle.protocol.specs.Node.Common.{is_logging, log_share, with_decision, MAX_DECISIONS, opening_record};
+ghost use Rattle.protocol.specs.Node.Common.{RunningNode, HasReached, ImageStands, IsLaidOut, LogsAreWithin};
 ghost use Rattle.ckpt_codec.specs.SizeLaws.{IsImageWithin, IsRecordWithin};
-ghost use Rattle.ckpt_codec.specs.declared.lengths.TheConstants.{MAX_RETAINED_ITEMS};
-ghost use Rattle.protocol.specs.Node.Sharing.{is_logging, log_count, log_share, retained_share};
+ghost use Rattle.protocol.specs.Node.Sharing.{log_count, retained_share};
 ghost use Rattle.protocol.specs.Node.Starting.{with_own};
-ghost use Rattle.record.specs.Moves.{with_decision};
-ghost use Rattle.record.specs.declared.record.TheConstants.{MAX_DECISIONS};
-ghost use Rattle.protocol.specs.Node.Opening.{opening_record};
-ghost use Rattle.protocol.specs.Node.NodeView.{RunningNode};
-ghost use Rattle.protocol.specs.Node.Reached.{HasReached, ImageStands, IsLaidOut, LogsAreWithin};
 
 use ckpt_codec::MAX_RETAINED_ITEMS;
 use record::{End, Image};

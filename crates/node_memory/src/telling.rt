@@ -1,10 +1,8 @@
 // What a node says of checkpoints in its turn.
 ghost use Rattle.std.specs.Prelude.{◌≡◌, ◌++◌, OnOk};
 ghost use Rattle.std.specs.List.{flat_map};
-ghost use Rattle.kahn_net.specs.Syntax.{network_of};
-ghost use Rattle.protocol.specs.Node.Beginning.{live_asks};
+ghost use Rattle.protocol.specs.Node.Common.{network_of, live_asks, commit_to};
 ghost use Rattle.protocol.specs.Node.Telling.{decision_packets, verdicts_told};
-ghost use Rattle.protocol.specs.Node.Verdicts.{commit_to};
 
 use ckpt_core::query;
 use datagram::Packet;

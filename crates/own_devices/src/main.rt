@@ -10,9 +10,8 @@ mod retrying;
 
 ghost use Rattle.std.specs.Prelude.{◌≡◌, ◌*◌, ◌^◌, ◌<◌, IfOk, map};
 ghost use Rattle.std.specs.List.{AllByRecursion};
-ghost use Rattle.kahn_net.specs.Syntax.{network_of};
-ghost use Rattle.sector_disk.specs.declared.TheConstants.{SECTOR_BYTES};
-ghost use Rattle.protocol.specs.World.Sound.{output_channels};
+ghost use Rattle.protocol.specs.Node.Common.{network_of, SECTOR_BYTES};
+ghost use Rattle.protocol.specs.World.Common.{output_channels};
 ghost use Rattle.world.specs.OpeningWorld.{IsUnused};
 
 use crate::closing::{closed_after, may_follow};

@@ -27,3 +27,4 @@ pub mod Verdicts
 pub mod GoingBack
 pub mod Hearing
 pub mod Telling
+pub mod Common

@@ -26,3 +26,4 @@ pub mod InLine
 pub mod Coordination
 pub mod Released
 pub mod OpeningWorld
+pub mod Common

@@ -2,20 +2,12 @@
 use Rattle.std.proofs.Common.{◌≡◌, ◌∙◌, ℕ, ℤ, Bool, true, false, ◌&&◌, not, cond, List, length, Option, Some, None, refl}
 use Rattle.std.proofs.Common.{slice_get}
 use Rattle.std.specs.Prelude.{is_some, nat_lt}
-use Rattle.kahn_net.specs.Syntax.{Network}
-use Rattle.wire.specs.Traffic.{Traffic}
-use Rattle.protocol.specs.Node.Beginning.{live_in}
-use Rattle.protocol.specs.Node.Choosing.{node_job}
-use Rattle.protocol.specs.Node.Modes.{is_down}
-use Rattle.protocol.specs.Node.Verdicts.{may_decide}
-use Rattle.protocol.specs.World.Choice.{choice, choice_of, deliver_or, due_place, has_sent, may_recover, own_choice}
+use Rattle.protocol.specs.Node.Common.{Network, live_in, node_job, is_down, may_decide}
+use Rattle.protocol.specs.World.Common.{Traffic, choice, EventView, ByNode, Release, event_node, WorldInvariant}
+use Rattle.protocol.specs.World.Common.{StationView, WorldView, next_release, turns_of}
+use Rattle.protocol.specs.World.Choice.{choice_of, deliver_or, due_place, has_sent, may_recover, own_choice}
 use Rattle.protocol.specs.World.Choice.{station_choice, wants_checkpoint}
-use Rattle.protocol.specs.World.EventView.{EventView, ByNode, Release, event_node}
 use Rattle.protocol.specs.declared.event.Deed.TheVariants as event
-use Rattle.protocol.specs.World.Invariant.{WorldInvariant}
-use Rattle.protocol.specs.World.StationView.{StationView}
-use Rattle.protocol.specs.World.Steps.{WorldView, next_release}
-use Rattle.protocol.specs.World.Turns.{turns_of}
 use Rattle.protocol.specs.declared.limits.TheConstants.{MAX_GRANTS}
 
 -- whatever is due of what a node does by itself

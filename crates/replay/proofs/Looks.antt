@@ -3,46 +3,40 @@
 use Rattle.std.proofs.Common.{◌≡◌, ◌≢◌, ◌⊎◌, ⊎_elim, inl, inr, ℕ, zero, suc, ◌+◌, Bool, true, false, cond, ◌&&◌, not, ℤ, List, [], ◌∷◌}
 use Rattle.std.proofs.Common.{length, Option, Some, None, refl, sym, ap, subst, ◌∙◌, arith}
 use Rattle.std.specs.Prelude.{nat_lt, slice_get, slice_set}
-use Rattle.kahn_net.specs.Syntax.{Network}
-use Rattle.datagram.specs.declared.packet.Body.{Body}
+use Rattle.protocol.specs.Node.Common.{Network, Body, Need, Packet, MAX_COUNT, highest_seen, with_confirmed}
+use Rattle.protocol.specs.Node.Common.{with_epoch, with_permanent, without_tentative, RecordView, Tentative}
+use Rattle.protocol.specs.Node.Common.{AskAnswer, Silent, CoveredBefore, TookBefore, TakesNow, Declines}
+use Rattle.protocol.specs.Node.Common.{answer_to_ask, holds, kept_then, beginning, begun, collecting, live_asks}
+use Rattle.protocol.specs.Node.Common.{live_in, may_start, start_prospect, grant_prospect, granted, may_grant}
+use Rattle.protocol.specs.Node.Common.{node_job, with_grant, Ignores, Joins, GivesUp, answer_to_took, hearing_covered}
+use Rattle.protocol.specs.Node.Common.{refused_prospect, took_prospect, hearing, packet_for, PassesOver, Notes}
+use Rattle.protocol.specs.Node.Common.{GoesBack, noting_undone, set_back_to, undone_prospect, deliver_prospect}
+use Rattle.protocol.specs.Node.Common.{hear_prospect, JobView, LiveView, crashed, is_down, is_none, is_running}
+use Rattle.protocol.specs.Node.Common.{with_kept, NodeView, ModeView, Down, InDoubt, Runs, RunningView, RunningNode}
+use Rattle.protocol.specs.Node.Common.{on_mode, on_running, running_in, Plan, Prospect, Undue, Exhausted, Planned}
+use Rattle.protocol.specs.Node.Common.{IsCarriedOut, IsMade, if_due, becoming, putting, unless_spent}
+use Rattle.protocol.specs.Node.Common.{recover_prospect, restored, own_at, cut_at, trimmed_node, after_verdict}
+use Rattle.protocol.specs.Node.Common.{commit_prospect, concluded, decide_prospect, ended_prospect, may_decide}
+use Rattle.protocol.specs.Node.Common.{mode_then, settled_prospect}
 use Rattle.datagram.specs.declared.packet.Body.TheVariants.{Data, Ack, Kept, Ask, Took, Covered, Refused, Query, Commit}
 use Rattle.datagram.specs.declared.packet.Body.TheVariants.{Ended, Settled, Undone}
-use Rattle.datagram.specs.declared.packet.Need.{Need}
-use Rattle.datagram.specs.declared.packet.Packet.{Packet}
-use Rattle.kahn_net.specs.declared.limits.TheConstants.{MAX_COUNT}
-use Rattle.recovery_line.specs.Observers.{names}
-use Rattle.record.specs.Moves.{highest_seen, with_confirmed, with_epoch, with_permanent, without_tentative}
-use Rattle.record.specs.RecordView.{RecordView}
-use Rattle.record.specs.declared.record.Tentative.{Tentative}
-use Rattle.protocol.specs.Node.Answering.{AskAnswer, Silent, CoveredBefore, TookBefore, TakesNow, Declines, answering, answer_to_ask}
-use Rattle.protocol.specs.Node.Answering.{ask_prospect, holds, kept_then}
-use Rattle.protocol.specs.Node.Beginning.{beginning, begun, collecting, live_asks, live_in, may_start}
-use Rattle.protocol.specs.Node.Beginning.{start_prospect}
-use Rattle.protocol.specs.Node.Choosing.{grant_prospect, granted, may_grant, node_job, with_grant}
-use Rattle.protocol.specs.Node.Collecting.{TookAnswer, Ignores, Joins, GivesUp, answer_to_took, give_up_prospect, hearing_covered}
-use Rattle.protocol.specs.Node.Collecting.{joining, loses, refused_prospect, took_by, took_prospect}
-use Rattle.protocol.specs.Node.Delivering.{hearing, packet_for}
-use Rattle.protocol.specs.Node.GoingBack.{UndoneAnswer, PassesOver, Notes, GoesBack, answer_to_undone, gone_back, noting_undone}
-use Rattle.protocol.specs.Node.GoingBack.{set_back_to, undone_by, undone_prospect}
-use Rattle.protocol.specs.Node.Hearing.{deliver_prospect, hear_prospect, told_prospect}
-use Rattle.protocol.specs.Node.JobView.{JobView}
-use Rattle.protocol.specs.Node.LiveView.{LiveView}
-use Rattle.protocol.specs.Node.Modes.{crashed, is_down, is_none, is_running, with_kept}
-use Rattle.protocol.specs.Node.NodeView.{NodeView, ModeView, Down, InDoubt, Runs, RunningView, RunningNode, on_mode, on_running}
-use Rattle.protocol.specs.Node.NodeView.{running_in}
-use Rattle.protocol.specs.Node.Plans.{Plan, Prospect, Undue, Exhausted, Planned, IsCarriedOut, IsHeldUp, IsMade, if_due}
-use Rattle.protocol.specs.Node.Plans.{becoming, putting, unless_spent}
-use Rattle.protocol.specs.Node.Recovering.{crash_prospect, recover_prospect, restored, restored_with}
-use Rattle.protocol.specs.Node.Starting.{own_at, with_own_now}
+use Rattle.protocol.specs.World.Common.{names, StationView, deliver_plan}
+use Rattle.protocol.specs.Node.Answering.{answering}
+use Rattle.protocol.specs.Node.Answering.{ask_prospect}
+use Rattle.protocol.specs.Node.Collecting.{TookAnswer, give_up_prospect}
+use Rattle.protocol.specs.Node.Collecting.{joining, loses, took_by}
+use Rattle.protocol.specs.Node.GoingBack.{UndoneAnswer, answer_to_undone, gone_back}
+use Rattle.protocol.specs.Node.GoingBack.{undone_by}
+use Rattle.protocol.specs.Node.Hearing.{told_prospect}
+use Rattle.protocol.specs.Node.Plans.{IsHeldUp}
+use Rattle.protocol.specs.Node.Recovering.{crash_prospect, restored_with}
+use Rattle.protocol.specs.Node.Starting.{with_own_now}
 use Rattle.protocol.specs.Node.Telling.{send_prospect}
-use Rattle.protocol.specs.Node.Trimming.{cut_at, trimmed_node}
-use Rattle.protocol.specs.Node.Verdicts.{after_verdict, commit_prospect, concluded, decide_prospect, decided_now, ended_prospect}
-use Rattle.protocol.specs.Node.Verdicts.{may_decide, mode_then, query_prospect, settled_prospect}
+use Rattle.protocol.specs.Node.Verdicts.{decided_now}
+use Rattle.protocol.specs.Node.Verdicts.{query_prospect}
 use Rattle.protocol.specs.declared.outcome.Outcome.{Outcome}
 use Rattle.protocol.specs.declared.outcome.Outcome.TheVariants as outcome
 use Rattle.protocol.specs.declared.outcome.Refusal.TheVariants.{TooLarge, Spent}
-use Rattle.protocol.specs.World.StationView.{StationView}
-use Rattle.protocol.specs.World.Steps.{deliver_plan}
 use Rattle.replay.specs.Out.{Look, look_of, out_in}
 
 -- ---- one node

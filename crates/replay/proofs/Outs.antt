@@ -2,32 +2,25 @@
 use Rattle.std.proofs.Common.{◌≡◌, ◌≢◌, ◌⊎◌, ⊎_elim, inl, inr, ℕ, zero, suc, ◌+◌, ◌<◌, Bool, true, false, cond, ◌&&◌, not, ℤ, List, [], ◌∷◌}
 use Rattle.std.proofs.Common.{◌++◌, length, Option, Some, None, refl, sym, ap, subst, ◌∙◌, arith}
 use Rattle.std.specs.Prelude.{slice_get, slice_set}
-use Rattle.kahn_net.specs.Syntax.{Network}
-use Rattle.kahn_net.specs.declared.program.Channel.{Channel}
-use Rattle.record.specs.RecordView.{RecordView}
-use Rattle.protocol.specs.Node.ArmedRestarts.{restart_after, round_later, with_armed}
-use Rattle.protocol.specs.Node.Choosing.{grant_prospect, granted, job_at, may_grant, next_job, node_job, with_grant}
-use Rattle.protocol.specs.Node.Installing.{IsInstall, IsOut, turned}
-use Rattle.protocol.specs.Node.JobView.{JobView}
-use Rattle.protocol.specs.Node.Modes.{crashed, is_down, is_none, is_running}
-use Rattle.protocol.specs.Node.NodeView.{NodeView, ModeView, Down, InDoubt, Runs, RunningNode, on_mode, on_running, running_in}
-use Rattle.protocol.specs.Node.NodeView.{running_node}
-use Rattle.protocol.specs.Node.Plans.{Prospect, Undue, Exhausted, Planned, IsMade as IsMadeOf, becoming, if_due}
-use Rattle.protocol.specs.Node.Trimming.{cut_at}
+use Rattle.protocol.specs.Node.Common.{Network, Channel, RecordView, restart_after, round_later, with_armed}
+use Rattle.protocol.specs.Node.Common.{grant_prospect, granted, may_grant, next_job, node_job, with_grant, IsInstall}
+use Rattle.protocol.specs.Node.Common.{IsOut, JobView, crashed, is_down, is_none, is_running, NodeView, ModeView}
+use Rattle.protocol.specs.Node.Common.{Down, InDoubt, Runs, RunningNode, on_mode, on_running, running_in}
+use Rattle.protocol.specs.Node.Common.{running_node, Prospect, Undue, Exhausted, Planned, becoming, if_due, cut_at}
+use Rattle.protocol.specs.Node.Choosing.{job_at}
+use Rattle.protocol.specs.Node.Installing.{turned}
+use Rattle.protocol.specs.Node.Plans.{IsMade as IsMadeOf}
 use Rattle.protocol.specs.declared.outcome.Outcome.{Outcome}
 use Rattle.protocol.specs.declared.outcome.Outcome.TheVariants as outcome
 use Rattle.protocol.specs.declared.outcome.Refusal.TheVariants.{TooLarge, Spent}
-use Rattle.protocol.specs.World.DoneView.{DoneView}
-use Rattle.protocol.specs.World.EventView.{EventView, ByNode, ByNetwork, Install, Release, event_node, node_in}
+use Rattle.protocol.specs.World.Common.{DoneView, EventView, ByNode, ByNetwork, Install, Release, event_node, node_in}
+use Rattle.protocol.specs.World.Common.{act_reply, answer_by, grant_reply, install_reply, ReplyView, StationView}
+use Rattle.protocol.specs.World.Common.{IsAct, IsActOf, IsPlanned, IsRelease, IsStationStep, IsStep, Setting}
+use Rattle.protocol.specs.World.Common.{WorldView, can_act, due_bytes, flight_at, next_release, plan_of, setting_of}
 use Rattle.protocol.specs.declared.event.Deed.{Deed}
 use Rattle.protocol.specs.declared.event.NetworkAct.{NetworkAct}
 use Rattle.protocol.specs.declared.event.Deed.TheVariants as event
-use Rattle.protocol.specs.World.Replies.{act_reply, answer_by, grant_reply, install_reply}
-use Rattle.protocol.specs.World.ReplyView.{ReplyView}
 use Rattle.protocol.specs.declared.reply.Reply.TheVariants as reply
-use Rattle.protocol.specs.World.StationView.{StationView}
-use Rattle.protocol.specs.World.Steps.{IsAct, IsActOf, IsPlanned, IsRelease, IsStationStep, IsStep, Setting, WorldView, can_act}
-use Rattle.protocol.specs.World.Steps.{due_bytes, flight_at, next_release, plan_of, setting_of}
 use Rattle.replay.specs.Armed.{ArmedEvent, ArmedView, OfWorld, ArmCrash, IsArmedStep, IsWorldStep, EndsWith, crash_after}
 use Rattle.replay.specs.Armed.{delivered_to}
 use Rattle.replay.specs.Laws.{InstallsAreTold}

@@ -1,12 +1,9 @@
 -- What a history keeps of the world.
 use Rattle.std.proofs.Common.{◌≡◌, ◌∙◌, ℕ, Bool, List, [], ◌∷◌, ◌++◌, Option, Some, None, refl, sym, ap, subst}
 use mathlib.Core.Logic.{∥∥₁_map}
-use Rattle.record.specs.RecordView.{RecordView}
-use Rattle.protocol.specs.World.EventView.{EventView, ByNode}
+use Rattle.protocol.specs.Node.Common.{RecordView}
+use Rattle.protocol.specs.World.Common.{EventView, ByNode, WorldInvariant, ReplyView, WorldView}
 use Rattle.protocol.specs.declared.event.Deed.TheVariants as event
-use Rattle.protocol.specs.World.Invariant.{WorldInvariant}
-use Rattle.protocol.specs.World.ReplyView.{ReplyView}
-use Rattle.protocol.specs.World.Steps.{WorldView}
 use Rattle.protocol.specs.World.Still.{wider}
 use Rattle.protocol_laws.specs.World.StepKeeps.{room_keeps_world, step_keeps}
 use Rattle.replay.specs.Armed.{ArmedEvent, ArmedView, OfWorld, ArmCrash, IsArmedStep, EndsWith}

@@ -2,7 +2,7 @@
 use Rattle.std.proofs.Common.{◌≡◌, ◌∙◌, ◌⊎◌, ℕ, Bool, true, List, [], ◌∷◌, ◌++◌, length, refl, sym, ap, subst, inl, inr}
 use Rattle.std.proofs.Common.{⊎_elim, arith}
 use Rattle.std.proofs.lemmas.List.{length-append}
-use Rattle.record.specs.RecordView.{RecordView}
+use Rattle.protocol.specs.Node.Common.{RecordView}
 use Rattle.replay.specs.Armed.{ArmedView}
 use Rattle.replay.specs.Laws.{no_event, SilencesStay}
 use Rattle.replay.specs.Replay.{Happening, Made, Silent, Widened, Happens, IsSilence, at_first, and_then, passed_after}

@@ -1,16 +1,9 @@
 -- Turns that come back.
 use Rattle.std.proofs.Common.{◌≡◌, ◌⊎◌, Bool, true, false, List, Option, Some, slice_get, subst, inl, inr}
-use Rattle.record.specs.RecordView.{RecordView}
-use Rattle.kahn_net.specs.declared.program.Channel.{Channel}
-use Rattle.protocol.specs.Node.Installing.{IsOut, IsInstall}
-use Rattle.protocol.specs.Node.NodeView.{NodeView}
-use Rattle.protocol.specs.World.DoneView.{DoneView}
-use Rattle.protocol.specs.World.EventView.{Install, event_node}
-use Rattle.protocol.specs.World.Replies.{install_reply}
-use Rattle.protocol.specs.World.ReplyView.{ReplyView}
+use Rattle.protocol.specs.Node.Common.{RecordView, Channel, IsOut, IsInstall, NodeView}
+use Rattle.protocol.specs.World.Common.{DoneView, Install, event_node, install_reply, ReplyView, StationView, IsActOf}
+use Rattle.protocol.specs.World.Common.{setting_of}
 use Rattle.protocol.specs.declared.reply.Reply.TheVariants.{Installed, Discarded}
-use Rattle.protocol.specs.World.StationView.{StationView}
-use Rattle.protocol.specs.World.Steps.{IsActOf, setting_of}
 use Rattle.replay.specs.Laws.{InstallsAreTold}
 
 -- by whether it was taken in

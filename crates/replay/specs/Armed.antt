@@ -2,14 +2,10 @@
 -- are two steps of the world, with nothing between them.
 use Rattle.std.specs.Prelude.{◌≡◌, ◌==◌, ◌&&◌, ◌++◌, ℕ, Bool, true, false, if◌then◌else◌, List, [], ◌∷◌, length, replicate}
 use Rattle.std.specs.Prelude.{Option, Some, None, slice_get, slice_set}
-use Rattle.record.specs.RecordView.{RecordView}
-use Rattle.protocol.specs.Node.Modes.{next_number}
-use Rattle.protocol.specs.World.EventView.{EventView, ByNode}
+use Rattle.protocol.specs.Node.Common.{RecordView, next_number}
+use Rattle.protocol.specs.World.Common.{EventView, ByNode, has_happened, ReplyView, IsStep, WorldView}
 use Rattle.protocol.specs.declared.event.Deed.TheVariants as event
-use Rattle.protocol.specs.World.Replies.{has_happened}
-use Rattle.protocol.specs.World.ReplyView.{ReplyView}
 use Rattle.protocol.specs.declared.reply.Reply.TheVariants as reply
-use Rattle.protocol.specs.World.Steps.{IsStep, WorldView}
 use Rattle.protocol.specs.World.Still.{widened}
 use Rattle.replay.specs.declared.kept.ArmedCrash.{ArmedCrash}
 

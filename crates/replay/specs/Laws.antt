@@ -1,14 +1,9 @@
 -- What a history says of the world to which it leads, of the turns that come back, and of what may be said again.
 use Rattle.std.specs.Prelude.{◌≡◌, ◌⊎◌, ℕ, Bool, true, false, List, [], ◌∷◌, ◌++◌, Some, slice_get}
-use Rattle.record.specs.RecordView.{RecordView}
-use Rattle.protocol.specs.Node.Installing.{IsOut}
-use Rattle.protocol.specs.World.DoneView.{DoneView}
-use Rattle.protocol.specs.World.EventView.{Install, event_node}
-use Rattle.protocol.specs.World.Invariant.{WorldInvariant}
-use Rattle.protocol.specs.World.ReplyView.{ReplyView}
+use Rattle.protocol.specs.Node.Common.{RecordView, IsOut}
+use Rattle.protocol.specs.World.Common.{DoneView, Install, event_node, WorldInvariant, ReplyView, StationView, IsStep}
+use Rattle.protocol.specs.World.Common.{WorldView}
 use Rattle.protocol.specs.declared.reply.Reply.TheVariants.{Installed, Discarded}
-use Rattle.protocol.specs.World.StationView.{StationView}
-use Rattle.protocol.specs.World.Steps.{IsStep, WorldView}
 use Rattle.protocol.specs.World.Still.{wider}
 use Rattle.replay.specs.Armed.{ArmedView}
 use Rattle.replay.specs.Replay.{Happening, Made, Silent, Widened, IsReplay, IsSilence, LeadsTo}

@@ -1,17 +1,11 @@
 -- Which job is out at a node, as a history tells it: the one that an entry granted, that none has installed since, and that no crash
 -- of the node has undone, nor that it went back.
 use Rattle.std.specs.Prelude.{◌≡◌, ◌⊎◌, ℕ, Bool, true, false, List, [], ◌∷◌, ◌++◌, Option, Some, None, slice_get}
-use Rattle.record.specs.RecordView.{RecordView}
-use Rattle.protocol.specs.Node.JobView.{JobView}
-use Rattle.protocol.specs.Node.Modes.{is_running}
-use Rattle.protocol.specs.Node.NodeView.{NodeView, ModeView, Down, InDoubt, Runs}
-use Rattle.protocol.specs.World.DoneView.{DoneView}
-use Rattle.protocol.specs.World.EventView.{ByNode, Install, event_node, node_in}
+use Rattle.protocol.specs.Node.Common.{RecordView, JobView, is_running, NodeView, ModeView, Down, InDoubt, Runs}
+use Rattle.protocol.specs.World.Common.{DoneView, ByNode, Install, event_node, node_in, ReplyView, StationView}
+use Rattle.protocol.specs.World.Common.{WorldView}
 use Rattle.protocol.specs.declared.event.Deed.TheVariants.{Grant}
-use Rattle.protocol.specs.World.ReplyView.{ReplyView}
 use Rattle.protocol.specs.declared.reply.Reply.TheVariants as reply
-use Rattle.protocol.specs.World.StationView.{StationView}
-use Rattle.protocol.specs.World.Steps.{WorldView}
 use Rattle.replay.specs.Armed.{ArmedView, IsArmedStep, OfWorld}
 use Rattle.replay.specs.Replay.{Happening, Made, Silent, Widened, Happens, IsMade, IsReplay, KeptEventView, OfJob, Plainly}
 use Rattle.replay.specs.Replay.{passed_after, passed_by}

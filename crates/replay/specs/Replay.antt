@@ -1,17 +1,10 @@
 -- What happened in a run, and to which world it leads.
 use Rattle.std.specs.Prelude.{◌≡◌, ◌⊎◌, ◌≤◌, ◌<◌, ◌+◌, ℕ, Bool, true, false, List, [], ◌∷◌, ◌++◌, length, Option, Some, None}
 use Rattle.std.specs.Prelude.{slice_get}
-use Rattle.record.specs.RecordView.{RecordView}
-use Rattle.protocol.specs.Node.JobView.{JobView}
-use Rattle.protocol.specs.World.Choice.{choice}
-use Rattle.protocol.specs.World.DoneView.{DoneView}
-use Rattle.protocol.specs.World.EventView.{EventView, ByNode, Install, event_node}
+use Rattle.protocol.specs.Node.Common.{RecordView, JobView}
+use Rattle.protocol.specs.World.Common.{choice, DoneView, EventView, ByNode, Install, event_node, ReplyView}
+use Rattle.protocol.specs.World.Common.{StationView, WorldView, stands_still, turns_of}
 use Rattle.protocol.specs.declared.event.Deed.TheVariants as deed
-use Rattle.protocol.specs.World.ReplyView.{ReplyView}
-use Rattle.protocol.specs.World.StationView.{StationView}
-use Rattle.protocol.specs.World.Steps.{WorldView}
-use Rattle.protocol.specs.World.Still.{stands_still}
-use Rattle.protocol.specs.World.Turns.{turns_of}
 use Rattle.replay.specs.Armed.{ArmedEvent, OfWorld, ArmedView, IsArmedStep, armed_at_first, armed_widened}
 use Rattle.replay.specs.Plain.{run_view}
 use Rattle.replay.specs.declared.kept.RunEvent.{RunEvent}

@@ -1,5 +1,6 @@
 -- Answers as they are kept.
-use Rattle.protocol.specs.World.ReplyView.{ReplyView, reply_by}
+use Rattle.protocol.specs.World.Common.{ReplyView}
+use Rattle.protocol.specs.World.ReplyView.{reply_by}
 use Rattle.protocol.specs.declared.reply.Leaving.{Leaving}
 use Rattle.protocol.specs.declared.reply.Reply.{Reply}
 

@@ -5,10 +5,8 @@ use Rattle.std.proofs.Math.Logic.{∥∥₁_map, ∥∥₁_map₂}
 use Rattle.std.specs.Prelude.{is_some, IfSome, IsTrue}
 use Rattle.std.proofs.lemmas.List.{map-append, take-append-drop}
 use Rattle.std.proofs.lemmas.List.Sums.{sum_by-append}
-use Rattle.record.specs.RecordView.{RecordView}
-use Rattle.protocol.specs.World.ReplyView.{ReplyView}
-use Rattle.protocol.specs.World.Steps.{WorldView}
-use Rattle.protocol.specs.World.Still.{stands_still}
+use Rattle.protocol.specs.Node.Common.{RecordView}
+use Rattle.protocol.specs.World.Common.{ReplyView, WorldView, stands_still}
 use Rattle.replay.specs.Armed.{ArmedEvent, ArmedView, IsArmedStep, armed_at_first, armed_widened}
 use Rattle.replay.specs.Replay.{Happening, Made, Silent, Widened, Happens, IsEventOf, IsReplay, IsScripted, IsSilence, LeadsTo}
 use Rattle.replay.specs.Replay.{at_first, and_then, passed_by}

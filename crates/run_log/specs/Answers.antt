@@ -1,10 +1,7 @@
 -- What a seat is answered.
 use Rattle.std.specs.Prelude.{◌≡◌, ℕ, Bool, true, List}
-use Rattle.record.specs.RecordView.{RecordView}
-use Rattle.protocol.specs.World.Replies.{IsGrantedAt}
-use Rattle.protocol.specs.World.ReplyView.{ReplyView}
-use Rattle.protocol.specs.World.Steps.{WorldView}
-use Rattle.protocol.specs.World.Still.{stands_still}
+use Rattle.protocol.specs.Node.Common.{RecordView}
+use Rattle.protocol.specs.World.Common.{IsGrantedAt, ReplyView, WorldView, stands_still}
 use Rattle.replay.specs.Armed.{ArmedEvent, ArmedView}
 use Rattle.replay.specs.Replay.{Happening, IsMade, IsReplay, IsSilence, KeptEventView}
 use Rattle.replay.specs.Replies.{KeptReply}

@@ -1,7 +1,7 @@
 -- A history as data.
 use Rattle.std.specs.Prelude.{◌≡◌, ℕ, ◌+◌, true, List, [], ◌∷◌, ◌++◌, drop, map, Some, slice_get}
 use Rattle.node_memory.specs.JobView.{shared_view}
-use Rattle.protocol.specs.World.ReplyView.{ReplyView}
+use Rattle.protocol.specs.World.Common.{ReplyView}
 use Rattle.replay.specs.Armed.{ArmedEvent}
 use Rattle.replay.specs.Laws.{no_event}
 use Rattle.replay.specs.Replay.{Happening, IsKeptOf, KeptEventView, Made, OfJob, Plainly, Silent, Widened}

@@ -1,6 +1,6 @@
 -- The world of no run.
 use Rattle.std.specs.Prelude.{[]}
-use Rattle.protocol.specs.World.Steps.{WorldView}
+use Rattle.protocol.specs.World.Common.{WorldView}
 
 abbrev pub no_world : WorldView
 no_world = record {

@@ -1,7 +1,6 @@
 // A world with crashes that are armed for the ends of deliveries.
 ghost use Rattle.std.specs.Prelude.{◌≡◌, IfErr, IfOk, OnErr};
-ghost use Rattle.protocol.specs.World.EventView.{event_node};
-ghost use Rattle.protocol.specs.World.Replies.{IsGrantedAt, has_happened};
+ghost use Rattle.protocol.specs.World.Common.{event_node, IsGrantedAt, has_happened};
 ghost use Rattle.replay.specs.Armed.{ArmCrash, EndsWith, IsArmedStep, OfWorld, armed_at_first, crash_after, deliveries_after, delivered_to, first_crash, has_come, is_for, one_more};
 ghost use Rattle.replay.specs.Plain.{run_view};
 ghost use Rattle.station.specs.EventView.{event_view};

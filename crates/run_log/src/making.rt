@@ -1,7 +1,6 @@
 // An event, and its line.
 ghost use Rattle.std.specs.Prelude.{◌≡◌, IfErr, IfOk, OnErr};
-ghost use Rattle.protocol.specs.World.EventView.{event_node};
-ghost use Rattle.protocol.specs.World.Replies.{IsGrantedAt};
+ghost use Rattle.protocol.specs.World.Common.{event_node, IsGrantedAt};
 ghost use Rattle.replay.specs.Armed.{IsArmedStep, OfWorld};
 ghost use Rattle.replay.specs.Plain.{run_view};
 ghost use Rattle.replay.specs.declared.kept.Maker.TheVariants as who;

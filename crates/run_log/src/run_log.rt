@@ -1,9 +1,6 @@
 // The log of a run, with the world to which it leads.
 ghost use Rattle.std.specs.Prelude.{◌≡◌, ◌||◌, ◌<◌, true, false, length, IfErr, IfOk, IsTrue, OnErr, OnOk};
-ghost use Rattle.protocol.specs.World.EventView.{event_node, Install};
-ghost use Rattle.protocol.specs.World.Quiet.{are_quiet};
-ghost use Rattle.protocol.specs.World.Still.{stands_still};
-ghost use Rattle.protocol.specs.World.Replies.{IsGrantedAt};
+ghost use Rattle.protocol.specs.World.Common.{event_node, Install, are_quiet, stands_still, IsGrantedAt};
 ghost use Rattle.replay.specs.Armed.{OfWorld, armed_at_first};
 ghost use Rattle.replay.specs.Plain.{run_view};
 ghost use Rattle.replay.specs.Replay.{IsEventOf, IsIdle, IsReplay, IsSilence, LeadsTo, has_idled};

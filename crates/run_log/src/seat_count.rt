@@ -1,6 +1,6 @@
 // How often each seat was answered, in tokens that can't be made up.
 ghost use Rattle.std.specs.Prelude.{◌≡◌, ◌+◌, ◌<◌, ℕ, Bool, List, []};
-ghost use Rattle.kahn_net.specs.declared.limits.TheConstants.{MAX_COUNT};
+ghost use Rattle.protocol.specs.Node.Common.{MAX_COUNT};
 ghost use Rattle.run_log.specs.declared.seat_count.Counted.TheVariants as kind;
 ghost use Rattle.run_log.specs.Numbers.{Names, added, counted, no_names, no_numbers};
 
@@ -22,8 +22,8 @@ impl RunLedgers for Brand {
 
 /// Which run it is: the world that it begins with, which records its nodes' cells have room for, and its script.
 pub trait Run: RunLedgers {
-    ghost use Rattle.protocol.specs.World.Steps.{WorldView};
-    ghost use Rattle.record.specs.RecordView.{RecordView};
+    ghost use Rattle.protocol.specs.World.Common.{WorldView};
+    ghost use Rattle.protocol.specs.Node.Common.{RecordView};
     ghost use Rattle.replay.specs.declared.kept.ScriptedEvent.{ScriptedEvent};
 
     ghost opening: { WorldView };

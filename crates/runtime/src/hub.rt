@@ -1,6 +1,6 @@
 // A world that threads share.
 ghost use Rattle.std.specs.Prelude.{◌≡◌, ◌+◌, vec_len, IfErr, IfOk, OnErr, OnOk};
-ghost use Rattle.protocol.specs.World.EventView.{event_node, Install};
+ghost use Rattle.protocol.specs.World.Common.{event_node, Install};
 ghost use Rattle.replay.specs.Replay.{LeadsTo};
 ghost use Rattle.replay.specs.declared.kept.Maker.TheVariants as who;
 ghost use Rattle.run_log.specs.Answers.{fault_kind, turn_kind, IsGrantedIn, IsReplyIn, TellsFault, TellsTurn};

@@ -1,7 +1,7 @@
 // What a node's thread does at the hub.
 ghost use Rattle.std.specs.Prelude.{◌≡◌};
 ghost use Rattle.node_memory.specs.JobView.{shared_view};
-ghost use Rattle.protocol.specs.World.EventView.{node_in};
+ghost use Rattle.protocol.specs.World.Common.{node_in};
 
 use crate::hub::Hub;
 use crate::job_watch::JobWatch;

@@ -1,11 +1,8 @@
 //! Marks of a small network, raised and read from two threads.
 
 ghost use Rattle.std.specs.Prelude.{◌≡◌, length, IsTrue};
-ghost use Rattle.kahn_net.specs.Approximations.{approximation};
-ghost use Rattle.kahn_net.specs.Streams.{history_of};
-ghost use Rattle.kahn_net.specs.Syntax.{network_of};
+ghost use Rattle.protocol.specs.Node.Common.{approximation, history_of, network_of, HistoryReaches};
 ghost use Rattle.marks.specs.Seats.{table_of};
-ghost use Rattle.stream_eq.specs.Reached.{HistoryReaches};
 
 use marks::{Marks, MarksName, Opened, Seat};
 use net_check::{Inputs, Net, bind, check, fits};

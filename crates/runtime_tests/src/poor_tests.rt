@@ -2,8 +2,8 @@
 
 ghost use Rattle.std.specs.Prelude.{◌≡◌, IfOk, map};
 ghost use Rattle.std.specs.List.{AllByRecursion};
-ghost use Rattle.kahn_net.specs.Syntax.{network_of};
-ghost use Rattle.protocol.specs.World.Sound.{output_channels};
+ghost use Rattle.protocol.specs.Node.Common.{network_of};
+ghost use Rattle.protocol.specs.World.Common.{output_channels};
 ghost use Rattle.world.specs.OpeningWorld.{IsUnused};
 
 use crate::runtime_tests::{BOUNDS, NODES, SUM_ON_TWO_NODES, disks, inputs_of, net_of};

@@ -1,13 +1,11 @@
 //! A running sum on two nodes, over a hub: on one thread, and with a thread for each node.
 
 ghost use Rattle.std.specs.Prelude.{◌≡◌, ◌+◌, ◌*◌, ◌^◌, ◌<◌, vec_len, IfOk};
-ghost use Rattle.kahn_net.specs.Fits.{Fits};
-ghost use Rattle.kahn_net.specs.Syntax.{network_of};
+ghost use Rattle.protocol.specs.Node.Common.{Fits, network_of, SECTOR_BYTES};
 ghost use Rattle.marks.specs.Seats.{table_of};
 ghost use Rattle.node_memory.specs.JobView.{shared_view};
-ghost use Rattle.protocol.specs.World.EventView.{node_in};
+ghost use Rattle.protocol.specs.World.Common.{node_in};
 ghost use Rattle.run_log.specs.LedgerNames.{HaveParts, names_of};
-ghost use Rattle.sector_disk.specs.declared.TheConstants.{SECTOR_BYTES};
 ghost use Rattle.world.specs.WholeView.{world_of};
 ghost use Rattle.world.specs.WorldView.{rooms};
 

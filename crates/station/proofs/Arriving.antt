@@ -1,21 +1,12 @@
 -- What comes to a station of a sound world may be heard.
 use Rattle.std.proofs.Common.{◌≡◌, ℕ, Bool, true, false, List, All, Option, Some, None, option_map, ap, subst, ◌∙◌}
 use Rattle.std.specs.Prelude.{slice_get}
-use Rattle.kahn_net.specs.Syntax.{Network}
-use Rattle.datagram.specs.PacketText.{IsPacket}
-use Rattle.datagram.specs.declared.packet.Packet.{Packet}
-use Rattle.wire.specs.Queue.{is_due}
-use Rattle.wire.specs.Traffic.{flights_to}
-use Rattle.wire.specs.declared.queue.Flight.{Flight}
-use Rattle.protocol.specs.Node.Delivering.{packet_for}
-use Rattle.protocol.specs.Node.Hearing.{hear_prospect}
-use Rattle.protocol.specs.Node.Plans.{packets_by}
-use Rattle.protocol.specs.World.StationView.{StationView}
-use Rattle.protocol.specs.World.Steps.{Setting, bytes_when, due_bytes}
-use Rattle.protocol.specs.World.Traffic.{BytesAreSound}
+use Rattle.protocol.specs.Node.Common.{Network, IsPacket, Packet, packet_for, hear_prospect, packets_by}
+use Rattle.protocol.specs.World.Common.{is_due, flights_to, Flight, StationView, Setting, due_bytes, BytesAreSound}
+use Rattle.protocol.specs.World.Common.{IsSoundSetting, IsSoundStation}
+use Rattle.protocol.specs.World.Steps.{bytes_when}
 use Rattle.protocol.specs.Node.Delivering.{IsHeard}
 use Rattle.protocol_laws.specs.World.HeardLaws.{heard_right}
-use Rattle.protocol.specs.World.Invariant.{IsSoundSetting, IsSoundStation}
 use Rattle.protocol_laws.specs.World.TellLaws.{heard_allowed}
 use Rattle.protocol_laws.specs.World.TrafficLaws.{arrives_sound}
 use Rattle.protocol.specs.declared.outcome.Outcome.{Outcome}

@@ -1,19 +1,13 @@
 -- What a crash may leave of a station's cell.
 use Rattle.std.proofs.Common.{◌≡◌, inl, inr, ⊎_elim, sym, subst, ap, ◌∙◌, arith}
 use Rattle.std.proofs.Math.Logic.{∥∥₁_map}
-use Rattle.sector_disk.specs.Clock.{Only}
+use Rattle.protocol.specs.Node.Common.{Only, Whole, sent_of, RecordView, Spells, cell_in, record_in, Store}
 use Rattle.gate_cell.specs.declared.cell.StableCell.{Ghosts as CellWords}
 use Rattle.gate_cell.specs.declared.slot_cell.SlotCell.{Ghosts as SlotWords}
-use Rattle.gate_cell.specs.Whole.{Whole}
-use Rattle.record.specs.Ends.{sent_of}
-use Rattle.record.specs.RecordView.{RecordView}
-use Rattle.ckpt_store.specs.Spelling.{Spells}
-use Rattle.ckpt_store.specs.StoreView.{cell_in, record_in}
-use Rattle.ckpt_store.specs.declared.store.Store.{Store}
 use Rattle.ckpt_store.proofs.Seen.{spelled_is}
 use Rattle.node.specs.StoredView.{LeavesNext, LeavesAsBefore}
 use Rattle.protocol.specs.World.Covered.{LeavesAsMuch, LeavesEither}
-use Rattle.protocol.specs.World.Pairs.{LeaveEitherSince}
+use Rattle.protocol.specs.World.Common.{LeaveEitherSince}
 
 -- what was left spells one record alone
 one_record : (kept other : RecordView) (left : Whole) → Spells kept left → Spells other left → kept ≡ other

@@ -1,14 +1,10 @@
 -- A node crashes, if it is up.
 use Rattle.std.proofs.Common.{◌≡◌, ℕ, Bool, true, false, cond, refl, sym, ap, ◌∙◌}
 use Rattle.std.specs.Prelude.{IsTrue, not}
-use Rattle.record.specs.RecordView.{RecordView}
-use Rattle.protocol.specs.Node.Modes.{crashed, is_down}
-use Rattle.protocol.specs.Node.NodeView.{NodeView}
-use Rattle.protocol.specs.Node.Plans.{becoming, if_due}
-use Rattle.protocol.specs.World.ReplyView.{ReplyView}
+use Rattle.protocol.specs.Node.Common.{RecordView, crashed, is_down, NodeView, becoming, if_due}
+use Rattle.protocol.specs.World.Common.{ReplyView, StationView, moved_to}
 use Rattle.protocol.specs.declared.reply.Reply.TheVariants.{Crashed, NotDue}
-use Rattle.protocol.specs.World.StationView.{StationView}
-use Rattle.protocol.specs.World.Steps.{crash_plan, moved_to}
+use Rattle.protocol.specs.World.Steps.{crash_plan}
 use Rattle.station.specs.Coming.{ComesBy}
 use Rattle.station.proofs.Planned.{becomes, not_due}
 

@@ -3,16 +3,12 @@ use Rattle.std.proofs.Common.{◌≡◌, ◌≤◌, inr, ℕ, Bool, true, false,
 use Rattle.std.proofs.Common.{◌∙◌}
 use Rattle.std.specs.Prelude.{IfOk}
 use Rattle.std.specs.declared.alloc.AllocError.{AllocError}
-use Rattle.gate_cell.specs.Whole.{Whole}
-use Rattle.record.specs.RecordView.{RecordView}
-use Rattle.wire.specs.Traffic.{Traffic}
-use Rattle.protocol.specs.World.DoneView.{DoneView}
-use Rattle.protocol.specs.World.EventView.{EventView, ByNetwork, Install, Release}
+use Rattle.protocol.specs.Node.Common.{Whole, RecordView}
+use Rattle.protocol.specs.World.Common.{Traffic, DoneView, EventView, ByNetwork, Install, Release, HasMoved}
+use Rattle.protocol.specs.World.Common.{LeaveEitherSince, act_reply, has_happened, OutletView, StationView}
+use Rattle.protocol.specs.World.Common.{IsInstalled, IsRelease, Setting, can_act, flight_at, next_release}
+use Rattle.protocol.specs.World.Common.{traffic_acted}
 use Rattle.protocol.specs.declared.event.NetworkAct.{NetworkAct}
-use Rattle.protocol.specs.World.Pairs.{HasMoved, LeaveEitherSince}
-use Rattle.protocol.specs.World.Replies.{act_reply, has_happened}
-use Rattle.protocol.specs.World.StationView.{OutletView, StationView}
-use Rattle.protocol.specs.World.Steps.{IsInstalled, IsRelease, Setting, can_act, flight_at, next_release, traffic_acted}
 use Rattle.protocol.specs.declared.outcome.Outcome.TheVariants as outcome
 use Rattle.station.specs.Coming.{HasCome}
 use Rattle.station.specs.ReplyView.{reply_view}

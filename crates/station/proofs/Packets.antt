@@ -5,11 +5,9 @@ use Rattle.std.specs.Prelude.{All}
 use Rattle.std.proofs.lemmas.List.Elements.{All-map, All-push}
 use Rattle.std.proofs.lemmas.List.{map-append}
 use Rattle.std.proofs.Math.Seq.{take-suc}
-use Rattle.datagram.specs.PacketText.{IsPacket}
-use Rattle.datagram.specs.declared.packet.Packet.{Packet}
+use Rattle.protocol.specs.Node.Common.{IsPacket, Packet}
 use Rattle.wire.specs.Traffic.{AreNodes}
-use Rattle.wire.specs.declared.sending.Sending.{Sending}
-use Rattle.protocol.specs.World.Steps.{sending_of}
+use Rattle.protocol.specs.World.Common.{Sending, sending_of}
 
 -- they are for nodes that there are
 pub are_nodes : (packets : List Packet) (sendings : List Sending) → sendings ≡ map sending_of packets

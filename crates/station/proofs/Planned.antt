@@ -5,36 +5,26 @@ use Rattle.std.specs.Prelude.{is_some, map, nat_lt, not, option_map, IfOk}
 use Rattle.std.specs.declared.alloc.AllocError.{AllocError}
 use Rattle.std.specs.declared.alloc.Global.{Global}
 use Rattle.std.specs.declared.sync.Arc.{Arc}
-use Rattle.wire.specs.Traffic.{Traffic, all_sent, traffic_without}
-use Rattle.kahn_net.specs.Syntax.{Network}
-use Rattle.kahn_net.specs.declared.limits.TheConstants.{MAX_COUNT}
+use Rattle.protocol.specs.World.Common.{Traffic, all_sent, traffic_without, EventView, ByNode, answer_by}
+use Rattle.protocol.specs.World.Common.{delivery_reply, grant_reply, has_happened, ReplyView, StationView, IsPlanned}
+use Rattle.protocol.specs.World.Common.{Setting, StationPlan, deliver_plan, moved_to, plan_of, sending_of}
+use Rattle.protocol.specs.World.Common.{traffic_left, turns_by, turns_of}
+use Rattle.protocol.specs.Node.Common.{Network, MAX_COUNT, IsPacket, Packet, with_epoch, RecordView, restart_after}
+use Rattle.protocol.specs.Node.Common.{Job, granted, with_grant, packet_for, deliver_prospect, hear_prospect, JobView}
+use Rattle.protocol.specs.Node.Common.{NodeView, ModeView, Down, InDoubt, Runs, on_mode, is_down, Prospect, Undue}
+use Rattle.protocol.specs.Node.Common.{Exhausted, Planned, becoming, if_due, packets_by, putting, room_for}
+use Rattle.protocol.specs.Node.Common.{unless_spent, IsMade, IsPut, recover_prospect, restored, restored_mode}
 use Rattle.std.proofs.lemmas.List.Elements.{All-nil}
-use Rattle.datagram.specs.PacketText.{IsPacket}
-use Rattle.datagram.specs.declared.packet.Packet.{Packet}
-use Rattle.record.specs.Moves.{with_epoch}
-use Rattle.record.specs.RecordView.{RecordView}
-use Rattle.protocol.specs.Node.ArmedRestarts.{restart_after}
-use Rattle.proc_step.specs.declared.job.Job.{Job}
 use Rattle.node_memory.specs.JobView.{shared_view}
-use Rattle.protocol.specs.Node.Choosing.{granted, with_grant}
-use Rattle.protocol.specs.Node.Delivering.{delivery_of, packet_for}
-use Rattle.protocol.specs.Node.Hearing.{deliver_prospect, hear_prospect, told_prospect}
-use Rattle.protocol.specs.Node.JobView.{JobView}
-use Rattle.protocol.specs.Node.NodeView.{NodeView, ModeView, Down, InDoubt, Runs, on_mode, with_mode}
-use Rattle.protocol.specs.Node.Modes.{is_down}
-use Rattle.protocol.specs.Node.Plans.{Prospect, Undue, Exhausted, Planned, becoming, if_due, packets_by, putting, room_for, unless_spent}
-use Rattle.protocol.specs.Node.Plans.{IsMade, IsPut}
-use Rattle.protocol.specs.Node.Recovering.{recover_prospect, restored, restored_mode}
+use Rattle.protocol.specs.Node.Delivering.{delivery_of}
+use Rattle.protocol.specs.Node.Hearing.{told_prospect}
+use Rattle.protocol.specs.Node.NodeView.{with_mode}
 use Rattle.protocol.specs.declared.round_turns.RoundTurns.{RoundTurns}
-use Rattle.protocol.specs.World.EventView.{EventView, ByNode}
 use Rattle.protocol.specs.declared.event.Deed.{Deed}
-use Rattle.protocol.specs.World.Replies.{answer_by, delivery_reply, grant_reply, has_happened}
-use Rattle.protocol.specs.World.ReplyView.{ReplyView}
 use Rattle.protocol.specs.declared.reply.Reply.TheVariants as reply
-use Rattle.protocol.specs.World.StationView.{StationView}
-use Rattle.protocol.specs.World.Steps.{IsPlanned, Setting, StationPlan, deliver_plan, grant_plan, moved_to, plan_of}
-use Rattle.protocol.specs.World.Steps.{plan_sendings, sending_of, traffic_left, turns_by}
-use Rattle.protocol.specs.World.Turns.{turns_of, count_grant}
+use Rattle.protocol.specs.World.Steps.{grant_plan}
+use Rattle.protocol.specs.World.Steps.{plan_sendings}
+use Rattle.protocol.specs.World.Turns.{count_grant}
 use Rattle.protocol_laws.specs.World.DeedLaws.{becoming_sends}
 use Rattle.protocol.specs.declared.outcome.Outcome.{Outcome}
 use Rattle.protocol.specs.declared.outcome.Outcome.TheVariants as outcome

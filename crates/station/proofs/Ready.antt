@@ -1,23 +1,17 @@
 -- What is ready to be sent, and what of it is.
 use Rattle.std.proofs.Common.{◌≡◌, ℕ, ◌<◌, List, [], Option, Some, None, map, refl, sym, ap, subst, ◌∙◌, All, length}
 use Rattle.std.specs.List.{AllZip}
-use Rattle.datagram.specs.PacketText.{IsPacket}
-use Rattle.datagram.specs.declared.packet.Packet.{Packet}
+use Rattle.protocol.specs.Node.Common.{IsPacket, Packet, Prospect, Undue, Exhausted, Planned, packets_by, IsWritable}
 use Rattle.wire.specs.Queue.{QueueState}
 use Rattle.wire.specs.Staging.{HasNoLessRoom, IsStaged}
-use Rattle.wire.specs.Traffic.{Traffic, all_sent, flights_to, traffic_of}
+use Rattle.protocol.specs.World.Common.{Traffic, all_sent, flights_to, traffic_of, Flight, Sending, sending_of}
 use Rattle.wire.specs.Wire.{WireState, in_flight}
-use Rattle.wire.specs.declared.queue.Flight.{Flight}
-use Rattle.wire.specs.declared.sending.Sending.{Sending}
 use Rattle.wire.proofs.Ready.{still_room}
 use Rattle.wire.proofs.Seen.{seen_at}
 use Rattle.wire.specs.Traffic.{QueueTraffic}
-use Rattle.protocol.specs.Node.Plans.{Prospect, Undue, Exhausted, Planned, packets_by}
-use Rattle.protocol.specs.Node.Sending.{IsWritable}
 use Rattle.protocol.specs.declared.outcome.Outcome.{Outcome}
 use Rattle.protocol.specs.declared.outcome.Outcome.TheVariants as outcome
 use Rattle.protocol.specs.declared.outcome.Refusal.TheVariants.{TooLarge, Spent}
-use Rattle.protocol.specs.World.Steps.{sending_of}
 use Rattle.station.specs.Coming.{IsReadyFor, sent_then, taken_by}
 
 -- what has a spelling may be written

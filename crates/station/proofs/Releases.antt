@@ -6,12 +6,11 @@ use Rattle.std.specs.Prelude.{Result, Ok, Err, IfOk, OnErr, slice_get, slice_set
 use Rattle.std.proofs.lemmas.List.{map-set}
 use Rattle.std.proofs.lemmas.Option.{slice_get_read}
 use Rattle.std.specs.declared.alloc.AllocError.{AllocError}
-use Rattle.protocol.specs.Node.NodeView.{NodeView}
-use Rattle.protocol.specs.Node.Trimming.{current_log, trimmed_node}
+use Rattle.protocol.specs.Node.Common.{NodeView, current_log, trimmed_node}
 use Rattle.protocol_laws.specs.World.OutputLaws.{map_at, set_same}
-use Rattle.protocol.specs.World.StationView.{OutletView, StationView}
+use Rattle.protocol.specs.World.Common.{OutletView, StationView, next_release, IsRelease}
 use Rattle.station.specs.StationView.{outlet_view, outlet_views}
-use Rattle.protocol.specs.World.Steps.{next_release, IsHanded, IsRelease}
+use Rattle.protocol.specs.World.Steps.{IsHanded}
 use Rattle.station.specs.ReplyView.{reply_view}
 use Rattle.station.specs.declared.output.Output.{Output}
 use Rattle.station.specs.ReplyView.{Reply}

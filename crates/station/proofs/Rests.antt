@@ -1,20 +1,17 @@
 -- Which processes are at rest.
 use Rattle.std.proofs.Common.{◌≡◌, ℕ, ◌<◌, ◌≤◌, Bool, true, List, ℤ, map, length, get_or, Option, Some, sym, ap, ◌∙◌}
 use Rattle.std.specs.Prelude.{slice_get}
-use Rattle.kahn_net.specs.Syntax.{Code, Network, code_of, network_of}
-use Rattle.kahn_net.specs.Processes.{Standing}
+use Rattle.protocol.specs.Node.Common.{Code, Network, code_of, network_of, Standing, Channel, SavedProcessView}
+use Rattle.protocol.specs.Node.Common.{ImageView}
 use Rattle.kahn_net.specs.Laws.Valid.{code_at, code_past}
 use Rattle.kahn_net.specs.NextActs.{next_of}
-use Rattle.kahn_net.specs.declared.program.Channel.{Channel}
 use Rattle.kahn_net.specs.declared.program.Program.{Program}
 use Rattle.kahn_net.specs.declared.program.Process.{Process}
 use Rattle.proc_step.specs.NextView.{next_view}
 use Rattle.proc_step.specs.declared.next.NextAct.{NextAct}
-use Rattle.record.specs.ProcessView.{SavedProcessView}
-use Rattle.record.specs.ImageView.{ImageView}
 use Rattle.protocol.specs.Node.Choosing.{next_at}
 use Rattle.protocol.specs.World.Quiet.{has_got_all, can_rest, is_at_rest}
-use Rattle.protocol.specs.World.StationView.{StationView}
+use Rattle.protocol.specs.World.Common.{StationView}
 
 -- the code of a process, as it was looked up
 pub code_found : (program : Program) (ps : List Process) (m n : ℕ) (p : Process) → ps ≡ program.processes.items → m ≡ n

@@ -1,21 +1,11 @@
 -- What a node says in its turn is sent.
 use Rattle.std.proofs.Common.{◌≡◌, ℕ, Bool, false, cond, List, All, map, refl, sym, ap, subst, ◌∙◌}
 use Rattle.std.specs.Prelude.{not}
-use Rattle.datagram.specs.PacketText.{IsPacket}
-use Rattle.datagram.specs.declared.packet.Packet.{Packet}
-use Rattle.kahn_net.specs.Syntax.{Network}
-use Rattle.record.specs.RecordView.{RecordView}
-use Rattle.wire.specs.Traffic.{Traffic, all_sent}
-use Rattle.protocol.specs.Node.ArmedRestarts.{restart_after}
-use Rattle.protocol.specs.Node.Modes.{is_down}
-use Rattle.protocol.specs.Node.NodeView.{NodeView}
-use Rattle.protocol.specs.Node.Plans.{IsMade, IsPut, Prospect, if_due, packets_by, room_for, telling}
-use Rattle.protocol.specs.Node.Telling.{turn_packets}
-use Rattle.protocol.specs.World.Replies.{has_happened}
-use Rattle.protocol.specs.World.ReplyView.{ReplyView}
+use Rattle.protocol.specs.Node.Common.{IsPacket, Packet, Network, RecordView, restart_after, is_down, NodeView}
+use Rattle.protocol.specs.Node.Common.{IsMade, IsPut, Prospect, if_due, packets_by, room_for, telling, turn_packets}
+use Rattle.protocol.specs.World.Common.{Traffic, all_sent, has_happened, ReplyView, StationView, moved_to, sending_of}
 use Rattle.protocol.specs.declared.reply.Reply.TheVariants.{Sent}
-use Rattle.protocol.specs.World.StationView.{StationView}
-use Rattle.protocol.specs.World.Steps.{moved_to, send_plan, sending_of}
+use Rattle.protocol.specs.World.Steps.{send_plan}
 use Rattle.protocol.specs.declared.outcome.Outcome.TheVariants as outcome
 use Rattle.station.specs.Coming.{ComesOut}
 

@@ -1,22 +1,17 @@
 -- How an event at a station came out, with what is in flight before it and behind it.
 use Rattle.std.specs.Prelude.{◌≡◌, ℕ, Bool, if◌then◌else◌, List, [], map, Option, Some, None, All}
 use Rattle.std.specs.List.{AllZip}
-use Rattle.datagram.specs.PacketText.{IsPacket}
-use Rattle.record.specs.RecordView.{RecordView}
+use Rattle.protocol.specs.Node.Common.{IsPacket, RecordView, restart_after, Prospect, IsMade, IsPut, packets_by}
+use Rattle.protocol.specs.Node.Common.{room_for}
 use Rattle.wire.specs.Queue.{QueueState}
 use Rattle.wire.specs.Staging.{HasRoom, IsStaged}
-use Rattle.wire.specs.Traffic.{AreNodes, Traffic, all_sent, traffic_of, traffic_without}
+use Rattle.protocol.specs.World.Common.{Traffic, all_sent, traffic_of, traffic_without, Sending, EventView, answer_by}
+use Rattle.protocol.specs.World.Common.{has_happened, ReplyView, StationView, IsPlanned, IsStationStep, Setting}
+use Rattle.protocol.specs.World.Common.{StationPlan, traffic_after, moved_to, sending_of, traffic_left}
+use Rattle.wire.specs.Traffic.{AreNodes}
 use Rattle.wire.specs.Wire.{WireState}
-use Rattle.wire.specs.declared.sending.Sending.{Sending}
-use Rattle.protocol.specs.Node.ArmedRestarts.{restart_after}
-use Rattle.protocol.specs.Node.Plans.{Prospect, IsMade, IsPut, packets_by, room_for}
-use Rattle.protocol.specs.World.EventView.{EventView}
-use Rattle.protocol.specs.World.Replies.{answer_by, has_happened}
-use Rattle.protocol.specs.World.ReplyView.{ReplyView}
 use Rattle.protocol.specs.declared.reply.Reply.TheVariants as reply
-use Rattle.protocol.specs.World.StationView.{StationView}
-use Rattle.protocol.specs.World.Steps.{IsPlanned, IsStationStep, Setting, StationPlan, plan_sendings, traffic_after}
-use Rattle.protocol.specs.World.Steps.{moved_to, sending_of, traffic_left}
+use Rattle.protocol.specs.World.Steps.{plan_sendings}
 use Rattle.protocol.specs.declared.outcome.Outcome.{Outcome}
 use Rattle.protocol.specs.declared.outcome.Outcome.TheVariants as outcome
 use Rattle.protocol.specs.declared.outcome.Refusal.TheVariants.{TooLarge, Spent}

@@ -1,7 +1,7 @@
 -- What came of a job, as data.
-use Rattle.kahn_net.specs.States.{standing_of}
+use Rattle.protocol.specs.Node.Common.{standing_of}
 use Rattle.proc_step.specs.declared.job.Done.{Done}
-use Rattle.protocol.specs.World.DoneView.{DoneView}
+use Rattle.protocol.specs.World.Common.{DoneView}
 use Rattle.node_memory.specs.JobView.{job_view}
 
 abbrev pub done_view : Done → DoneView

@@ -1,5 +1,6 @@
 -- Events as data.
-use Rattle.protocol.specs.World.EventView.{EventView, Install, plain_view}
+use Rattle.protocol.specs.World.Common.{EventView, Install}
+use Rattle.protocol.specs.World.EventView.{plain_view}
 use Rattle.station.specs.DoneView.{done_view}
 use Rattle.station.specs.declared.event.Event.{Event}
 use Rattle.station.specs.declared.event.Event.TheVariants as event

@@ -3,13 +3,11 @@ use Rattle.std.specs.Prelude.{ℕ, ◌≡◌, ◌≤◌, ◌++◌, List, [], ◌
 use Rattle.sector_disk.specs.declared.disk.ArmedFault.{ArmedFault}
 use Rattle.gate_cell.specs.declared.cell.StableCell.{Ghosts as CellWords}
 use Rattle.gate_cell.specs.declared.slot_cell.SlotCell.{Ghosts as SlotWords}
-use Rattle.ckpt_store.specs.StoreView.{cell_in}
+use Rattle.protocol.specs.Node.Common.{cell_in, restart_after}
 use Rattle.node.specs.NodeOf.{view_of}
 use Rattle.node.specs.StoredView.{LeavesAsBefore}
-use Rattle.protocol.specs.Node.ArmedRestarts.{restart_after}
-use Rattle.protocol.specs.World.EventView.{EventView, ByNode}
+use Rattle.protocol.specs.World.Common.{EventView, ByNode, ReplyView}
 use Rattle.protocol.specs.declared.event.Deed.TheVariants as event
-use Rattle.protocol.specs.World.ReplyView.{ReplyView}
 use Rattle.station.specs.declared.station.Station.{Station}
 
 -- a station's cell wasn't touched

@@ -1,8 +1,8 @@
 -- What an event is lent, as data.
 use Rattle.std.specs.Prelude.{ℤ, List}
-use Rattle.kahn_net.specs.Syntax.{Network, network_of}
-use Rattle.protocol.specs.World.Steps.{Setting, setting_in}
-use Rattle.wire.specs.Traffic.{Traffic}
+use Rattle.protocol.specs.Node.Common.{Network, network_of}
+use Rattle.protocol.specs.World.Common.{Setting, Traffic}
+use Rattle.protocol.specs.World.Steps.{setting_in}
 use Rattle.station.specs.declared.lent.Lent.{Lent}
 
 -- the network that is lent

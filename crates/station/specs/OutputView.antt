@@ -1,6 +1,6 @@
 -- Outputs as data: each one's channel, and the items that left there.
 use Rattle.std.specs.Prelude.{ℤ, List, None, map}
-use Rattle.protocol.specs.World.OutputView.{OutputView}
+use Rattle.protocol.specs.World.Common.{OutputView}
 use Rattle.station.specs.declared.output.Output.{Output}
 
 abbrev pub output_view : {O : Type 0} → (O → List ℤ) → Output O → OutputView

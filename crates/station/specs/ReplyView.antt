@@ -2,8 +2,9 @@
 use Rattle.std.specs.Prelude.{Option, Some, None, Result, Ok, Err}
 use Rattle.std.specs.declared.alloc.Global.{Global}
 use Rattle.std.specs.declared.sync.Arc.{Arc}
-use Rattle.proc_step.specs.declared.job.Job.{Job}
-use Rattle.protocol.specs.World.ReplyView.{ReplyView, leaving, reply_by}
+use Rattle.protocol.specs.Node.Common.{Job}
+use Rattle.protocol.specs.World.Common.{ReplyView}
+use Rattle.protocol.specs.World.ReplyView.{leaving, reply_by}
 use Rattle.protocol.specs.declared.reply.Leaving.{Leaving}
 use Rattle.protocol.specs.declared.reply.Reply.{Reply as AnyReply}
 use Rattle.node_memory.specs.JobView.{shared_view}

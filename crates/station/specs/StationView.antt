@@ -1,10 +1,10 @@
 -- A station without pointers.
 use Rattle.std.specs.Prelude.{ℕ, ℤ, List, map}
-use Rattle.protocol.specs.World.StationView.{OutletView, StationView}
+use Rattle.protocol.specs.World.Common.{OutletView, StationView}
 use Rattle.station.specs.declared.output.Output.{Output}
 use Rattle.gate_cell.specs.declared.cell.StableCell.{Ghosts as CellWords}
 use Rattle.gate_cell.specs.declared.slot_cell.SlotCell.{Ghosts as SlotWords}
-use Rattle.ckpt_store.specs.StoreView.{cell_in}
+use Rattle.protocol.specs.Node.Common.{cell_in}
 use Rattle.node.specs.NodeOf.{view_of}
 use Rattle.station.specs.declared.station.Station.{Station}
 

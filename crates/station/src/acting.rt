@@ -1,24 +1,17 @@
 // An event at its station.
 ghost use Rattle.std.specs.Prelude.{◌≡◌, ℕ, ◌<◌, All, IfOk, OnErr};
-ghost use Rattle.ckpt_store.specs.Spelling.{fits_in};
-ghost use Rattle.ckpt_store.specs.StoreView.{cell_in};
+ghost use Rattle.protocol.specs.Node.Common.{fits_in, cell_in, IsWritable, turn_packets};
 ghost use Rattle.node.specs.NodeOf.{view_of};
-ghost use Rattle.protocol.specs.Node.Sending.{IsWritable};
-ghost use Rattle.protocol.specs.Node.Telling.{turn_packets};
-ghost use Rattle.protocol.specs.World.EventView.{event_node};
-ghost use Rattle.wire.specs.Traffic.{traffic_of};
-ghost use Rattle.wire.specs.declared.queue.TheConstants.{NODES};
+ghost use Rattle.protocol.specs.World.Common.{event_node, traffic_of, NODES, HasMoved, next_kept, IsSoundSetting};
+ghost use Rattle.protocol.specs.World.Common.{IsSoundStation};
 ghost use Rattle.station.specs.Coming.{ComesBy, ComesOut, HasCome};
 ghost use Rattle.station.specs.EventView.{event_view};
-ghost use Rattle.protocol.specs.World.Pairs.{HasMoved};
-ghost use Rattle.protocol.specs.World.RecoveryLine.{next_kept};
 ghost use Rattle.protocol.specs.World.Replies.{LeavesCells, TakesMemory};
 ghost use Rattle.protocol.specs.declared.reply.Reply.TheVariants.{Down};
 ghost use Rattle.station.specs.Lending.{net_lent, setting_by};
 ghost use Rattle.station.specs.ReplyView.{answer_view, reply_view};
 ghost use Rattle.station.specs.StationView.{outlet_views};
 ghost use Rattle.protocol.specs.World.Steps.{idle_plan, send_plan};
-ghost use Rattle.protocol.specs.World.Invariant.{IsSoundSetting, IsSoundStation};
 ghost use Rattle.station.specs.Leaving.{IsCellUnchanged, LeavesDeviceBy, LeavesWhatItFound, RestartsAsArmed};
 ghost use Rattle.station.specs.StationView.{station_view};
 

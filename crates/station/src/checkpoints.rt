@@ -3,24 +3,20 @@
 // What an event comes to is planned; what is said by that is spelled and made ready, and room is made for it; and then it is carried
 // out: behind the put nothing may fail.
 ghost use Rattle.std.specs.Prelude.{◌≡◌, ℕ, ◌≤◌, All, IfOk, OnErr, map};
-ghost use Rattle.ckpt_store.specs.Spelling.{fits_in};
-ghost use Rattle.ckpt_store.specs.StoreView.{cell_in};
-ghost use Rattle.datagram.specs.PacketText.{IsPacket};
+ghost use Rattle.protocol.specs.Node.Common.{fits_in, cell_in, IsPacket, start_prospect, next_record, packets_by};
+ghost use Rattle.protocol.specs.Node.Common.{IsLikeNow, decide_prospect};
 ghost use Rattle.node.specs.NodeOf.{view_of};
 ghost use Rattle.node.specs.Planned.{CanBeMade, prospect_view};
 ghost use Rattle.node.specs.Putting.{IsPutEvent};
 ghost use Rattle.node.specs.Said.{MayBeDecided};
 ghost use Rattle.node.specs.StoredView.{LeavesDevice};
-ghost use Rattle.protocol.specs.Node.Beginning.{start_prospect};
-ghost use Rattle.protocol.specs.Node.Plans.{LeavesCell, next_record, packets_by};
-ghost use Rattle.protocol.specs.Node.Starting.{IsLikeNow};
-ghost use Rattle.protocol.specs.Node.Verdicts.{decide_prospect};
-ghost use Rattle.protocol.specs.World.Pairs.{LeaveEitherSince};
-ghost use Rattle.protocol.specs.World.Replies.{AnswerLeaves, answer_by};
+ghost use Rattle.protocol.specs.Node.Plans.{LeavesCell};
+ghost use Rattle.protocol.specs.World.Common.{LeaveEitherSince, answer_by, sending_of, turns_by, all_sent};
+ghost use Rattle.protocol.specs.World.Common.{traffic_of};
+ghost use Rattle.protocol.specs.World.Replies.{AnswerLeaves};
 ghost use Rattle.protocol.specs.declared.reply.Reply.TheVariants.{Down};
-ghost use Rattle.protocol.specs.World.Steps.{decide_plan, sending_of, start_plan, turns_by};
+ghost use Rattle.protocol.specs.World.Steps.{decide_plan, start_plan};
 ghost use Rattle.protocol.specs.declared.outcome.Outcome.{Outcome as OutcomeValue};
-ghost use Rattle.wire.specs.Traffic.{all_sent, traffic_of};
 ghost use Rattle.station.specs.Coming.{ComesOut, IsReadyFor};
 ghost use Rattle.station.specs.Lending.{net_lent};
 ghost use Rattle.station.specs.ReplyView.{answer_view, reply_view};

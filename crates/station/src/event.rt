@@ -16,7 +16,7 @@ pub enum Event {
 }
 
 impl Event {
-    ghost use Rattle.protocol.specs.World.EventView.{ByNetwork, ByNode, Release, event_node};
+    ghost use Rattle.protocol.specs.World.Common.{ByNetwork, ByNode, Release, event_node};
     ghost use Rattle.station.specs.EventView.{event_view};
 
     /// A node does this, or this is done to it.

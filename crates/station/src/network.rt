@@ -2,18 +2,17 @@
 ghost use Rattle.std.specs.Prelude.{◌≡◌, ◌<◌, [], ℕ, true, All, List, IfOk, IsSome, IsTrue, OnErr, OnOk, FitsSigned, if◌then◌else◌, is_some, length, map, option_map, slice_get};
 ghost use Rattle.std.specs.Int.{w64};
 ghost use Rattle.std.specs.List.{AllZip, position_from};
-ghost use Rattle.datagram.specs.PacketText.{IsPacket};
-ghost use Rattle.protocol.specs.Node.Sending.{FitsItem, IsWritable};
-ghost use Rattle.protocol.specs.World.Replies.{ActTakesMemory, act_reply, has_happened};
-ghost use Rattle.protocol.specs.World.Steps.{can_act, due_bytes, sending_of, traffic_acted};
+ghost use Rattle.protocol.specs.Node.Common.{IsPacket, IsWritable};
+ghost use Rattle.protocol.specs.Node.Sending.{FitsItem};
+ghost use Rattle.protocol.specs.World.Common.{act_reply, has_happened, can_act, due_bytes, sending_of, traffic_acted};
+ghost use Rattle.protocol.specs.World.Common.{is_due, all_sent, flights_to, traffic_of, traffic_without, NODES};
+ghost use Rattle.protocol.specs.World.Replies.{ActTakesMemory};
 ghost use Rattle.station.specs.Coming.{HasRoomIn, IsReadyFor, IsStagedIn, sent_then, taken_by};
 ghost use Rattle.station.specs.ReplyView.{reply_view};
-ghost use Rattle.wire.specs.Queue.{is_due};
 ghost use Rattle.wire.specs.Staging.{HasNoLessRoom};
-ghost use Rattle.wire.specs.Traffic.{AreNodes, all_sent, flights_to, traffic_armed, traffic_of, traffic_delayed, traffic_repeated, traffic_without};
+ghost use Rattle.wire.specs.Traffic.{AreNodes, traffic_armed, traffic_delayed, traffic_repeated};
 ghost use Rattle.wire.specs.declared.sending.Sending.{Sending as SendingValue};
 ghost use Rattle.wire.specs.Wire.{WireState, in_flight};
-ghost use Rattle.wire.specs.declared.queue.TheConstants.{NODES};
 
 use crate::event::Reply;
 use datagram::{Body, Packet, write_packet};

@@ -1,19 +1,12 @@
 // Which event is next for a node.
 ghost use Rattle.std.specs.Prelude.{◌≡◌, ◌<◌, ◌||◌, ◌&&◌, nat_lt, not, is_some};
-ghost use Rattle.kahn_net.specs.Syntax.{network_of};
-ghost use Rattle.record.specs.Ends.{received_of, sent_of};
-ghost use Rattle.protocol.specs.Node.Choosing.{node_job};
+ghost use Rattle.protocol.specs.Node.Common.{network_of, received_of, sent_of, node_job, running_of, live_in};
+ghost use Rattle.protocol.specs.Node.Common.{may_decide, is_down};
 ghost use Rattle.node.specs.NodeOf.{view_of};
-ghost use Rattle.protocol.specs.Node.NodeView.{running_of};
 ghost use Rattle.node.specs.NodeView.{node_view};
-ghost use Rattle.protocol.specs.Node.Beginning.{live_in};
-ghost use Rattle.protocol.specs.Node.Verdicts.{may_decide};
-ghost use Rattle.protocol.specs.Node.Modes.{is_down};
 ghost use Rattle.protocol.specs.World.Choice.{counts_rose, has_more, has_sent, has_turn, due_place, may_recover, own_choice, station_choice, wants_checkpoint};
-ghost use Rattle.protocol.specs.World.Turns.{turns_of};
+ghost use Rattle.protocol.specs.World.Common.{turns_of, traffic_of, NODES};
 ghost use Rattle.station.specs.EventView.{event_view};
-ghost use Rattle.wire.specs.Traffic.{traffic_of};
-ghost use Rattle.wire.specs.declared.queue.TheConstants.{NODES};
 ghost use Rattle.station.specs.StationView.{station_view};
 
 use crate::event::Event;

@@ -1,14 +1,11 @@
 // When nothing is left to do at a station.
 ghost use Rattle.std.specs.Prelude.{◌≡◌, ◌≤◌, length, map, slice_get};
-ghost use Rattle.kahn_net.specs.Streams.{history_of};
-ghost use Rattle.kahn_net.specs.Syntax.{network_of};
+ghost use Rattle.protocol.specs.Node.Common.{history_of, network_of, running_of, MAX_CHANNELS};
 ghost use Rattle.node.specs.NodeOf.{view_of};
-ghost use Rattle.protocol.specs.Node.NodeView.{running_of};
-ghost use Rattle.protocol.specs.World.Invariant.{outputs_of};
+ghost use Rattle.protocol.specs.World.Common.{outputs_of};
 ghost use Rattle.protocol.specs.World.Quiet.{sent_by, put_on_by, has_got_all, is_at_rest, are_at_rest, has_been_put, have_been_put, have_all_left, is_quiet_at};
 ghost use Rattle.station.specs.StationView.{outlet_views};
 ghost use Rattle.station.specs.StationView.{station_view};
-ghost use Rattle.kahn_net.specs.declared.limits.TheConstants.{MAX_CHANNELS};
 
 use crate::output::Output;
 use crate::station::Station;

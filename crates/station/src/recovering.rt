@@ -1,17 +1,11 @@
 // A station's node crashes, and comes back.
 ghost use Rattle.std.specs.Prelude.{◌≡◌, ◌≤◌, if◌then◌else◌, IfOk, OnErr};
-ghost use Rattle.ckpt_store.specs.Spelling.{fits_in};
-ghost use Rattle.ckpt_store.specs.StoreView.{cell_in};
+ghost use Rattle.protocol.specs.Node.Common.{fits_in, cell_in, round_later, next_record, recover_prospect};
 ghost use Rattle.node.specs.NodeOf.{view_of};
 ghost use Rattle.node.specs.NodeView.{mode_view};
 ghost use Rattle.node.specs.StoredView.{LeavesAsBefore, LeavesDevice};
-ghost use Rattle.protocol.specs.Node.ArmedRestarts.{round_later};
-ghost use Rattle.protocol.specs.Node.Plans.{next_record};
-ghost use Rattle.protocol.specs.Node.Recovering.{recover_prospect};
-ghost use Rattle.protocol.specs.World.EventView.{ByNode};
+ghost use Rattle.protocol.specs.World.Common.{ByNode, LeaveEitherSince, back_reply};
 ghost use Rattle.protocol.specs.declared.event.Deed.TheVariants as event;
-ghost use Rattle.protocol.specs.World.Pairs.{LeaveEitherSince};
-ghost use Rattle.protocol.specs.World.Replies.{back_reply};
 ghost use Rattle.protocol.specs.declared.reply.Reply.TheVariants.{Crashed, Down, NotDue};
 ghost use Rattle.protocol.specs.World.Steps.{arm_plan, crash_plan, recover_plan};
 ghost use Rattle.station.specs.Coming.{ComesBy};

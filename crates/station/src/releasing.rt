@@ -1,13 +1,12 @@
 // A station's outputs: one item leaves the system.
 ghost use Rattle.std.specs.Prelude.{◌≡◌, ◌<◌, ◌+◌, ℕ, length, IfSome, IfOk, OnErr, Some, slice_get};
 ghost use Rattle.node.specs.NodeOf.{view_of};
-ghost use Rattle.protocol.specs.Node.Trimming.{HasNext, current_log, trimmed_node};
-ghost use Rattle.stream_eq.specs.Reached.{HistoryReaches};
+ghost use Rattle.protocol.specs.Node.Common.{HasNext, current_log, trimmed_node, HistoryReaches};
 ghost use Rattle.station.specs.Lending.{inputs_lent, net_lent};
 ghost use Rattle.station.specs.ReplyView.{reply_view};
-ghost use Rattle.protocol.specs.World.StationView.{OutletView};
+ghost use Rattle.protocol.specs.World.Common.{OutletView, first_waiting, next_release, IsRelease};
 ghost use Rattle.station.specs.StationView.{outlet_view, outlet_views};
-ghost use Rattle.protocol.specs.World.Steps.{has_failed_in, is_waiting, first_waiting, next_release, IsHanded, IsRelease};
+ghost use Rattle.protocol.specs.World.Steps.{has_failed_in, is_waiting, IsHanded};
 ghost use Rattle.station.specs.StationView.{station_view};
 
 use crate::event::Reply;

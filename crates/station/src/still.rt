@@ -1,13 +1,12 @@
 // Whether anything is to be done at a station while its world gets no more room.
 ghost use Rattle.std.specs.Prelude.{◌≡◌, map, slice_get};
 ghost use Rattle.std.specs.List.{list_all};
-ghost use Rattle.kahn_net.specs.Syntax.{network_of};
+ghost use Rattle.protocol.specs.Node.Common.{network_of, running_node, running_of};
 ghost use Rattle.node.specs.NodeOf.{view_of};
 ghost use Rattle.node.specs.NodeView.{node_view};
 ghost use Rattle.node_memory.specs.RunningView.{running_view};
-ghost use Rattle.protocol.specs.Node.NodeView.{running_node, running_of};
 ghost use Rattle.protocol.specs.Node.Popping.{has_place};
-ghost use Rattle.protocol.specs.World.Invariant.{outputs_of};
+ghost use Rattle.protocol.specs.World.Common.{outputs_of};
 ghost use Rattle.protocol.specs.World.Quiet.{sent_at};
 ghost use Rattle.protocol.specs.World.Still.{has_come, has_come_from, has_let_go, is_settled_at, is_still, keeps_all, kept_at, kept_by, wants_room};
 ghost use Rattle.station.specs.StationView.{outlet_views};

@@ -1,18 +1,15 @@
 // A station's jobs: they are granted, and what came of them comes back.
 ghost use Rattle.std.specs.Prelude.{◌≡◌, true, if◌then◌else◌, is_some, IfOk, OnErr, Some, option_map};
-ghost use Rattle.ckpt_store.specs.Spelling.{fits_in};
-ghost use Rattle.ckpt_store.specs.StoreView.{cell_in};
+ghost use Rattle.protocol.specs.Node.Common.{fits_in, cell_in, node_job, IsOut, TakesTurn};
 ghost use Rattle.node.specs.NodeOf.{view_of};
 ghost use Rattle.node_memory.specs.JobView.{job_view, shared_view};
-ghost use Rattle.protocol.specs.Node.Choosing.{node_job};
-ghost use Rattle.protocol.specs.Node.Installing.{IsOut, TakesTurn};
 ghost use Rattle.station.specs.DoneView.{done_view};
-ghost use Rattle.protocol.specs.World.Replies.{grant_reply};
+ghost use Rattle.protocol.specs.World.Common.{grant_reply, turns_of, IsInstalled};
 ghost use Rattle.station.specs.Lending.{inputs_lent, net_lent};
 ghost use Rattle.station.specs.ReplyView.{reply_view};
 ghost use Rattle.station.specs.StationView.{outlet_views};
-ghost use Rattle.protocol.specs.World.Turns.{count_grant, turns_of};
-ghost use Rattle.protocol.specs.World.Steps.{IsInstalled, grant_plan};
+ghost use Rattle.protocol.specs.World.Turns.{count_grant};
+ghost use Rattle.protocol.specs.World.Steps.{grant_plan};
 ghost use Rattle.station.specs.Coming.{ComesBy};
 ghost use Rattle.station.specs.StationView.{station_view};
 

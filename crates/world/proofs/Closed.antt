@@ -3,14 +3,11 @@ use Rattle.std.proofs.Common.{◌≡◌, ℕ, suc, ◌+◌, ℤ, List, [], ◌�
 use Rattle.std.specs.Prelude.{slice_get, IsPermutation}
 use Rattle.std.specs.List.Sorted.{IsNonDecreasingBy}
 use Rattle.std.proofs.lemmas.List.{map-append}
-use Rattle.kahn_net.specs.Syntax.{Network}
+use Rattle.protocol.specs.Node.Common.{Network}
 use Rattle.gate_cell.specs.declared.cell.StableCell.{Ghosts as CellWords}
 use Rattle.gate_cell.specs.declared.slot_cell.SlotCell.{Ghosts as SlotWords}
-use Rattle.protocol.specs.World.Invariant.{outputs_of, WorldInvariant}
-use Rattle.protocol.specs.World.OutputView.{OutputView}
-use Rattle.protocol.specs.World.Sound.{output_channels, outputs_on}
-use Rattle.protocol.specs.World.StationView.{StationView}
-use Rattle.protocol.specs.World.Steps.{WorldView}
+use Rattle.protocol.specs.World.Common.{outputs_of, WorldInvariant, OutputView, output_channels, outputs_on}
+use Rattle.protocol.specs.World.Common.{StationView, WorldView}
 use Rattle.protocol_laws.specs.World.ClosedLaws.{joined, AreOutputsFrom, closed_channels}
 use Rattle.world.specs.Closing.{all_outputs}
 use Rattle.station.specs.StationView.{outlet_views}

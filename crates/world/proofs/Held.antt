@@ -4,14 +4,12 @@ use Rattle.std.proofs.Common.{inl, arith}
 use Rattle.std.specs.Prelude.{slice_get, slice_set}
 use Rattle.std.specs.List.{AllZip}
 use Rattle.std.proofs.lemmas.Option.{slice_get_read}
-use Rattle.sector_disk.specs.Clock.{LeavesOnly, Only}
-use Rattle.gate_cell.specs.Whole.{Whole}
+use Rattle.protocol.specs.Node.Common.{Only, Whole, cell_in, Store}
+use Rattle.sector_disk.specs.Clock.{LeavesOnly}
 use Rattle.gate_cell.specs.declared.cell.StableCell.{Ghosts as CellWords}
 use Rattle.gate_cell.specs.declared.slot_cell.SlotCell.{Ghosts as SlotWords}
-use Rattle.ckpt_store.specs.StoreView.{cell_in}
-use Rattle.ckpt_store.specs.declared.store.Store.{Store}
 use Rattle.node.specs.StoredView.{LeavesAsBefore}
-use Rattle.protocol.specs.World.EventView.{ByNetwork, ByNode, EventView, Install, Release}
+use Rattle.protocol.specs.World.Common.{ByNetwork, ByNode, EventView, Install, Release}
 use Rattle.protocol.specs.declared.event.Deed.TheVariants as event
 use Rattle.protocol.specs.World.Replies.{LeavesCells, TakesMemory}
 use Rattle.world.specs.WorldView.{HoldsAsBefore, HoldsAsBeforeAt, LeavesWhatItFoundAt}

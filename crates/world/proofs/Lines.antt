@@ -2,19 +2,12 @@
 use Rattle.std.proofs.Common.{◌≡◌, ◌∙◌, ℕ, Bool, List, ℤ, [], ◌∷◌, map, refl, ap}
 use Rattle.std.specs.List.{AllZip}
 use Rattle.std.proofs.Math.Logic.{∥∥₁_map₂}
-use Rattle.kahn_net.specs.Syntax.{Network}
+use Rattle.protocol.specs.Node.Common.{Network, Whole, RecordView, Spells, record_in}
 use Rattle.gate_cell.specs.declared.cell.StableCell.{Ghosts as CellWords}
 use Rattle.gate_cell.specs.declared.slot_cell.SlotCell.{Ghosts as SlotWords}
-use Rattle.gate_cell.specs.Whole.{Whole}
-use Rattle.record.specs.RecordView.{RecordView}
-use Rattle.ckpt_store.specs.Spelling.{Spells}
-use Rattle.ckpt_store.specs.StoreView.{record_in}
-use Rattle.wire.specs.Traffic.{Traffic}
-use Rattle.protocol.specs.World.EventView.{EventView, event_node}
-use Rattle.protocol.specs.World.Invariant.{WorldInvariant}
-use Rattle.protocol.specs.World.RecoveryLine.{AreEither, next_for, records_of}
-use Rattle.protocol.specs.World.ReplyView.{ReplyView}
-use Rattle.protocol.specs.World.Steps.{IsAct, Setting, WorldView, setting_of}
+use Rattle.protocol.specs.World.Common.{Traffic, EventView, event_node, WorldInvariant, AreEither, records_of}
+use Rattle.protocol.specs.World.Common.{ReplyView, IsAct, Setting, WorldView, setting_of}
+use Rattle.protocol.specs.World.RecoveryLine.{next_for}
 use Rattle.protocol_laws.specs.World.LineLaws.{act_in_line, line_goes_on}
 use Rattle.protocol.specs.declared.outcome.Outcome.{Outcome}
 use Rattle.world.specs.RecoveryLine.{MayBeLeft, AreLeftSince, KeepsLine, HasOneLine, StaysInLine}

@@ -5,31 +5,22 @@ use Rattle.std.specs.Prelude.{◌↔◌, not, filter, Result, Ok, Err, IfErr, On
 use Rattle.std.specs.List.{AllByRecursion, AllZip}
 use Rattle.std.proofs.lemmas.List.{length-map, map-append}
 use Rattle.std.proofs.lemmas.List.Filters.{length-filter_both}
-use Rattle.kahn_net.specs.Fits.{Fits}
-use Rattle.kahn_net.specs.Nodes.{node_count}
-use Rattle.kahn_net.specs.Syntax.{Network, network_of}
-use Rattle.net_check.specs.declared.net.Net.{Net}
+use Rattle.protocol.specs.Node.Common.{Fits, node_count, Network, network_of, Net, slot_room_on, image_length, Spells}
+use Rattle.protocol.specs.Node.Common.{cell_in, opening_record, StoreFault}
 use Rattle.sector_disk.specs.declared.disk.ArmedFault.{ArmedFault}
 use Rattle.sector_disk.specs.declared.disk.Disk.{Ghosts as DiskWords}
 use Rattle.gate_cell.specs.declared.cell.StableCell.{Ghosts as CellWords}
 use Rattle.gate_cell.specs.declared.slot_cell.SlotCell.{Ghosts as SlotWords}
 use Rattle.gate_cell.specs.declared.split.SplitCell.{SplitCell}
-use Rattle.gate_cell.specs.SplitLayout.{slot_room_on}
-use Rattle.ckpt_codec.specs.Lengths.{image_length}
-use Rattle.ckpt_store.specs.Spelling.{Spells}
-use Rattle.ckpt_store.specs.StoreView.{cell_in}
 use Rattle.node.specs.NodeOf.{view_of}
 use Rattle.node.specs.declared.node.Node.{Node}
-use Rattle.wire.specs.Traffic.{Traffic, opening_traffic}
-use Rattle.protocol.specs.Node.Opening.{opening_node, opening_record}
-use Rattle.ckpt_store.specs.declared.fault.StoreFault.{StoreFault}
+use Rattle.protocol.specs.World.Common.{Traffic, opening_traffic, opening_world, WorldInvariant, is_output}
+use Rattle.protocol.specs.World.Common.{output_channels, OutletView, StationView, WorldView}
+use Rattle.protocol.specs.Node.Opening.{opening_node}
 use Rattle.ckpt_store.specs.declared.fault.StoreFault.TheVariants.{NoMemory, Device, TooLarge, Reopen, Truncated}
 use Rattle.ckpt_store.specs.declared.fault.StoreFault.TheVariants.{Version, Malformed, HoldsOther, PastNumber, NotHeld}
 use Rattle.ckpt_store.specs.declared.fault.StoreFault.TheVariants.{Unsettled, Spent}
-use Rattle.protocol.specs.World.OpeningWorld.{opening_outlet, outlets_on, opening_station, stations_from, opening_world}
-use Rattle.protocol.specs.World.Invariant.{WorldInvariant}
-use Rattle.protocol.specs.World.Sound.{is_output, output_channels}
-use Rattle.protocol.specs.World.StationView.{OutletView, StationView}
+use Rattle.protocol.specs.World.OpeningWorld.{opening_outlet, outlets_on, opening_station, stations_from}
 use Rattle.protocol_laws.specs.World.OpenLaws.{world_opened}
 use Rattle.protocol_laws.specs.World.OutputLaws.{output_once}
 use Rattle.world.specs.OpeningWorld.{armed_on, calls_on, own_outputs, opening_length, AllNumbered, HasRoom, HaveRoom, HaveOutlets}
@@ -40,7 +31,6 @@ use Rattle.world.specs.OpeningWorld.{version_for, AreFormatted, StandsInVersion,
 use Rattle.world.specs.OpeningWorld.{IsNotOpened, IsDiskBack, SomeFailed, AreHandedBack}
 use Rattle.station.specs.StationView.{outlet_view, outlet_views}
 use Rattle.station.specs.StationView.{station_view}
-use Rattle.protocol.specs.World.Steps.{WorldView}
 use Rattle.world.proofs.Openings.{fresh_views, opened_listed, opened_nothing, opened_station}
 use Rattle.protocol.specs.World.Turns.{no_turns}
 use Rattle.protocol.specs.declared.limits.TheConstants.{DEFAULT_ROOM}

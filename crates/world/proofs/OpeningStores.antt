@@ -5,34 +5,31 @@ use Rattle.std.specs.Prelude.{◌↔◌, Result, Err, IsSome, IsTrue, IsErrOf, n
 use Rattle.std.proofs.lemmas.Bool.{cases_Bool, leb-true, leb-false, true≢false}
 use Rattle.std.proofs.lemmas.Option.{none-some}
 use Rattle.gate_cell.specs.CellFault.{HasCause}
-use Rattle.gate_cell.specs.SplitLayout.{slot_room_on, HasNoHeaderRoom}
+use Rattle.protocol.specs.Node.Common.{slot_room_on, Whole, RecordView, ImageView, IsRecord, MAX_RETAINED_ITEMS}
+use Rattle.protocol.specs.Node.Common.{Spells, cell_in, known_in, record_in, StoreFault, Store}
+use Rattle.gate_cell.specs.SplitLayout.{HasNoHeaderRoom}
 use Rattle.gate_cell.specs.SplitStands.{header_room}
-use Rattle.gate_cell.specs.Whole.{Whole, with_header, with_slot}
+use Rattle.gate_cell.specs.Whole.{with_header, with_slot}
 use Rattle.gate_cell.specs.declared.TheConstants.{LEAST_SPLIT_SECTORS}
 use Rattle.gate_cell.specs.declared.cell.StableCell.{Ghosts as CellWords}
 use Rattle.gate_cell.specs.declared.slot_cell.SlotCell.{Ghosts as SlotWords}
 use Rattle.gate_cell.specs.declared.fault.CellFault.{CellFault}
 use Rattle.gate_cell.specs.declared.fault.CellFault.TheVariants as cell
-use Rattle.record.specs.RecordView.{RecordView}
-use Rattle.record.specs.ImageView.{ImageView}
 use Rattle.ckpt_codec.specs.Fields.{AreAllowed}
 use Rattle.ckpt_codec.specs.HeaderText.{header_of, header_text, IsHeaderText, IsHeaderTextIn, IsImageText}
-use Rattle.ckpt_codec.specs.RecordText.{image_fields, IsRecord}
+use Rattle.ckpt_codec.specs.RecordText.{image_fields}
 use Rattle.ckpt_codec.specs.SizeLaws.{IsRecordWithin}
 use Rattle.ckpt_codec.proofs.Headers.{told_is_header}
 use Rattle.ckpt_store.proofs.Parts.{parts_of}
 use Rattle.node.specs.declared.node.Node.{Node}
 use Rattle.protocol_laws.specs.World.RoomLaws.{bounded_is_short}
 use Rattle.ckpt_codec.specs.Lengths.{spelled_length}
-use Rattle.ckpt_codec.specs.declared.lengths.TheConstants.{MAX_HEADER_BYTES, MAX_RECORD_BYTES, MAX_RETAINED_ITEMS}
+use Rattle.ckpt_codec.specs.declared.lengths.TheConstants.{MAX_HEADER_BYTES, MAX_RECORD_BYTES}
 use Rattle.ckpt_store.specs.Loading.{IsLoad, IsOfCell}
-use Rattle.ckpt_store.specs.Spelling.{Spells}
 use Rattle.ckpt_store.specs.StoreFault.{of_cell}
-use Rattle.ckpt_store.specs.StoreView.{cell_in, known_in, record_in, record_or, record_spelled, Holds, IsUntouched}
-use Rattle.ckpt_store.specs.declared.fault.StoreFault.{StoreFault}
+use Rattle.ckpt_store.specs.StoreView.{record_or, record_spelled, Holds, IsUntouched}
 use Rattle.ckpt_store.specs.declared.fault.StoreFault.TheVariants.{Reopen, Device}
 use Rattle.ckpt_store.specs.declared.fault.StoreFault.TheVariants as store
-use Rattle.ckpt_store.specs.declared.store.Store.{Store}
 use Rattle.ckpt_store.proofs.Seen.{spelled_is}
 use Rattle.ckpt_store.proofs.Spelled.{lies_of}
 use Rattle.world.specs.OpeningWorld.{HasRoom, HasNoRoom, IsNotOpened, IsOpeningRefusal, StandsInVersion}

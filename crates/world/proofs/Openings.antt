@@ -3,22 +3,17 @@ use Rattle.std.proofs.Common.{◌≡◌, ℕ, zero, suc, ◌+◌, ◌<◌, Bool,
 use Rattle.std.proofs.Common.{get_or, refl, sym, ap, subst, ◌∙◌, append_assoc, arith}
 use Rattle.std.specs.Prelude.{if◌then◌else◌}
 use Rattle.std.proofs.Math.Seq.{drop-cons}
-use Rattle.kahn_net.specs.declared.program.Channel.{Channel}
-use Rattle.kahn_net.specs.Syntax.{Network}
-use Rattle.record.specs.RecordView.{RecordView}
-use Rattle.protocol.specs.Node.NodeView.{NodeView}
-use Rattle.protocol.specs.Node.Opening.{opening_node, opening_record, running_from}
+use Rattle.protocol.specs.Node.Common.{Channel, Network, RecordView, NodeView, opening_record}
+use Rattle.protocol.specs.Node.Opening.{opening_node, running_from}
 use Rattle.protocol.specs.World.Turns.{no_turns}
 use Rattle.protocol.specs.declared.round_turns.RoundTurns.{RoundTurns}
-use Rattle.protocol.specs.World.Invariant.{output_of, outputs_of}
-use Rattle.protocol.specs.World.OutputView.{OutputView}
-use Rattle.protocol.specs.World.Sound.{goes_outside, output_channels}
+use Rattle.protocol.specs.World.Common.{output_of, outputs_of, OutputView, goes_outside, output_channels, OutletView}
+use Rattle.protocol.specs.World.Common.{StationView}
 use Rattle.protocol_laws.specs.World.OpenLaws.{NothingLeft}
 use Rattle.std.specs.List.{AllByRecursion}
 use Rattle.protocol.specs.World.OpeningWorld.{opening_outlet, opening_station}
 use Rattle.station.specs.OutputView.{fresh}
 use Rattle.world.specs.OpeningWorld.{IsUnused}
-use Rattle.protocol.specs.World.StationView.{OutletView, StationView}
 use Rattle.station.specs.StationView.{outlet_view, outlet_views}
 use Rattle.station.specs.declared.output.Output.{Output}
 

@@ -3,10 +3,7 @@ use Rattle.std.proofs.Common.{◌≡◌, ℕ, ◌<◌, length, Some, arith}
 use Rattle.std.specs.Prelude.{slice_get}
 use Rattle.std.proofs.lemmas.Option.{slice_get_within}
 use Rattle.protocol_laws.specs.Node.PlaceLaws.{nodes_few}
-use Rattle.protocol.specs.World.Invariant.{WorldInvariant}
-use Rattle.protocol.specs.World.StationView.{StationView}
-use Rattle.protocol.specs.World.Steps.{WorldView}
-use Rattle.wire.specs.declared.queue.TheConstants.{NODES}
+use Rattle.protocol.specs.World.Common.{WorldInvariant, StationView, WorldView, NODES}
 
 -- each is one to which packets may go
 pub few_places : (world : WorldView) (node : ℕ) → WorldInvariant world → node < length world.stations → node < NODES

@@ -3,8 +3,7 @@ use Rattle.std.proofs.Common.{◌≡◌, ℕ, ◌+◌, ◌<◌, List, ℤ, ◌�
 use Rattle.std.proofs.Common.{ap, ◌∙◌, Bor}
 use Rattle.std.specs.Prelude.{◌==◌, find, option_copied, option_map}
 use Rattle.std.proofs.lemmas.List.{at_drop_more}
-use Rattle.protocol.specs.World.StationView.{OutletView, StationView}
-use Rattle.protocol.specs.World.Released.{taken_or, released_of}
+use Rattle.protocol.specs.World.Common.{OutletView, StationView, taken_or, released_of}
 
 abbrev outlet_of : ℕ → List OutletView → Option OutletView
 outlet_of channel outlets = find (λ (outlet : OutletView). outlet.channel == channel) outlets

@@ -5,34 +5,27 @@ use Rattle.std.proofs.Common.{subst}
 use Rattle.std.specs.Prelude.{Result, Ok, Err, IfOk, OnErr, slice_set}
 use Rattle.std.specs.List.{AllZip}
 use Rattle.std.specs.declared.alloc.AllocError.{AllocError}
-use Rattle.kahn_net.specs.Syntax.{Network}
-use Rattle.record.specs.RecordView.{RecordView}
-use Rattle.ckpt_store.specs.StoreView.{cell_in, record_in}
+use Rattle.protocol.specs.Node.Common.{Network, RecordView, cell_in, record_in, Whole}
 use Rattle.station.proofs.Cells.{leaves_own, own_left}
 use Rattle.gate_cell.specs.declared.cell.StableCell.{Ghosts as CellWords}
 use Rattle.gate_cell.specs.declared.slot_cell.SlotCell.{Ghosts as SlotWords}
-use Rattle.gate_cell.specs.Whole.{Whole}
-use Rattle.protocol.specs.World.EventView.{EventView, event_node}
+use Rattle.protocol.specs.World.Common.{EventView, event_node, outputs_of, AreSound, StationInvariant, OutputView}
+use Rattle.protocol.specs.World.Common.{HasMoved, next_kept, Traffic, StationView, Setting, IsSoundSetting}
+use Rattle.protocol.specs.World.Common.{IsSoundStation}
 use Rattle.protocol.specs.World.Growing.{EachBegins}
 use Rattle.protocol_laws.specs.World.GrowLaws.{begins_same, step_begins, has_grown, still_grown}
-use Rattle.protocol.specs.World.Invariant.{outputs_of, AreSound, StationInvariant}
 use Rattle.protocol_laws.specs.World.LineLaws.{next_ahead}
 use Rattle.protocol_laws.specs.World.OutputLaws.{map_at}
-use Rattle.protocol.specs.World.OutputView.{OutputView}
 use Rattle.station.specs.OutputView.{outputs_view}
 use Rattle.protocol_laws.specs.World.PairLaws.{pairs_refl, pairs_set}
 use Rattle.protocol.specs.World.Covered.{LeavesEither}
-use Rattle.protocol.specs.World.Pairs.{HasMoved, HasGrown}
-use Rattle.protocol.specs.World.RecoveryLine.{next_for, next_kept}
+use Rattle.protocol.specs.World.Pairs.{HasGrown}
+use Rattle.protocol.specs.World.RecoveryLine.{next_for}
 use Rattle.world.specs.RecoveryLine.{StaysInLine}
-use Rattle.wire.specs.Traffic.{Traffic}
 use Rattle.station.specs.Coming.{HasCome}
 use Rattle.station.specs.ReplyView.{reply_view}
-use Rattle.protocol.specs.World.StationView.{StationView}
 use Rattle.station.specs.StationView.{outlet_views}
 use Rattle.protocol_laws.specs.World.StepKeeps.{station_keeps}
-use Rattle.protocol.specs.World.Steps.{Setting}
-use Rattle.protocol.specs.World.Invariant.{IsSoundSetting, IsSoundStation}
 use Rattle.station.specs.StationView.{station_view}
 use Rattle.world.specs.WorldView.{IsGrown}
 use Rattle.station.specs.ReplyView.{Reply}

@@ -6,30 +6,24 @@ use Rattle.std.specs.Prelude.{Result, Ok, Err, IfOk, OnErr, slice_get, slice_set
 use Rattle.std.proofs.lemmas.List.{length-map, map-set}
 use Rattle.std.proofs.lemmas.Option.{slice_get_past, slice_get_read}
 use Rattle.std.specs.declared.alloc.AllocError.{AllocError}
-use Rattle.kahn_net.specs.Syntax.{Network}
-use Rattle.wire.specs.Traffic.{Traffic}
-use Rattle.kahn_net.specs.Nodes.{node_count}
-use Rattle.protocol.specs.World.Invariant.{outputs_of, AreJoined, AreSound, IsNumbered}
-use Rattle.protocol.specs.World.Invariant.{IsSoundStation}
+use Rattle.protocol.specs.Node.Common.{Network, node_count, RecordView}
+use Rattle.protocol.specs.World.Common.{Traffic, outputs_of, AreSound, IsNumbered, IsSoundStation, OutputView}
+use Rattle.protocol.specs.World.Common.{StationView, setting_of, IsActOf, IsStep, Setting, WorldView, round_after}
+use Rattle.protocol.specs.World.Common.{traffic_after, ReplyView, EventView, event_node}
+use Rattle.protocol.specs.World.Invariant.{AreJoined}
 use Rattle.protocol_laws.specs.World.OutputLaws.{map_at}
-use Rattle.protocol.specs.World.OutputView.{OutputView}
 use Rattle.station.specs.OutputView.{output_view, outputs_view}
-use Rattle.protocol.specs.World.StationView.{StationView}
 use Rattle.station.specs.StationView.{outlet_views}
-use Rattle.protocol.specs.World.Steps.{setting_in, setting_of}
-use Rattle.protocol.specs.World.Steps.{IsActOf, IsStep, Setting, WorldView, round_after, traffic_after}
-use Rattle.protocol.specs.World.ReplyView.{ReplyView}
+use Rattle.protocol.specs.World.Steps.{setting_in}
 use Rattle.protocol.specs.declared.reply.Reply.TheVariants.{NotDue}
 use Rattle.protocol.specs.declared.outcome.Outcome.TheVariants as outcome
 use Rattle.world.specs.Acting.{HasActed}
 use Rattle.station.specs.Coming.{HasCome}
 use Rattle.station.specs.Leaving.{IsCellUnchanged}
-use Rattle.protocol.specs.World.EventView.{EventView, event_node}
 use Rattle.station.specs.ReplyView.{reply_view}
 use Rattle.station.specs.declared.station.Station.{Station}
 use Rattle.gate_cell.specs.declared.cell.StableCell.{Ghosts as CellWords}
 use Rattle.gate_cell.specs.declared.slot_cell.SlotCell.{Ghosts as SlotWords}
-use Rattle.record.specs.RecordView.{RecordView}
 use Rattle.station.specs.declared.output.Output.{Output}
 use Rattle.station.specs.ReplyView.{Reply}
 

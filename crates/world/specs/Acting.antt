@@ -1,11 +1,7 @@
 -- How an event came out among the stations of a world.
 use Rattle.std.specs.Prelude.{◌≡◌, ℕ, Bool, List, slice_get}
-use Rattle.record.specs.RecordView.{RecordView}
-use Rattle.wire.specs.Traffic.{Traffic}
-use Rattle.protocol.specs.World.EventView.{EventView}
-use Rattle.protocol.specs.World.ReplyView.{ReplyView}
-use Rattle.protocol.specs.World.StationView.{StationView}
-use Rattle.protocol.specs.World.Steps.{IsAct, Setting, traffic_after}
+use Rattle.protocol.specs.Node.Common.{RecordView}
+use Rattle.protocol.specs.World.Common.{Traffic, EventView, ReplyView, StationView, IsAct, Setting, traffic_after}
 use Rattle.protocol.specs.declared.outcome.Outcome.{Outcome}
 
 -- an event at the station of this number came out so, where there is one

@@ -2,17 +2,14 @@
 use Rattle.std.specs.Prelude.{◌≡◌, ◌⊎◌, ℕ, List, map}
 use Rattle.std.specs.declared.alloc.Global.{Global}
 use Rattle.std.specs.declared.sync.Arc.{Arc}
-use Rattle.kahn_net.specs.Syntax.{network_of}
+use Rattle.protocol.specs.Node.Common.{network_of, Net, slot_room_on}
 use Rattle.net_check.specs.declared.inputs.Inputs.{Inputs}
-use Rattle.net_check.specs.declared.net.Net.{Net}
 use Rattle.sector_disk.specs.declared.disk.Disk.{Ghosts as DiskWords}
 use Rattle.gate_cell.specs.declared.cell.StableCell.{Ghosts as CellWords}
 use Rattle.gate_cell.specs.declared.slot_cell.SlotCell.{Ghosts as SlotWords}
 use Rattle.gate_cell.specs.declared.split.SplitCell.{SplitCell}
-use Rattle.gate_cell.specs.SplitLayout.{slot_room_on}
 use Rattle.outlet.specs.declared.outlet.Outlet.{Ghosts as OutletWords}
-use Rattle.protocol.specs.World.Headline.{AreApproximated}
-use Rattle.protocol.specs.World.OpeningWorld.{opening_world}
+use Rattle.protocol.specs.World.Common.{AreApproximated, opening_world}
 use Rattle.station.specs.StationView.{outlet_views}
 use Rattle.station.specs.declared.output.Output.{Output}
 use Rattle.world.specs.OpeningWorld.{AreFormatted, HaveOutlets, LeaveOnlyRecords, armed_on, calls_on}

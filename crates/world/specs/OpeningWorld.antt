@@ -1,24 +1,16 @@
 -- What a world is opened with: outputs, and a disk with room for the opening image; and why it isn't opened.
 use Rattle.std.specs.Prelude.{◌≡◌, ◌⊎◌, ◌<◌, ◌≤◌, ℕ, suc, ℤ, List, [], ◌∷◌, filter, get_or, length, map, Some, None}
 use Rattle.std.specs.List.{AllByRecursion, AllZip}
-use Rattle.kahn_net.specs.Nodes.{node_count}
-use Rattle.kahn_net.specs.Syntax.{Network}
+use Rattle.protocol.specs.Node.Common.{node_count, Network, slot_room_on, Whole, RecordView, image_length, Spells}
+use Rattle.protocol.specs.Node.Common.{cell_in, Store, StoreFault, opening_record}
 use Rattle.sector_disk.specs.declared.disk.ArmedFault.{ArmedFault}
 use Rattle.sector_disk.specs.declared.disk.Disk.{Ghosts as DiskWords}
 use Rattle.gate_cell.specs.declared.split.SplitCell.{SplitCell}
-use Rattle.gate_cell.specs.SplitLayout.{slot_room_on}
 use Rattle.gate_cell.specs.declared.TheConstants.{LEAST_SPLIT_SECTORS}
 use Rattle.gate_cell.specs.declared.cell.StableCell.{Ghosts as CellWords}
 use Rattle.gate_cell.specs.declared.slot_cell.SlotCell.{Ghosts as SlotWords}
-use Rattle.gate_cell.specs.Whole.{Whole}
-use Rattle.record.specs.RecordView.{RecordView}
 use Rattle.ckpt_codec.specs.HeaderText.{header_of, header_text}
-use Rattle.ckpt_codec.specs.Lengths.{image_length}
 use Rattle.ckpt_codec.specs.declared.version.TheConstants.{FIRST_VERSION, VERSION}
-use Rattle.ckpt_store.specs.Spelling.{Spells}
-use Rattle.ckpt_store.specs.StoreView.{cell_in}
-use Rattle.ckpt_store.specs.declared.store.Store.{Store}
-use Rattle.ckpt_store.specs.declared.fault.StoreFault.{StoreFault}
 use Rattle.ckpt_store.specs.declared.fault.StoreFault.TheVariants.{NoMemory, Device, TooLarge, Reopen, Truncated}
 use Rattle.ckpt_store.specs.declared.fault.StoreFault.TheVariants.{Version, Malformed, HoldsOther, PastNumber, NotHeld}
 use Rattle.ckpt_store.specs.declared.fault.StoreFault.TheVariants.{Unsettled, Spent}
@@ -26,9 +18,9 @@ use Rattle.station.specs.declared.output.Output.{Output}
 use Rattle.station.specs.declared.station.Station.{Station}
 use Rattle.node.specs.NodeOf.{view_of}
 use Rattle.node.specs.declared.node.Node.{Node}
-use Rattle.protocol.specs.Node.Opening.{opening_node, opening_record}
+use Rattle.protocol.specs.Node.Opening.{opening_node}
 use Rattle.protocol.specs.World.OpeningWorld.{outlets_on, opening_station}
-use Rattle.protocol.specs.World.Sound.{is_output}
+use Rattle.protocol.specs.World.Common.{is_output}
 use Rattle.station.specs.StationView.{outlet_views}
 use Rattle.station.specs.StationView.{station_view}
 use Rattle.world.specs.WorldView.{HasOutlets}

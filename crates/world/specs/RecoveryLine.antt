@@ -2,19 +2,13 @@
 -- of it.
 use Rattle.std.specs.Prelude.{◌≡◌, ℕ, ℤ, List, [], ◌∷◌, map}
 use Rattle.std.specs.List.{AllZip}
-use Rattle.kahn_net.specs.Syntax.{Network}
+use Rattle.protocol.specs.Node.Common.{Network, Whole, RecordView, Spells, cell_in}
 use Rattle.gate_cell.specs.declared.cell.StableCell.{Ghosts as CellWords}
 use Rattle.gate_cell.specs.declared.slot_cell.SlotCell.{Ghosts as SlotWords}
-use Rattle.gate_cell.specs.Whole.{Whole}
-use Rattle.record.specs.RecordView.{RecordView}
-use Rattle.ckpt_store.specs.Spelling.{Spells}
-use Rattle.ckpt_store.specs.StoreView.{cell_in}
 use Rattle.recovery_line.specs.Line.{NotBehind}
 use Rattle.protocol.specs.World.Covered.{LeavesEither}
-use Rattle.protocol.specs.World.EventView.{EventView}
-use Rattle.protocol.specs.World.InLine.{AreInLine}
-use Rattle.protocol.specs.World.RecoveryLine.{next_for, records_seen, records_of}
-use Rattle.protocol.specs.World.Steps.{Setting}
+use Rattle.protocol.specs.World.Common.{EventView, AreInLine, records_seen, records_of, Setting}
+use Rattle.protocol.specs.World.RecoveryLine.{next_for}
 use Rattle.station.specs.StationView.{station_view}
 use Rattle.station.specs.declared.station.Station.{Station}
 

@@ -3,8 +3,7 @@ use Rattle.std.specs.List.{AllZip}
 use Rattle.gate_cell.specs.declared.cell.StableCell.{Ghosts as CellWords}
 use Rattle.gate_cell.specs.declared.slot_cell.SlotCell.{Ghosts as SlotWords}
 use Rattle.outlet.specs.declared.outlet.Outlet.{Ghosts as OutletWords}
-use Rattle.protocol.specs.World.Steps.{WorldView}
-use Rattle.wire.specs.Traffic.{traffic_of}
+use Rattle.protocol.specs.World.Common.{WorldView, traffic_of}
 use Rattle.world.specs.WorldView.{world_view, IsGrown}
 use Rattle.world.specs.declared.world.World.{World}
 

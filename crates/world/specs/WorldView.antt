@@ -1,22 +1,15 @@
 -- A world without pointers.
 use Rattle.std.specs.Prelude.{ℕ, ℤ, ◌≡◌, List, map, Bool, Option, Some, slice_get}
-use Rattle.kahn_net.specs.Syntax.{network_of}
-use Rattle.record.specs.RecordView.{RecordView}
+use Rattle.protocol.specs.Node.Common.{network_of, RecordView, fits_in, cell_in, Net}
 use Rattle.gate_cell.specs.declared.cell.StableCell.{Ghosts as CellWords}
 use Rattle.gate_cell.specs.declared.slot_cell.SlotCell.{Ghosts as SlotWords}
-use Rattle.ckpt_store.specs.Spelling.{fits_in}
-use Rattle.ckpt_store.specs.StoreView.{cell_in}
 use Rattle.node.specs.StoredView.{LeavesAsBefore}
 use Rattle.std.specs.declared.sync.Arc.{Arc}
 use Rattle.std.specs.declared.alloc.Global.{Global}
-use Rattle.net_check.specs.declared.net.Net.{Net}
 use Rattle.net_check.specs.declared.inputs.Inputs.{Inputs}
 use Rattle.station.specs.OutputView.{outputs_view}
-use Rattle.protocol.specs.World.EventView.{EventView}
+use Rattle.protocol.specs.World.Common.{EventView, ReplyView, WorldView, Traffic}
 use Rattle.protocol.specs.World.Pairs.{HasGrown}
-use Rattle.protocol.specs.World.ReplyView.{ReplyView}
-use Rattle.protocol.specs.World.Steps.{WorldView}
-use Rattle.wire.specs.Traffic.{Traffic}
 use Rattle.station.specs.declared.output.Output.{Output}
 use Rattle.station.specs.declared.station.Station.{Station}
 use Rattle.station.specs.StationView.{station_view}

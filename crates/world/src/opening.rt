@@ -1,22 +1,15 @@
 // A world before its first event.
 ghost use Rattle.std.specs.Prelude.{◌≡◌, ◌+◌, ◌++◌, ◌<◌, ◌≤◌, ◌↔◌, ◌⊎◌, ℕ, [], IsTrue, None, not, filter, length, map, IfErr, IfOk, IsSome, OnErr, OnOk, vec_capacity, vec_len};
 ghost use Rattle.std.specs.List.{AllByRecursion};
-ghost use Rattle.kahn_net.specs.Nodes.{node_count};
-ghost use Rattle.kahn_net.specs.Fits.{Fits};
-ghost use Rattle.kahn_net.specs.Syntax.{network_of};
+ghost use Rattle.protocol.specs.Node.Common.{node_count, Fits, network_of, slot_room_on, image_length, IsRecord};
+ghost use Rattle.protocol.specs.Node.Common.{MAX_RETAINED_ITEMS, cell_in, known_in, record_in, opening_record};
+ghost use Rattle.protocol.specs.Node.Common.{MAX_NODES};
 ghost use Rattle.gate_cell.specs.SplitCell.{armed_of, calls_of, failures_of, slot_capacity_of};
-ghost use Rattle.gate_cell.specs.SplitLayout.{slot_room_on};
 ghost use Rattle.ckpt_codec.specs.HeaderText.{IsImageSpelled};
-ghost use Rattle.ckpt_codec.specs.Lengths.{image_length};
-ghost use Rattle.ckpt_codec.specs.RecordText.{IsRecord};
 ghost use Rattle.ckpt_codec.specs.SizeLaws.{IsRecordWithin};
-ghost use Rattle.ckpt_codec.specs.declared.lengths.TheConstants.{MAX_RETAINED_ITEMS};
-ghost use Rattle.ckpt_store.specs.StoreView.{cell_in, known_in, record_in, Holds};
+ghost use Rattle.ckpt_store.specs.StoreView.{Holds};
 ghost use Rattle.ckpt_store.specs.declared.fault.StoreFault.TheVariants.{Version};
-ghost use Rattle.protocol.specs.Node.Opening.{opening_record};
-ghost use Rattle.protocol.specs.World.Headline.{AreApproximated};
-ghost use Rattle.protocol.specs.World.OpeningWorld.{opening_world};
-ghost use Rattle.protocol.specs.World.Sound.{is_output, output_channels};
+ghost use Rattle.protocol.specs.World.Common.{AreApproximated, opening_world, is_output, output_channels};
 ghost use Rattle.world.specs.OpeningWorld.{armed_on, calls_on, own_outputs, AllNumbered, HasRoom, HaveRoom, HaveOutlets};
 ghost use Rattle.station.specs.OutputView.{fresh};
 ghost use Rattle.world.specs.OpeningWorld.{IsOpened, IsOpenedNode, IsUnused, LeaveOnlyRecords};
@@ -25,7 +18,6 @@ ghost use Rattle.world.specs.OpeningWorld.{version_for, AreFormatted, AreVersion
 ghost use Rattle.station.specs.StationView.{outlet_views};
 ghost use Rattle.world.specs.NewWorld.{IsNew};
 ghost use Rattle.world.specs.WorldView.{capacities};
-ghost use Rattle.kahn_net.specs.declared.limits.TheConstants.{MAX_NODES};
 
 use crate::world::World;
 use ckpt_codec::{FIRST_VERSION, VERSION, spelled_image_length, write_header_in, write_image};

@@ -1,10 +1,9 @@
 //! The outputs of a network, each with an outlet.
 ghost use Rattle.std.specs.Prelude.{◌≡◌, ◌++◌, ◌≤◌, [], ◌∷◌, ℕ, if◌then◌else◌, length, map, IfOk, OnOk};
 ghost use Rattle.std.specs.List.{AllByRecursion};
-ghost use Rattle.kahn_net.specs.Syntax.{network_of};
-ghost use Rattle.protocol.specs.World.Sound.{goes_outside, output_channels};
+ghost use Rattle.protocol.specs.Node.Common.{network_of, MAX_CHANNELS};
+ghost use Rattle.protocol.specs.World.Common.{goes_outside, output_channels};
 ghost use Rattle.world.specs.OpeningWorld.{HasNotFailed, IsMade, IsUnused};
-ghost use Rattle.kahn_net.specs.declared.limits.TheConstants.{MAX_CHANNELS};
 
 use kahn_net::{Channel, Port};
 use net_check::Net;

@@ -1,9 +1,8 @@
 // Which event is next for a node, and what is in flight to it.
 ghost use Rattle.std.specs.Prelude.{◌≡◌, ◌<◌, option_map, slice_get};
-ghost use Rattle.protocol.specs.World.Choice.{flying_to, choice};
+ghost use Rattle.protocol.specs.World.Common.{choice, flights_to, traffic_of, NODES};
+ghost use Rattle.protocol.specs.World.Choice.{flying_to};
 ghost use Rattle.station.specs.EventView.{event_view};
-ghost use Rattle.wire.specs.Traffic.{flights_to, traffic_of};
-ghost use Rattle.wire.specs.declared.queue.TheConstants.{NODES};
 ghost use Rattle.world.specs.WholeView.{world_of};
 
 use crate::world::World;

@@ -1,6 +1,7 @@
 // When nothing is left to do.
 ghost use Rattle.std.specs.Prelude.{◌≡◌, IsTrue};
-ghost use Rattle.protocol.specs.World.Quiet.{is_node_quiet, are_quiet, AreWhole};
+ghost use Rattle.protocol.specs.World.Common.{are_quiet};
+ghost use Rattle.protocol.specs.World.Quiet.{is_node_quiet, AreWhole};
 ghost use Rattle.world.specs.WholeView.{world_of};
 
 use crate::world::World;

@@ -1,9 +1,9 @@
 // What has left the system.
 ghost use Rattle.std.specs.Prelude.{◌≡◌, ◌==◌, find, option_copied, option_map};
-ghost use Rattle.protocol.specs.World.StationView.{OutletView};
+ghost use Rattle.protocol.specs.World.Common.{OutletView, released_of};
 ghost use Rattle.station.specs.StationView.{outlet_views};
-ghost use Rattle.kahn_net.specs.Syntax.{network_of};
-ghost use Rattle.protocol.specs.World.Released.{released_of, IsPutAtHome, IsStreamOf};
+ghost use Rattle.protocol.specs.Node.Common.{network_of};
+ghost use Rattle.protocol.specs.World.Released.{IsPutAtHome, IsStreamOf};
 ghost use Rattle.world.specs.WholeView.{world_of};
 
 use crate::world::World;

@@ -1,7 +1,7 @@
 // The room of a channel, which is set.
 ghost use Rattle.std.specs.Prelude.{◌≡◌, OnErr, OnOk};
 ghost use Rattle.protocol.specs.Node.Sharing.{IsRoom};
-ghost use Rattle.protocol.specs.World.Steps.{with_room};
+ghost use Rattle.protocol.specs.World.Common.{with_room};
 ghost use Rattle.world.specs.WholeView.{world_of};
 
 use crate::world::World;

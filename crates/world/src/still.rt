@@ -1,8 +1,9 @@
 // When a world stands still for want of room.
 ghost use Rattle.std.specs.Prelude.{◌≡◌, map};
 ghost use Rattle.std.specs.List.{list_all, list_any};
-ghost use Rattle.kahn_net.specs.Syntax.{network_of};
-ghost use Rattle.protocol.specs.World.Still.{is_still, stands_still, wants_room, wider, widened};
+ghost use Rattle.protocol.specs.Node.Common.{network_of};
+ghost use Rattle.protocol.specs.World.Common.{stands_still};
+ghost use Rattle.protocol.specs.World.Still.{is_still, wants_room, wider, widened};
 ghost use Rattle.station.specs.StationView.{station_view};
 ghost use Rattle.world.specs.WholeView.{world_of};
 

@@ -6,7 +6,7 @@ use Rattle.std.proofs.lemmas.Bool.Decides.{Decides-int_eq}
 use Rattle.std.proofs.lemmas.Slice.Eq.{slice_eq-Decides}
 use Rattle.std.specs.Prelude.{take}
 use Rattle.std.specs.List.{starts_with}
-use Rattle.kahn_net.specs.Streams.{IsPrefix}
+use Rattle.protocol.specs.Node.Common.{IsPrefix}
 
 -- seen and asked are slices of whole and of part
 pub begins : {part whole seen asked : List ℤ} {told : Bool} → seen ≡ whole → asked ≡ part

@@ -1,7 +1,7 @@
 //! How a case's world is made.
 
 ghost use Rattle.std.specs.Prelude.{◌*◌, ◌^◌, ◌<◌};
-ghost use Rattle.sector_disk.specs.declared.TheConstants.{SECTOR_BYTES};
+ghost use Rattle.protocol.specs.Node.Common.{SECTOR_BYTES};
 
 use crate::plan::{EarlyFault, Settings};
 use ckpt_store::StoreFault;

@@ -1,7 +1,7 @@
 //! What has to leave by an output.
 
 ghost use Rattle.std.specs.Prelude.{◌↔◌, ◌⊎◌, IsTrue};
-ghost use Rattle.kahn_net.specs.Streams.{IsPrefix};
+ghost use Rattle.protocol.specs.Node.Common.{IsPrefix};
 
 use case_table::item;
 use std::alloc::Global;

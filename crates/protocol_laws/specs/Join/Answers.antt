@@ -7,38 +7,27 @@ use Rattle.std.proofs.lemmas.Bool.{eqb-true}
 use Rattle.datagram.specs.declared.packet.Body.TheVariants as says
 use Rattle.datagram.specs.declared.packet.Packet.{Packet as Datagram}
 use Rattle.datagram.specs.declared.packet.Reason.TheVariants.{Behind}
-use Rattle.kahn_net.specs.Syntax.{Network}
-use Rattle.kahn_net.specs.Valid.{IsValid}
-use Rattle.record.specs.Ends.{sent_of}
-use Rattle.record.specs.ImageView.{ImageView}
-use Rattle.record.specs.Moves.{highest_seen}
-use Rattle.record.specs.RecordView.{RecordView}
+use Rattle.protocol.specs.Node.Common.{Network, IsValid, sent_of, ImageView, highest_seen, RecordView, AskAnswer}
+use Rattle.protocol.specs.Node.Common.{Silent, CoveredBefore, TookBefore, TakesNow, Declines, holds, answer_to_ask}
+use Rattle.protocol.specs.Node.Common.{with_current_as, kept_then, is_down, with_kept, ModeView, Down, InDoubt, Runs}
+use Rattle.protocol.specs.Node.Common.{RunningView}
 use Rattle.record.specs.declared.record.Tentative.{Tentative as HeldImage}
 use Rattle.recovery_line.proofs.Observing.{taking_moves}
-use Rattle.recovery_line.specs.Images.{IsCross}
-use Rattle.recovery_line.specs.Nodes.{Mode}
-use Rattle.recovery_line.specs.Observers.{image_seen, record_seen}
-use Rattle.recovery_line.specs.Packets.{Packet, Ask, Took, Covered, AreNeeds, HearsAsk}
-use Rattle.recovery_line.specs.Records.{Record}
-use Rattle.recovery_line.specs.Worlds.{World, InFlight, MaySend}
-use Rattle.protocol.specs.Node.Answering.{AskAnswer, Silent, CoveredBefore, TookBefore, TakesNow, Declines, holds}
+use Rattle.protocol.specs.World.Common.{IsCross, Mode, image_seen, record_seen, Packet, Record, World, Leads, WasSent}
+use Rattle.protocol.specs.World.Common.{live_seen, mode_seen, need_of, all_seen, world_seen, net_seen, outlets_seen}
+use Rattle.protocol.specs.World.Common.{StationView, moved_to}
+use Rattle.recovery_line.specs.Packets.{Ask, Took, Covered, AreNeeds, HearsAsk}
+use Rattle.recovery_line.specs.Worlds.{InFlight, MaySend}
 use Rattle.protocol.specs.Node.Answering.{is_past}
-use Rattle.protocol.specs.Node.Answering.{answer_of_holder, answer_of_free, answer_above, answer_to_ask}
-use Rattle.protocol.specs.Node.Answering.{with_current_as, kept_then, took_packet, answer_packets}
+use Rattle.protocol.specs.Node.Answering.{answer_of_holder, answer_of_free, answer_above}
+use Rattle.protocol.specs.Node.Answering.{took_packet, answer_packets}
 use Rattle.protocol.specs.Node.Needs.{held_needs}
-use Rattle.protocol.specs.Join.Runs.{Leads, WasSent}
-use Rattle.protocol.specs.Join.Seen.{live_seen, mode_seen, need_of, all_seen, world_seen}
 use Rattle.protocol_laws.specs.Join.Holding.{at_most, above, not_below, up_seen, IsHeld, held_seen}
 use Rattle.protocol_laws.specs.Join.Crossings.{both_true}
 use Rattle.protocol_laws.specs.Join.Leading.{leads_here, leads_by, leads_then, hears, outlets_same, record_at, mode_at}
 use Rattle.protocol_laws.specs.Join.Leading.{set_there, unseen}
 use Rattle.protocol_laws.specs.Join.NeedLaws.{are_needs}
 use Rattle.protocol_laws.specs.Join.Sent.{MaySendAll, sends}
-use Rattle.protocol.specs.Node.Modes.{is_down, with_kept}
-use Rattle.protocol.specs.Node.NodeView.{ModeView, Down, InDoubt, Runs, RunningView}
-use Rattle.protocol.specs.World.RecoveryLine.{net_seen, outlets_seen}
-use Rattle.protocol.specs.World.StationView.{StationView}
-use Rattle.protocol.specs.World.Steps.{moved_to}
 use Rattle.protocol.specs.declared.round_turns.RoundTurns.{RoundTurns}
 
 -- ---- what an answer tells of the node

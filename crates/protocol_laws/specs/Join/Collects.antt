@@ -4,29 +4,26 @@ use Rattle.std.proofs.Common.{length, Option, Some, None, option_map, refl, sym,
 use Rattle.std.specs.Prelude.{◌≢◌, ◌==◌, nat_le, not, slice_get, slice_set}
 use Rattle.std.specs.List.{AllByRecursion, list_all}
 use Rattle.std.proofs.lemmas.Bool.{eqb-true, eq-eqb}
-use Rattle.datagram.specs.declared.packet.Need.{Need}
+use Rattle.protocol.specs.Node.Common.{Need, Network, sent_of, without_tentative, RecordView, collecting, was_asked}
+use Rattle.protocol.specs.Node.Common.{with_answer, hearing_covered, with_needs, joined_live, in_front, producer_node}
+use Rattle.protocol.specs.Node.Common.{QuestionView, LiveView, ModeView, Down, InDoubt, Runs, RunningView, on_mode}
+use Rattle.protocol.specs.Node.Common.{on_running}
 use Rattle.datagram.specs.declared.packet.Packet.{Packet as Datagram}
-use Rattle.kahn_net.specs.Syntax.{Network}
-use Rattle.record.specs.Ends.{sent_of}
-use Rattle.record.specs.Moves.{without_tentative}
-use Rattle.record.specs.RecordView.{RecordView}
 use Rattle.record.specs.declared.record.Tentative.{Tentative as HeldImage}
 use Rattle.recovery_line.proofs.Basics.{one_inside, same_or_other}
 use Rattle.recovery_line.proofs.Observing.{dropping_moves}
-use Rattle.recovery_line.specs.Images.{IsCross}
+use Rattle.protocol.specs.World.Common.{IsCross, Answer, Awaited, By_took, By_covered, Mode, NodeStep, live_of}
+use Rattle.protocol.specs.World.Common.{image_seen, record_seen, Packet, World, Leads, WasSent, need_of}
+use Rattle.protocol.specs.World.Common.{question_seen, questions_seen, live_seen, mode_seen, all_seen, node_seen}
+use Rattle.protocol.specs.World.Common.{world_seen, net_seen, outlets_seen, StationView, moved_to}
 use Rattle.recovery_line.specs.Moves.{Drops}
-use Rattle.recovery_line.specs.Nodes.{Answer, Awaited, By_took, By_covered, Mode, NodeStep, Give_up, live_of}
-use Rattle.recovery_line.specs.Observers.{image_seen, record_seen}
-use Rattle.recovery_line.specs.Packets.{Packet, Covered, Took, HearsCovered, HearsTook}
-use Rattle.recovery_line.specs.Worlds.{World, IsLive, MaySend}
-use Rattle.protocol.specs.Node.Beginning.{ask_on, collecting}
-use Rattle.protocol.specs.Node.Collecting.{was_asked, with_answer, is_open_at, awaits, with_covered, hearing_covered}
-use Rattle.protocol.specs.Node.Collecting.{needs_no_question, new_question, with_need, with_needs, new_ask, new_asks}
-use Rattle.protocol.specs.Node.Collecting.{joined_live, is_met, are_met, given_up}
-use Rattle.protocol.specs.Join.Runs.{Leads, WasSent}
-use Rattle.protocol.specs.Join.Seen.{need_of, question_seen, questions_seen, live_seen, mode_seen, all_seen}
-use Rattle.protocol.specs.Node.Beginning.{in_front}
-use Rattle.protocol.specs.Join.Seen.{node_seen, world_seen}
+use Rattle.recovery_line.specs.Nodes.{Give_up}
+use Rattle.recovery_line.specs.Packets.{Covered, Took, HearsCovered, HearsTook}
+use Rattle.recovery_line.specs.Worlds.{IsLive, MaySend}
+use Rattle.protocol.specs.Node.Beginning.{ask_on}
+use Rattle.protocol.specs.Node.Collecting.{is_open_at, awaits, with_covered}
+use Rattle.protocol.specs.Node.Collecting.{needs_no_question, new_question, with_need, new_ask, new_asks}
+use Rattle.protocol.specs.Node.Collecting.{is_met, are_met, given_up}
 use Rattle.protocol_laws.specs.Join.Crossings.{both_true, cross_within, producer_is}
 use Rattle.protocol_laws.specs.Join.Holding.{at_most, IsHeld, held_seen, named_so}
 use Rattle.protocol_laws.specs.Join.Leading.{leads_here, leads_by, leads_then, acts, hears, outlets_same, mode_at}
@@ -37,12 +34,6 @@ use Rattle.protocol_laws.specs.Join.Questions.{answer_elsewhere, answer_length, 
 use Rattle.protocol_laws.specs.Join.Questions.{needs_new, needs_met}
 use Rattle.protocol_laws.specs.Join.Sent.{MaySendAll, sends}
 use Rattle.protocol_laws.specs.Join.Takers.{has_joined}
-use Rattle.protocol.specs.Node.Addresses.{producer_node}
-use Rattle.protocol.specs.Node.LiveView.{QuestionView, LiveView}
-use Rattle.protocol.specs.Node.NodeView.{ModeView, Down, InDoubt, Runs, RunningView, on_mode, on_running}
-use Rattle.protocol.specs.World.RecoveryLine.{net_seen, outlets_seen}
-use Rattle.protocol.specs.World.StationView.{StationView}
-use Rattle.protocol.specs.World.Steps.{moved_to}
 use Rattle.protocol.specs.declared.round_turns.RoundTurns.{RoundTurns}
 
 -- ---- as a step of one node

@@ -7,37 +7,28 @@ use Rattle.std.proofs.Math.Path.{fun_ext}
 use Rattle.std.proofs.lemmas.Bool.{eq-eqb}
 use Rattle.std.proofs.lemmas.List.{length-map}
 use Rattle.std.proofs.lemmas.Option.{slice_get_within}
-use Rattle.kahn_net.specs.Syntax.{Network}
-use Rattle.record.specs.DecisionView.{DecisionView}
-use Rattle.record.specs.Moves.{with_decision}
-use Rattle.record.specs.RecordView.{RecordView}
+use Rattle.protocol.specs.Node.Common.{Network, DecisionView, with_decision, RecordView, collecting, live_in, holds}
+use Rattle.protocol.specs.Node.Common.{may_decide, participants_of, concluded, commit_to, QuestionView, LiveView}
+use Rattle.protocol.specs.Node.Common.{ModeView, Runs, RunningView, on_mode}
 use Rattle.recovery_line.proofs.Basics.{above_or, one_inside, some_not_none}
 use Rattle.recovery_line.proofs.Observing.{deciding_moves}
 use Rattle.recovery_line.proofs.Theorems.{is_consistent}
-use Rattle.recovery_line.specs.Images.{Image, Net}
+use Rattle.protocol.specs.World.Common.{Image, Net, Answer, Awaited, Mode, NodeStep, live_of, has_node, image_seen}
+use Rattle.protocol.specs.World.Common.{record_seen, decides, Packet, Record, World, Reachable, Leads, question_seen}
+use Rattle.protocol.specs.World.Common.{questions_seen, live_seen, mode_seen, all_seen, world_seen, net_seen}
+use Rattle.protocol.specs.World.Common.{records_of, records_seen, outlets_seen, StationView, moved_to}
 use Rattle.recovery_line.specs.Moves.{Decides}
-use Rattle.recovery_line.specs.Nodes.{Answer, Awaited, Mode, NodeStep, Conclude, current_of, live_of}
-use Rattle.recovery_line.specs.Observers.{has_node, image_seen, record_seen, decides}
-use Rattle.recovery_line.specs.Packets.{Packet}
-use Rattle.recovery_line.specs.Records.{Record, Holds}
-use Rattle.recovery_line.specs.Worlds.{World, Reachable}
-use Rattle.protocol.specs.Node.Beginning.{collecting, live_in}
+use Rattle.recovery_line.specs.Nodes.{Conclude, current_of}
+use Rattle.recovery_line.specs.Records.{Holds}
 use Rattle.protocol.specs.Node.Collecting.{is_awaited, is_open}
-use Rattle.protocol.specs.Node.Answering.{holds}
-use Rattle.protocol.specs.Join.Runs.{Leads}
-use Rattle.protocol.specs.Join.Seen.{question_seen, questions_seen, live_seen, mode_seen, all_seen, world_seen}
-use Rattle.protocol.specs.Node.Verdicts.{all_answered, may_decide, participants_of, decision_on, decided_now, concluded}
-use Rattle.protocol.specs.Node.Verdicts.{commit_to, commit_packets}
+use Rattle.protocol.specs.Node.Verdicts.{all_answered, decision_on, decided_now}
+use Rattle.protocol.specs.Node.Verdicts.{commit_packets}
 use Rattle.protocol_laws.specs.Join.Crossings.{both_true}
 use Rattle.protocol_laws.specs.Join.Holding.{IsHeld, held_where, held_seen}
 use Rattle.protocol_laws.specs.Join.Leading.{leads_by, leads_then, acts, outlets_same, record_at, mode_at, set_there}
 use Rattle.protocol_laws.specs.Join.NeedLaws.{has_where, has_where_below}
 use Rattle.protocol_laws.specs.Join.Sent.{MaySendAll, sends}
-use Rattle.protocol.specs.Node.LiveView.{QuestionView, LiveView}
-use Rattle.protocol.specs.Node.NodeView.{ModeView, Runs, RunningView, on_mode}
-use Rattle.protocol.specs.World.RecoveryLine.{net_seen, record_or_new, records_of, records_seen, outlets_seen}
-use Rattle.protocol.specs.World.StationView.{StationView}
-use Rattle.protocol.specs.World.Steps.{moved_to}
+use Rattle.protocol.specs.World.RecoveryLine.{record_or_new}
 use Rattle.protocol.specs.declared.round_turns.RoundTurns.{RoundTurns}
 
 -- ---- answers and decisions

@@ -5,20 +5,15 @@ use Rattle.std.proofs.Common.{option_map, refl, sym, ap, subst, ◌∙◌, arith
 use Rattle.std.specs.Prelude.{◌≢◌, ◌==◌, not, slice_get}
 use Rattle.std.proofs.lemmas.Bool.{eqb-true, eq-eqb, ne_eqb}
 use Rattle.std.proofs.lemmas.Option.{slice_get_cases, slice_get_within}
-use Rattle.kahn_net.specs.Nodes.{node_count}
-use Rattle.kahn_net.specs.Syntax.{Code, Network}
-use Rattle.kahn_net.specs.Valid.{IsValid}
-use Rattle.kahn_net.specs.declared.program.Channel.{Channel}
-use Rattle.kahn_net.specs.declared.program.Port.{Port}
-use Rattle.kahn_net.specs.declared.program.Port.TheVariants.{Outside, Process}
+use Rattle.protocol.specs.Node.Common.{node_count, Code, Network, IsValid, Channel, Port, Outside, Process}
+use Rattle.protocol.specs.Node.Common.{producer_node, producer_of, consumer_of, port_on, port_away, comes_in}
+use Rattle.protocol.specs.Node.Common.{is_incoming, is_outgoing}
 use Rattle.recovery_line.proofs.Basics.{one_inside}
-use Rattle.recovery_line.specs.Images.{IsCross}
-use Rattle.protocol.specs.Node.Addresses.{address, producer_node, ends_run, runs_between}
-use Rattle.protocol.specs.Node.Layout.{node_at, producer_of, consumer_of, is_node, port_on, port_away, comes_in}
+use Rattle.protocol.specs.World.Common.{IsCross, net_seen}
+use Rattle.protocol.specs.Node.Addresses.{address, ends_run, runs_between}
+use Rattle.protocol.specs.Node.Layout.{node_at, is_node}
 use Rattle.protocol.specs.Node.Layout.{goes_out}
-use Rattle.protocol.specs.Node.Layout.{is_incoming, is_outgoing}
 use Rattle.protocol_laws.specs.Node.PlaceLaws.{node_below}
-use Rattle.protocol.specs.World.RecoveryLine.{net_seen}
 
 pub both_true : (a b : Bool) → (a && b) ≡ true → (a ≡ true) × (b ≡ true)
 both_true true true is = (refl, refl)

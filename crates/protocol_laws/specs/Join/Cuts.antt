@@ -6,17 +6,13 @@ use Rattle.std.specs.Prelude.{◌≢◌, nat_lt, find}
 use Rattle.std.proofs.Math.Path.{fun_ext}
 use Rattle.std.proofs.lemmas.Bool.{eqb-true, ne_eqb, lt-ltb}
 use Rattle.std.proofs.lemmas.Bool.Decides.{leb_tells}
-use Rattle.record.specs.Changes.{trimmed_image, trimmed_end, trimmed_saved, trimmed_log}
-use Rattle.record.specs.Ends.{received_of, log_at, base_in, base_of, sent_in, sent_of}
-use Rattle.record.specs.ImageView.{ImageView}
-use Rattle.record.specs.declared.image.End.{End}
-use Rattle.record.specs.declared.image.End.TheVariants.{Receives, Sends, Both}
-use Rattle.record.specs.declared.image.SavedEnd.{SavedEnd}
-use Rattle.retained.specs.LogState.{LogState, log_end, trimmed}
+use Rattle.protocol.specs.Node.Common.{trimmed_image, trimmed_log, received_of, log_at, base_in, base_of, sent_in}
+use Rattle.protocol.specs.Node.Common.{sent_of, ImageView, End, Receives, Sends, Both, SavedEnd, LogState, log_end}
+use Rattle.record.specs.Changes.{trimmed_end, trimmed_saved}
+use Rattle.retained.specs.LogState.{trimmed}
 use Rattle.recovery_line.proofs.Basics.{above_or, same_or_other}
-use Rattle.recovery_line.specs.Nodes.{Live, Mode, Trims}
-use Rattle.recovery_line.specs.Observers.{image_seen}
-use Rattle.recovery_line.specs.Records.{Record}
+use Rattle.protocol.specs.World.Common.{Mode, image_seen, Record}
+use Rattle.recovery_line.specs.Nodes.{Live, Trims}
 use Rattle.protocol_laws.specs.Node.TrimLaws.{end_of_trimmed, received_trimmed, sent_trimmed}
 
 -- ---- where it begins then

@@ -4,32 +4,18 @@ use Rattle.std.proofs.Common.{◌∙◌, arith}
 use Rattle.std.proofs.Common.{[], ◌++◌}
 use Rattle.std.specs.Prelude.{nat_lt, slice_get, slice_set}
 use Rattle.std.proofs.lemmas.Option.{slice_get_within}
-use Rattle.kahn_net.specs.Nodes.{node_count}
-use Rattle.kahn_net.specs.Syntax.{Network}
-use Rattle.kahn_net.specs.Valid.{IsValid}
-use Rattle.kahn_net.specs.declared.limits.TheConstants.{MAX_COUNT}
-use Rattle.record.specs.Moves.{highest_seen}
-use Rattle.recovery_line.specs.Observers.{record_seen}
-use Rattle.recovery_line.specs.Packets.{Packet}
-use Rattle.recovery_line.specs.Worlds.{Reachable}
-use Rattle.protocol.specs.Node.Beginning.{live_in, live_asks, may_start, begun, start_prospect}
-use Rattle.protocol.specs.Join.Joined.{IsJoined}
-use Rattle.protocol.specs.Join.Runs.{Leads}
-use Rattle.protocol.specs.Join.Seen.{mode_seen, all_seen, world_seen}
-use Rattle.protocol.specs.Node.Verdicts.{may_decide, concluded, commit_packets, decide_prospect}
+use Rattle.protocol.specs.Node.Common.{node_count, Network, IsValid, MAX_COUNT, highest_seen, live_in, live_asks}
+use Rattle.protocol.specs.Node.Common.{may_start, begun, start_prospect, may_decide, concluded, decide_prospect}
+use Rattle.protocol.specs.Node.Common.{granted, grant_prospect, with_grant, JobView, LiveView, NodeView, ModeView}
+use Rattle.protocol.specs.Node.Common.{Down, InDoubt, Runs, RunningView, Planned, becoming, if_due, unless_spent}
+use Rattle.protocol.specs.World.Common.{record_seen, Packet, Reachable, IsJoined, Leads, mode_seen, all_seen}
+use Rattle.protocol.specs.World.Common.{world_seen, net_seen, StationView, moved_to}
+use Rattle.protocol.specs.Node.Verdicts.{commit_packets}
 use Rattle.protocol_laws.specs.Join.Concludes.{conclude_by}
 use Rattle.protocol_laws.specs.Join.Hears.{mode_unseen}
 use Rattle.protocol_laws.specs.Join.Leading.{leads_here, unseen}
 use Rattle.protocol_laws.specs.Join.Plans.{ProspectLeads}
 use Rattle.protocol_laws.specs.Join.Starts.{begin_leads}
-use Rattle.protocol.specs.Node.Choosing.{granted, grant_prospect, with_grant}
-use Rattle.protocol.specs.Node.JobView.{JobView}
-use Rattle.protocol.specs.Node.LiveView.{LiveView}
-use Rattle.protocol.specs.Node.NodeView.{NodeView, ModeView, Down, InDoubt, Runs, RunningView}
-use Rattle.protocol.specs.Node.Plans.{Planned, becoming, if_due, unless_spent}
-use Rattle.protocol.specs.World.RecoveryLine.{net_seen}
-use Rattle.protocol.specs.World.StationView.{StationView}
-use Rattle.protocol.specs.World.Steps.{moved_to}
 
 module _ (net : Network) (stations : List StationView) (k : ℕ) (old : StationView)
     (there : slice_get stations k ≡ Some old) (sent : List Packet) where

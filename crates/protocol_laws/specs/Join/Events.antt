@@ -6,49 +6,33 @@ use Rattle.std.specs.Prelude.{◌==◌, nat_lt, not, slice_get, slice_set}
 use Rattle.std.proofs.lemmas.Bool.{eq-eqb, ltb-true}
 use Rattle.datagram.proofs.Exactness.{whole_again}
 use Rattle.datagram.specs.declared.packet.Packet.{Packet as Datagram}
-use Rattle.kahn_net.specs.Nodes.{node_count}
-use Rattle.kahn_net.specs.Syntax.{Network}
-use Rattle.kahn_net.specs.Valid.{IsValid}
-use Rattle.record.specs.RecordView.{RecordView}
-use Rattle.recovery_line.specs.Nodes.{NodeStep}
-use Rattle.recovery_line.specs.Observers.{record_seen}
-use Rattle.recovery_line.specs.Packets.{Packet}
+use Rattle.protocol.specs.Node.Common.{node_count, Network, IsValid, RecordView, live_in, hear_prospect}
+use Rattle.protocol.specs.Node.Common.{deliver_prospect, are_nodes, names_right, names_run, restart_after, packet_for}
+use Rattle.protocol.specs.Node.Common.{IsOut, IsInstall, LiveView, is_down, is_running, NodeView, ModeView, Down}
+use Rattle.protocol.specs.Node.Common.{InDoubt, Runs, RunningView, running_node, running_in, running_of, on_mode}
+use Rattle.protocol.specs.Node.Common.{Prospect, Undue, Exhausted, Planned, IsMade, if_due}
+use Rattle.protocol.specs.World.Common.{NodeStep, record_seen, Packet, Traffic, all_sent, flights_to, Flight}
+use Rattle.protocol.specs.World.Common.{deliver_plan, IsJoined, Leads, SaysWhatWasSent, HasRun, RunsOn, live_seen}
+use Rattle.protocol.specs.World.Common.{mode_seen, node_seen, world_seen, DoneView, AreSound, IsNumbered}
+use Rattle.protocol.specs.World.Common.{StationInvariant, net_seen, outlets_seen, answer_by, has_happened, ReplyView}
+use Rattle.protocol.specs.World.Common.{StationView, StationPlan, moved_to, turns_by, traffic_left, traffic_acted}
+use Rattle.protocol.specs.World.Common.{next_release, IsPlanned, IsInstalled, IsRelease, first_waiting}
 use Rattle.wire.proofs.Passing.{arrived_passes}
-use Rattle.wire.specs.Traffic.{Traffic, all_sent, flights_to}
-use Rattle.wire.specs.declared.queue.Flight.{Flight}
-use Rattle.protocol.specs.Node.Beginning.{live_in}
-use Rattle.protocol.specs.World.Steps.{deliver_plan}
-use Rattle.protocol.specs.Node.Hearing.{hear_prospect, told_prospect, deliver_prospect}
-use Rattle.protocol.specs.Join.Joined.{IsJoined}
+use Rattle.protocol.specs.Node.Hearing.{told_prospect}
 use Rattle.protocol_laws.specs.Join.Promises.{traffic_by}
-use Rattle.protocol.specs.Join.Runs.{Leads, SaysWhatWasSent, Carries, HasRun, RunsOn}
-use Rattle.protocol.specs.Join.Seen.{body_seen, live_seen, mode_seen, node_seen, spelled_seen, world_seen}
+use Rattle.protocol.specs.Join.Runs.{Carries}
+use Rattle.protocol.specs.Join.Seen.{body_seen, spelled_seen}
 use Rattle.protocol_laws.specs.Join.Crossings.{both_true, true_both}
 use Rattle.protocol_laws.specs.Join.Hears.{hear_leads}
 use Rattle.protocol_laws.specs.Join.Leading.{leads_here, leads_by, acts, outlets_same, set_itself}
 use Rattle.protocol_laws.specs.Join.Leaves.{release_leads}
 use Rattle.protocol_laws.specs.Join.Plans.{ProspectLeads, stays_run, made_run}
 use Rattle.protocol_laws.specs.Join.Works.{turn_works}
-use Rattle.protocol.specs.Node.Addresses.{are_nodes, names_right, names_run}
-use Rattle.protocol.specs.Node.ArmedRestarts.{restart_after}
-use Rattle.protocol.specs.Node.Delivering.{if_right, packet_for}
-use Rattle.protocol.specs.Node.Installing.{turned, IsOut, IsInstall}
-use Rattle.protocol.specs.Node.LiveView.{LiveView}
-use Rattle.protocol.specs.Node.Modes.{is_down, is_running}
-use Rattle.protocol.specs.Node.NodeView.{NodeView, ModeView, Down, InDoubt, Runs, RunningView, running_node, running_in}
-use Rattle.protocol.specs.Node.NodeView.{running_of}
-use Rattle.protocol.specs.Node.NodeView.{on_mode}
-use Rattle.protocol.specs.Node.Plans.{Prospect, Undue, Exhausted, Planned, IsMade, if_due}
-use Rattle.protocol.specs.World.DoneView.{DoneView}
+use Rattle.protocol.specs.Node.Delivering.{if_right}
+use Rattle.protocol.specs.Node.Installing.{turned}
 use Rattle.protocol.specs.declared.event.NetworkAct.{NetworkAct}
 use Rattle.protocol.specs.declared.event.NetworkAct.TheVariants as act_is
-use Rattle.protocol.specs.World.Invariant.{AreSound, IsNumbered, StationInvariant}
-use Rattle.protocol.specs.World.RecoveryLine.{net_seen, outlets_seen}
-use Rattle.protocol.specs.World.Replies.{answer_by, has_happened}
-use Rattle.protocol.specs.World.ReplyView.{ReplyView}
-use Rattle.protocol.specs.World.StationView.{StationView}
-use Rattle.protocol.specs.World.Steps.{StationPlan, moved_to, turns_by, plan_sendings, traffic_left, traffic_acted}
-use Rattle.protocol.specs.World.Steps.{next_release, IsPlanned, IsInstalled, IsRelease, first_waiting}
+use Rattle.protocol.specs.World.Steps.{plan_sendings}
 use Rattle.protocol.specs.World.Traffic.{SpellsSound}
 use Rattle.protocol_laws.specs.World.FlightLaws.{gone_holds, delayed_holds, repeated_holds}
 use Rattle.protocol.specs.declared.outcome.Outcome.{Outcome}

@@ -3,18 +3,14 @@
 use Rattle.std.proofs.Common.{◌≡◌, ◌⊎◌, inl, inr, ℕ, zero, suc, ◌<◌, List, [], ◌∷◌, ◌++◌, length, All, get_or}
 use Rattle.std.proofs.Common.{Option, Some, None, unwrap_or, refl, sym, ap, ◌∙◌, arith}
 use Rattle.std.specs.Prelude.{slice_get}
-use Rattle.kahn_net.specs.Syntax.{Network}
-use Rattle.wire.specs.Traffic.{QueueTraffic, Traffic, flights_to}
-use Rattle.wire.specs.declared.queue.Flight.{Flight}
-use Rattle.recovery_line.specs.Images.{Net}
-use Rattle.recovery_line.specs.Packets.{Packet}
-use Rattle.recovery_line.specs.Worlds.{World, InFlight, Step, Send}
-use Rattle.protocol.specs.Join.Runs.{Carries, HasRun, IsInFlight, Leads, RunsOn, SaysWhatWasSent, WasSent}
-use Rattle.protocol.specs.Join.Seen.{bytes_seen, world_seen}
+use Rattle.protocol.specs.Node.Common.{Network, in_front}
+use Rattle.protocol.specs.World.Common.{Traffic, flights_to, Flight, Net, Packet, World, Step, HasRun, Leads, RunsOn}
+use Rattle.protocol.specs.World.Common.{SaysWhatWasSent, WasSent, world_seen, net_seen, StationView}
+use Rattle.wire.specs.Traffic.{QueueTraffic}
+use Rattle.recovery_line.specs.Worlds.{InFlight, Send}
+use Rattle.protocol.specs.Join.Runs.{Carries, IsInFlight}
+use Rattle.protocol.specs.Join.Seen.{bytes_seen}
 use Rattle.protocol_laws.specs.Join.Leading.{leads_by, reached_then}
-use Rattle.protocol.specs.Node.Beginning.{in_front}
-use Rattle.protocol.specs.World.RecoveryLine.{net_seen}
-use Rattle.protocol.specs.World.StationView.{StationView}
 
 -- what the packets of a queue, of queues, and all in flight say of checkpoints
 abbrev flights_seen : List Flight → List Packet

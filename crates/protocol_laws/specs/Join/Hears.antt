@@ -5,37 +5,31 @@ use Rattle.std.proofs.Common.{Option, Some, None, option_map, refl, sym, ap, sub
 use Rattle.std.specs.Prelude.{◌==◌, nat_lt, slice_get, slice_set}
 use Rattle.std.specs.List.{list_all}
 use Rattle.std.proofs.lemmas.Bool.{eqb-true}
-use Rattle.datagram.specs.declared.packet.Body.{Body}
+use Rattle.protocol.specs.Node.Common.{Body, Need, Network, IsValid, MAX_COUNT, trimmed_image, base_of, sent_of}
+use Rattle.protocol.specs.Node.Common.{ImageView, Tentative, with_epoch, with_permanent, without_tentative}
+use Rattle.protocol.specs.Node.Common.{with_confirmed, holds, answer_to_ask, kept_then, AskAnswer, Silent}
+use Rattle.protocol.specs.Node.Common.{CoveredBefore, TookBefore, TakesNow, Declines, live_in, collecting, is_live}
+use Rattle.protocol.specs.Node.Common.{was_asked, Ignores, Joins, GivesUp, answer_to_took, joined_live}
+use Rattle.protocol.specs.Node.Common.{hearing_covered, refused_prospect, took_prospect, PassesOver, Notes, GoesBack}
+use Rattle.protocol.specs.Node.Common.{noting_undone, set_back_to, undone_prospect, hear_prospect, after_verdict}
+use Rattle.protocol.specs.Node.Common.{settled_packets, verdict_packets, commit_prospect, ended_prospect}
+use Rattle.protocol.specs.Node.Common.{settled_prospect, are_nodes, names_run, hearing, is_incoming, is_outgoing}
+use Rattle.protocol.specs.Node.Common.{LiveView, is_down, with_kept, NodeView, ModeView, Down, InDoubt, Runs}
+use Rattle.protocol.specs.Node.Common.{RunningView, on_mode, on_running, Planned, becoming, putting, telling, cut_at}
 use Rattle.datagram.specs.declared.packet.Body.TheVariants as says
-use Rattle.datagram.specs.declared.packet.Need.{Need}
 use Rattle.datagram.specs.declared.packet.Packet.{Packet as Datagram}
-use Rattle.kahn_net.specs.Syntax.{Network}
-use Rattle.kahn_net.specs.Valid.{IsValid}
-use Rattle.kahn_net.specs.declared.limits.TheConstants.{MAX_COUNT}
-use Rattle.record.specs.Changes.{trimmed_image}
-use Rattle.record.specs.Ends.{base_of, sent_of}
-use Rattle.record.specs.ImageView.{ImageView}
-use Rattle.record.specs.declared.record.Tentative.{Tentative}
-use Rattle.record.specs.Moves.{with_epoch, with_permanent, without_tentative, with_confirmed}
-use Rattle.recovery_line.specs.Images.{Image}
-use Rattle.recovery_line.specs.Nodes.{Mode, NodeStep}
-use Rattle.recovery_line.specs.Observers.{image_seen, record_seen, names}
-use Rattle.recovery_line.specs.Packets.{Packet, Kept, Ask, Took, Covered, Query, Commit, Ended, Settled, HearsKept}
-use Rattle.protocol.specs.Node.Answering.{holds, answer_to_ask, kept_then, takes_now, AskAnswer, Silent}
-use Rattle.protocol.specs.Node.Answering.{CoveredBefore, TookBefore, TakesNow, Declines, answering}
-use Rattle.protocol.specs.Node.Beginning.{live_in, collecting}
-use Rattle.protocol.specs.Node.Collecting.{is_live, was_asked, are_met, Ignores, Joins, GivesUp}
-use Rattle.protocol.specs.Node.Collecting.{answer_to_took}
-use Rattle.protocol.specs.Node.Collecting.{joining, joined_asks, joined_live, give_up_prospect, took_by, loses}
-use Rattle.protocol.specs.Node.Collecting.{hearing_covered, refused_prospect, took_prospect}
-use Rattle.protocol.specs.Node.GoingBack.{PassesOver, Notes, GoesBack, answer_at, answer_with, gone_back, inbox_of}
-use Rattle.protocol.specs.Node.GoingBack.{noting_undone, set_back_to, undone_by, undone_prospect}
-use Rattle.protocol.specs.Node.Hearing.{remembering, hear_prospect}
-use Rattle.protocol.specs.Join.Runs.{Leads, WasSent}
-use Rattle.protocol.specs.Join.Seen.{need_of, body_seen, live_seen, mode_seen, all_seen, world_seen}
-use Rattle.protocol.specs.Node.Verdicts.{after_verdict, settled_packets, verdict_packets, commit_prospect}
-use Rattle.protocol.specs.Node.Verdicts.{ended_prospect}
-use Rattle.protocol.specs.Node.Verdicts.{settled_prospect}
+use Rattle.protocol.specs.World.Common.{Image, Mode, NodeStep, image_seen, record_seen, names, Packet, Leads, WasSent}
+use Rattle.protocol.specs.World.Common.{need_of, live_seen, mode_seen, all_seen, world_seen, net_seen, outlets_seen}
+use Rattle.protocol.specs.World.Common.{StationView, moved_to}
+use Rattle.recovery_line.specs.Packets.{Kept, Ask, Took, Covered, Query, Commit, Ended, Settled, HearsKept}
+use Rattle.protocol.specs.Node.Answering.{takes_now}
+use Rattle.protocol.specs.Node.Answering.{answering}
+use Rattle.protocol.specs.Node.Collecting.{are_met}
+use Rattle.protocol.specs.Node.Collecting.{joining, joined_asks, give_up_prospect, took_by, loses}
+use Rattle.protocol.specs.Node.GoingBack.{answer_at, answer_with, gone_back, inbox_of}
+use Rattle.protocol.specs.Node.GoingBack.{undone_by}
+use Rattle.protocol.specs.Node.Hearing.{remembering}
+use Rattle.protocol.specs.Join.Seen.{body_seen}
 use Rattle.protocol_laws.specs.Join.Answers.{answer_tells, answer_leads}
 use Rattle.protocol_laws.specs.Join.Collects.{covered_leads, give_up_leads, joined_leads}
 use Rattle.protocol_laws.specs.Join.Crossings.{both_true, between_cross, channel_within, goes_cross}
@@ -45,17 +39,7 @@ use Rattle.protocol_laws.specs.Join.Returns.{goes_back}
 use Rattle.protocol_laws.specs.Join.Leading.{acts, leads_here, leads_by, leads_from, hears, outlets_same, unseen}
 use Rattle.protocol_laws.specs.Join.Plans.{ProspectLeads}
 use Rattle.protocol_laws.specs.Join.Settles.{commit_leads, confirm_leads, ended_leads, settled_leads, query_leads}
-use Rattle.protocol.specs.Node.Addresses.{are_nodes, runs_between, names_run}
-use Rattle.protocol.specs.Node.Delivering.{hearing}
-use Rattle.protocol.specs.Node.Layout.{is_incoming, is_outgoing}
-use Rattle.protocol.specs.Node.LiveView.{LiveView}
-use Rattle.protocol.specs.Node.Modes.{is_down, with_kept}
-use Rattle.protocol.specs.Node.NodeView.{NodeView, ModeView, Down, InDoubt, Runs, RunningView, on_mode, on_running}
-use Rattle.protocol.specs.Node.Plans.{Planned, becoming, putting, telling}
-use Rattle.protocol.specs.Node.Trimming.{cut_at}
-use Rattle.protocol.specs.World.RecoveryLine.{net_seen, outlets_seen}
-use Rattle.protocol.specs.World.StationView.{StationView}
-use Rattle.protocol.specs.World.Steps.{moved_to}
+use Rattle.protocol.specs.Node.Addresses.{runs_between}
 use Rattle.protocol.specs.declared.links.Inbox.{Inbox}
 use Rattle.protocol.specs.declared.round_turns.RoundTurns.{RoundTurns}
 

@@ -6,15 +6,11 @@ use Rattle.std.proofs.lemmas.Bool.{eqb-true, eq-eqb}
 use Rattle.std.proofs.lemmas.Bool.Decides.{leb_tells}
 use Rattle.record.specs.declared.record.Tentative.{Tentative as HeldImage}
 use Rattle.recovery_line.proofs.Basics.{one_inside}
-use Rattle.recovery_line.specs.Images.{Image}
-use Rattle.recovery_line.specs.Nodes.{Mode}
-use Rattle.recovery_line.specs.Observers.{image_seen, tentative_seen}
+use Rattle.protocol.specs.World.Common.{Image, Mode, image_seen, mode_seen}
+use Rattle.recovery_line.specs.Observers.{tentative_seen}
 use Rattle.recovery_line.specs.Records.{Tentative}
-use Rattle.protocol.specs.Node.Answering.{holds}
-use Rattle.protocol.specs.Join.Seen.{mode_seen}
+use Rattle.protocol.specs.Node.Common.{holds, is_down, ModeView, Down, InDoubt, Runs}
 use Rattle.protocol_laws.specs.Join.Crossings.{both_true, true_both}
-use Rattle.protocol.specs.Node.Modes.{is_down}
-use Rattle.protocol.specs.Node.NodeView.{ModeView, Down, InDoubt, Runs}
 
 pub at_most : (a b : ℕ) → nat_le a b ≡ true → a ≤ b
 at_most a b is = elim (leb_tells a b) [ inl yes_it ↦ yes_it.1 | inr not_it ↦ absurd (let e = not_it.0 in cc) ]

@@ -8,41 +8,28 @@ use Rattle.std.proofs.lemmas.Bool.{eqb-true, ltb-true}
 use Rattle.std.proofs.lemmas.List.{length-set}
 use Rattle.std.proofs.lemmas.List.Elements.{All-head, All-tail}
 use Rattle.datagram.specs.PacketText.{IsPositive, IsNeed}
-use Rattle.datagram.specs.declared.packet.Need.{Need}
-use Rattle.kahn_net.specs.Nodes.{node_count}
-use Rattle.kahn_net.specs.Syntax.{Network}
-use Rattle.kahn_net.specs.Valid.{IsValid}
-use Rattle.kahn_net.specs.declared.limits.TheConstants.{MAX_COUNT}
-use Rattle.record.specs.DecisionView.{DecisionView}
-use Rattle.record.specs.Ends.{received_of}
-use Rattle.record.specs.ImageView.{ImageView}
-use Rattle.record.specs.Moves.{highest_seen, with_tentative, with_permanent, without_tentative}
-use Rattle.record.specs.Moves.{with_confirmed, with_epoch, without_own, decided_by, decided_below, decision_by}
+use Rattle.protocol.specs.Node.Common.{Need, node_count, Network, IsValid, MAX_COUNT, DecisionView, received_of}
+use Rattle.protocol.specs.Node.Common.{ImageView, highest_seen, with_tentative, with_permanent, without_tentative}
+use Rattle.protocol.specs.Node.Common.{with_confirmed, with_epoch, RecordView, Tentative, MAX_DECISIONS, with_answer}
+use Rattle.protocol.specs.Node.Common.{with_needs, joined_live, question_on, participants_of, is_incoming}
+use Rattle.protocol.specs.Node.Common.{QuestionView, LiveView, RunningNode, LinksAreLaidOut}
+use Rattle.record.specs.Moves.{without_own, decided_by, decided_below, decision_by}
 use Rattle.record.specs.Moves.{confirmed}
 use Rattle.record.specs.Moves.{confirmed_one, without_node}
-use Rattle.record.specs.RecordView.{RecordView}
-use Rattle.record.specs.declared.record.Tentative.{Tentative}
-use Rattle.record.specs.declared.record.TheConstants.{MAX_DECISIONS}
 use Rattle.ckpt_codec.specs.SizeLaws.{confirmed_no_more}
 use Rattle.recovery_line.proofs.Basics.{one_inside, same_or_other, some_not_none}
-use Rattle.recovery_line.specs.Nodes.{Answer, By_took, By_covered}
-use Rattle.recovery_line.specs.Observers.{has_node}
+use Rattle.protocol.specs.World.Common.{Answer, By_took, By_covered, has_node, LiveIsSound, MayBeAskedFor, need_of}
+use Rattle.protocol.specs.World.Common.{question_seen, questions_seen}
 use Rattle.protocol.specs.Node.Beginning.{live_begun}
-use Rattle.protocol.specs.Node.Collecting.{with_answer, with_taker, with_needs, joined_live, with_covered}
-use Rattle.protocol.specs.Join.Joined.{IsOther, IsQuestion, LiveIsSound, MayBeAskedFor, HeldIsSound, DecisionIsSound}
+use Rattle.protocol.specs.Node.Collecting.{with_taker, with_covered}
+use Rattle.protocol.specs.Join.Joined.{IsOther, IsQuestion, HeldIsSound, DecisionIsSound}
 use Rattle.protocol.specs.Join.Joined.{KeepsNodes}
-use Rattle.protocol.specs.Node.Needs.{question_on}
-use Rattle.protocol.specs.Join.Seen.{need_of, question_seen, questions_seen}
-use Rattle.protocol.specs.Node.Verdicts.{participants_of, decision_on}
+use Rattle.protocol.specs.Node.Verdicts.{decision_on}
 use Rattle.protocol_laws.specs.Join.Crossings.{both_true, comes_cross, cross_within, producer_is}
 use Rattle.protocol_laws.specs.Join.Spelled.{question_of}
 use Rattle.protocol_laws.specs.Join.NeedLaws.{asked_only, needed_above, needed_cross, each_length, has_where_below}
 use Rattle.protocol_laws.specs.Join.Questions.{answer_length, answer_elsewhere, answer_here, needs_length}
 use Rattle.protocol_laws.specs.Join.Questions.{needs_new, asked_within, answered_none, answered_nothing}
-use Rattle.protocol.specs.Node.Layout.{is_incoming}
-use Rattle.protocol.specs.Node.LiveView.{QuestionView, LiveView}
-use Rattle.protocol.specs.Node.NodeView.{RunningNode}
-use Rattle.protocol.specs.Node.Reached.{LinksAreLaidOut}
 use Rattle.protocol_laws.specs.Node.NumberedLaws.{where_there}
 use Rattle.protocol.specs.declared.links.Inbox.{Inbox}
 

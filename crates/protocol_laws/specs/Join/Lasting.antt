@@ -10,46 +10,31 @@ use Rattle.std.proofs.lemmas.Bool.{eq-eqb}
 use Rattle.std.proofs.lemmas.List.{length-replicate}
 use Rattle.std.proofs.lemmas.Option.{slice_get_within}
 use Rattle.datagram.proofs.Exactness.{whole_again}
-use Rattle.datagram.specs.declared.packet.Packet.{Packet}
-use Rattle.kahn_net.specs.Nodes.{node_count}
-use Rattle.kahn_net.specs.Syntax.{Network}
-use Rattle.kahn_net.specs.declared.limits.TheConstants.{MAX_COUNT}
-use Rattle.record.specs.Moves.{with_epoch}
-use Rattle.record.specs.RecordView.{RecordView}
-use Rattle.record.specs.declared.record.Tentative.{Tentative}
+use Rattle.protocol.specs.Node.Common.{Packet, node_count, Network, MAX_COUNT, with_epoch, RecordView, Tentative}
+use Rattle.protocol.specs.Node.Common.{live_in, start_prospect, hear_prospect, deliver_prospect, turn_packets}
+use Rattle.protocol.specs.Node.Common.{decide_prospect, names_right, names_run, restart_after, round_later, granted}
+use Rattle.protocol.specs.Node.Common.{grant_prospect, node_job, packet_for, IsInstall, JobView, LiveView, is_down}
+use Rattle.protocol.specs.Node.Common.{crashed, with_kept, NodeView, ModeView, Down, InDoubt, Runs, RunningView}
+use Rattle.protocol.specs.Node.Common.{running_node, running_in, on_mode, Prospect, Undue, Exhausted, Planned, IsMade}
+use Rattle.protocol.specs.Node.Common.{becoming, if_due, putting, telling, unless_spent, recover_prospect, restored}
+use Rattle.protocol.specs.Node.Common.{cut_at}
 use Rattle.recovery_line.proofs.Basics.{one_inside, some_not_none}
-use Rattle.protocol.specs.Node.Beginning.{live_in, start_prospect}
-use Rattle.protocol.specs.World.Steps.{deliver_plan, plan_of}
-use Rattle.protocol.specs.Node.Hearing.{hear_prospect, told_prospect, deliver_prospect}
-use Rattle.protocol.specs.Join.Joined.{LiveIsSound, MayBeAskedFor, KeepsNodes, IsJoined}
+use Rattle.protocol.specs.World.Common.{deliver_plan, plan_of, LiveIsSound, MayBeAskedFor, IsJoined, StationView}
+use Rattle.protocol.specs.World.Common.{DoneView, ReplyView, Setting, due_bytes, flight_at, next_release, IsInstalled}
+use Rattle.protocol.specs.World.Common.{IsRelease, moved_to}
+use Rattle.protocol.specs.Node.Hearing.{told_prospect}
+use Rattle.protocol.specs.Join.Joined.{KeepsNodes}
 use Rattle.protocol_laws.specs.Join.Promises.{StandsIn, DeedsStayJoined, OpeningIsJoined}
-use Rattle.protocol.specs.Node.Telling.{turn_packets}
-use Rattle.protocol.specs.Node.Verdicts.{decide_prospect}
 use Rattle.protocol_laws.specs.Join.Crossings.{true_both}
 use Rattle.protocol_laws.specs.Join.Keeps.{epoch_keeps, current_counts}
 use Rattle.protocol_laws.specs.Join.Sayable.{ProspectSays, begins_says, concludes_says, hears_says}
 use Rattle.protocol_laws.specs.Join.Whole.{SpelledBytes, bytes_spelled}
-use Rattle.protocol.specs.Node.Addresses.{names_right, names_run}
-use Rattle.protocol.specs.Node.ArmedRestarts.{restart_after, round_later}
-use Rattle.protocol.specs.Node.Choosing.{granted, grant_prospect, node_job}
-use Rattle.protocol.specs.Node.Delivering.{if_right, packet_for}
-use Rattle.protocol.specs.Node.Installing.{turned, IsInstall}
-use Rattle.protocol.specs.Node.JobView.{JobView}
-use Rattle.protocol.specs.Node.LiveView.{LiveView}
-use Rattle.protocol.specs.Node.Modes.{is_down, crashed, with_kept}
-use Rattle.protocol.specs.Node.NodeView.{NodeView, ModeView, Down, InDoubt, Runs, RunningView, running_node, running_in}
-use Rattle.protocol.specs.Node.NodeView.{on_mode}
-use Rattle.protocol.specs.Node.Plans.{Prospect, Undue, Exhausted, Planned, IsMade}
-use Rattle.protocol.specs.Node.Plans.{becoming, if_due, putting, telling, unless_spent}
-use Rattle.protocol.specs.Node.Recovering.{crash_prospect, recover_prospect, restored, restored_with}
-use Rattle.protocol.specs.Node.Trimming.{cut_at}
+use Rattle.protocol.specs.Node.Delivering.{if_right}
+use Rattle.protocol.specs.Node.Installing.{turned}
+use Rattle.protocol.specs.Node.Recovering.{crash_prospect, restored_with}
 use Rattle.protocol.specs.declared.event.Deed.{Deed}
 use Rattle.protocol.specs.declared.event.Deed.TheVariants as event
 use Rattle.protocol.specs.World.OpeningWorld.{stations_from}
-use Rattle.protocol.specs.World.StationView.{StationView}
-use Rattle.protocol.specs.World.DoneView.{DoneView}
-use Rattle.protocol.specs.World.ReplyView.{ReplyView}
-use Rattle.protocol.specs.World.Steps.{Setting, due_bytes, flight_at, next_release, IsInstalled, IsRelease, moved_to}
 use Rattle.protocol.specs.declared.outcome.Outcome.{Outcome}
 use Rattle.protocol.specs.declared.outcome.Outcome.TheVariants as outcome
 use Rattle.protocol.specs.declared.outcome.Refusal.TheVariants.{TooLarge, Spent}

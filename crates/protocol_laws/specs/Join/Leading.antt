@@ -3,19 +3,17 @@ use Rattle.std.proofs.Common.{◌≡◌, inl, inr, ℕ, zero, suc, List, [], ◌
 use Rattle.std.specs.Prelude.{◌==◌, find, slice_get, slice_set}
 use Rattle.std.proofs.Math.Path.{fun_ext}
 use Rattle.std.proofs.lemmas.List.{map-set}
-use Rattle.record.specs.RecordView.{RecordView}
+use Rattle.protocol.specs.Node.Common.{RecordView}
 use Rattle.recovery_line.proofs.Basics.{same_or_other}
-use Rattle.recovery_line.specs.Images.{Net}
-use Rattle.recovery_line.specs.Nodes.{Mode, Node, NodeStep}
-use Rattle.recovery_line.specs.Observers.{record_seen}
-use Rattle.recovery_line.specs.Packets.{Packet, Hears}
-use Rattle.recovery_line.specs.Records.{Record}
-use Rattle.recovery_line.specs.Worlds.{World, node_of, opening, OnlyAt, Step, Acts, Comes, Run, Reachable}
-use Rattle.protocol.specs.Join.Runs.{KeepRecords, WriteAtFirst, Leads, WasSent}
-use Rattle.protocol.specs.Join.Seen.{mode_seen, mode_or_new, modes_seen, node_seen, world_seen}
-use Rattle.protocol.specs.World.RecoveryLine.{record_or_new, records_of, records_seen, outlets_seen}
-use Rattle.protocol.specs.World.Released.{taken_or, released_of}
-use Rattle.protocol.specs.World.StationView.{OutletView, StationView}
+use Rattle.protocol.specs.World.Common.{Net, Mode, NodeStep, record_seen, Packet, Record, World, Step, Reachable}
+use Rattle.protocol.specs.World.Common.{Leads, WasSent, mode_seen, node_seen, world_seen, records_of, records_seen}
+use Rattle.protocol.specs.World.Common.{outlets_seen, taken_or, released_of, OutletView, StationView}
+use Rattle.recovery_line.specs.Nodes.{Node}
+use Rattle.recovery_line.specs.Packets.{Hears}
+use Rattle.recovery_line.specs.Worlds.{node_of, opening, OnlyAt, Acts, Comes, Run}
+use Rattle.protocol.specs.Join.Runs.{KeepRecords, WriteAtFirst}
+use Rattle.protocol.specs.Join.Seen.{mode_or_new, modes_seen}
+use Rattle.protocol.specs.World.RecoveryLine.{record_or_new}
 use Rattle.protocol_laws.specs.World.OutputLaws.{map_at}
 use Rattle.protocol_laws.specs.World.PairLaws.{elsewhere_set}
 

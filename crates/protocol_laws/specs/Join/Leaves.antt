@@ -8,33 +8,23 @@ use Rattle.std.proofs.Math.Path.{fun_ext}
 use Rattle.std.proofs.lemmas.Bool.{ne_eqb}
 use Rattle.std.proofs.lemmas.Option.{slice_get_within}
 use Rattle.kahn_net.specs.Laws.Prefixes.{prefix_length}
-use Rattle.kahn_net.specs.Syntax.{Network}
-use Rattle.record.specs.Changes.{trimmed_image}
-use Rattle.record.specs.Ends.{base_of, sent_of}
+use Rattle.protocol.specs.Node.Common.{Network, trimmed_image, base_of, sent_of, port_on, producer_of, consumer_of}
+use Rattle.protocol.specs.Node.Common.{ModeView, Runs, RunningView, running_node, running_in, on_mode, current_log}
+use Rattle.protocol.specs.Node.Common.{cut_at, TookNext}
 use Rattle.recovery_line.proofs.Basics.{one_inside, same_or_other}
 use Rattle.recovery_line.specs.Images.{IsOutput}
-use Rattle.recovery_line.specs.Nodes.{Mode, Node, NodeStep, Release, Trim, Released}
-use Rattle.recovery_line.specs.Observers.{image_seen, record_seen}
-use Rattle.recovery_line.specs.Packets.{Packet}
-use Rattle.recovery_line.specs.Worlds.{node_of, Step, Acts}
-use Rattle.protocol.specs.Join.Runs.{Leads}
-use Rattle.protocol.specs.Join.Seen.{live_seen, mode_seen, node_seen, world_seen}
+use Rattle.protocol.specs.World.Common.{Mode, NodeStep, image_seen, record_seen, Packet, Step, Leads, live_seen}
+use Rattle.protocol.specs.World.Common.{mode_seen, node_seen, world_seen, output_of, outputs_of, AreSound, IsNumbered}
+use Rattle.protocol.specs.World.Common.{StationInvariant, OutputView, net_seen, outlets_seen, taken_or, released_of}
+use Rattle.protocol.specs.World.Common.{ReplyView, is_output, outputs_on, OutletView, StationView, next_release}
+use Rattle.recovery_line.specs.Nodes.{Node, Release, Trim, Released}
+use Rattle.recovery_line.specs.Worlds.{node_of, Acts}
 use Rattle.protocol_laws.specs.Join.Crossings.{is_it}
 use Rattle.protocol_laws.specs.Join.Cuts.{cut_trims}
 use Rattle.protocol_laws.specs.Join.Leading.{leads_by, leads_then, acts, node_at, only_here, same_records, set_there, set_again}
-use Rattle.protocol.specs.Node.Layout.{port_on, producer_of, consumer_of}
 use Rattle.protocol.specs.Node.Layout as layout
-use Rattle.protocol.specs.Node.NodeView.{ModeView, Runs, RunningView, running_node, running_in, on_mode}
-use Rattle.protocol.specs.Node.Trimming.{current_log, cut_at, TookNext}
 use Rattle.protocol_laws.specs.Node.NumberedLaws.{where_mark}
-use Rattle.protocol.specs.World.Invariant.{output_of, outputs_of, AreSound, IsNumbered, StationInvariant}
-use Rattle.protocol.specs.World.OutputView.{OutputView}
-use Rattle.protocol.specs.World.RecoveryLine.{net_seen, outlets_seen}
-use Rattle.protocol.specs.World.Released.{taken_or, released_of}
-use Rattle.protocol.specs.World.ReplyView.{ReplyView}
-use Rattle.protocol.specs.World.Sound.{is_output, outputs_on}
-use Rattle.protocol.specs.World.StationView.{OutletView, StationView}
-use Rattle.protocol.specs.World.Steps.{next_release, IsReleaseAt}
+use Rattle.protocol.specs.World.Steps.{IsReleaseAt}
 use Rattle.protocol_laws.specs.World.HandedLaws.{next_waits, took_begins, took_one, took_or_not}
 use Rattle.protocol_laws.specs.World.OutputLaws.{output_of_node, same_output, map_at}
 use Rattle.protocol_laws.specs.World.ShownLaws.{shown_at}

@@ -3,25 +3,20 @@
 use Rattle.std.proofs.Common.{◌≡◌, ◌⊎◌, inl, inr, ℕ, zero, suc, ◌≤◌, List, [], ◌∷◌, Some, refl, sym, ap, subst, ◌∙◌}
 use Rattle.std.specs.Prelude.{slice_get, slice_set}
 use Rattle.std.proofs.lemmas.List.{map-set}
-use Rattle.kahn_net.specs.Syntax.{Network}
-use Rattle.record.specs.RecordView.{RecordView}
+use Rattle.protocol.specs.Node.Common.{Network, RecordView}
 use Rattle.recovery_line.proofs.Theorems.{line_is_sound, line_covers, line_never_falls_back, commits_while_held}
 use Rattle.recovery_line.proofs.Theorems.{decides_for_the_needed, holders_are_named, no_smaller_decision}
 use Rattle.recovery_line.proofs.Theorems.{over_stays_out, stays_committed, stays_over}
-use Rattle.recovery_line.specs.Images.{Net}
+use Rattle.protocol.specs.World.Common.{Net, Packet, Record, World, Reachable, Step, AreInLine, AreEither, Leads}
+use Rattle.protocol.specs.World.Common.{world_seen, net_seen, records_of, records_seen, outlets_seen, StationView}
 use Rattle.recovery_line.specs.Laws.{NamesTheNeeded}
 use Rattle.recovery_line.specs.Line.{Sound, Covers, NotBehind, AtMoment, Over}
-use Rattle.recovery_line.specs.Packets.{Packet}
-use Rattle.recovery_line.specs.Records.{Record, effective}
-use Rattle.recovery_line.specs.Worlds.{World, Reachable, Run, Step}
-use Rattle.protocol.specs.World.InLine.{AreInLine, IsCoordinatedInside, nodes_seen}
-use Rattle.protocol.specs.World.RecoveryLine.{AreEither}
-use Rattle.protocol.specs.Join.Runs.{Leads, WriteAtFirst}
-use Rattle.protocol.specs.Join.Seen.{world_seen}
+use Rattle.recovery_line.specs.Records.{effective}
+use Rattle.recovery_line.specs.Worlds.{Run}
+use Rattle.protocol.specs.World.InLine.{IsCoordinatedInside, nodes_seen}
+use Rattle.protocol.specs.Join.Runs.{WriteAtFirst}
 use Rattle.protocol_laws.specs.Join.Leading.{leads_by, leads_here, outlets_same, reached_then, records_at_end}
 use Rattle.protocol_laws.specs.Join.Sent.{waits}
-use Rattle.protocol.specs.World.RecoveryLine.{net_seen, records_of, records_seen, outlets_seen}
-use Rattle.protocol.specs.World.StationView.{StationView}
 
 -- steps lead from the world to one with these records, from which so many items have left
 pub record LeadsTo (net : Net) (w : World) (records : ℕ → Record) (left : ℕ → ℕ) : Type 0 where

@@ -4,20 +4,15 @@ use Rattle.std.proofs.Common.{◌∷◌}
 use Rattle.std.proofs.Common.{length, map, Option, Some, None, refl, sym, ap, ◌∙◌, arith}
 use Rattle.std.specs.Prelude.{◌≢◌, ◌==◌, nat_lt, slice_get}
 use Rattle.std.proofs.lemmas.Bool.{eqb-true, eq-eqb, ne_eqb, ltb-true, lt-ltb}
-use Rattle.kahn_net.specs.Syntax.{Network}
-use Rattle.kahn_net.specs.Valid.{IsValid}
-use Rattle.record.specs.Ends.{received_of}
-use Rattle.record.specs.ImageView.{ImageView}
+use Rattle.protocol.specs.Node.Common.{Network, IsValid, received_of, ImageView, is_needed, need_on, question_on}
+use Rattle.protocol.specs.Node.Common.{is_incoming, numbers_where}
 use Rattle.recovery_line.proofs.Basics.{above_or, one_inside, same_or_other, some_not_none}
-use Rattle.recovery_line.specs.Images.{IsCross}
-use Rattle.recovery_line.specs.Nodes.{Answer, Awaited, AsksNeeds}
-use Rattle.recovery_line.specs.Observers.{has_node, image_seen}
+use Rattle.protocol.specs.World.Common.{IsCross, Answer, Awaited, has_node, image_seen, need_of, question_seen}
+use Rattle.protocol.specs.World.Common.{questions_seen, net_seen}
+use Rattle.recovery_line.specs.Nodes.{AsksNeeds}
 use Rattle.recovery_line.specs.Packets.{AreNeeds}
-use Rattle.protocol.specs.Node.Needs.{is_needed, need_on, needs_of, each_from, question_if, question_on, questions_of}
-use Rattle.protocol.specs.Join.Seen.{need_of, question_seen, questions_seen}
+use Rattle.protocol.specs.Node.Needs.{needs_of, each_from, question_if, questions_of}
 use Rattle.protocol_laws.specs.Join.Crossings.{both_true, true_both, comes_cross, cross_comes, cross_within}
-use Rattle.protocol.specs.Node.Layout.{is_incoming, numbers_where}
-use Rattle.protocol.specs.World.RecoveryLine.{net_seen}
 
 -- ---- numbers that pass a test, and what stands at their places
 

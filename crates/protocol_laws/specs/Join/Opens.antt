@@ -4,27 +4,20 @@ use Rattle.std.proofs.Common.{Option, Some}
 use Rattle.std.proofs.Common.{None, option_map, refl, sym, ap, ◌∙◌}
 use Rattle.std.specs.Prelude.{◌==◌, slice_index, find, filter}
 use Rattle.std.proofs.Math.Path.{fun_ext}
-use Rattle.kahn_net.specs.Syntax.{Network}
-use Rattle.kahn_net.specs.declared.program.Channel.{Channel}
-use Rattle.record.specs.Ends.{received_at, log_at, base_in, sent_in, received_of, base_of, sent_of}
-use Rattle.record.specs.declared.image.End.{End}
-use Rattle.record.specs.declared.image.SavedEnd.{SavedEnd}
-use Rattle.wire.specs.Traffic.{opening_traffic}
-use Rattle.recovery_line.specs.Images.{Image, blank}
-use Rattle.recovery_line.specs.Nodes.{Mode, Running}
-use Rattle.recovery_line.specs.Observers.{image_seen, record_seen}
-use Rattle.recovery_line.specs.Records.{Record, new_record}
+use Rattle.protocol.specs.Node.Common.{Network, Channel, received_at, log_at, base_in, sent_in, received_of, base_of}
+use Rattle.protocol.specs.Node.Common.{sent_of, End, SavedEnd, port_on, opening_ends, opening_image, opening_record}
+use Rattle.protocol.specs.World.Common.{opening_traffic, Image, Mode, image_seen, record_seen, Record}
+use Rattle.protocol.specs.World.Common.{SaysWhatWasSent, HasRun, world_seen, records_of, records_seen, outlets_seen}
+use Rattle.protocol.specs.World.Common.{taken_or, released_of, is_output, OutletView}
+use Rattle.recovery_line.specs.Images.{blank}
+use Rattle.recovery_line.specs.Nodes.{Running}
+use Rattle.recovery_line.specs.Records.{new_record}
 use Rattle.recovery_line.specs.Worlds.{opening}
 use Rattle.protocol_laws.specs.Join.Promises.{HaveTakenNothing}
-use Rattle.protocol.specs.Join.Runs.{SaysWhatWasSent, HasRun}
-use Rattle.protocol.specs.Join.Seen.{modes_seen, world_seen}
-use Rattle.protocol.specs.Node.Layout.{port_on, channel_on}
-use Rattle.protocol.specs.Node.Opening.{opening_end, opening_ends, opening_image, opening_record}
+use Rattle.protocol.specs.Join.Seen.{modes_seen}
+use Rattle.protocol.specs.Node.Layout.{channel_on}
+use Rattle.protocol.specs.Node.Opening.{opening_end}
 use Rattle.protocol.specs.World.OpeningWorld.{stations_from}
-use Rattle.protocol.specs.World.RecoveryLine.{records_of, records_seen, outlets_seen}
-use Rattle.protocol.specs.World.Released.{taken_or, released_of}
-use Rattle.protocol.specs.World.Sound.{is_output}
-use Rattle.protocol.specs.World.StationView.{OutletView}
 use Rattle.protocol_laws.specs.World.FlightLaws.{opened_holds}
 
 module _ (net : Network) (home : ℕ) where

@@ -3,30 +3,19 @@
 use Rattle.std.proofs.Common.{◌≡◌, inl, inr, ℕ, Bool, true, false, cond, List, [], ◌++◌, map, All, Some, refl, sym, ap}
 use Rattle.std.proofs.Common.{subst}
 use Rattle.std.specs.Prelude.{slice_get, slice_set}
-use Rattle.datagram.specs.PacketText.{IsPacket}
-use Rattle.kahn_net.specs.Syntax.{Network}
-use Rattle.record.specs.RecordView.{RecordView}
-use Rattle.wire.specs.Traffic.{Traffic, all_sent}
-use Rattle.recovery_line.specs.Images.{Net}
-use Rattle.recovery_line.specs.Nodes.{Mode, Node, NodeStep, Crash}
-use Rattle.recovery_line.specs.Observers.{record_seen}
-use Rattle.recovery_line.specs.Packets.{Packet}
-use Rattle.protocol.specs.Join.Runs.{Leads, Carries, HasRun, RunsOn}
-use Rattle.protocol.specs.Join.Seen.{mode_seen, all_seen, node_seen, world_seen}
+use Rattle.protocol.specs.Node.Common.{IsPacket, Network, RecordView, crashed, with_kept, NodeView, Plan, Prospect}
+use Rattle.protocol.specs.Node.Common.{Undue, Exhausted, Planned, IsCarriedOut, IsMade, next_record, packets_by}
+use Rattle.protocol.specs.World.Common.{Traffic, all_sent, Net, Mode, NodeStep, record_seen, Packet, Leads, HasRun}
+use Rattle.protocol.specs.World.Common.{RunsOn, mode_seen, all_seen, node_seen, world_seen, AreInLine, AreEither}
+use Rattle.protocol.specs.World.Common.{net_seen, records_of, outlets_seen, StationView, moved_to, sending_of}
+use Rattle.recovery_line.specs.Nodes.{Node, Crash}
+use Rattle.protocol.specs.Join.Runs.{Carries}
 use Rattle.protocol_laws.specs.Join.Leading.{leads_here, leads_by, leads_then, acts, outlets_same, same_records, set_there}
 use Rattle.protocol_laws.specs.Join.Leading.{set_again, set_itself, unseen}
-use Rattle.protocol.specs.World.InLine.{AreInLine}
-use Rattle.protocol.specs.World.RecoveryLine.{AreEither}
 use Rattle.protocol_laws.specs.Join.Lines.{line_at_put}
 use Rattle.protocol_laws.specs.Join.Sent.{carries_still, carries_all}
-use Rattle.protocol.specs.Node.Modes.{crashed, with_kept}
-use Rattle.protocol.specs.Node.NodeView.{NodeView}
-use Rattle.protocol.specs.Node.Plans.{Plan, Prospect, Undue, Exhausted, Planned, HasFailedAt, IsCarriedOut, IsHeldUp}
-use Rattle.protocol.specs.Node.Plans.{IsMade}
-use Rattle.protocol.specs.Node.Plans.{next_record, plan_packets, packets_by}
-use Rattle.protocol.specs.World.RecoveryLine.{net_seen, records_of, outlets_seen}
-use Rattle.protocol.specs.World.StationView.{StationView}
-use Rattle.protocol.specs.World.Steps.{moved_to, sending_of}
+use Rattle.protocol.specs.Node.Plans.{HasFailedAt, IsHeldUp}
+use Rattle.protocol.specs.Node.Plans.{plan_packets}
 use Rattle.protocol.specs.declared.outcome.Outcome.{Outcome}
 use Rattle.protocol.specs.declared.outcome.Outcome.TheVariants as outcome
 use Rattle.protocol.specs.declared.outcome.Refusal.TheVariants.{TooLarge, Spent}

@@ -1,28 +1,15 @@
 -- What the laws of checkpoints that several nodes take together say, in one form for all events.
 use Rattle.std.specs.Prelude.{◌≡◌, ℕ, ℤ, Bool, if◌then◌else◌, List, [], length, Some, slice_get, slice_set}
-use Rattle.kahn_net.specs.Nodes.{node_count}
-use Rattle.kahn_net.specs.Syntax.{Network}
-use Rattle.kahn_net.specs.Valid.{IsValid}
-use Rattle.record.specs.RecordView.{RecordView}
-use Rattle.wire.specs.Traffic.{Traffic, all_sent, opening_traffic}
-use Rattle.protocol.specs.World.Steps.{plan_of}
-use Rattle.protocol.specs.Join.Joined.{IsJoined}
-use Rattle.protocol.specs.World.InLine.{AreInLine}
-use Rattle.protocol.specs.World.RecoveryLine.{AreEither}
-use Rattle.protocol.specs.Join.Runs.{HasRun, RunsOn}
-use Rattle.protocol.specs.Node.Plans.{next_record}
-use Rattle.protocol.specs.World.DoneView.{DoneView}
+use Rattle.protocol.specs.Node.Common.{node_count, Network, IsValid, RecordView, next_record}
+use Rattle.protocol.specs.World.Common.{Traffic, all_sent, opening_traffic, plan_of, IsJoined, AreInLine, AreEither}
+use Rattle.protocol.specs.World.Common.{HasRun, RunsOn, DoneView, AreSound, IsNumbered, StationInvariant, records_of}
+use Rattle.protocol.specs.World.Common.{has_happened, ReplyView, OutletView, StationView, Setting, StationPlan}
+use Rattle.protocol.specs.World.Common.{traffic_left, traffic_acted, next_release, IsPlanned, IsInstalled, IsRelease}
+use Rattle.protocol.specs.World.Common.{TrafficIsSound}
 use Rattle.protocol.specs.declared.event.Deed.{Deed}
 use Rattle.protocol.specs.declared.event.NetworkAct.{NetworkAct}
-use Rattle.protocol.specs.World.Invariant.{AreSound, IsNumbered, StationInvariant}
 use Rattle.protocol.specs.World.OpeningWorld.{opening_stations}
-use Rattle.protocol.specs.World.RecoveryLine.{records_of}
-use Rattle.protocol.specs.World.Replies.{has_happened}
-use Rattle.protocol.specs.World.ReplyView.{ReplyView}
-use Rattle.protocol.specs.World.StationView.{OutletView, StationView}
-use Rattle.protocol.specs.World.Steps.{Setting, StationPlan, plan_sendings, traffic_left, traffic_acted, next_release}
-use Rattle.protocol.specs.World.Steps.{IsPlanned, IsInstalled, IsRelease}
-use Rattle.protocol.specs.World.Traffic.{TrafficIsSound}
+use Rattle.protocol.specs.World.Steps.{plan_sendings}
 use Rattle.protocol.specs.declared.outcome.Outcome.{Outcome}
 
 -- nothing has left by these outlets

@@ -5,16 +5,12 @@ use Rattle.std.proofs.Common.{Some, None, refl, sym, ap, ◌∙◌, arith}
 use Rattle.std.specs.Prelude.{◌≢◌, ◌==◌, slice_get, slice_set}
 use Rattle.std.proofs.lemmas.Bool.{eqb-true, eq-eqb}
 use Rattle.std.proofs.lemmas.List.{length-set}
-use Rattle.datagram.specs.declared.packet.Need.{Need}
-use Rattle.kahn_net.specs.Syntax.{Network}
+use Rattle.protocol.specs.Node.Common.{Need, Network, was_asked, with_answer, with_needs, producer_node, QuestionView}
 use Rattle.recovery_line.proofs.Basics.{one_inside, same_or_other}
-use Rattle.recovery_line.specs.Nodes.{Answer, Awaited, By_took, By_covered}
-use Rattle.protocol.specs.Node.Collecting.{is_awaited, is_question, was_asked, answered_by, replaced_at, with_answer}
-use Rattle.protocol.specs.Node.Collecting.{is_open_at, needs_no_question, new_question, with_need, with_needs}
-use Rattle.protocol.specs.Join.Seen.{need_of, question_seen, questions_seen}
+use Rattle.protocol.specs.World.Common.{Answer, Awaited, By_took, By_covered, need_of, question_seen, questions_seen}
+use Rattle.protocol.specs.Node.Collecting.{is_awaited, is_question, answered_by, replaced_at}
+use Rattle.protocol.specs.Node.Collecting.{is_open_at, needs_no_question, new_question, with_need}
 use Rattle.protocol_laws.specs.Join.Leading.{set_there}
-use Rattle.protocol.specs.Node.Addresses.{producer_node}
-use Rattle.protocol.specs.Node.LiveView.{QuestionView}
 use Rattle.protocol_laws.specs.World.PairLaws.{elsewhere_set}
 
 -- ---- one question

@@ -4,28 +4,20 @@ use Rattle.std.proofs.Common.{subst}
 use Rattle.std.proofs.Common.{◌∙◌}
 use Rattle.std.specs.Prelude.{◌≢◌, ◌==◌, nat_lt, not, slice_get}
 use Rattle.std.proofs.lemmas.Bool.{eqb-true, eq-eqb}
-use Rattle.kahn_net.specs.Syntax.{Network}
-use Rattle.kahn_net.specs.declared.limits.TheConstants.{MAX_COUNT}
-use Rattle.record.specs.Moves.{with_epoch, without_own}
-use Rattle.record.specs.RecordView.{RecordView}
+use Rattle.protocol.specs.Node.Common.{Network, MAX_COUNT, with_epoch, RecordView, set_back_to, is_down, crashed}
+use Rattle.protocol.specs.Node.Common.{ModeView, Down, InDoubt, Runs, RunningView, becoming, if_due, putting}
+use Rattle.protocol.specs.Node.Common.{unless_spent, recover_prospect, restored, restored_mode}
+use Rattle.record.specs.Moves.{without_own}
 use Rattle.record.specs.declared.record.Tentative.{Tentative as HeldImage}
 use Rattle.recovery_line.proofs.Basics.{some_not_none, one_inside}
 use Rattle.recovery_line.proofs.Observing.{epoch_drops_own, epoch_is_not_seen}
-use Rattle.recovery_line.specs.Images.{Net}
-use Rattle.recovery_line.specs.Nodes.{Mode, NodeStep, Restore, Forget, Doubt, Roll_back}
-use Rattle.recovery_line.specs.Observers.{image_seen, record_seen, tentative_seen}
-use Rattle.recovery_line.specs.Packets.{Packet}
-use Rattle.protocol.specs.Join.Seen.{live_seen, mode_seen, node_seen, world_seen}
+use Rattle.protocol.specs.World.Common.{Net, Mode, NodeStep, image_seen, record_seen, Packet, live_seen, mode_seen}
+use Rattle.protocol.specs.World.Common.{node_seen, world_seen, net_seen, outlets_seen, StationView, moved_to}
+use Rattle.recovery_line.specs.Nodes.{Restore, Forget, Doubt, Roll_back}
+use Rattle.recovery_line.specs.Observers.{tentative_seen}
 use Rattle.protocol_laws.specs.Join.Leading.{leads_by, acts, outlets_same}
 use Rattle.protocol_laws.specs.Join.Plans.{falls_leads, ProspectLeads}
-use Rattle.protocol.specs.Node.GoingBack.{set_back_to}
-use Rattle.protocol.specs.Node.Modes.{is_down, crashed}
-use Rattle.protocol.specs.Node.NodeView.{ModeView, Down, InDoubt, Runs, RunningView}
-use Rattle.protocol.specs.Node.Plans.{becoming, if_due, putting, unless_spent}
-use Rattle.protocol.specs.Node.Recovering.{crash_prospect, recover_prospect, restored, restored_mode, restored_with}
-use Rattle.protocol.specs.World.RecoveryLine.{net_seen, outlets_seen}
-use Rattle.protocol.specs.World.StationView.{StationView}
-use Rattle.protocol.specs.World.Steps.{moved_to}
+use Rattle.protocol.specs.Node.Recovering.{crash_prospect, restored_with}
 
 module _ (network : Network) (net : Net) (k : ℕ) (kept : RecordView) (left : ℕ → ℕ) (home : kept.node ≡ k) where
   mode_back : (o : Option HeldImage) → kept.tentative ≡ o

@@ -5,38 +5,33 @@ use Rattle.std.specs.Prelude.{nat_lt}
 use Rattle.std.specs.List.{list_all}
 use Rattle.std.proofs.lemmas.Bool.{ltb-true}
 use Rattle.std.proofs.lemmas.List.Elements.{All-nil}
-use Rattle.datagram.specs.PacketText.{IsPositive, IsBody, IsPacket}
-use Rattle.datagram.specs.declared.packet.Body.{Body}
+use Rattle.protocol.specs.Node.Common.{IsPacket, Body, Need, Packet, node_count, Network, IsValid, MAX_COUNT}
+use Rattle.protocol.specs.Node.Common.{highest_seen, with_epoch, with_permanent, without_tentative, with_confirmed}
+use Rattle.protocol.specs.Node.Common.{RecordView, MAX_DECISIONS, AskAnswer, Silent, CoveredBefore, TookBefore}
+use Rattle.protocol.specs.Node.Common.{TakesNow, Declines, holds, kept_then, answer_to_ask, with_current_as, live_in}
+use Rattle.protocol.specs.Node.Common.{collecting, live_asks, may_start, beginning, begun, start_prospect, Ignores}
+use Rattle.protocol.specs.Node.Common.{Joins, GivesUp, answer_to_took, hearing_covered, joined_live, took_prospect}
+use Rattle.protocol.specs.Node.Common.{refused_prospect, with_answer, PassesOver, Notes, GoesBack, noting_undone}
+use Rattle.protocol.specs.Node.Common.{set_back_to, undone_prospect, hear_prospect, may_decide, concluded}
+use Rattle.protocol.specs.Node.Common.{decide_prospect, mode_then, after_verdict, settled_packets, commit_prospect}
+use Rattle.protocol.specs.Node.Common.{ended_prospect, settled_prospect, participants_of, verdict_packets, are_nodes}
+use Rattle.protocol.specs.Node.Common.{names_run, hearing, is_incoming, is_outgoing, LiveView, is_none, is_running}
+use Rattle.protocol.specs.Node.Common.{with_kept, NodeView, ModeView, Down, InDoubt, Runs, RunningView, on_mode}
+use Rattle.protocol.specs.Node.Common.{on_running, running_in, Plan, Prospect, Undue, Exhausted, Planned, becoming}
+use Rattle.protocol.specs.Node.Common.{putting, telling, if_due, packets_by, unless_spent, own_at, cut_at}
+use Rattle.datagram.specs.PacketText.{IsPositive, IsBody}
 use Rattle.datagram.specs.declared.packet.Body.TheVariants as says
-use Rattle.datagram.specs.declared.packet.Need.{Need}
-use Rattle.datagram.specs.declared.packet.Packet.{Packet}
 use Rattle.datagram.specs.declared.packet.Reason.TheVariants.{TooLarge}
-use Rattle.kahn_net.specs.Nodes.{node_count}
-use Rattle.kahn_net.specs.Syntax.{Network}
-use Rattle.kahn_net.specs.Valid.{IsValid}
-use Rattle.kahn_net.specs.declared.limits.TheConstants.{MAX_COUNT}
-use Rattle.record.specs.Moves.{highest_seen, with_epoch, with_permanent, without_tentative, with_confirmed}
-use Rattle.record.specs.RecordView.{RecordView}
-use Rattle.record.specs.declared.record.TheConstants.{MAX_DECISIONS}
 use Rattle.recovery_line.proofs.Basics.{one_inside}
-use Rattle.recovery_line.specs.Nodes.{By_took}
-use Rattle.recovery_line.specs.Observers.{has_node, names}
-use Rattle.protocol.specs.Node.Answering.{AskAnswer, Silent, CoveredBefore, TookBefore, TakesNow, Declines, holds}
-use Rattle.protocol.specs.Node.Answering.{kept_then}
-use Rattle.protocol.specs.Node.Answering.{answer_to_ask, with_current_as, ask_prospect}
-use Rattle.protocol.specs.Node.Beginning.{live_in, collecting, live_asks, may_start, beginning, begun, start_prospect}
-use Rattle.protocol.specs.Node.Collecting.{TookAnswer, Ignores, Joins, GivesUp, answer_to_took}
-use Rattle.protocol.specs.Node.Collecting.{awaits, with_covered, hearing_covered, joining, joined_asks}
-use Rattle.protocol.specs.Node.Collecting.{joined_live, give_up_prospect, took_by, took_prospect, loses}
-use Rattle.protocol.specs.Node.Collecting.{refused_prospect, with_answer}
-use Rattle.protocol.specs.Node.GoingBack.{UndoneAnswer, PassesOver, Notes, GoesBack, answer_to_undone, noting_undone}
-use Rattle.protocol.specs.Node.GoingBack.{set_back_to, undone_by, undone_prospect}
-use Rattle.protocol.specs.Node.Hearing.{hear_prospect}
-use Rattle.protocol.specs.Join.Joined.{IsOther, LiveIsSound, MayBeAskedFor, KeepsNodes}
-use Rattle.protocol.specs.Node.Verdicts.{may_decide, concluded, decided_now, commit_packets, decide_prospect, mode_then}
-use Rattle.protocol.specs.Node.Verdicts.{after_verdict, settled_packets, commit_prospect, ended_prospect}
-use Rattle.protocol.specs.Node.Verdicts.{settled_prospect}
-use Rattle.protocol.specs.Node.Verdicts.{participants_of, verdict_packets}
+use Rattle.protocol.specs.World.Common.{By_took, has_node, names, LiveIsSound, MayBeAskedFor}
+use Rattle.protocol.specs.Node.Answering.{ask_prospect}
+use Rattle.protocol.specs.Node.Collecting.{TookAnswer}
+use Rattle.protocol.specs.Node.Collecting.{awaits, with_covered, joining, joined_asks}
+use Rattle.protocol.specs.Node.Collecting.{give_up_prospect, took_by, loses}
+use Rattle.protocol.specs.Node.GoingBack.{UndoneAnswer, answer_to_undone}
+use Rattle.protocol.specs.Node.GoingBack.{undone_by}
+use Rattle.protocol.specs.Join.Joined.{IsOther, KeepsNodes}
+use Rattle.protocol.specs.Node.Verdicts.{decided_now, commit_packets}
 use Rattle.protocol_laws.specs.Join.Crossings.{both_true}
 use Rattle.protocol_laws.specs.Join.Keeps.{epoch_keeps, takes_keeps, drops_keeps, settles_keeps, decides_keeps, confirms_keeps}
 use Rattle.protocol_laws.specs.Join.Keeps.{begun_sound, covered_sound, joined_sound}
@@ -44,20 +39,10 @@ use Rattle.protocol_laws.specs.Join.NeedLaws.{has_where_below}
 use Rattle.protocol_laws.specs.Join.Spelled.{IsSayable, one_sendable, other_of, asks_sendable, new_sendable}
 use Rattle.protocol_laws.specs.Join.Spelled.{answers_sendable, declined_sendable, commits_sendable, settled_sendable}
 use Rattle.protocol_laws.specs.Join.Spelled.{verdict_sendable}
-use Rattle.protocol.specs.Node.Addresses.{are_nodes, names_run}
-use Rattle.protocol.specs.Node.Delivering.{hearing}
-use Rattle.protocol.specs.Node.Layout.{is_incoming, is_outgoing}
-use Rattle.protocol.specs.Node.LiveView.{LiveView}
-use Rattle.protocol.specs.Node.Modes.{is_none, is_running, with_kept}
-use Rattle.protocol.specs.Node.NodeView.{NodeView, ModeView, Down, InDoubt, Runs, RunningView, on_mode, on_running}
-use Rattle.protocol.specs.Node.NodeView.{running_in}
-use Rattle.protocol.specs.Node.Plans.{Plan, Prospect, Undue, Exhausted, Planned, becoming, putting, telling, if_due}
-use Rattle.protocol.specs.Node.Plans.{packets_by, plan_packets, unless_spent}
+use Rattle.protocol.specs.Node.Plans.{plan_packets}
 use Rattle.protocol.specs.declared.outcome.Outcome.{Outcome}
 use Rattle.protocol.specs.declared.outcome.Outcome.TheVariants as outcome
 use Rattle.protocol.specs.declared.outcome.Refusal.TheVariants as refusal
-use Rattle.protocol.specs.Node.Starting.{own_at}
-use Rattle.protocol.specs.Node.Trimming.{cut_at}
 
 -- of the node of this number that a plan makes, and of what it sends
 pub record PlanSays (net : Network) (inputs : List (List ℤ)) (home : ℕ) (plan : Plan) : Type 0 where

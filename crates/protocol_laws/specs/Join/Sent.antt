@@ -6,18 +6,14 @@ use Rattle.std.specs.Prelude.{slice_get}
 use Rattle.std.specs.List.{AllByRecursion, flat_map}
 use Rattle.std.proofs.lemmas.List.Elements.{All-map}
 use Rattle.datagram.proofs.Exactness.{whole_again}
-use Rattle.datagram.specs.PacketText.{IsPacket, packet_text}
+use Rattle.protocol.specs.Node.Common.{IsPacket, in_front}
+use Rattle.datagram.specs.PacketText.{packet_text}
 use Rattle.datagram.specs.declared.packet.Packet.{Packet as Datagram}
-use Rattle.wire.specs.Traffic.{Traffic, all_sent}
-use Rattle.wire.specs.declared.sending.Sending.{Sending}
-use Rattle.recovery_line.specs.Images.{Net}
-use Rattle.recovery_line.specs.Packets.{Packet}
-use Rattle.recovery_line.specs.Worlds.{World, MaySend, Step, Send}
-use Rattle.protocol.specs.Join.Runs.{WasSent, SaysWhatWasSent, Carries}
-use Rattle.protocol.specs.Join.Seen.{all_seen, packet_seen, spelled_seen, world_seen}
-use Rattle.protocol.specs.Node.Beginning.{in_front}
-use Rattle.protocol.specs.World.StationView.{StationView}
-use Rattle.protocol.specs.World.Steps.{sending_of}
+use Rattle.protocol.specs.World.Common.{Traffic, all_sent, Sending, Net, Packet, World, Step, WasSent}
+use Rattle.protocol.specs.World.Common.{SaysWhatWasSent, all_seen, world_seen, StationView, sending_of}
+use Rattle.recovery_line.specs.Worlds.{MaySend, Send}
+use Rattle.protocol.specs.Join.Runs.{Carries}
+use Rattle.protocol.specs.Join.Seen.{packet_seen, spelled_seen}
 use Rattle.protocol_laws.specs.World.FlightLaws.{all_sent_holds}
 
 -- ---- what may be sent

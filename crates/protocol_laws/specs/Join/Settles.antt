@@ -4,34 +4,23 @@ use Rattle.std.proofs.Common.{option_map, refl, sym, ap, subst, ◌∙◌}
 use Rattle.std.specs.Prelude.{◌≢◌, ◌==◌, nat_le, not, slice_get, slice_set}
 use Rattle.std.proofs.lemmas.Bool.{eq-eqb}
 use Rattle.datagram.specs.declared.packet.Body.TheVariants as says
-use Rattle.kahn_net.specs.Syntax.{Network}
-use Rattle.record.specs.Moves.{highest_seen, with_permanent, without_tentative, with_confirmed}
-use Rattle.record.specs.RecordView.{RecordView}
+use Rattle.protocol.specs.Node.Common.{Network, highest_seen, with_permanent, without_tentative, with_confirmed}
+use Rattle.protocol.specs.Node.Common.{RecordView, holds, live_in, is_live, commit_to, mode_then, after_verdict}
+use Rattle.protocol.specs.Node.Common.{settled_packets, verdict_packets, LiveView, is_down, with_kept, NodeView}
+use Rattle.protocol.specs.Node.Common.{ModeView, Down, InDoubt, Runs}
 use Rattle.recovery_line.proofs.Basics.{one_inside}
 use Rattle.recovery_line.proofs.Observing.{settling_moves, dropping_moves, confirming_moves}
-use Rattle.recovery_line.specs.Images.{Net}
+use Rattle.protocol.specs.World.Common.{Net, Mode, live_of, image_seen, record_seen, decides, Packet, Record, World}
+use Rattle.protocol.specs.World.Common.{Step, Leads, WasSent, live_seen, mode_seen, all_seen, world_seen, net_seen}
+use Rattle.protocol.specs.World.Common.{outlets_seen, StationView, moved_to}
 use Rattle.recovery_line.specs.Moves.{Settles, Drops}
-use Rattle.recovery_line.specs.Nodes.{Live, Mode, live_of}
-use Rattle.recovery_line.specs.Observers.{image_seen, record_seen, decides}
-use Rattle.recovery_line.specs.Packets.{Packet, Query, Commit, Ended, Settled, HearsCommit, HearsEnded, HearsSettled}
+use Rattle.recovery_line.specs.Nodes.{Live}
+use Rattle.recovery_line.specs.Packets.{Query, Commit, Ended, Settled, HearsCommit, HearsEnded, HearsSettled}
 use Rattle.recovery_line.specs.Packets.{after_verdict as verdict_mode}
-use Rattle.recovery_line.specs.Records.{Record}
-use Rattle.recovery_line.specs.Worlds.{World, Step, InFlight}
-use Rattle.protocol.specs.Node.Answering.{holds}
-use Rattle.protocol.specs.Node.Beginning.{live_in}
-use Rattle.protocol.specs.Node.Collecting.{is_live}
-use Rattle.protocol.specs.Join.Runs.{Leads, WasSent}
-use Rattle.protocol.specs.Join.Seen.{live_seen, mode_seen, all_seen, world_seen}
-use Rattle.protocol.specs.Node.Verdicts.{commit_to, mode_then, after_verdict, settled_packets, verdict_packets}
+use Rattle.recovery_line.specs.Worlds.{InFlight}
 use Rattle.protocol_laws.specs.Join.Holding.{at_most, IsHeld, held_where, named_so, not_held, up_seen}
 use Rattle.protocol_laws.specs.Join.Leading.{leads_by, leads_then, hears, outlets_same, record_at, mode_at, set_there}
 use Rattle.protocol_laws.specs.Join.Sent.{MaySendAll, sends}
-use Rattle.protocol.specs.Node.LiveView.{LiveView}
-use Rattle.protocol.specs.Node.Modes.{is_down, with_kept}
-use Rattle.protocol.specs.Node.NodeView.{NodeView, ModeView, Down, InDoubt, Runs}
-use Rattle.protocol.specs.World.RecoveryLine.{net_seen, outlets_seen}
-use Rattle.protocol.specs.World.StationView.{StationView}
-use Rattle.protocol.specs.World.Steps.{moved_to}
 use Rattle.protocol.specs.declared.round_turns.RoundTurns.{RoundTurns}
 
 -- ---- as steps of one node

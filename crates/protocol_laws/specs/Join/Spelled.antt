@@ -7,46 +7,30 @@ use Rattle.std.specs.List.{flat_map, list_all}
 use Rattle.std.specs.List.Sorted.{IsStrictlyIncreasing}
 use Rattle.std.proofs.lemmas.Bool.{eq-eqb, ne_eqb, ltb-true, lt-ltb}
 use Rattle.std.proofs.lemmas.List.Elements.{All-nil, All-cons, All-append, All-head, All-tail}
-use Rattle.datagram.specs.PacketText.{IsPositive, IsNeed, IsBody, IsPacket, AreNeeds, channels}
-use Rattle.datagram.specs.declared.packet.Body.{Body}
+use Rattle.protocol.specs.Node.Common.{IsPacket, Body, Need, Packet, node_count, Network, IsValid, DecisionView}
+use Rattle.protocol.specs.Node.Common.{received_of, ImageView, highest_seen, RecordView, Tentative, AskAnswer, Silent}
+use Rattle.protocol.specs.Node.Common.{CoveredBefore, TookBefore, TakesNow, Declines, live_asks, is_live, is_needed}
+use Rattle.protocol.specs.Node.Common.{need_on, in_front, commit_to, settled_packets, verdict_packets, are_nodes}
+use Rattle.protocol.specs.Node.Common.{names_right, names_run, producer_node, is_incoming, is_outgoing, numbers_where}
+use Rattle.protocol.specs.Node.Common.{QuestionView, LiveView}
+use Rattle.datagram.specs.PacketText.{IsPositive, IsNeed, IsBody, AreNeeds, channels}
 use Rattle.datagram.specs.declared.packet.Body.TheVariants as says
-use Rattle.datagram.specs.declared.packet.Need.{Need}
-use Rattle.datagram.specs.declared.packet.Packet.{Packet}
 use Rattle.datagram.specs.declared.packet.Reason.{Reason}
 use Rattle.datagram.specs.declared.packet.TheConstants.{LAST_CHANNEL, LAST_NODE}
-use Rattle.kahn_net.specs.Nodes.{node_count}
-use Rattle.kahn_net.specs.Syntax.{Network}
-use Rattle.kahn_net.specs.Valid.{IsValid}
-use Rattle.record.specs.DecisionView.{DecisionView}
-use Rattle.record.specs.Ends.{received_of}
-use Rattle.record.specs.ImageView.{ImageView}
-use Rattle.record.specs.Moves.{highest_seen}
-use Rattle.record.specs.RecordView.{RecordView}
-use Rattle.record.specs.declared.record.Tentative.{Tentative}
-use Rattle.recovery_line.specs.Images.{IsCross}
-use Rattle.recovery_line.specs.Nodes.{Answer, Awaited, By_took, By_covered}
-use Rattle.recovery_line.specs.Observers.{decides, has_node}
-use Rattle.protocol.specs.Node.Answering.{AskAnswer, Silent, CoveredBefore, TookBefore, TakesNow, Declines}
+use Rattle.protocol.specs.World.Common.{IsCross, Answer, Awaited, By_took, By_covered, decides, has_node, LiveIsSound}
+use Rattle.protocol.specs.World.Common.{MayBeAskedFor, questions_seen, net_seen}
 use Rattle.protocol.specs.Node.Answering.{answer_packets}
 use Rattle.protocol.specs.Node.Answering.{took_packet}
-use Rattle.protocol.specs.Node.Beginning.{if_awaited, ask_on, open_question, open_questions, live_asks}
+use Rattle.protocol.specs.Node.Beginning.{if_awaited, ask_on, open_question, open_questions}
 use Rattle.protocol.specs.Node.Collecting.{needs_no_question, with_need, new_ask, new_asks}
-use Rattle.protocol.specs.Node.Collecting.{is_live}
-use Rattle.protocol.specs.Join.Joined.{IsOther, IsQuestion, LiveIsSound, MayBeAskedFor, DecisionIsSound}
+use Rattle.protocol.specs.Join.Joined.{IsOther, IsQuestion, DecisionIsSound}
 use Rattle.protocol.specs.Join.Joined.{KeepsNodes}
-use Rattle.protocol.specs.Node.Needs.{is_needed, need_on, needs_of, held_needs}
-use Rattle.protocol.specs.Join.Seen.{questions_seen}
-use Rattle.protocol.specs.Node.Beginning.{in_front}
+use Rattle.protocol.specs.Node.Needs.{needs_of, held_needs}
 use Rattle.protocol.specs.Node.Telling.{decision_packets, packet_if, query_packets, verdicts_told}
-use Rattle.protocol.specs.Node.Verdicts.{commit_to, settled_packets, verdict_packets}
 use Rattle.protocol_laws.specs.Join.Crossings.{both_true, true_both, channel_within, comes_cross, cross_goes, goes_cross}
 use Rattle.protocol_laws.specs.Join.Crossings.{cross_within, producer_below, producer_is}
 use Rattle.protocol_laws.specs.Join.NeedLaws.{needed_above}
-use Rattle.protocol.specs.Node.Addresses.{are_nodes, names_right, names_run, producer_node}
-use Rattle.protocol.specs.Node.Layout.{is_incoming, is_outgoing, numbers_where}
-use Rattle.protocol.specs.Node.LiveView.{QuestionView, LiveView}
 use Rattle.protocol_laws.specs.Node.PlaceLaws.{nodes_few}
-use Rattle.protocol.specs.World.RecoveryLine.{net_seen}
 use Rattle.protocol.specs.World.Traffic.{PacketIsSound}
 use Rattle.protocol_laws.specs.World.SendLaws.{IsSendable}
 

@@ -4,36 +4,24 @@ use Rattle.std.proofs.Common.{option_map, refl, sym, ap, ◌∙◌, arith}
 use Rattle.std.specs.Prelude.{nat_lt, slice_get, slice_set}
 use Rattle.std.specs.List.{AllByRecursion}
 use Rattle.datagram.specs.declared.packet.Packet.{Packet as Datagram}
-use Rattle.kahn_net.specs.Syntax.{Network}
-use Rattle.kahn_net.specs.Valid.{IsValid}
-use Rattle.record.specs.Moves.{highest_seen}
-use Rattle.record.specs.RecordView.{RecordView}
-use Rattle.record.specs.declared.record.TheConstants.{MAX_DECISIONS}
+use Rattle.protocol.specs.Node.Common.{Network, IsValid, highest_seen, RecordView, MAX_DECISIONS, live_in, live_asks}
+use Rattle.protocol.specs.Node.Common.{may_start, beginning, begun, in_front, QuestionView, LiveView, is_none}
+use Rattle.protocol.specs.Node.Common.{is_running, ModeView, Down, InDoubt, Runs, running_in, on_mode, own_at}
 use Rattle.recovery_line.proofs.Basics.{some_not_none, false_true}
 use Rattle.recovery_line.proofs.Observing.{taking_moves}
 use Rattle.recovery_line.proofs.Theorems.{is_consistent}
-use Rattle.recovery_line.specs.Nodes.{Answer, Awaited, By_took, By_covered, Live, Mode, live_of, NodeStep, Start}
-use Rattle.recovery_line.specs.Observers.{image_seen, record_seen, tentative_seen}
-use Rattle.recovery_line.specs.Packets.{Packet}
-use Rattle.recovery_line.specs.Records.{Record}
-use Rattle.recovery_line.specs.Worlds.{World, IsLive, MaySend, Reachable}
-use Rattle.protocol.specs.Node.Beginning.{live_in, live_begun, if_awaited, ask_on, open_question, open_questions}
-use Rattle.protocol.specs.Node.Beginning.{live_asks}
-use Rattle.protocol.specs.Node.Beginning.{may_start, beginning, begun}
-use Rattle.protocol.specs.Join.Runs.{Leads}
-use Rattle.protocol.specs.Join.Seen.{questions_seen, live_seen, mode_seen, all_seen, world_seen}
-use Rattle.protocol.specs.Node.Beginning.{in_front}
+use Rattle.protocol.specs.World.Common.{Answer, Awaited, By_took, By_covered, Mode, live_of, NodeStep, image_seen}
+use Rattle.protocol.specs.World.Common.{record_seen, Packet, Record, World, Reachable, Leads, questions_seen}
+use Rattle.protocol.specs.World.Common.{live_seen, mode_seen, all_seen, world_seen, net_seen, outlets_seen}
+use Rattle.protocol.specs.World.Common.{StationView, moved_to}
+use Rattle.recovery_line.specs.Nodes.{Live, Start}
+use Rattle.recovery_line.specs.Observers.{tentative_seen}
+use Rattle.recovery_line.specs.Worlds.{IsLive, MaySend}
+use Rattle.protocol.specs.Node.Beginning.{live_begun, if_awaited, ask_on, open_question, open_questions}
 use Rattle.protocol_laws.specs.Join.Crossings.{both_true}
 use Rattle.protocol_laws.specs.Join.Leading.{leads_by, leads_then, acts, outlets_same, record_at, mode_at, set_there}
 use Rattle.protocol_laws.specs.Join.NeedLaws.{asks_needs}
 use Rattle.protocol_laws.specs.Join.Sent.{MaySendAll, sends}
-use Rattle.protocol.specs.Node.LiveView.{QuestionView, LiveView}
-use Rattle.protocol.specs.Node.Modes.{is_none, is_running}
-use Rattle.protocol.specs.Node.NodeView.{ModeView, Down, InDoubt, Runs, running_in, on_mode}
-use Rattle.protocol.specs.Node.Starting.{own_at}
-use Rattle.protocol.specs.World.RecoveryLine.{net_seen, outlets_seen}
-use Rattle.protocol.specs.World.StationView.{StationView}
-use Rattle.protocol.specs.World.Steps.{moved_to}
 use Rattle.protocol.specs.declared.round_turns.RoundTurns.{RoundTurns}
 
 pub live_there : (mode : ModeView) (live : LiveView) → live_in mode ≡ Some live

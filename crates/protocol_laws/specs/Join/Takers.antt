@@ -3,7 +3,7 @@ use Rattle.std.proofs.Common.{◌≡◌, ◌⊎◌, inl, inr, ℕ, suc, ◌<◌,
 use Rattle.std.proofs.Common.{ap, arith}
 use Rattle.std.specs.Prelude.{◌≢◌, ◌==◌}
 use Rattle.std.proofs.lemmas.Bool.{eq-eqb, ne_eqb}
-use Rattle.recovery_line.specs.Observers.{has_node}
+use Rattle.protocol.specs.World.Common.{has_node}
 use Rattle.protocol.specs.Node.Collecting.{with_taker}
 use Rattle.protocol.specs.Join.Seen.{nodes_before}
 

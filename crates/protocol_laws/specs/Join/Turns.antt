@@ -6,23 +6,16 @@ use Rattle.std.specs.Prelude.{◌≢◌, ◌==◌, not, slice_get, slice_set}
 use Rattle.std.specs.List.{flat_map}
 use Rattle.std.proofs.lemmas.Bool.{eq-eqb}
 use Rattle.datagram.specs.declared.packet.Body.TheVariants as says
-use Rattle.kahn_net.specs.Syntax.{Network}
-use Rattle.kahn_net.specs.Valid.{IsValid}
-use Rattle.record.specs.DecisionView.{DecisionView}
-use Rattle.record.specs.Ends.{log_of}
-use Rattle.record.specs.RecordView.{RecordView}
+use Rattle.protocol.specs.Node.Common.{Network, IsValid, DecisionView, log_of, RecordView, LogState, live_in}
+use Rattle.protocol.specs.Node.Common.{live_asks, kept_packet, turn_packets, is_incoming, incoming_on, LiveView}
+use Rattle.protocol.specs.Node.Common.{is_none, is_down, ModeView, Down, InDoubt, Runs, RunningView, if_due, telling}
+use Rattle.protocol.specs.Node.Common.{inbox_packets, first_due}
 use Rattle.record.specs.declared.record.Tentative.{Tentative as HeldImage}
-use Rattle.retained.specs.LogState.{LogState}
-use Rattle.recovery_line.specs.Images.{Net}
-use Rattle.recovery_line.specs.Nodes.{Mode, live_of}
-use Rattle.recovery_line.specs.Observers.{has_node, image_seen, record_seen, tentative_seen, decides, names}
-use Rattle.recovery_line.specs.Packets.{Packet}
-use Rattle.recovery_line.specs.Records.{Record}
-use Rattle.recovery_line.specs.Worlds.{World}
-use Rattle.protocol.specs.Node.Beginning.{live_in, live_asks}
-use Rattle.protocol.specs.Join.Seen.{mode_seen, world_seen}
-use Rattle.protocol.specs.Node.Telling.{decision_packets, packet_if, query_packets, verdicts_told, kept_packet}
-use Rattle.protocol.specs.Node.Telling.{turn_packets, undone_packet, undone_packets}
+use Rattle.protocol.specs.World.Common.{Net, Mode, live_of, has_node, image_seen, record_seen, decides, names, Packet}
+use Rattle.protocol.specs.World.Common.{Record, World, mode_seen, world_seen, net_seen, StationView, moved_to}
+use Rattle.recovery_line.specs.Observers.{tentative_seen}
+use Rattle.protocol.specs.Node.Telling.{decision_packets, packet_if, query_packets, verdicts_told}
+use Rattle.protocol.specs.Node.Telling.{undone_packet, undone_packets}
 use Rattle.protocol.specs.Node.Telling.{send_prospect}
 use Rattle.protocol_laws.specs.Join.Concludes.{commits_may}
 use Rattle.protocol_laws.specs.Join.Crossings.{comes_cross}
@@ -32,16 +25,8 @@ use Rattle.protocol_laws.specs.Join.Plans.{ProspectLeads}
 use Rattle.protocol_laws.specs.Join.Sent.{MaySendAll, may_both, may_each, may_map, sends}
 use Rattle.protocol_laws.specs.Join.Starts.{asks_may, live_there}
 use Rattle.protocol.specs.Node.Addresses.{consumer_node}
-use Rattle.protocol.specs.Node.Layout.{is_incoming, incoming_on}
-use Rattle.protocol.specs.Node.LiveView.{LiveView}
-use Rattle.protocol.specs.Node.Modes.{is_none, is_down}
-use Rattle.protocol.specs.Node.NodeView.{ModeView, Down, InDoubt, Runs, RunningView}
-use Rattle.protocol.specs.Node.Plans.{if_due, telling}
-use Rattle.protocol.specs.Node.Sending.{inbox_packets, data_packets, first_due, items_due, log_packets, outbox_packets}
+use Rattle.protocol.specs.Node.Sending.{data_packets, items_due, log_packets, outbox_packets}
 use Rattle.protocol_laws.specs.Node.NumberedLaws.{where_mark}
-use Rattle.protocol.specs.World.RecoveryLine.{net_seen}
-use Rattle.protocol.specs.World.StationView.{StationView}
-use Rattle.protocol.specs.World.Steps.{moved_to}
 use Rattle.protocol.specs.declared.links.Inbox.{Inbox}
 use Rattle.protocol.specs.declared.links.Outbox.{Outbox}
 

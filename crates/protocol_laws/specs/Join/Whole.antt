@@ -5,51 +5,35 @@ use Rattle.std.proofs.Common.{subst, ◌∙◌}
 use Rattle.std.specs.Prelude.{slice_get, slice_set}
 use Rattle.std.proofs.Math.Bridge.{le_prop}
 use Rattle.std.proofs.lemmas.List.{map-set}
-use Rattle.protocol.specs.World.RecoveryLine.{records_of}
+use Rattle.protocol.specs.World.Common.{records_of, is_due, Traffic, Flight, deliver_plan, plan_of, HasRun, RunsOn}
+use Rattle.protocol.specs.World.Common.{world_seen, net_seen, StationView, back_reply, delivery_reply, grant_reply}
+use Rattle.protocol.specs.World.Common.{has_happened, Setting, due_bytes, flight_at, turns_of}
 use Rattle.protocol_laws.specs.World.OutputLaws.{map_at}
 use Rattle.std.proofs.Math.Logic.{∥∥₁_elim, ∥∥₁_map, ∥∥₁_map₂}
-use Rattle.datagram.specs.declared.packet.Packet.{Packet}
-use Rattle.kahn_net.specs.Nodes.{node_count}
-use Rattle.kahn_net.specs.Syntax.{Network}
-use Rattle.record.specs.Moves.{with_epoch}
-use Rattle.wire.specs.Queue.{is_due}
-use Rattle.wire.specs.Traffic.{Traffic}
-use Rattle.wire.specs.declared.queue.Flight.{Flight}
-use Rattle.protocol.specs.World.Steps.{deliver_plan, plan_of}
+use Rattle.protocol.specs.Node.Common.{Packet, node_count, Network, with_epoch, start_prospect, decide_prospect}
+use Rattle.protocol.specs.Node.Common.{round_later, with_armed, grant_prospect, node_job, packet_for, JobView}
+use Rattle.protocol.specs.Node.Common.{is_incoming, Down, InDoubt, ModeView, NodeView, Runs, RunningView}
+use Rattle.protocol.specs.Node.Common.{running_node, running_in, Prospect, recover_prospect, restored_mode}
 use Rattle.protocol_laws.specs.Join.Promises.{StandsIn, OpeningHasRun, DeedsRun, DeedsKeepTheLine, InstallsRun}
 use Rattle.protocol_laws.specs.Join.Promises.{ReleasesRun}
 use Rattle.protocol_laws.specs.Join.Promises.{NetworkRuns, LinesAreSound, ReleasesKeepTheLine}
-use Rattle.protocol.specs.Join.Runs.{HasRun, RunsOn}
-use Rattle.protocol.specs.Node.Beginning.{start_prospect}
 use Rattle.protocol.specs.Node.Telling.{send_prospect}
-use Rattle.protocol.specs.Node.Verdicts.{decide_prospect}
 use Rattle.protocol_laws.specs.Join.Deeds.{same_leads, grant_leads, starts_lead, concludes_lead}
 use Rattle.protocol_laws.specs.Join.Events.{AnswersSo, planned_run, come_leads, install_run, release_run, release_steps}
 use Rattle.protocol_laws.specs.Join.Events.{release_puts_none}
 use Rattle.protocol_laws.specs.Join.Events.{acted_carries}
-use Rattle.protocol.specs.Join.Seen.{world_seen}
-use Rattle.protocol.specs.World.RecoveryLine.{net_seen}
 use Rattle.protocol_laws.specs.Join.Leading.{leads_here, outlets_same, set_itself}
 use Rattle.protocol_laws.specs.Join.Lines.{line_at_release, line_now}
 use Rattle.protocol_laws.specs.Join.Opens.{run_opens}
 use Rattle.protocol_laws.specs.Join.Plans.{ProspectLeads, prospect_line}
 use Rattle.protocol_laws.specs.Join.Returns.{crash_leads, recover_leads}
 use Rattle.protocol_laws.specs.Join.Turns.{turn_leads}
-use Rattle.protocol.specs.Node.ArmedRestarts.{round_later, with_armed}
-use Rattle.protocol.specs.Node.Choosing.{grant_prospect, node_job}
-use Rattle.protocol.specs.Node.Delivering.{delivery_of, packet_for}
-use Rattle.protocol.specs.Node.JobView.{JobView}
-use Rattle.protocol.specs.Node.Layout.{is_incoming}
-use Rattle.protocol.specs.Node.NodeView.{Down, InDoubt, ModeView, NodeView, Runs, RunningView, running_node, running_in}
-use Rattle.protocol.specs.Node.Plans.{Prospect}
-use Rattle.protocol.specs.Node.Recovering.{recover_prospect, restored_mode}
+use Rattle.protocol.specs.Node.Delivering.{delivery_of}
 use Rattle.protocol_laws.specs.Node.NumberedLaws.{where_mark}
 use Rattle.protocol.specs.declared.event.Deed.{Deed}
 use Rattle.protocol.specs.declared.event.Deed.TheVariants as event
-use Rattle.protocol.specs.World.StationView.{StationView}
-use Rattle.protocol.specs.World.Replies.{back_reply, delivery_reply, grant_reply, has_happened}
-use Rattle.protocol.specs.World.Steps.{Setting, bytes_when, due_bytes, flight_at, noting}
-use Rattle.protocol.specs.World.Turns.{count_grant, turns_of}
+use Rattle.protocol.specs.World.Steps.{bytes_when, noting}
+use Rattle.protocol.specs.World.Turns.{count_grant}
 use Rattle.protocol.specs.declared.round_turns.RoundTurns.{RoundTurns}
 use Rattle.protocol.specs.World.Traffic.{SpellsSound}
 use Rattle.protocol_laws.specs.World.TrafficLaws.{arrives_sound}

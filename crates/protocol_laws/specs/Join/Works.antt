@@ -4,32 +4,21 @@ use Rattle.std.proofs.Common.{Some, None}
 use Rattle.std.proofs.Common.{option_map, refl, sym, ap, ◌∙◌, arith}
 use Rattle.std.specs.Prelude.{slice_get, find, IsTrue}
 use Rattle.std.proofs.lemmas.Option.{slice_get_cases}
-use Rattle.ckpt_codec.specs.RecordText.{role_of}
-use Rattle.kahn_net.specs.Processes.{Standing}
-use Rattle.kahn_net.specs.Syntax.{Code, Network}
-use Rattle.kahn_net.specs.declared.program.Channel.{Channel}
-use Rattle.kahn_net.specs.declared.program.Port.{Port}
-use Rattle.kahn_net.specs.declared.program.Port.TheVariants.{Outside, Process}
+use Rattle.protocol.specs.Node.Common.{role_of, Standing, Code, Network, Channel, Port, Outside, Process, end_of}
+use Rattle.protocol.specs.Node.Common.{received_of, received_at, log_at, base_in, base_of, sent_in, sent_of}
+use Rattle.protocol.specs.Node.Common.{ImageView, End, Receives, Sends, Both, SavedEnd, LogState, log_end, taken_from}
+use Rattle.protocol.specs.Node.Common.{put_on, saved_pushed, saved_counted, installed, producer_of, consumer_of}
+use Rattle.protocol.specs.Node.Common.{has_process, has_end, port_on, role_by, IsLaidOut, CountsAreWithin}
 use Rattle.record.specs.Changes.{pushed, counted}
-use Rattle.record.specs.Ends.{end_of, received_of, received_at, log_at, base_in, base_of, sent_in, sent_of}
-use Rattle.record.specs.ImageView.{ImageView}
-use Rattle.record.specs.declared.image.End.{End}
-use Rattle.record.specs.declared.image.End.TheVariants.{Receives, Sends, Both}
-use Rattle.record.specs.declared.image.SavedEnd.{SavedEnd}
-use Rattle.retained.specs.LogState.{LogState, log_end}
 use Rattle.recovery_line.specs.Images.{IsLocal}
-use Rattle.recovery_line.specs.Nodes.{LetsGoOfGot, Live, Mode, NodeStep, Work}
-use Rattle.recovery_line.specs.Observers.{image_seen}
-use Rattle.recovery_line.specs.Records.{Record}
+use Rattle.protocol.specs.World.Common.{Mode, NodeStep, image_seen, Record, net_seen}
+use Rattle.recovery_line.specs.Nodes.{LetsGoOfGot, Live, Work}
 use Rattle.protocol_laws.specs.Join.Crossings.{is_it, it_is}
-use Rattle.protocol.specs.Node.Installing.{taken_from, put_on, saved_pushed, saved_counted, installed}
-use Rattle.protocol.specs.Node.Layout.{node_at, producer_of, consumer_of, has_process, has_end, port_on, role_by}
-use Rattle.protocol.specs.Node.Reached.{IsLaidOut, CountsAreWithin}
+use Rattle.protocol.specs.Node.Layout.{node_at}
 use Rattle.protocol_laws.specs.Node.FitLaws.{behind_installed}
 use Rattle.protocol_laws.specs.Node.ImageLaws.{end_of_changed, entry_of, map_twice}
 use Rattle.protocol_laws.specs.Node.InnerLaws.{inner_there}
 use Rattle.protocol_laws.specs.Node.NumberedLaws.{where_mark}
-use Rattle.protocol.specs.World.RecoveryLine.{net_seen}
 
 both_roles : (puts gets : Bool) → 2 ≡ role_by puts gets → (puts ≡ true) × (gets ≡ true)
 both_roles true true is = (refl, refl)

@@ -1,16 +1,8 @@
 -- Laws of counts that are within what there is, by the kind of end.
 use Rattle.std.proofs.Common.{◌≡◌, ℕ, ◌≤◌, List, ℤ, length, Some, subst, arith}
 use Rattle.std.specs.Prelude.{slice_get}
-use Rattle.kahn_net.specs.Streams.{history_of}
-use Rattle.kahn_net.specs.Syntax.{Network}
-use Rattle.kahn_net.specs.declared.program.Channel.{Channel}
-use Rattle.kahn_net.specs.declared.program.Port.{Port}
-use Rattle.kahn_net.specs.declared.program.Port.TheVariants.{Outside, Process}
-use Rattle.retained.specs.LogState.{LogState, IsInLog, log_end}
-use Rattle.record.specs.declared.image.End.{End}
-use Rattle.record.specs.declared.image.End.TheVariants.{Receives, Sends, Both}
-use Rattle.protocol.specs.Node.Reached.{CountIsWithin}
-use Rattle.kahn_net.specs.declared.limits.TheConstants.{MAX_COUNT}
+use Rattle.protocol.specs.Node.Common.{history_of, Network, Channel, Port, Outside, Process, LogState, IsInLog}
+use Rattle.protocol.specs.Node.Common.{log_end, End, Receives, Sends, Both, CountIsWithin, MAX_COUNT}
 use Rattle.protocol.specs.declared.limits.TheConstants.{MAX_JOB_ITEMS}
 
 -- As far as the count of an end can go, whose items come from there: to the end of the input, to the greatest count

@@ -6,33 +6,26 @@ use Rattle.std.specs.Prelude.{slice_get, slice_index, find, min}
 use Rattle.std.proofs.Math.Nat.{min-le_left, min-le_right}
 use Rattle.std.proofs.lemmas.List.{length-append, length-take, length-drop, get_or_past}
 use Rattle.std.proofs.lemmas.Option.{slice_get_cases, get_or_from_slice_get}
-use Rattle.kahn_net.specs.Streams.{history_of}
-use Rattle.kahn_net.specs.Fits.{Fits}
-use Rattle.kahn_net.specs.Syntax.{Code, Network}
-use Rattle.kahn_net.specs.Processes.{Standing}
-use Rattle.kahn_net.specs.Approximations.{approximation}
-use Rattle.kahn_net.specs.declared.program.Channel.{Channel}
-use Rattle.kahn_net.specs.declared.program.Port.{Port}
-use Rattle.kahn_net.specs.declared.program.Port.TheVariants.{Outside, Process}
-use Rattle.retained.specs.LogState.{LogState, IsInLog, Overfills, log_end, items_since}
+use Rattle.protocol.specs.Node.Common.{history_of, Fits, Code, Network, Standing, approximation, Channel, Port}
+use Rattle.protocol.specs.Node.Common.{Outside, Process, LogState, IsInLog, log_end, items_since, SavedProcessView}
+use Rattle.protocol.specs.Node.Common.{ImageView, role_of, JobView, RunningNode, received_of, received_at, log_of}
+use Rattle.protocol.specs.Node.Common.{log_at, sent_in, end_of, base_in, base_of, is_logging, log_share, first_log}
+use Rattle.protocol.specs.Node.Common.{inbox_log, source_of, is_process, next_in_log, next_items, items_from}
+use Rattle.protocol.specs.Node.Common.{room_from, log_with, trimmed_log, taken_from, put_on, saved_pushed}
+use Rattle.protocol.specs.Node.Common.{saved_counted, moved, installed, ImageTakes, IsBehind, port_on, role_by}
+use Rattle.protocol.specs.Node.Common.{ImageStands, HasReached, IsLaidOut, CountIsWithin, CountsAreWithin}
+use Rattle.protocol.specs.Node.Common.{LogsAreWithin, InboxIsSound, IsJobOf, SavedEnd, End, Receives, Sends, Both}
+use Rattle.protocol.specs.Node.Common.{MAX_COUNT}
+use Rattle.retained.specs.LogState.{Overfills}
 use Rattle.proc_step.specs.Turns.{IsTurn}
 use Rattle.proc_step.specs.TurnLaws.{sent_fits, taken_fits}
-use Rattle.record.specs.ProcessView.{SavedProcessView}
-use Rattle.record.specs.ImageView.{ImageView}
-use Rattle.ckpt_codec.specs.RecordText.{role_of}
-use Rattle.protocol.specs.Node.JobView.{JobView}
-use Rattle.protocol.specs.Node.NodeView.{RunningNode}
-use Rattle.record.specs.Ends.{received_of, received_at, log_of, log_at, sent_in, end_of, base_in, base_of}
-use Rattle.protocol.specs.Node.Sharing.{is_logging, log_share, IsWithinShare}
-use Rattle.protocol.specs.Node.Granting.{first_log, inbox_log, source_of, is_process, items_by, next_in_log, next_items}
-use Rattle.protocol.specs.Node.Granting.{items_from, room_in, room_of, room_from}
-use Rattle.record.specs.Changes.{log_with, trimmed_log, pushed, counted, LogTakes}
-use Rattle.protocol.specs.Node.Installing.{is_consumer, is_producer, taken_from, put_on, saved_pushed, saved_counted}
-use Rattle.protocol.specs.Node.Installing.{moved, installed, ImageTakes}
-use Rattle.protocol.specs.Node.Starting.{IsBehind}
-use Rattle.protocol.specs.Node.Layout.{port_on, role_by, role_here}
-use Rattle.protocol.specs.Node.Reached.{ImageStands, HasReached, IsLaidOut, CountIsWithin, CountsAreWithin}
-use Rattle.protocol.specs.Node.Reached.{LogsAreWithin, InboxIsSound, IsJobOf, IsTurnOf}
+use Rattle.protocol.specs.Node.Sharing.{IsWithinShare}
+use Rattle.protocol.specs.Node.Granting.{items_by}
+use Rattle.protocol.specs.Node.Granting.{room_in, room_of}
+use Rattle.record.specs.Changes.{pushed, counted, LogTakes}
+use Rattle.protocol.specs.Node.Installing.{is_consumer, is_producer}
+use Rattle.protocol.specs.Node.Layout.{role_here}
+use Rattle.protocol.specs.Node.Reached.{IsTurnOf}
 use Rattle.protocol_laws.specs.Node.ImageLaws.{channel_of_entry, received_is, log_is, map_got, map_keeps, map_twice}
 use Rattle.protocol_laws.specs.Node.ImageLaws.{end_of_changed}
 use Rattle.protocol_laws.specs.Node.CountLaws.{count_limit, receives_within, sends_within, both_within}
@@ -44,10 +37,7 @@ use Rattle.protocol_laws.specs.Node.ReachedLaws.{items_of_channel}
 use Rattle.protocol_laws.specs.Node.SharingLaws.{share_within, share_kept}
 use Rattle.protocol_laws.specs.Node.InstallLaws.{turn_of_job, job_has_code, log_then}
 use Rattle.protocol.specs.declared.links.Inbox.{Inbox}
-use Rattle.record.specs.declared.image.SavedEnd.{SavedEnd}
-use Rattle.record.specs.declared.image.End.{End}
-use Rattle.record.specs.declared.image.End.TheVariants.{Receives, Sends, Both}
-use Rattle.kahn_net.specs.declared.limits.TheConstants.{MAX_COUNT, MAX_HISTORY_ITEMS}
+use Rattle.kahn_net.specs.declared.limits.TheConstants.{MAX_HISTORY_ITEMS}
 use Rattle.protocol.specs.declared.limits.TheConstants.{MAX_JOB_ITEMS}
 use Rattle.retained.specs.declared.log.TheConstants.{MAX_LOG_ITEMS}
 

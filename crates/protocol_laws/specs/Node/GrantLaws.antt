@@ -3,25 +3,15 @@ use Rattle.std.proofs.Common.{◌≡◌, ℕ, zero, suc, ◌-◌, ◌≤◌, Boo
 use Rattle.std.proofs.Common.{Some, None, refl, subst, arith}
 use Rattle.std.proofs.Math.Nat.{min-le_left, min-le_right, le-min}
 use Rattle.std.specs.Prelude.{min, slice_get, slice_index, ◌&&◌, ◌==◌}
-use Rattle.kahn_net.specs.Streams.{history_of}
-use Rattle.kahn_net.specs.Syntax.{Network}
+use Rattle.protocol.specs.Node.Common.{history_of, Network, SavedProcessView, ImageView, JobView, RunningNode}
+use Rattle.protocol.specs.Node.Common.{is_process, items_from, room_from, log_share, LogState, log_end, log_of}
+use Rattle.protocol.specs.Node.Common.{Channel, MAX_COUNT, may_grant, next_job, IsLaidOut, IsJobOf, has_process}
 use Rattle.kahn_net.specs.Laws.Prefixes.{prefix_refl}
-use Rattle.record.specs.ProcessView.{SavedProcessView}
-use Rattle.record.specs.ImageView.{ImageView}
 use Rattle.turns.specs.Turns.{next_in_turn}
-use Rattle.protocol.specs.Node.JobView.{JobView}
-use Rattle.protocol.specs.Node.NodeView.{RunningNode}
-use Rattle.protocol.specs.Node.Granting.{is_process, items_from, room_in, room_of, room_from, job_for}
-use Rattle.protocol.specs.Node.Sharing.{log_share, retained_share}
-use Rattle.retained.specs.LogState.{LogState, log_end}
-use Rattle.record.specs.Ends.{log_of}
-use Rattle.kahn_net.specs.declared.program.Channel.{Channel}
-use Rattle.kahn_net.specs.declared.limits.TheConstants.{MAX_COUNT}
+use Rattle.protocol.specs.Node.Granting.{room_in, room_of, job_for}
+use Rattle.protocol.specs.Node.Sharing.{retained_share}
 use Rattle.protocol.specs.declared.limits.TheConstants.{MAX_JOB_ITEMS}
-use Rattle.protocol.specs.Node.Choosing.{is_ready, ready_processes, process_at, next_process, may_grant, job_of}
-use Rattle.protocol.specs.Node.Choosing.{next_job}
-use Rattle.protocol.specs.Node.Reached.{IsLaidOut, IsJobOf}
-use Rattle.protocol.specs.Node.Layout.{has_process}
+use Rattle.protocol.specs.Node.Choosing.{is_ready, ready_processes, process_at, next_process, job_of}
 use Rattle.protocol_laws.specs.Node.ImageLaws.{find_within}
 use Rattle.protocol_laws.specs.Node.NumberedLaws.{where_find}
 use Rattle.protocol.specs.declared.links.Inbox.{Inbox}

@@ -5,15 +5,9 @@ use Rattle.std.proofs.Common.{[], ◌∷◌, length, map, get_or, Option, Some, 
 use Rattle.std.specs.Prelude.{slice_get, find}
 use Rattle.std.proofs.lemmas.Bool.Decides.{eqb_tells}
 use Rattle.std.proofs.lemmas.Option.{slice_get_cases}
-use Rattle.kahn_net.specs.Syntax.{Network}
-use Rattle.kahn_net.specs.declared.program.Channel.{Channel}
-use Rattle.record.specs.ImageView.{ImageView}
-use Rattle.record.specs.Ends.{end_of, received_of, received_at, log_of, log_at}
-use Rattle.protocol.specs.Node.Layout.{has_end}
-use Rattle.protocol.specs.Node.Reached.{IsLaidOut}
+use Rattle.protocol.specs.Node.Common.{Network, Channel, ImageView, end_of, received_of, received_at, log_of, log_at}
+use Rattle.protocol.specs.Node.Common.{has_end, IsLaidOut, SavedEnd, End}
 use Rattle.protocol_laws.specs.Node.NumberedLaws.{where_find, where_mark}
-use Rattle.record.specs.declared.image.SavedEnd.{SavedEnd}
-use Rattle.record.specs.declared.image.End.{End}
 
 -- Lists
 

@@ -5,29 +5,18 @@ use Rattle.std.proofs.Common.{Option, Some, None, option_map, refl, sym, ap, sub
 use Rattle.std.specs.Prelude.{slice_get, find, not, IsTrue}
 use Rattle.std.proofs.lemmas.Bool.{and_parts}
 use Rattle.std.proofs.lemmas.List.{drop-drop}
-use Rattle.kahn_net.specs.Streams.{history_of, IsPrefix}
-use Rattle.kahn_net.specs.Syntax.{Network}
-use Rattle.kahn_net.specs.Processes.{Standing}
-use Rattle.kahn_net.specs.Approximations.{approximation}
-use Rattle.kahn_net.specs.declared.program.Channel.{Channel}
-use Rattle.kahn_net.specs.declared.program.Port.{Port}
-use Rattle.kahn_net.specs.declared.program.Port.TheVariants.{Outside, Process}
-use Rattle.retained.specs.LogState.{LogState, log_end, trimmed}
-use Rattle.record.specs.Changes.{trimmed_log}
-use Rattle.record.specs.ImageView.{ImageView}
-use Rattle.record.specs.Ends.{end_of, received_at, received_of, log_at, log_of}
-use Rattle.record.specs.declared.image.SavedEnd.{SavedEnd}
-use Rattle.record.specs.declared.image.End.{End}
-use Rattle.record.specs.declared.image.End.TheVariants.{Receives, Sends, Both}
-use Rattle.ckpt_codec.specs.RecordText.{role_of}
-use Rattle.protocol.specs.Node.JobView.{JobView}
-use Rattle.protocol.specs.Node.NodeView.{RunningNode}
-use Rattle.protocol.specs.Node.Granting.{first_log, inbox_log, source_of, next_in_log, next_items}
-use Rattle.protocol.specs.Node.Installing.{taken_from, put_on, saved_pushed, saved_counted, installed, inbox_taken}
-use Rattle.protocol.specs.Node.Installing.{inbox_turned, inboxes_turned, with_turn}
-use Rattle.protocol.specs.Node.Layout.{has_process, port_on, port_away, comes_in, is_incoming, role_by}
-use Rattle.protocol.specs.Node.Reached.{HasReached, IsLaidOut, LinksAreLaidOut, InboxIsSound, InboxStands, InboxesStand}
-use Rattle.protocol.specs.Node.Reached.{IsJobOf, IsTurnOf, is_counting}
+use Rattle.protocol.specs.Node.Common.{history_of, IsPrefix, Network, Standing, approximation, Channel, Port, Outside}
+use Rattle.protocol.specs.Node.Common.{Process, LogState, log_end, trimmed_log, ImageView, end_of, received_at}
+use Rattle.protocol.specs.Node.Common.{received_of, log_at, log_of, SavedEnd, End, Receives, Sends, Both, role_of}
+use Rattle.protocol.specs.Node.Common.{JobView, RunningNode, first_log, inbox_log, source_of, next_in_log, next_items}
+use Rattle.protocol.specs.Node.Common.{taken_from, put_on, saved_pushed, saved_counted, installed, inbox_turned}
+use Rattle.protocol.specs.Node.Common.{has_process, port_on, port_away, comes_in, is_incoming, role_by, HasReached}
+use Rattle.protocol.specs.Node.Common.{IsLaidOut, LinksAreLaidOut, InboxIsSound, InboxStands, InboxesStand, IsJobOf}
+use Rattle.protocol.specs.Node.Common.{is_counting}
+use Rattle.retained.specs.LogState.{trimmed}
+use Rattle.protocol.specs.Node.Installing.{inbox_taken}
+use Rattle.protocol.specs.Node.Installing.{inboxes_turned, with_turn}
+use Rattle.protocol.specs.Node.Reached.{IsTurnOf}
 use Rattle.protocol_laws.specs.Node.ImageLaws.{found_is, map_got, map_keeps}
 use Rattle.protocol_laws.specs.Node.InnerLaws.{end_there, consumer_on, counts_there}
 use Rattle.protocol_laws.specs.Node.InstallLaws.{job_has_code, received_then}

@@ -4,21 +4,11 @@ use Rattle.std.proofs.Common.{◌≡◌, ℕ, ◌+◌, ◌<◌, ◌≤◌, Bool,
 use Rattle.std.proofs.Common.{◌∙◌, arith}
 use Rattle.std.specs.Prelude.{slice_get, IsTrue, ◌||◌}
 use Rattle.std.proofs.lemmas.Option.{slice_get_within}
-use Rattle.kahn_net.specs.Streams.{history_of}
-use Rattle.kahn_net.specs.Syntax.{Network}
-use Rattle.kahn_net.specs.declared.program.Channel.{Channel}
-use Rattle.kahn_net.specs.declared.program.Port.{Port}
-use Rattle.kahn_net.specs.declared.program.Port.TheVariants.{Outside, Process}
-use Rattle.retained.specs.LogState.{LogState, IsInLog}
-use Rattle.record.specs.ImageView.{ImageView}
-use Rattle.record.specs.Ends.{end_of, received_at, received_of}
-use Rattle.record.specs.declared.image.SavedEnd.{SavedEnd}
-use Rattle.record.specs.declared.image.End.{End}
-use Rattle.record.specs.declared.image.End.TheVariants.{Receives, Sends, Both}
-use Rattle.ckpt_codec.specs.RecordText.{role_of}
-use Rattle.protocol.specs.Node.Layout.{has_process, has_end, port_on, channel_on, role_by, role_here}
-use Rattle.protocol.specs.Node.Reached.{is_counting, IsLaidOut, CountIsWithin, CountsAreWithin}
-use Rattle.protocol.specs.Node.Sharing.{is_logging}
+use Rattle.protocol.specs.Node.Common.{history_of, Network, Channel, Port, Outside, Process, LogState, IsInLog}
+use Rattle.protocol.specs.Node.Common.{ImageView, end_of, received_at, received_of, SavedEnd, End, Receives, Sends}
+use Rattle.protocol.specs.Node.Common.{Both, role_of, has_process, has_end, port_on, role_by, is_counting, IsLaidOut}
+use Rattle.protocol.specs.Node.Common.{CountIsWithin, CountsAreWithin, is_logging}
+use Rattle.protocol.specs.Node.Layout.{channel_on, role_here}
 use Rattle.protocol_laws.specs.Node.ImageLaws.{end_at, entry_of}
 use Rattle.protocol_laws.specs.Node.NumberedLaws.{where_there}
 

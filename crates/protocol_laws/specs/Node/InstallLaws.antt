@@ -7,39 +7,27 @@ use Rattle.std.proofs.lemmas.Bool.{eq-eqb, ne_eqb}
 use Rattle.std.proofs.lemmas.Bool.Decides.{eqb_tells}
 use Rattle.std.proofs.lemmas.List.{take-append-drop, length-append, length-take-le, take_at, drop-append-le}
 use Rattle.std.proofs.lemmas.Option.{slice_get_cases}
-use Rattle.kahn_net.specs.Streams.{history_of}
-use Rattle.kahn_net.specs.Syntax.{Code, Network}
-use Rattle.kahn_net.specs.Statements.{Step}
-use Rattle.kahn_net.specs.Processes.{Standing, StandsAt, process_trace, sent_on, got_on}
-use Rattle.kahn_net.specs.Approximations.{approximation}
+use Rattle.protocol.specs.Node.Common.{history_of, Code, Network, Step, Standing, StandsAt, process_trace, sent_on}
+use Rattle.protocol.specs.Node.Common.{got_on, approximation, Channel, Port, Process, LogState, IsLogOf}
+use Rattle.protocol.specs.Node.Common.{SavedProcessView, ImageView, JobView, RunningNode, received_at, log_at}
+use Rattle.protocol.specs.Node.Common.{is_process, items_from, log_with, trimmed_log, taken_from, put_on}
+use Rattle.protocol.specs.Node.Common.{saved_pushed, saved_counted, moved, installed, has_process, first_acts}
+use Rattle.protocol.specs.Node.Common.{acts_of, ImageStands, HasReached, is_counting, IsLaidOut, IsJobOf, SavedEnd}
+use Rattle.protocol.specs.Node.Common.{End, Receives, Sends, Both}
 use Rattle.kahn_net.specs.Laws.Got.{got_on-append}
 use Rattle.kahn_net.specs.Laws.Prefixes.{prefix_trans}
 use Rattle.kahn_net.specs.Laws.Puts.{sent_on-append}
-use Rattle.kahn_net.specs.declared.program.Channel.{Channel}
-use Rattle.kahn_net.specs.declared.program.Port.{Port}
-use Rattle.kahn_net.specs.declared.program.Port.TheVariants.{Process}
-use Rattle.retained.specs.LogState.{LogState, IsLogOf}
 use Rattle.proc_step.specs.Turns.{AreNext, Turn, IsTurn}
-use Rattle.record.specs.ProcessView.{SavedProcessView}
-use Rattle.record.specs.ImageView.{ImageView}
-use Rattle.protocol.specs.Node.JobView.{JobView}
-use Rattle.protocol.specs.Node.NodeView.{RunningNode}
-use Rattle.record.specs.Ends.{received_at, log_at}
-use Rattle.protocol.specs.Node.Granting.{is_process, items_from}
-use Rattle.record.specs.Changes.{log_with, trimmed_log, pushed, counted}
-use Rattle.protocol.specs.Node.Installing.{is_consumer, is_producer, taken_from, put_on, saved_pushed, saved_counted}
-use Rattle.protocol.specs.Node.Installing.{moved, installed, with_turn}
-use Rattle.protocol.specs.Node.Layout.{has_process}
-use Rattle.protocol.specs.Node.Reached.{first_acts, acts_of, EndStands, ImageStands, HasReached, is_counting, IsLaidOut}
-use Rattle.protocol.specs.Node.Reached.{IsJobOf, IsTurnOf, HasComeOn}
+use Rattle.record.specs.Changes.{pushed, counted}
+use Rattle.protocol.specs.Node.Installing.{is_consumer, is_producer}
+use Rattle.protocol.specs.Node.Installing.{with_turn}
+use Rattle.protocol.specs.Node.Reached.{EndStands}
+use Rattle.protocol.specs.Node.Reached.{IsTurnOf, HasComeOn}
 use Rattle.protocol_laws.specs.Node.ImageLaws.{find_within, map_got}
 use Rattle.protocol_laws.specs.Node.NumberedLaws.{StandOnce, where_mark, where_once}
 use Rattle.protocol_laws.specs.Node.LiftLaws.{IsAtHand}
 use Rattle.protocol_laws.specs.Node.LogLaws.{trimmed_is_log_of}
 use Rattle.protocol.specs.declared.links.Inbox.{Inbox}
-use Rattle.record.specs.declared.image.SavedEnd.{SavedEnd}
-use Rattle.record.specs.declared.image.End.{End}
-use Rattle.record.specs.declared.image.End.TheVariants.{Receives, Sends, Both}
 
 -- Lists
 

@@ -8,34 +8,19 @@ use Rattle.std.proofs.Math.Nat.{min-le_left, min-le_right, min-eq_left, le-min}
 use Rattle.std.proofs.lemmas.Bool.Decides.{eqb_tells}
 use Rattle.std.proofs.lemmas.List.{get_or_past, take-append-drop, take-append-le, take_min, drop-drop, drop-append-le}
 use Rattle.std.proofs.lemmas.Option.{slice_get_cases}
-use Rattle.kahn_net.specs.Streams.{history_of, IsPrefix}
-use Rattle.kahn_net.specs.Fits.{Fits}
-use Rattle.kahn_net.specs.Syntax.{Code, Network}
-use Rattle.kahn_net.specs.Valid.{IsValid}
-use Rattle.kahn_net.specs.Statements.{Step}
-use Rattle.kahn_net.specs.Processes.{StandsAt, process_trace, sent_on, got_on}
-use Rattle.kahn_net.specs.Approximations.{approximation}
+use Rattle.protocol.specs.Node.Common.{history_of, IsPrefix, Fits, Code, Network, IsValid, Step, StandsAt}
+use Rattle.protocol.specs.Node.Common.{process_trace, sent_on, got_on, approximation, Channel, Port, Outside, Process}
+use Rattle.protocol.specs.Node.Common.{LogState, IsLogOf, items_since, ImageView, received_at, received_of, log_at}
+use Rattle.protocol.specs.Node.Common.{log_of, Tentative, is_process, first_log, inbox_log, source_of, next_in_log}
+use Rattle.protocol.specs.Node.Common.{next_items, items_from, RunningNode, first_acts, acts_of, ImageStands}
+use Rattle.protocol.specs.Node.Common.{HasReached, IsLaidOut, CountsAreWithin, InboxIsSound, InboxesStand}
+use Rattle.protocol.specs.Node.Common.{has_process, port_on, role_by, role_of, End, Receives, Sends, Both}
 use Rattle.kahn_net.specs.Laws.Approximations.{approximation_grows}
 use Rattle.kahn_net.specs.Laws.Prefixes.{prefix_nil, prefix_along, prefix_of, prefix_trans, followed}
 use Rattle.kahn_net.specs.Laws.Streams.{longer_process, stands_on}
-use Rattle.kahn_net.specs.declared.program.Channel.{Channel}
-use Rattle.kahn_net.specs.declared.program.Port.{Port}
-use Rattle.kahn_net.specs.declared.program.Port.TheVariants.{Outside, Process}
-use Rattle.retained.specs.LogState.{LogState, IsLogOf, items_since}
 use Rattle.proc_step.specs.Turns.{AreNext}
-use Rattle.record.specs.ImageView.{ImageView}
-use Rattle.record.specs.Ends.{received_at, received_of, log_at, log_of}
-use Rattle.record.specs.declared.record.Tentative.{Tentative}
-use Rattle.protocol.specs.Node.Granting.{is_process, first_log, inbox_log, source_of, next_in_log, next_items}
-use Rattle.protocol.specs.Node.Granting.{items_from}
-use Rattle.protocol.specs.Node.NodeView.{RunningNode}
-use Rattle.protocol.specs.Node.Reached.{first_acts, acts_of, ImageStands, HasReached, IsAsFar, IsLaidOut}
-use Rattle.protocol.specs.Node.Reached.{CountsAreWithin, InboxIsSound, InboxesStand}
-use Rattle.protocol.specs.Node.Layout.{has_process, port_on, role_by}
+use Rattle.protocol.specs.Node.Reached.{IsAsFar}
 use Rattle.protocol_laws.specs.Node.InnerLaws.{StaysHere, end_there, consumer_on, inner_there}
-use Rattle.ckpt_codec.specs.RecordText.{role_of}
-use Rattle.record.specs.declared.image.End.{End}
-use Rattle.record.specs.declared.image.End.TheVariants.{Receives, Sends, Both}
 use Rattle.protocol_laws.specs.Node.ReachedLaws.{input_stays, items_of_channel, length-items_from, received_stands}
 use Rattle.protocol_laws.specs.Node.LinkLaws.{inbox_of, inboxes_on_next}
 use Rattle.protocol_laws.specs.Node.ReleaseLaws.{acts_put_prefix, log_stands}

@@ -7,40 +7,28 @@ use Rattle.std.proofs.lemmas.Bool.{le-leb, lt-ltb, and_from}
 use Rattle.std.proofs.lemmas.List.{length-replicate, get_or_past}
 use Rattle.std.proofs.lemmas.List.Elements.{All-nil, All-cons, All-append}
 use Rattle.std.proofs.lemmas.Option.{slice_get_cases, get_or_from_slice_get}
-use Rattle.kahn_net.specs.Streams.{history_of}
-use Rattle.kahn_net.specs.Syntax.{Code, Network}
-use Rattle.kahn_net.specs.Valid.{IsValid}
+use Rattle.protocol.specs.Node.Common.{history_of, Code, Network, IsValid, Standing, StandsAt, At, approximation}
+use Rattle.protocol.specs.Node.Common.{Channel, Port, Outside, Process, MAX_COUNT, MAX_NODES, MAX_CHANNELS, LogState}
+use Rattle.protocol.specs.Node.Common.{IsInLog, log_end, SavedProcessView, ImageView, log_at, SavedEnd, End, Receives}
+use Rattle.protocol.specs.Node.Common.{Sends, Both, variables_of, role_of, IsRecord, MAX_DECISIONS, numbers_where}
+use Rattle.protocol.specs.Node.Common.{has_process, has_end, ImageStands, IsLaidOut, CountIsWithin, CountsAreWithin}
+use Rattle.protocol.specs.Node.Common.{LogsAreWithin, opening_image, opening_record}
 use Rattle.kahn_net.specs.Fits.{AreShort}
-use Rattle.kahn_net.specs.Processes.{Standing, StandsAt}
-use Rattle.kahn_net.specs.Processes.Standing.{NotBegun, At, Done}
-use Rattle.kahn_net.specs.Approximations.{approximation}
-use Rattle.kahn_net.specs.declared.program.Channel.{Channel}
-use Rattle.kahn_net.specs.declared.program.Port.{Port}
-use Rattle.kahn_net.specs.declared.program.Port.TheVariants.{Outside, Process}
-use Rattle.kahn_net.specs.declared.limits.TheConstants.{MAX_COUNT, MAX_NODES, MAX_PROCESSES, MAX_CHANNELS}
+use Rattle.kahn_net.specs.Processes.Standing.{NotBegun, Done}
+use Rattle.kahn_net.specs.declared.limits.TheConstants.{MAX_PROCESSES}
 use Rattle.kahn_net.specs.declared.limits.TheConstants.{MAX_VARIABLES, MAX_TIMES, MAX_REPEATS}
-use Rattle.retained.specs.LogState.{LogState, IsWithinLimits, IsInLog, log_end}
+use Rattle.retained.specs.LogState.{IsWithinLimits}
 use Rattle.retained.specs.declared.log.TheConstants.{MAX_LOG_ITEMS}
-use Rattle.record.specs.ProcessView.{SavedProcessView}
-use Rattle.record.specs.ImageView.{ImageView}
-use Rattle.record.specs.Ends.{log_at}
-use Rattle.record.specs.declared.image.SavedEnd.{SavedEnd}
-use Rattle.record.specs.declared.image.End.{End}
-use Rattle.record.specs.declared.image.End.TheVariants.{Receives, Sends, Both}
 use Rattle.ckpt_codec.specs.Fields.{Field, IsAllowed, AreAllowed}
-use Rattle.ckpt_codec.specs.RecordText.{any, at_most, remaining, count, item, flag, between, variables_of, mode_fields}
-use Rattle.ckpt_codec.specs.RecordText.{process_fields, processes_fields, role_of, retained_count, end_fields}
-use Rattle.ckpt_codec.specs.RecordText.{saved_end_fields, ends_fields, image_fields, version_field, IsRecord}
+use Rattle.ckpt_codec.specs.RecordText.{any, at_most, remaining, count, item, flag, between, mode_fields}
+use Rattle.ckpt_codec.specs.RecordText.{process_fields, processes_fields, retained_count, end_fields}
+use Rattle.ckpt_codec.specs.RecordText.{saved_end_fields, ends_fields, image_fields, version_field}
 use Rattle.ckpt_codec.specs.declared.version.TheConstants.{VERSION}
-use Rattle.record.specs.declared.record.TheConstants.{MAX_DECISIONS}
 use Rattle.ckpt_codec.specs.ItemLaws.{item_allowed}
 use Rattle.ckpt_store.specs.Shapes.{HasShapeOf}
 use Rattle.ckpt_store.specs.Spelling.{IsLike}
 use Rattle.ckpt_store.proofs.Parts.{whole}
 use Rattle.ckpt_store.proofs.Alike.{like_of}
-use Rattle.protocol.specs.Node.Layout.{numbers_where, has_process, has_end}
-use Rattle.protocol.specs.Node.Reached.{ImageStands, IsLaidOut, CountIsWithin, CountsAreWithin, LogsAreWithin}
-use Rattle.protocol.specs.Node.Opening.{opening_image, opening_record}
 use Rattle.protocol_laws.specs.Node.OpeningLaws.{reached_opening, laid_out_opening, counts_opening, logs_opening}
 use Rattle.protocol_laws.specs.Node.ImageLaws.{channel_of_entry}
 use Rattle.protocol_laws.specs.Node.NumberedLaws.{where_mark, where_count}

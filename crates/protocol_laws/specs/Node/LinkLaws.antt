@@ -3,20 +3,12 @@ use Rattle.std.proofs.Common.{◌≡◌, ℕ, suc, ◌≤◌, ℤ, List, length,
 use Rattle.std.proofs.Common.{arith}
 use Rattle.std.specs.Prelude.{slice_get, find, ◌==◌}
 use Rattle.std.proofs.lemmas.List.{drop-append-le}
-use Rattle.kahn_net.specs.Streams.{history_of, IsPrefix}
-use Rattle.kahn_net.specs.Fits.{Fits}
-use Rattle.kahn_net.specs.Syntax.{Network}
-use Rattle.kahn_net.specs.Valid.{IsValid}
-use Rattle.kahn_net.specs.Approximations.{approximation}
+use Rattle.protocol.specs.Node.Common.{history_of, IsPrefix, Fits, Network, IsValid, approximation, LogState}
+use Rattle.protocol.specs.Node.Common.{inbox_log, RecordView, JobView, RunningNode, LinksAreLaidOut, InboxStands}
+use Rattle.protocol.specs.Node.Common.{InboxesStand}
 use Rattle.kahn_net.specs.Laws.Approximations.{approximation_grows}
 use Rattle.kahn_net.specs.Laws.Prefixes.{prefix_of, prefix_trans, prefix_length, followed}
-use Rattle.retained.specs.LogState.{LogState}
 use Rattle.window_link.specs.Laws.Holding.{holds_longer}
-use Rattle.protocol.specs.Node.Granting.{inbox_log}
-use Rattle.record.specs.RecordView.{RecordView}
-use Rattle.protocol.specs.Node.JobView.{JobView}
-use Rattle.protocol.specs.Node.NodeView.{RunningNode}
-use Rattle.protocol.specs.Node.Reached.{LinksAreLaidOut, InboxStands, InboxesStand}
 use Rattle.protocol_laws.specs.Node.ImageLaws.{find_within, found_is}
 use Rattle.protocol.specs.declared.links.Inbox.{Inbox}
 

@@ -3,8 +3,8 @@ use Rattle.std.proofs.Common.{◌≡◌, ◌⊎◌, inl, inr, ℕ, ◌+◌, ◌-
 use Rattle.std.proofs.Common.{refl, sym, ap, subst, ◌∙◌, arith}
 use Rattle.std.proofs.lemmas.Bool.{ltb-false, ltb-true}
 use Rattle.std.proofs.lemmas.List.{length-drop, drop-drop}
-use Rattle.retained.specs.LogState.{LogState, IsLogOf, IsInLog, log_end, trimmed}
-use Rattle.record.specs.Changes.{trimmed_log}
+use Rattle.protocol.specs.Node.Common.{LogState, IsLogOf, IsInLog, log_end, trimmed_log}
+use Rattle.retained.specs.LogState.{trimmed}
 
 -- a trimmed log is as it was, or begins at one of its positions or at its end
 pub trimmed_cases : (position : ℕ) (log : LogState)

@@ -3,7 +3,7 @@ use Rattle.std.proofs.Common.{◌≡◌, ◌≢◌, ◌⊎◌, inl, inr, ℕ, ze
 use Rattle.std.proofs.Common.{[], ◌∷◌, length, map, Some, refl, sym, ap, ◌∙◌, arith}
 use Rattle.std.specs.Prelude.{slice_get, find, IsTrue}
 use Rattle.std.proofs.lemmas.Bool.{eq-eqb, ne_eqb}
-use Rattle.protocol.specs.Node.Layout.{numbers_where}
+use Rattle.protocol.specs.Node.Common.{numbers_where}
 
 -- an element's number passes the test, and is one of those that were gone through
 pub where_mark : {A : Type 0} (f : A → ℕ) (test : ℕ → Bool) (first count : ℕ) (xs : List A) (k : ℕ) (x : A)

@@ -2,36 +2,27 @@
 use Rattle.std.proofs.Common.{◌≡◌, ℕ, zero, suc, ◌+◌, ◌<◌, ◌≤◌, Bool, true, false, eqb, cond, ℤ, List, [], ◌∷◌, length}
 use Rattle.std.proofs.Common.{get_or, drop, map, Option, Some, None, option_map, refl, sym, ap, subst, ◌∙◌, arith}
 use Rattle.std.specs.Prelude.{slice_get, find, ◌==◌}
-use Rattle.kahn_net.specs.Streams.{history_of}
-use Rattle.kahn_net.specs.Syntax.{Code, Network}
-use Rattle.kahn_net.specs.Processes.{Standing, NotBegun, StandsAt, got_on, sent_on}
-use Rattle.kahn_net.specs.declared.program.Channel.{Channel}
-use Rattle.kahn_net.specs.declared.program.Port.{Port}
-use Rattle.kahn_net.specs.declared.program.Port.TheVariants.{Outside, Process}
-use Rattle.retained.specs.LogState.{LogState, IsLogOf}
-use Rattle.record.specs.ProcessView.{SavedProcessView}
-use Rattle.record.specs.ImageView.{ImageView}
+use Rattle.protocol.specs.Node.Common.{history_of, Code, Network, Standing, StandsAt, got_on, sent_on, Channel, Port}
+use Rattle.protocol.specs.Node.Common.{Outside, Process, LogState, IsLogOf, SavedProcessView, ImageView, received_at}
+use Rattle.protocol.specs.Node.Common.{received_of, log_at, role_of, opening_ends, opening_image, numbers_where}
+use Rattle.protocol.specs.Node.Common.{is_on, has_process, port_on, has_end, role_by, incoming_on, first_acts}
+use Rattle.protocol.specs.Node.Common.{ImageStands, HasReached, IsLaidOut, LinksAreLaidOut, CountIsWithin}
+use Rattle.protocol.specs.Node.Common.{CountsAreWithin, LogsAreWithin, InboxIsSound, InboxStands, InboxesStand}
+use Rattle.protocol.specs.Node.Common.{MAX_COUNT, SavedEnd, End, Receives}
+use Rattle.kahn_net.specs.Processes.{NotBegun}
 use Rattle.record.specs.Ascending.{AreAscending}
-use Rattle.record.specs.Ends.{received_at, received_of, log_at}
 use Rattle.record.specs.Laws.Ascent.{ascend_behind}
-use Rattle.ckpt_codec.specs.RecordText.{role_of}
-use Rattle.protocol.specs.Node.Opening.{opening_processes, opening_end, opening_ends, opening_image, new_inbox}
+use Rattle.protocol.specs.Node.Opening.{opening_processes, opening_end, new_inbox}
 use Rattle.protocol.specs.Node.Opening.{new_outbox, opening_inboxes, opening_running}
-use Rattle.protocol.specs.Node.Layout.{numbers_where, is_on, has_process, port_on, channel_on, has_end, role_by}
-use Rattle.protocol.specs.Node.Layout.{incoming_on, outgoing_on}
+use Rattle.protocol.specs.Node.Layout.{channel_on}
+use Rattle.protocol.specs.Node.Layout.{outgoing_on}
 use Rattle.protocol_laws.specs.Node.CountLaws.{count_limit, receives_within, sends_within, both_within}
-use Rattle.protocol.specs.Node.Reached.{first_acts, EndStands, ImageStands, HasReached, IsLaidOut, LinksAreLaidOut}
-use Rattle.protocol.specs.Node.Reached.{CountIsWithin, CountsAreWithin, LogsAreWithin, InboxIsSound, InboxStands}
-use Rattle.protocol.specs.Node.Reached.{InboxesStand}
+use Rattle.protocol.specs.Node.Reached.{EndStands}
 use Rattle.window_link.specs.Laws.Holding.{holds_none}
 use Rattle.protocol_laws.specs.Node.ImageLaws.{map_got}
-use Rattle.kahn_net.specs.declared.limits.TheConstants.{MAX_COUNT}
 use Rattle.protocol.specs.declared.limits.TheConstants.{WINDOW}
 use Rattle.protocol.specs.declared.links.Inbox.{Inbox}
 use Rattle.protocol.specs.declared.links.Outbox.{Outbox}
-use Rattle.record.specs.declared.image.SavedEnd.{SavedEnd}
-use Rattle.record.specs.declared.image.End.{End}
-use Rattle.record.specs.declared.image.End.TheVariants.{Receives}
 
 -- which entry stands where
 record OwnProcess (home number : ℕ) (codes : List Code) (saved : SavedProcessView) : Type 0 where

@@ -1,10 +1,8 @@
 -- Laws of the nodes of a network: each process is on one of them, and there are few.
 use Rattle.std.proofs.Common.{◌≡◌, ℕ, zero, suc, ◌<◌, ◌≤◌, List, [], ◌∷◌, Some, refl, ap, arith}
 use Rattle.std.specs.Prelude.{slice_get}
-use Rattle.kahn_net.specs.Nodes.{nodes_above, node_count}
-use Rattle.kahn_net.specs.Syntax.{Code, Network}
-use Rattle.kahn_net.specs.Valid.{IsValid}
-use Rattle.kahn_net.specs.declared.limits.TheConstants.{MAX_NODES}
+use Rattle.protocol.specs.Node.Common.{node_count, Code, Network, IsValid, MAX_NODES}
+use Rattle.kahn_net.specs.Nodes.{nodes_above}
 
 below_all : (codes : List Code) (p : ℕ) (code : Code) → slice_get codes p ≡ Some code → code.node < nodes_above codes
 below_all [] p code is = absurd (cc)

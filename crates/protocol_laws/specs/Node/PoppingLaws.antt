@@ -3,16 +3,12 @@ use Rattle.std.proofs.Common.{◌≡◌, ℕ, zero, suc, ◌+◌, ◌-◌, ◌�
 use Rattle.std.proofs.Common.{sym, ap, subst, ◌∙◌, append_assoc, arith}
 use Rattle.std.proofs.Math.Nat.{min-le_left, min-le_right}
 use Rattle.std.proofs.lemmas.List.{length-append, length-drop, drop-drop, take-append-drop}
-use Rattle.kahn_net.specs.Streams.{history_of, IsPrefix}
+use Rattle.protocol.specs.Node.Common.{history_of, IsPrefix, MAX_COUNT, log_end, ImageView, popped_times, ready_items}
+use Rattle.protocol.specs.Node.Common.{InboxIsSound, InboxStands}
 use Rattle.kahn_net.specs.Laws.Prefixes.{prefix_of, prefix_trans, prefix_length, followed}
-use Rattle.kahn_net.specs.declared.limits.TheConstants.{MAX_COUNT}
-use Rattle.retained.specs.LogState.{log_end}
-use Rattle.record.specs.ImageView.{ImageView}
-use Rattle.window_link.specs.Windows.{popped_times, ready_items}
 use Rattle.window_link.specs.Laws.Holding.{holds_popped_times}
 use Rattle.window_link.specs.Laws.Popping.{HasPopped, has_popped, ready_of}
 use Rattle.protocol.specs.Node.Popping.{places_left, items_out, popping}
-use Rattle.protocol.specs.Node.Reached.{InboxIsSound, InboxStands}
 use Rattle.protocol.specs.declared.links.Inbox.{Inbox}
 use Rattle.protocol.specs.declared.limits.TheConstants.{MAX_INBOX_ITEMS}
 

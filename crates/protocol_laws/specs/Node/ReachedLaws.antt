@@ -2,21 +2,12 @@
 use Rattle.std.proofs.Common.{◌≡◌, ℕ, zero, suc, ◌+◌, true, cond, ℤ, List, [], ◌∷◌, length, Some, refl, sym, ap, ◌∙◌}
 use Rattle.std.proofs.Common.{arith}
 use Rattle.std.specs.Prelude.{slice_get, IsTrue}
-use Rattle.kahn_net.specs.Streams.{history_of}
-use Rattle.kahn_net.specs.Syntax.{Network}
-use Rattle.kahn_net.specs.Processes.{got_on}
-use Rattle.kahn_net.specs.Approximations.{approximation, next_history}
+use Rattle.protocol.specs.Node.Common.{history_of, Network, got_on, approximation, Channel, Port, Outside, Process}
+use Rattle.protocol.specs.Node.Common.{ImageView, received_at, received_of, is_process, next_items, items_from}
+use Rattle.protocol.specs.Node.Common.{has_process, acts_of, is_counting, ImageStands, IsLaidOut, End}
+use Rattle.kahn_net.specs.Approximations.{next_history}
 use Rattle.kahn_net.specs.Laws.Approximations.{next_histories-at}
-use Rattle.kahn_net.specs.declared.program.Channel.{Channel}
-use Rattle.kahn_net.specs.declared.program.Port.{Port}
-use Rattle.kahn_net.specs.declared.program.Port.TheVariants.{Outside, Process}
-use Rattle.record.specs.ImageView.{ImageView}
-use Rattle.record.specs.Ends.{received_at, received_of}
-use Rattle.protocol.specs.Node.Granting.{is_process, next_items, items_from}
-use Rattle.protocol.specs.Node.Layout.{has_process}
-use Rattle.protocol.specs.Node.Reached.{acts_of, is_counting, ImageStands, IsLaidOut}
 use Rattle.protocol_laws.specs.Node.InnerLaws.{end_there, consumer_on, counts_there}
-use Rattle.record.specs.declared.image.End.{End}
 use Rattle.protocol.specs.declared.links.Inbox.{Inbox}
 
 -- an input is the same in each approximation

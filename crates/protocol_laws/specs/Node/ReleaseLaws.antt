@@ -3,23 +3,15 @@ use Rattle.std.proofs.Common.{◌≡◌, ℕ, suc, ◌≤◌, ℤ, List, [], ◌
 use Rattle.std.proofs.Common.{◌∙◌}
 use Rattle.std.specs.Prelude.{slice_get}
 use Rattle.std.proofs.lemmas.List.{take-append-drop, take-take}
-use Rattle.kahn_net.specs.Streams.{history_of, IsPrefix}
+use Rattle.protocol.specs.Node.Common.{history_of, IsPrefix, Code, Network, Step, process_trace, sent_on}
+use Rattle.protocol.specs.Node.Common.{approximation, Channel, Port, Process, LogState, IsLogOf, ImageView}
+use Rattle.protocol.specs.Node.Common.{RunningNode, end_of, log_at, log_of, End, first_acts, acts_of, ImageStands}
+use Rattle.protocol.specs.Node.Common.{HasReached}
 use Rattle.kahn_net.specs.Laws.Prefixes.{prefix_nil, prefix_along, prefix_trans, prefix_of}
-use Rattle.kahn_net.specs.Syntax.{Code, Network}
-use Rattle.kahn_net.specs.Statements.{Step}
-use Rattle.kahn_net.specs.Processes.{process_trace, sent_on}
 use Rattle.kahn_net.specs.Laws.Puts.{sent_on-append}
-use Rattle.kahn_net.specs.Approximations.{approximation, next_history, output_at}
+use Rattle.kahn_net.specs.Approximations.{next_history, output_at}
 use Rattle.kahn_net.specs.Laws.Approximations.{next_histories-at}
-use Rattle.kahn_net.specs.declared.program.Channel.{Channel}
-use Rattle.kahn_net.specs.declared.program.Port.{Port}
-use Rattle.kahn_net.specs.declared.program.Port.TheVariants.{Process}
-use Rattle.retained.specs.LogState.{LogState, IsLogOf}
-use Rattle.record.specs.ImageView.{ImageView}
-use Rattle.protocol.specs.Node.NodeView.{RunningNode}
-use Rattle.record.specs.Ends.{end_of, log_at, log_of}
-use Rattle.record.specs.declared.image.End.{End}
-use Rattle.protocol.specs.Node.Reached.{first_acts, acts_of, ImageStands, HasReached, HasComeOn}
+use Rattle.protocol.specs.Node.Reached.{HasComeOn}
 use Rattle.protocol_laws.specs.Node.ImageLaws.{entry_of}
 
 -- what the first acts of a process put is a front of what it puts

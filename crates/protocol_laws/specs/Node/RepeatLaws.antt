@@ -5,14 +5,11 @@ use Rattle.std.specs.Prelude.{nat_lt, slice_get}
 use Rattle.std.specs.List.{AllZip}
 use Rattle.std.proofs.lemmas.Bool.{false≢true}
 use Rattle.std.proofs.lemmas.Bool.Decides.{nat_tests}
-use Rattle.kahn_net.specs.Syntax.{Block, Nothing, GetThen, AssignThen, PutThen, StopThen, IfThen, RepeatThen, Code}
-use Rattle.kahn_net.specs.Syntax.{Network}
+use Rattle.protocol.specs.Node.Common.{Code, Network, StandsAt, At, IsValid}
+use Rattle.kahn_net.specs.Syntax.{Block, Nothing, GetThen, AssignThen, PutThen, StopThen, IfThen, RepeatThen}
 use Rattle.kahn_net.specs.Statements.{Point, sites_of}
-use Rattle.kahn_net.specs.Processes.{StandsAt}
-use Rattle.kahn_net.specs.Processes.Standing.{At}
 use Rattle.kahn_net.specs.Repeats.{repeats_on, repeats_in_body, repeats_at, CanRemain}
 use Rattle.kahn_net.specs.Repeats.{is_repeat_within, repeats_within, body_repeats_within, code_repeats_within}
-use Rattle.kahn_net.specs.Valid.{IsValid}
 use Rattle.kahn_net.specs.Laws.NextActs.{repeats_fit}
 use Rattle.kahn_net.specs.declared.limits.TheConstants.{MAX_TIMES, MAX_NESTED_TIMES, MAX_REPEATS}
 

@@ -5,31 +5,19 @@ use Rattle.std.proofs.Common.{refl, sym, ap, subst, ◌∙◌, arith}
 use Rattle.std.specs.Prelude.{not, IsTrue, replicate, slice_get}
 use Rattle.std.proofs.lemmas.Bool.{and_parts}
 use Rattle.std.proofs.lemmas.List.{length-append}
-use Rattle.kahn_net.specs.Approximations.{approximation}
+use Rattle.protocol.specs.Node.Common.{approximation, got_on, process_trace, history_of, Code, Network, MAX_COUNT}
+use Rattle.protocol.specs.Node.Common.{Channel, Port, Outside, Process, LogState, log_end, received_at, received_of}
+use Rattle.protocol.specs.Node.Common.{log_at, log_of, sent_in, sent_of, ImageView, RecordView, End, Receives, Sends}
+use Rattle.protocol.specs.Node.Common.{Both, role_of, handled, set_back_to, has_process, port_on, port_away, comes_in}
+use Rattle.protocol.specs.Node.Common.{is_incoming, incoming_on, role_by, RunningView, RunningNode, ImageStands}
+use Rattle.protocol.specs.Node.Common.{IsLaidOut, CountIsWithin, CountsAreWithin, LogsAreWithin, InboxIsSound}
+use Rattle.protocol.specs.Node.Common.{InboxStands, InboxesStand, LinksAreLaidOut, first_acts}
 use Rattle.kahn_net.specs.Laws.Got.{reads}
-use Rattle.kahn_net.specs.Processes.{got_on, process_trace}
 use Rattle.kahn_net.specs.Resuming.{left_after}
-use Rattle.kahn_net.specs.Streams.{history_of}
-use Rattle.kahn_net.specs.Syntax.{Code, Network}
-use Rattle.kahn_net.specs.declared.limits.TheConstants.{MAX_COUNT}
-use Rattle.kahn_net.specs.declared.program.Channel.{Channel}
-use Rattle.kahn_net.specs.declared.program.Port.{Port}
-use Rattle.kahn_net.specs.declared.program.Port.TheVariants.{Outside, Process}
-use Rattle.retained.specs.LogState.{LogState, log_end}
-use Rattle.record.specs.Ends.{received_at, received_of, log_at, log_of, sent_in, sent_of}
-use Rattle.record.specs.ImageView.{ImageView}
-use Rattle.record.specs.RecordView.{RecordView}
-use Rattle.record.specs.declared.image.End.{End}
-use Rattle.record.specs.declared.image.End.TheVariants.{Receives, Sends, Both}
-use Rattle.ckpt_codec.specs.RecordText.{role_of}
 use Rattle.window_link.specs.Laws.Holding.{HoldsOf, holds_none}
 use Rattle.window_link.specs.Windows.{Receiver}
-use Rattle.protocol.specs.Node.GoingBack.{handled, handled_at, inbox_set_back, outbox_set_back, set_back_to}
-use Rattle.protocol.specs.Node.Layout.{has_process, port_on, port_away, comes_in, is_incoming, incoming_on, outgoing_on}
-use Rattle.protocol.specs.Node.Layout.{role_by}
-use Rattle.protocol.specs.Node.NodeView.{RunningView, RunningNode}
-use Rattle.protocol.specs.Node.Reached.{ImageStands, IsLaidOut, CountIsWithin, CountsAreWithin, LogsAreWithin}
-use Rattle.protocol.specs.Node.Reached.{InboxIsSound, InboxStands, InboxesStand, LinksAreLaidOut, first_acts}
+use Rattle.protocol.specs.Node.GoingBack.{handled_at, inbox_set_back, outbox_set_back}
+use Rattle.protocol.specs.Node.Layout.{outgoing_on}
 use Rattle.protocol.specs.Node.Recovering.{restored_inbox, restored_outbox, restored_running}
 use Rattle.protocol_laws.specs.Node.ImageLaws.{entry_of, map_got, map_keeps}
 use Rattle.protocol_laws.specs.Node.InnerLaws.{end_there, consumer_on, count_there}

@@ -1,20 +1,11 @@
 -- Laws of what an image says was put: as many items as its producer's acts put.
 use Rattle.std.proofs.Common.{◌≡◌, ℕ, true, ℤ, length, Some, refl, sym, ap, ◌∙◌}
 use Rattle.std.specs.Prelude.{slice_get, List, IsTrue}
-use Rattle.kahn_net.specs.Syntax.{Network}
-use Rattle.kahn_net.specs.Processes.{sent_on}
-use Rattle.kahn_net.specs.declared.program.Channel.{Channel}
-use Rattle.kahn_net.specs.declared.program.Port.TheVariants.{Process}
-use Rattle.retained.specs.LogState.{LogState}
-use Rattle.record.specs.ImageView.{ImageView}
-use Rattle.record.specs.Ends.{log_at, log_of, sent_in, sent_of}
-use Rattle.protocol.specs.Node.Sharing.{is_logging}
-use Rattle.protocol.specs.Node.Reached.{acts_of, ImageStands, IsLaidOut}
-use Rattle.protocol.specs.Node.Layout.{has_process}
+use Rattle.protocol.specs.Node.Common.{Network, sent_on, Channel, Process, LogState, ImageView, log_at, log_of}
+use Rattle.protocol.specs.Node.Common.{sent_in, sent_of, is_logging, acts_of, ImageStands, IsLaidOut, has_process}
+use Rattle.protocol.specs.Node.Common.{End, Receives, Sends, Both}
 use Rattle.protocol_laws.specs.Node.InnerLaws.{end_there, producer_on, logs_there}
 use Rattle.protocol_laws.specs.Node.ReleaseLaws.{log_stands}
-use Rattle.record.specs.declared.image.End.{End}
-use Rattle.record.specs.declared.image.End.TheVariants.{Receives, Sends, Both}
 
 log_in : (end : End) → is_logging end ≡ true → (log : LogState) × (log_at (Some end) ≡ Some log)
 log_in (Receives received) has = absurd (cc)

@@ -6,16 +6,11 @@ use Rattle.std.specs.Prelude.{◌/◌, slice_get, sum_by}
 use Rattle.std.specs.List.{count_by}
 use Rattle.std.proofs.Math.Nat.{div-le_self, mul-div-le}
 use Rattle.std.proofs.lemmas.List.Sums.{sum_by-cons}
-use Rattle.retained.specs.LogState.{LogState}
-use Rattle.record.specs.ImageView.{ImageView}
-use Rattle.record.specs.Ends.{log_at}
-use Rattle.protocol.specs.Node.Sharing.{has_log, log_count, log_share}
-use Rattle.record.specs.declared.image.SavedEnd.{SavedEnd}
-use Rattle.record.specs.declared.image.End.{End}
-use Rattle.record.specs.declared.image.End.TheVariants.{Receives, Sends, Both}
+use Rattle.protocol.specs.Node.Common.{LogState, ImageView, log_at, log_share, SavedEnd, End, Receives, Sends, Both}
+use Rattle.protocol.specs.Node.Common.{MAX_RETAINED_ITEMS}
+use Rattle.protocol.specs.Node.Sharing.{has_log, log_count}
 use Rattle.ckpt_codec.specs.RecordText.{items_of_end}
 use Rattle.ckpt_codec.specs.SizeLaws.{items_at, items_in}
-use Rattle.ckpt_codec.specs.declared.lengths.TheConstants.{MAX_RETAINED_ITEMS}
 
 -- a share is within the whole
 pub share_within : (image : ImageView) → log_share image ≤ MAX_RETAINED_ITEMS

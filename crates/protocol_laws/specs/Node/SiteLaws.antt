@@ -3,14 +3,16 @@ use Rattle.std.proofs.Common.{◌≡◌, ℕ, zero, suc, ◌+◌, ◌^◌, ◌<�
 use Rattle.std.proofs.Common.{◌++◌, drop, Option, Some, None, sym, subst, append-nil, arith}
 use Rattle.std.specs.Prelude.{slice_get, slice_set}
 use Rattle.std.specs.Ordering.{int_eq}
-use Rattle.kahn_net.specs.Streams.{history_of, total}
-use Rattle.kahn_net.specs.Syntax.{Block, Nothing, GetThen, AssignThen, PutThen, StopThen, IfThen, Code, Network}
+use Rattle.protocol.specs.Node.Common.{history_of, Code, Network, Step, process_trace, Standing, StandsAt, At}
+use Rattle.protocol.specs.Node.Common.{IsValid}
+use Rattle.kahn_net.specs.Streams.{total}
+use Rattle.kahn_net.specs.Syntax.{Block, Nothing, GetThen, AssignThen, PutThen, StopThen, IfThen}
 use Rattle.kahn_net.specs.Syntax.{RepeatThen}
-use Rattle.kahn_net.specs.Statements.{Point, Step, End, Ended, Waits, Stopped, Trace, point_at, on_get, from_end}
+use Rattle.kahn_net.specs.Statements.{Point, End, Ended, Waits, Stopped, Trace, point_at, on_get, from_end}
 use Rattle.kahn_net.specs.Statements.{then_do, rounds, sites_of, choose, value_of, trace_of}
-use Rattle.kahn_net.specs.Processes.{passes, loop_trace, process_trace, Standing, StandsAt, standing_at}
-use Rattle.kahn_net.specs.Processes.Standing.{NotBegun, At, Done}
-use Rattle.kahn_net.specs.Valid.{IsValid, body_units}
+use Rattle.kahn_net.specs.Processes.{passes, loop_trace, standing_at}
+use Rattle.kahn_net.specs.Processes.Standing.{NotBegun, Done}
+use Rattle.kahn_net.specs.Valid.{body_units}
 use Rattle.kahn_net.specs.Laws.Valid.{units_few}
 use Rattle.kahn_net.specs.declared.limits.TheConstants.{MAX_UNITS}
 use Rattle.proc_step.proofs.Units.{sites_within}

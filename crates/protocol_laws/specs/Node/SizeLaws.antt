@@ -6,28 +6,17 @@ use Rattle.std.specs.Prelude.{slice_get, nat_lt}
 use Rattle.std.proofs.Math.Logic.{∥∥₁_elim}
 use Rattle.std.proofs.Math.Bridge.{le_prop}
 use Rattle.std.proofs.lemmas.List.{length-replicate}
-use Rattle.kahn_net.specs.Syntax.{Network}
-use Rattle.kahn_net.specs.Processes.{Standing}
-use Rattle.kahn_net.specs.Processes.Standing.{NotBegun, At, Done}
-use Rattle.kahn_net.specs.Valid.{IsValid}
-use Rattle.kahn_net.specs.Approximations.{approximation}
-use Rattle.kahn_net.specs.declared.limits.TheConstants.{MAX_NODES, MAX_VARIABLES, MAX_REPEATS}
-use Rattle.record.specs.ProcessView.{SavedProcessView}
-use Rattle.record.specs.ImageView.{ImageView}
-use Rattle.record.specs.RecordView.{RecordView}
-use Rattle.record.specs.declared.image.SavedEnd.{SavedEnd}
-use Rattle.ckpt_codec.specs.RecordText.{variables_of}
-use Rattle.record.specs.DecisionView.{DecisionView}
-use Rattle.record.specs.Moves.{highest_seen, decided_below, decided_by, with_decision}
-use Rattle.record.specs.declared.record.TheConstants.{MAX_DECISIONS}
+use Rattle.protocol.specs.Node.Common.{Network, Standing, At, IsValid, approximation, MAX_NODES, SavedProcessView}
+use Rattle.protocol.specs.Node.Common.{ImageView, RecordView, SavedEnd, variables_of, DecisionView, highest_seen}
+use Rattle.protocol.specs.Node.Common.{with_decision, MAX_DECISIONS, MAX_RETAINED_ITEMS, RunningNode, HasReached}
+use Rattle.protocol.specs.Node.Common.{ImageStands, IsLaidOut, LogsAreWithin, opening_image, opening_record}
+use Rattle.protocol.specs.Node.Common.{has_process, has_end}
+use Rattle.kahn_net.specs.Processes.Standing.{NotBegun, Done}
+use Rattle.kahn_net.specs.declared.limits.TheConstants.{MAX_VARIABLES, MAX_REPEATS}
+use Rattle.record.specs.Moves.{decided_below, decided_by}
 use Rattle.ckpt_codec.specs.SizeLaws.{IsImageWithin, IsRecordWithin, within_tentative, within_decision, left_of}
-use Rattle.ckpt_codec.specs.declared.lengths.TheConstants.{MAX_RETAINED_ITEMS}
-use Rattle.protocol.specs.Node.NodeView.{RunningNode}
-use Rattle.protocol.specs.Node.Reached.{HasReached, ImageStands, IsLaidOut, LogsAreWithin}
 use Rattle.protocol.specs.Node.Starting.{with_own}
-use Rattle.protocol.specs.Node.Opening.{opening_image, opening_record}
 use Rattle.protocol_laws.specs.Node.OpeningLaws.{reached_opening, laid_out_opening, logs_opening}
-use Rattle.protocol.specs.Node.Layout.{has_process, has_end}
 use Rattle.protocol_laws.specs.Node.NumberedLaws.{where_count}
 use Rattle.protocol_laws.specs.Node.SharingLaws.{items_fit}
 use Rattle.protocol_laws.specs.Node.LikeLaws.{HasShortSite, standing_short}

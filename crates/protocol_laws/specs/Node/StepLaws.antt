@@ -1,17 +1,11 @@
 -- Laws of how far a node has come: what it keeps changes, and what it has now doesn't.
 use Rattle.std.proofs.Common.{◌≡◌, ℕ, ℤ, List, Option, Some, None, refl, subst, arith}
-use Rattle.kahn_net.specs.Syntax.{Network}
-use Rattle.kahn_net.specs.Approximations.{approximation}
-use Rattle.record.specs.ImageView.{ImageView}
-use Rattle.protocol.specs.Node.JobView.{JobView}
-use Rattle.protocol.specs.Node.NodeView.{RunningNode}
+use Rattle.protocol.specs.Node.Common.{Network, approximation, ImageView, JobView, RunningNode, DecisionView}
+use Rattle.protocol.specs.Node.Common.{with_decision, with_tentative, RecordView, ImageStands, HasReached, Tentative}
 use Rattle.protocol.specs.Node.Choosing.{after_grant}
-use Rattle.record.specs.DecisionView.{DecisionView}
-use Rattle.record.specs.Moves.{last_image, with_decision, with_tentative}
-use Rattle.record.specs.RecordView.{RecordView}
+use Rattle.record.specs.Moves.{last_image}
 use Rattle.protocol.specs.Node.Modes.{keeping}
-use Rattle.protocol.specs.Node.Reached.{ImageStands, IsAsFar, HasReached, HasComeOn}
-use Rattle.record.specs.declared.record.Tentative.{Tentative}
+use Rattle.protocol.specs.Node.Reached.{IsAsFar, HasComeOn}
 
 -- the record in another epoch, with other decisions, of which a tentative image may be dropped
 abbrev pub lessened : ℕ → List DecisionView → Option Tentative → RecordView → RecordView

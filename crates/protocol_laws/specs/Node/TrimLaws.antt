@@ -6,39 +6,28 @@ use Rattle.std.specs.Prelude.{slice_get, slice_index, find, min}
 use Rattle.std.proofs.Math.Nat.{min-le_left, min-le_right, le-min}
 use Rattle.std.proofs.lemmas.Bool.{ne_eqb}
 use Rattle.std.proofs.lemmas.Bool.Decides.{eqb_tells}
-use Rattle.kahn_net.specs.Streams.{history_of, IsPrefix}
-use Rattle.kahn_net.specs.Syntax.{Network}
-use Rattle.kahn_net.specs.Processes.{sent_on}
-use Rattle.kahn_net.specs.declared.program.Channel.{Channel}
-use Rattle.kahn_net.specs.declared.program.Port.{Port}
-use Rattle.kahn_net.specs.declared.program.Port.TheVariants.{Outside, Process}
-use Rattle.retained.specs.LogState.{LogState, IsLogOf, log_end}
-use Rattle.record.specs.ImageView.{ImageView}
-use Rattle.ckpt_codec.specs.RecordText.{role_of}
-use Rattle.protocol.specs.Node.JobView.{JobView}
-use Rattle.protocol.specs.Node.NodeView.{RunningNode}
+use Rattle.protocol.specs.Node.Common.{history_of, IsPrefix, Network, sent_on, Channel, Port, Outside, Process}
+use Rattle.protocol.specs.Node.Common.{LogState, IsLogOf, log_end, ImageView, role_of, JobView, RunningNode}
+use Rattle.protocol.specs.Node.Common.{received_of, received_at, log_of, log_at, sent_in, sent_of, end_of, base_in}
+use Rattle.protocol.specs.Node.Common.{base_of, is_logging, log_share, first_log, inbox_log, is_process, next_items}
+use Rattle.protocol.specs.Node.Common.{items_from, room_from, trimmed_log, trimmed_image, has_process, port_on}
+use Rattle.protocol.specs.Node.Common.{acts_of, ImageStands, is_counting, IsLaidOut, LinksAreLaidOut, CountIsWithin}
+use Rattle.protocol.specs.Node.Common.{CountsAreWithin, LogsAreWithin, IsJobOf, SavedProcessView, IsBehind, SavedEnd}
+use Rattle.protocol.specs.Node.Common.{End, Receives, Sends, Both, MAX_COUNT}
 use Rattle.protocol.specs.Node.Trimming.{with_current}
-use Rattle.record.specs.Ends.{received_of, received_at, log_of, log_at, sent_in, sent_of, end_of, base_in, base_of}
-use Rattle.protocol.specs.Node.Sharing.{is_logging, log_share, IsWithinShare}
-use Rattle.protocol.specs.Node.Granting.{first_log, inbox_log, is_process, items_by, next_items, items_from, room_in}
-use Rattle.protocol.specs.Node.Granting.{room_of, room_from}
-use Rattle.record.specs.Changes.{trimmed_log, trimmed_end, trimmed_saved, trimmed_image}
-use Rattle.protocol.specs.Node.Layout.{has_process, port_on, role_here}
-use Rattle.protocol.specs.Node.Reached.{acts_of, EndStands, ImageStands, is_counting, IsLaidOut, LinksAreLaidOut}
-use Rattle.protocol.specs.Node.Reached.{CountIsWithin, CountsAreWithin, LogsAreWithin, IsJobOf}
+use Rattle.protocol.specs.Node.Sharing.{IsWithinShare}
+use Rattle.protocol.specs.Node.Granting.{items_by, room_in}
+use Rattle.protocol.specs.Node.Granting.{room_of}
+use Rattle.record.specs.Changes.{trimmed_end, trimmed_saved}
+use Rattle.protocol.specs.Node.Layout.{role_here}
+use Rattle.protocol.specs.Node.Reached.{EndStands}
 use Rattle.protocol_laws.specs.Node.CountLaws.{sends_within}
 use Rattle.protocol_laws.specs.Node.LogLaws.{trimmed_end_stays, trimmed_is_log_of, base_at, base_after}
 use Rattle.protocol_laws.specs.Node.ImageLaws.{find_within, map_got, map_keeps, end_at, end_of_changed, found_is}
 use Rattle.protocol_laws.specs.Node.NumberedLaws.{where_mark}
-use Rattle.record.specs.ProcessView.{SavedProcessView}
 use Rattle.protocol_laws.specs.Node.InnerLaws.{output_apart}
 use Rattle.protocol_laws.specs.Node.SharingLaws.{share_kept}
-use Rattle.protocol.specs.Node.Starting.{IsBehind}
 use Rattle.protocol.specs.declared.links.Inbox.{Inbox}
-use Rattle.record.specs.declared.image.SavedEnd.{SavedEnd}
-use Rattle.record.specs.declared.image.End.{End}
-use Rattle.record.specs.declared.image.End.TheVariants.{Receives, Sends, Both}
-use Rattle.kahn_net.specs.declared.limits.TheConstants.{MAX_COUNT}
 use Rattle.protocol.specs.declared.limits.TheConstants.{MAX_JOB_ITEMS}
 
 -- Ends

@@ -4,14 +4,14 @@ use Rattle.std.proofs.Common.{drop, Option, Some, None, refl, sym, ap, subst, �
 use Rattle.std.specs.Prelude.{slice_set}
 use Rattle.std.specs.Ordering.{int_eq}
 use Rattle.std.proofs.lemmas.List.{length-set}
-use Rattle.kahn_net.specs.Streams.{history_of, total}
-use Rattle.kahn_net.specs.Syntax.{Block, Nothing, GetThen, AssignThen, PutThen, StopThen, IfThen, Code}
+use Rattle.protocol.specs.Node.Common.{history_of, Code, Step, process_trace, Standing, StandsAt, At, variables_of}
+use Rattle.kahn_net.specs.Streams.{total}
+use Rattle.kahn_net.specs.Syntax.{Block, Nothing, GetThen, AssignThen, PutThen, StopThen, IfThen}
 use Rattle.kahn_net.specs.Syntax.{RepeatThen}
-use Rattle.kahn_net.specs.Statements.{Step, End, Ended, Waits, Stopped, Trace, point_at, on_get, from_end, then_do}
+use Rattle.kahn_net.specs.Statements.{End, Ended, Waits, Stopped, Trace, point_at, on_get, from_end, then_do}
 use Rattle.kahn_net.specs.Statements.{rounds, sites_of, choose, value_of, trace_of}
-use Rattle.kahn_net.specs.Processes.{passes, loop_trace, process_trace, Standing, StandsAt, standing_at}
-use Rattle.kahn_net.specs.Processes.Standing.{NotBegun, At, Done}
-use Rattle.ckpt_codec.specs.RecordText.{variables_of}
+use Rattle.kahn_net.specs.Processes.{passes, loop_trace, standing_at}
+use Rattle.kahn_net.specs.Processes.Standing.{NotBegun, Done}
 
 -- the variables with which statements end
 abbrev pub vars_at : End → List ℤ

@@ -6,23 +6,16 @@ use Rattle.std.proofs.Math.Logic.{∥∥₁_elim}
 use Rattle.std.proofs.Math.Bridge.{le_prop}
 use Rattle.std.proofs.Math.Bool.{Bool-set}
 use Rattle.std.proofs.lemmas.List.Elements.{All-from_recursion, recursion_from_All}
-use Rattle.kahn_net.specs.Fits.{Fits}
-use Rattle.kahn_net.specs.Syntax.{Network}
-use Rattle.kahn_net.specs.Valid.{IsValid}
-use Rattle.kahn_net.specs.Approximations.{approximation}
+use Rattle.protocol.specs.Node.Common.{Fits, Network, IsValid, approximation, IsOut, TakesTurn, IsLaidOut, RecordView}
+use Rattle.protocol.specs.Node.Common.{ModeView, Down, InDoubt, Runs, RunningNode, running_node, running_in}
+use Rattle.protocol.specs.Node.Common.{running_of, IsLikeNow}
 use Rattle.ckpt_codec.specs.Fields.{Field, IsAllowed}
 use Rattle.ckpt_codec.specs.RecordText.{image_fields}
 use Rattle.ckpt_store.specs.Spelling.{IsLike}
-use Rattle.protocol.specs.Node.Installing.{IsOut, TakesTurn}
-use Rattle.protocol.specs.Node.Reached.{IsLaidOut}
-use Rattle.record.specs.RecordView.{RecordView}
 use Rattle.protocol_laws.specs.Node.LikeLaws.{image_like}
-use Rattle.protocol.specs.Node.NodeView.{ModeView, Down, InDoubt, Runs, RunningNode, running_node, running_in}
-use Rattle.protocol.specs.Node.NodeView.{running_of}
-use Rattle.protocol.specs.Node.Starting.{IsLikeAt, IsLikeNow}
-use Rattle.protocol.specs.World.DoneView.{DoneView, IsTurnOfJob}
-use Rattle.protocol.specs.World.Invariant.{outputs_of, RunsSoundly, StationInvariant}
-use Rattle.protocol.specs.World.StationView.{StationView}
+use Rattle.protocol.specs.Node.Starting.{IsLikeAt}
+use Rattle.protocol.specs.World.Common.{DoneView, outputs_of, RunsSoundly, StationInvariant, StationView}
+use Rattle.protocol.specs.World.DoneView.{IsTurnOfJob}
 use Rattle.protocol_laws.specs.World.TurnLaws.{takes_done}
 
 -- that a field may stand where it does is one fact

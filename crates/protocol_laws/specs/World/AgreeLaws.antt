@@ -2,27 +2,21 @@
 use Rattle.std.proofs.Common.{◌≡◌, ◌⊎◌, inl, inr, ℕ, ◌+◌, Bool, true, false, cond, List, ℤ, Option, Some, None, length}
 use Rattle.std.proofs.Common.{refl, sym, ap, subst, ◌∙◌, ◌++◌}
 use Rattle.std.specs.Prelude.{slice_get, slice_set}
-use Rattle.kahn_net.specs.Syntax.{Network}
-use Rattle.kahn_net.specs.declared.program.Channel.{Channel}
-use Rattle.record.specs.RecordView.{RecordView}
-use Rattle.retained.specs.LogState.{LogState}
-use Rattle.wire.specs.Traffic.{Traffic, all_sent}
-use Rattle.protocol.specs.Node.ArmedRestarts.{restart_after}
-use Rattle.protocol.specs.Node.Installing.{IsInstall}
-use Rattle.protocol.specs.Node.NodeView.{NodeView}
-use Rattle.protocol.specs.Node.Plans.{Exhausted, IsCarriedOut, IsHeldUp, IsMade, IsPut, Plan, Planned, Prospect, Undue}
-use Rattle.protocol.specs.Node.Plans.{room_for}
-use Rattle.protocol.specs.Node.Trimming.{TookNext, current_log, logged_at}
+use Rattle.protocol.specs.Node.Common.{Network, Channel, RecordView, LogState, restart_after, IsInstall, NodeView}
+use Rattle.protocol.specs.Node.Common.{Exhausted, IsCarriedOut, IsMade, IsPut, Plan, Planned, Prospect, Undue}
+use Rattle.protocol.specs.Node.Common.{room_for, TookNext, current_log}
+use Rattle.protocol.specs.World.Common.{Traffic, all_sent, DoneView, ByNetwork, ByNode, EventView, Install, Release}
+use Rattle.protocol.specs.World.Common.{event_node, answer_by, install_reply, ReplyView, OutletView, StationView}
+use Rattle.protocol.specs.World.Common.{IsActOf, IsInstalled, IsPlanned, IsRelease, IsStationStep, IsStep, Setting}
+use Rattle.protocol.specs.World.Common.{StationPlan, WorldView, moved_to, next_release, plan_of, round_after}
+use Rattle.protocol.specs.World.Common.{setting_of, traffic_after, turns_by}
+use Rattle.protocol.specs.Node.Plans.{IsHeldUp}
+use Rattle.protocol.specs.Node.Trimming.{logged_at}
 use Rattle.protocol.specs.World.Agreeing.{NothingFailed, StepsAgree}
-use Rattle.protocol.specs.World.DoneView.{DoneView}
-use Rattle.protocol.specs.World.EventView.{ByNetwork, ByNode, EventView, Install, Release, event_node}
-use Rattle.protocol.specs.World.Replies.{answer_by, install_reply}
-use Rattle.protocol.specs.World.ReplyView.{ReplyView, leaving}
+use Rattle.protocol.specs.World.ReplyView.{leaving}
 use Rattle.protocol.specs.declared.reply.Reply.TheVariants as reply
-use Rattle.protocol.specs.World.StationView.{OutletView, StationView}
-use Rattle.protocol.specs.World.Steps.{IsActOf, IsHanded, IsInstalled, IsPlanned, IsRelease, IsReleaseAt}
-use Rattle.protocol.specs.World.Steps.{IsStationStep, IsStep, Setting, StationPlan, WorldView, moved_to, next_release}
-use Rattle.protocol.specs.World.Steps.{plan_of, released_to, round_after, setting_of, traffic_after, turns_by}
+use Rattle.protocol.specs.World.Steps.{IsHanded, IsReleaseAt}
+use Rattle.protocol.specs.World.Steps.{released_to}
 use Rattle.protocol.specs.declared.outcome.Outcome.{Outcome}
 use Rattle.protocol.specs.declared.outcome.Outcome.TheVariants as outcome
 use Rattle.protocol.specs.declared.outcome.Refusal.TheVariants.{Spent, TooLarge}

@@ -4,30 +4,18 @@ use Rattle.std.proofs.Common.{◌≡◌, ℕ, suc, ◌<◌, Bool, true, false, c
 use Rattle.std.proofs.Common.{Some, None, option_map, refl, sym, ap, subst, ◌∙◌}
 use Rattle.std.specs.Prelude.{find}
 use Rattle.std.proofs.Math.Logic.{∥∥₁_map}
-use Rattle.kahn_net.specs.Approximations.{approximation}
-use Rattle.kahn_net.specs.Streams.{history_of, IsPrefix}
-use Rattle.kahn_net.specs.Syntax.{Network}
-use Rattle.kahn_net.specs.declared.limits.TheConstants.{MAX_COUNT}
-use Rattle.kahn_net.specs.declared.program.Channel.{Channel}
-use Rattle.retained.specs.LogState.{LogState}
-use Rattle.record.specs.Ends.{log_of, received_of}
-use Rattle.record.specs.ImageView.{ImageView}
-use Rattle.record.specs.Moves.{with_epoch, without_own}
-use Rattle.record.specs.RecordView.{RecordView}
-use Rattle.protocol.specs.Node.GoingBack.{handled, handled_at, gone_back, noting_undone, set_back_to}
-use Rattle.protocol.specs.Node.Granting.{first_log, inbox_log, is_process, items_by, items_from, next_items}
-use Rattle.protocol.specs.Node.JobView.{JobView}
-use Rattle.protocol.specs.Node.Modes.{next_number}
-use Rattle.protocol.specs.Node.NodeView.{Runs, RunningView, RunningNode, running_node}
-use Rattle.protocol.specs.Node.Plans.{putting}
-use Rattle.protocol.specs.Node.Reached.{IsJobOf, LinksAreLaidOut, InboxIsSound, InboxesStand, InboxStands}
+use Rattle.protocol.specs.Node.Common.{approximation, history_of, IsPrefix, Network, MAX_COUNT, Channel, LogState}
+use Rattle.protocol.specs.Node.Common.{log_of, received_of, ImageView, with_epoch, RecordView, handled, noting_undone}
+use Rattle.protocol.specs.Node.Common.{set_back_to, first_log, inbox_log, is_process, items_from, next_items, JobView}
+use Rattle.protocol.specs.Node.Common.{next_number, Runs, RunningView, RunningNode, running_node, putting, IsJobOf}
+use Rattle.protocol.specs.Node.Common.{LinksAreLaidOut, InboxIsSound, InboxesStand, InboxStands}
+use Rattle.record.specs.Moves.{without_own}
+use Rattle.protocol.specs.Node.GoingBack.{handled_at, gone_back}
+use Rattle.protocol.specs.Node.Granting.{items_by}
 use Rattle.protocol_laws.specs.Node.ImageLaws.{map_got, map_keeps}
 use Rattle.protocol_laws.specs.Node.RestoreLaws.{set_back_begin}
-use Rattle.protocol.specs.World.Invariant.{outputs_of, RunsSoundly, StationInvariant}
-use Rattle.protocol.specs.World.OutputView.{OutputView}
-use Rattle.protocol.specs.World.RecordSound.{RecordIsSound}
-use Rattle.protocol.specs.World.Sound.{HasCome}
-use Rattle.protocol.specs.World.StationView.{StationView}
+use Rattle.protocol.specs.World.Common.{outputs_of, RunsSoundly, StationInvariant, OutputView, RecordIsSound, HasCome}
+use Rattle.protocol.specs.World.Common.{StationView}
 use Rattle.protocol_laws.specs.World.MoveLaws.{changed_from, node_keeps}
 use Rattle.protocol_laws.specs.World.OrderLaws.{behind_itself}
 use Rattle.protocol_laws.specs.World.PlanLaws.{ProspectKeeps, runs_at}

@@ -2,15 +2,10 @@
 -- `MAX_RECORD_BYTES`.
 use Rattle.std.proofs.Common.{ℕ, ℤ, List}
 use Rattle.std.proofs.Math.Logic.{∥∥₁_map}
-use Rattle.kahn_net.specs.Syntax.{Network}
-use Rattle.kahn_net.specs.Valid.{IsValid}
+use Rattle.protocol.specs.Node.Common.{Network, IsValid, MAX_RETAINED_ITEMS, RunningNode, with_tentative}
 use Rattle.ckpt_codec.specs.SizeLaws.{IsRecordWithin, within_tentative}
-use Rattle.ckpt_codec.specs.declared.lengths.TheConstants.{MAX_RETAINED_ITEMS}
-use Rattle.protocol.specs.Node.NodeView.{RunningNode}
 use Rattle.protocol_laws.specs.Node.SizeLaws.{current_within}
-use Rattle.record.specs.Moves.{with_tentative}
-use Rattle.protocol.specs.World.OutputView.{OutputView}
-use Rattle.protocol.specs.World.Sound.{IsSound}
+use Rattle.protocol.specs.World.Common.{OutputView, IsSound}
 
 module _ (net : Network) (inputs : List (List ℤ)) (valid : IsValid net) where
   -- the record of a node that runs with what it has now, as an image of whatever instance

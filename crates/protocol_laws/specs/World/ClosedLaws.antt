@@ -10,14 +10,10 @@ use Rattle.std.proofs.lemmas.List.Sorted.{IsPermutation-map, sum_by-IsPermutatio
 use Rattle.std.proofs.lemmas.List.Recursion.{is_sum_by}
 use Rattle.std.proofs.lemmas.List.Sums.{sum_by-append}
 use Rattle.std.proofs.lemmas.Option.{slice_get_cases, slice_get_within}
-use Rattle.kahn_net.specs.Syntax.{Network}
-use Rattle.kahn_net.specs.declared.program.Channel.{Channel}
-use Rattle.kahn_net.specs.declared.program.Port.{Port}
-use Rattle.kahn_net.specs.declared.program.Port.TheVariants.{Outside, Process}
-use Rattle.protocol.specs.Node.Layout.{numbers_where, port_on}
-use Rattle.protocol.specs.World.Invariant.{WorldInvariant}
-use Rattle.protocol.specs.World.Sound.{goes_outside, is_output, leaves_from, output_channels, outputs_on}
-use Rattle.protocol.specs.World.Steps.{WorldView}
+use Rattle.protocol.specs.Node.Common.{Network, Channel, Port, Outside, Process, numbers_where, port_on}
+use Rattle.protocol.specs.World.Common.{WorldInvariant, goes_outside, is_output, output_channels, outputs_on}
+use Rattle.protocol.specs.World.Common.{WorldView}
+use Rattle.protocol.specs.World.Sound.{leaves_from}
 use Rattle.protocol_laws.specs.World.OutputLaws.{output_once}
 use Rattle.protocol_laws.specs.World.ShownLaws.{output_shown}
 

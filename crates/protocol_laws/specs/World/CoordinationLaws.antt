@@ -8,43 +8,34 @@ use Rattle.std.proofs.Math.Logic.{∥∥₁_elim, ∥∥₁_map, ∥∥₁_map�
 use Rattle.std.proofs.lemmas.Option.{slice_get_within}
 use Rattle.datagram.proofs.Exactness.{whole_again}
 use Rattle.datagram.specs.Reading.{whole_at}
-use Rattle.datagram.specs.declared.packet.Body.{Body}
+use Rattle.protocol.specs.Node.Common.{Body, Network, IsValid, RecordView, are_nodes, names_run, producer_node}
+use Rattle.protocol.specs.Node.Common.{is_outgoing}
 use Rattle.datagram.specs.declared.packet.Body.TheVariants as says
 use Rattle.datagram.specs.declared.packet.Packet.{Packet as Datagram}
-use Rattle.kahn_net.specs.Syntax.{Network}
-use Rattle.kahn_net.specs.Valid.{IsValid}
-use Rattle.record.specs.RecordView.{RecordView}
-use Rattle.wire.specs.Traffic.{Traffic, flights_to}
-use Rattle.wire.specs.declared.queue.Flight.{Flight}
+use Rattle.protocol.specs.World.Common.{Traffic, flights_to, Flight, Image, IsCross, Net, Packet, Record, World}
+use Rattle.protocol.specs.World.Common.{Reachable, Leads, RunsOn, SaysWhatWasSent, world_seen, EventView}
+use Rattle.protocol.specs.World.Common.{WorldInvariant, net_seen, ReplyView, StationView, WorldView, IsStep}
+use Rattle.protocol.specs.World.Common.{BytesAreSound, TrafficIsSound}
 use Rattle.recovery_line.proofs.Theorems.{commits_while_held, stays_committed, holders_are_named, ended_is_over}
 use Rattle.recovery_line.proofs.Theorems.{stays_over, over_stays_out, takers_are_needed, no_smaller_set}
 use Rattle.recovery_line.proofs.Theorems.{asks_as_received, asks_for_needs, decides_for_the_needed}
 use Rattle.recovery_line.proofs.Theorems.{no_smaller_decision, runs_on, takes_where_needed}
-use Rattle.recovery_line.specs.Images.{Image, IsCross, Net}
 use Rattle.recovery_line.specs.Laws.{IsReceived, NamesTheNeeded, Needed, Wanted}
 use Rattle.recovery_line.specs.Line.{NoOrphan, Over, line_with}
-use Rattle.recovery_line.specs.Packets.{Packet, Ask, Ended}
-use Rattle.recovery_line.specs.Records.{Record, Holds}
-use Rattle.recovery_line.specs.Worlds.{InFlight, World, Reachable, Run}
-use Rattle.protocol.specs.Join.Runs.{IsInFlight, KeepRecords, Leads, RunsOn, SaysWhatWasSent, WriteAtFirst}
-use Rattle.protocol.specs.Join.Seen.{body_seen, bytes_seen, packet_seen, spelled_seen, world_seen}
+use Rattle.recovery_line.specs.Packets.{Ask, Ended}
+use Rattle.recovery_line.specs.Records.{Holds}
+use Rattle.recovery_line.specs.Worlds.{InFlight, Run}
+use Rattle.protocol.specs.Join.Runs.{IsInFlight, KeepRecords, WriteAtFirst}
+use Rattle.protocol.specs.Join.Seen.{body_seen, bytes_seen, packet_seen, spelled_seen}
 use Rattle.protocol_laws.specs.Join.Crossings.{both_true, goes_cross, producer_is}
 use Rattle.protocol_laws.specs.Join.Flown.{in_flight_was_sent}
 use Rattle.protocol_laws.specs.Join.Leading.{reached_then, records_at_end}
 use Rattle.protocol_laws.specs.Join.Lines.{FirstStep, first_step, named_there, over_here, over_there}
 use Rattle.protocol_laws.specs.Join.Whole.{runs_still}
-use Rattle.protocol.specs.Node.Addresses.{are_nodes, names_run, producer_node}
-use Rattle.protocol.specs.Node.Layout.{is_outgoing}
 use Rattle.protocol.specs.World.Coordination.{AreCoordinated, AreCoordinatedOn, AsksWereReceived, IsAsked}
 use Rattle.protocol.specs.World.Coordination.{IsCoordinated, SaysWhatIsOver, WasNeeded, WasReceived, last_of}
-use Rattle.protocol.specs.World.EventView.{EventView}
 use Rattle.protocol.specs.World.InLine.{nodes_seen}
-use Rattle.protocol.specs.World.Invariant.{WorldInvariant}
-use Rattle.protocol.specs.World.RecoveryLine.{net_seen}
-use Rattle.protocol.specs.World.ReplyView.{ReplyView}
-use Rattle.protocol.specs.World.StationView.{StationView}
-use Rattle.protocol.specs.World.Steps.{WorldView, IsStep}
-use Rattle.protocol.specs.World.Traffic.{BytesAreSound, FlightIsSound, SpellsSound, TrafficIsSound}
+use Rattle.protocol.specs.World.Traffic.{FlightIsSound, SpellsSound}
 use Rattle.protocol_laws.specs.World.StepKeeps.{step_keeps, step_runs_on}
 
 -- ---- what is wanted, whatever is in flight

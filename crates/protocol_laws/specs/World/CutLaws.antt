@@ -4,22 +4,13 @@ use Rattle.std.proofs.Common.{◌∙◌, arith}
 use Rattle.std.specs.Prelude.{slice_get}
 use Rattle.std.proofs.Math.Logic.{∥∥₁_map}
 use Rattle.std.proofs.lemmas.Bool.{ne_eqb}
-use Rattle.kahn_net.specs.Syntax.{Network}
-use Rattle.kahn_net.specs.Approximations.{approximation}
-use Rattle.kahn_net.specs.declared.program.Channel.{Channel}
-use Rattle.kahn_net.specs.declared.program.Port.TheVariants.{Outside}
-use Rattle.record.specs.Changes.{trimmed_image}
-use Rattle.record.specs.Ends.{base_in, base_of, log_at}
-use Rattle.record.specs.declared.image.End.{End}
-use Rattle.recovery_line.specs.Images.{IsCross}
-use Rattle.protocol.specs.Node.Layout.{consumer_of, is_node, node_at, port_on, producer_of}
-use Rattle.protocol.specs.Node.NodeView.{RunningNode}
+use Rattle.protocol.specs.Node.Common.{Network, approximation, Channel, Outside, trimmed_image, base_in, base_of}
+use Rattle.protocol.specs.Node.Common.{log_at, End, consumer_of, port_on, producer_of, RunningNode}
+use Rattle.protocol.specs.World.Common.{IsCross, OutputView, net_seen, HasCome, IsSound}
+use Rattle.protocol.specs.Node.Layout.{is_node, node_at}
 use Rattle.protocol.specs.Node.Trimming.{with_current}
 use Rattle.protocol_laws.specs.Node.TrimLaws.{laid_out_trimmed, links_trimmed, counts_trimmed, logs_trimmed, job_trimmed}
 use Rattle.protocol_laws.specs.Node.TrimLaws.{image_trimmed, end_elsewhere}
-use Rattle.protocol.specs.World.OutputView.{OutputView}
-use Rattle.protocol.specs.World.RecoveryLine.{net_seen}
-use Rattle.protocol.specs.World.Sound.{HasCome, IsSound}
 use Rattle.protocol_laws.specs.World.OutputLaws.{output_here}
 
 -- a channel of the network whose items a process of another node gets

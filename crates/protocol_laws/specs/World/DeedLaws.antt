@@ -9,43 +9,30 @@ use Rattle.std.proofs.lemmas.List.Elements.{All-nil}
 use mathlib.Core.HLevel.{⊥_prop}
 use Rattle.datagram.proofs.Exactness.{whole_again}
 use Rattle.datagram.specs.Reading.{whole_at}
-use Rattle.datagram.specs.declared.packet.Packet.{Packet}
-use Rattle.kahn_net.specs.Syntax.{Network}
-use Rattle.kahn_net.specs.declared.limits.TheConstants.{MAX_COUNT}
-use Rattle.record.specs.Moves.{highest_seen, with_epoch}
-use Rattle.wire.specs.Queue.{is_due}
-use Rattle.wire.specs.declared.queue.Flight.{Flight}
-use Rattle.protocol.specs.Node.Addresses.{names_right, names_run}
-use Rattle.protocol.specs.Node.ArmedRestarts.{round_later, with_armed}
-use Rattle.protocol.specs.Node.Beginning.{begun, live_asks, live_in, may_start, start_prospect}
-use Rattle.protocol.specs.Node.Choosing.{grant_prospect, node_job, with_grant}
-use Rattle.protocol.specs.Node.Delivering.{delivery_of, if_right, packet_for}
-use Rattle.protocol.specs.Node.Hearing.{deliver_prospect, hear_prospect}
-use Rattle.protocol.specs.Node.JobView.{JobView}
-use Rattle.protocol.specs.Node.Modes.{crashed, is_down}
-use Rattle.protocol.specs.Node.NodeView.{Down, InDoubt, ModeView, NodeView, Runs}
-use Rattle.protocol.specs.Node.Plans.{Planned, Prospect, Undue, Exhausted, becoming, if_due, packets_by, putting}
-use Rattle.protocol.specs.Node.Plans.{unless_spent}
-use Rattle.protocol.specs.Node.Recovering.{crash_prospect, recover_prospect, restored, restored_mode}
-use Rattle.protocol.specs.Node.Sending.{IsWritable}
-use Rattle.protocol.specs.Node.Telling.{turn_packets}
-use Rattle.protocol.specs.Node.Verdicts.{decide_prospect, may_decide}
+use Rattle.protocol.specs.Node.Common.{Packet, Network, MAX_COUNT, highest_seen, with_epoch, names_right, names_run}
+use Rattle.protocol.specs.Node.Common.{round_later, with_armed, begun, live_asks, live_in, may_start, start_prospect}
+use Rattle.protocol.specs.Node.Common.{grant_prospect, node_job, with_grant, packet_for, deliver_prospect}
+use Rattle.protocol.specs.Node.Common.{hear_prospect, JobView, crashed, is_down, Down, InDoubt, ModeView, NodeView}
+use Rattle.protocol.specs.Node.Common.{Runs, Planned, Prospect, Undue, Exhausted, becoming, if_due, packets_by}
+use Rattle.protocol.specs.Node.Common.{putting, unless_spent, recover_prospect, restored, restored_mode, IsWritable}
+use Rattle.protocol.specs.Node.Common.{turn_packets, decide_prospect, may_decide}
+use Rattle.protocol.specs.World.Common.{is_due, Flight, ByNode, ByNetwork, Install, Release, back_reply}
+use Rattle.protocol.specs.World.Common.{delivery_reply, grant_reply, ReplyView, StationView, Setting, deliver_plan}
+use Rattle.protocol.specs.World.Common.{due_bytes, flight_at, plan_of, sending_of, BytesAreSound, TrafficIsSound}
+use Rattle.protocol.specs.World.Common.{IsSoundSetting, IsSoundStation}
+use Rattle.protocol.specs.Node.Delivering.{delivery_of, if_right}
+use Rattle.protocol.specs.Node.Recovering.{crash_prospect}
 use Rattle.protocol.specs.declared.outcome.Outcome.{Outcome}
 use Rattle.protocol.specs.declared.outcome.Outcome.TheVariants as outcome
 use Rattle.protocol.specs.declared.outcome.Refusal.TheVariants.{Spent, TooLarge}
-use Rattle.protocol.specs.World.EventView.{ByNode, ByNetwork, Install, Release}
 use Rattle.protocol.specs.declared.event.Deed.{Deed}
 use Rattle.protocol.specs.declared.event.Deed.TheVariants as event
 use Rattle.protocol.specs.World.InFlight.{OnlyNodesThatAreUpSend}
-use Rattle.protocol.specs.World.Replies.{back_reply, delivery_reply, grant_reply}
-use Rattle.protocol.specs.World.ReplyView.{ReplyView}
 use Rattle.protocol.specs.declared.reply.Reply.TheVariants as reply
-use Rattle.protocol.specs.World.StationView.{StationView}
-use Rattle.protocol.specs.World.Steps.{Setting, bytes_when, deliver_plan, due_bytes, flight_at, plan_of, sending_of}
-use Rattle.protocol.specs.World.Traffic.{BytesAreSound, SpellsSound, TrafficIsSound}
+use Rattle.protocol.specs.World.Steps.{bytes_when}
+use Rattle.protocol.specs.World.Traffic.{SpellsSound}
 use Rattle.protocol_laws.specs.World.HeardLaws.{hear_keeps, named_here, right_is, whole_sound}
 use Rattle.protocol_laws.specs.World.MoveLaws.{decide_keeps, start_keeps}
-use Rattle.protocol.specs.World.Invariant.{IsSoundSetting, IsSoundStation}
 use Rattle.protocol_laws.specs.World.PlanLaws.{IsSoundProspect, ProspectKeeps}
 use Rattle.protocol_laws.specs.World.PlanLaws.{back_sound}
 use Rattle.protocol_laws.specs.World.PlanLaws.{down_keeps, grant_sound, keeps_if_due, keeps_still, moved_keeps}

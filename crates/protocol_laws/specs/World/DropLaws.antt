@@ -1,22 +1,17 @@
 -- No packet that comes is dropped, where each one in flight is sound.
 use Rattle.std.proofs.Common.{◌≡◌, ⊎_elim, ℕ, Bool, true, false, List, Option, Some, None, refl, ap, subst, ◌∙◌}
 use Rattle.std.specs.Prelude.{slice_get}
-use Rattle.kahn_net.specs.Syntax.{Network}
-use Rattle.record.specs.RecordView.{RecordView}
+use Rattle.protocol.specs.Node.Common.{Network, RecordView}
 use Rattle.protocol.specs.declared.outcome.Outcome.{Outcome}
 use Rattle.protocol.specs.declared.outcome.Outcome.TheVariants as outcome
 use Rattle.protocol.specs.declared.outcome.Refusal.TheVariants.{TooLarge, Spent}
-use Rattle.protocol.specs.World.EventView.{EventView, ByNode, ByNetwork, Install, Release, event_node}
+use Rattle.protocol.specs.World.Common.{EventView, ByNode, ByNetwork, Install, Release, event_node, WorldInvariant}
+use Rattle.protocol.specs.World.Common.{act_reply, answer_by, install_reply, ReplyView, StationView, IsAct, IsActOf}
+use Rattle.protocol.specs.World.Common.{IsRelease, IsStationStep, Setting, WorldView, deliver_plan, can_act}
+use Rattle.protocol.specs.World.Common.{due_bytes, flight_at, next_release, plan_of, setting_of, TrafficIsSound}
 use Rattle.protocol.specs.declared.event.Deed.{Deed}
 use Rattle.protocol.specs.declared.event.Deed.TheVariants as event
-use Rattle.protocol.specs.World.Invariant.{WorldInvariant}
-use Rattle.protocol.specs.World.Replies.{act_reply, answer_by, install_reply, IsDropped}
-use Rattle.protocol.specs.World.ReplyView.{ReplyView}
-use Rattle.protocol.specs.World.StationView.{StationView}
-use Rattle.protocol.specs.World.Steps.{IsAct, IsActOf, IsRelease, IsStationStep, Setting, WorldView, deliver_plan}
-use Rattle.protocol.specs.World.Steps.{can_act, due_bytes, flight_at}
-use Rattle.protocol.specs.World.Steps.{next_release, plan_of, setting_of}
-use Rattle.protocol.specs.World.Traffic.{TrafficIsSound}
+use Rattle.protocol.specs.World.Replies.{IsDropped}
 use Rattle.protocol_laws.specs.World.DeedLaws.{deed_is, is_dropped}
 
 not_so : (answer : ReplyView) → is_dropped answer ≡ false → ¬ (IsDropped answer)

@@ -7,19 +7,17 @@ use Rattle.std.proofs.lemmas.List.Elements.{All-nil, All-head, All-tail}
 use Rattle.wire.proofs.Passing.{sent_passes, repeated_passes, delayed_passes, gone_passes}
 use Rattle.wire.specs.Queue.{with_delay, with_copy}
 use Rattle.wire.specs.Rules.{fate_of}
-use Rattle.wire.specs.Traffic.{QueueTraffic, Traffic, traffic_at, flights_to, with_traffic, traffic_without}
-use Rattle.wire.specs.Traffic.{traffic_delayed, traffic_repeated, traffic_sent, all_sent, empty_queue, opening_traffic}
+use Rattle.protocol.specs.World.Common.{Traffic, flights_to, traffic_without, all_sent, opening_traffic, Flight}
+use Rattle.protocol.specs.World.Common.{NODES, Sending, EventView, ByNode, ByNetwork, Install, Release, event_node}
+use Rattle.protocol.specs.World.Common.{has_happened, StationView, Setting, plan_of, setting_of, traffic_acted}
+use Rattle.protocol.specs.World.Common.{traffic_left}
+use Rattle.wire.specs.Traffic.{QueueTraffic, traffic_at, with_traffic}
+use Rattle.wire.specs.Traffic.{traffic_delayed, traffic_repeated, traffic_sent, empty_queue}
 use Rattle.wire.specs.Wire.{nth_in}
-use Rattle.wire.specs.declared.queue.Flight.{Flight}
-use Rattle.wire.specs.declared.queue.TheConstants.{NODES}
-use Rattle.wire.specs.declared.sending.Sending.{Sending}
-use Rattle.protocol.specs.World.EventView.{EventView, ByNode, ByNetwork, Install, Release, event_node}
 use Rattle.protocol.specs.declared.event.NetworkAct.{NetworkAct}
 use Rattle.protocol.specs.declared.event.NetworkAct.TheVariants as act_is
 use Rattle.protocol.specs.World.InFlight.{AllInFlight, AllSent, EachWasSent, NothingAtFirst, NothingIsMadeUp}
-use Rattle.protocol.specs.World.Replies.{has_happened}
-use Rattle.protocol.specs.World.StationView.{StationView}
-use Rattle.protocol.specs.World.Steps.{Setting, plan_of, sendings_then, setting_of, traffic_acted, traffic_left}
+use Rattle.protocol.specs.World.Steps.{sendings_then}
 use Rattle.protocol.specs.World.Steps.{traffic_then}
 
 abbrev nothing : QueueTraffic

@@ -3,27 +3,19 @@ use Rattle.std.proofs.Common.{◌≡◌, ◌≢◌, ◌⊎◌, inl, inr, ℕ, ze
 use Rattle.std.proofs.Common.{None, refl, sym, ap, subst, ◌∙◌, arith}
 use Rattle.std.specs.Prelude.{slice_get, slice_set}
 use Rattle.std.proofs.lemmas.List.{map-set}
-use Rattle.gate_cell.specs.Whole.{Whole}
-use Rattle.kahn_net.specs.Streams.{IsPrefix}
+use Rattle.protocol.specs.Node.Common.{Whole, IsPrefix, sent_of, ImageView, IsBehind, current_log, RecordView}
 use Rattle.kahn_net.specs.Laws.Prefixes.{prefix_refl}
-use Rattle.record.specs.Ends.{sent_of}
-use Rattle.record.specs.ImageView.{ImageView}
-use Rattle.protocol.specs.Node.Starting.{IsBehind}
-use Rattle.protocol.specs.Node.Trimming.{current_log}
-use Rattle.record.specs.RecordView.{RecordView}
 use Rattle.protocol.specs.World.Covered.{AreCovered, AreCoveredSince, LeavesAsMuch, LeavesEither}
-use Rattle.protocol.specs.World.EventView.{EventView, ByNode, ByNetwork, Install, Release}
+use Rattle.protocol.specs.World.Common.{EventView, ByNode, ByNetwork, Install, Release, output_of, outputs_of}
+use Rattle.protocol.specs.World.Common.{OutputView, HasMoved, ReplyView, OutletView, StationView, IsRelease}
+use Rattle.protocol.specs.World.Common.{IsStationStep, Setting, next_release}
 use Rattle.protocol.specs.World.Growing.{EachBegins}
 use Rattle.protocol_laws.specs.World.HandedLaws.{took_or_not, took_begins}
-use Rattle.protocol.specs.World.Invariant.{output_of, outputs_of}
 use Rattle.protocol_laws.specs.World.OrderLaws.{behind_itself}
 use Rattle.protocol_laws.specs.World.OutputLaws.{map_at, set_cases}
-use Rattle.protocol.specs.World.OutputView.{OutputView}
-use Rattle.protocol.specs.World.Pairs.{HasMoved, HasGrown}
-use Rattle.protocol.specs.World.ReplyView.{ReplyView}
+use Rattle.protocol.specs.World.Pairs.{HasGrown}
 use Rattle.protocol.specs.World.RecordSound.{CoversAll}
-use Rattle.protocol.specs.World.StationView.{OutletView, StationView}
-use Rattle.protocol.specs.World.Steps.{IsRelease, IsReleaseAt, IsStationStep, Setting, next_release}
+use Rattle.protocol.specs.World.Steps.{IsReleaseAt}
 use Rattle.protocol.specs.declared.outcome.Outcome.{Outcome}
 
 -- Outputs that begin with what they had

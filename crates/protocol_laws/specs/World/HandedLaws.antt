@@ -5,31 +5,22 @@ use Rattle.std.specs.Prelude.{slice_get, nat_lt, not, ◌&&◌}
 use Rattle.std.specs.Option.{option_to_list}
 use Rattle.std.proofs.Math.Logic.{∥∥₁_map}
 use Rattle.std.proofs.lemmas.Bool.{ltb-true}
-use Rattle.kahn_net.specs.Approximations.{approximation}
-use Rattle.kahn_net.specs.Processes.{sent_on}
-use Rattle.kahn_net.specs.Streams.{history_of, IsPrefix}
+use Rattle.protocol.specs.Node.Common.{approximation, sent_on, history_of, IsPrefix, LogState, IsLogOf, Network}
+use Rattle.protocol.specs.Node.Common.{sent_of, RecordView, ModeView, Down, InDoubt, Runs, running_node, running_in}
+use Rattle.protocol.specs.Node.Common.{is_running, HasNext, TookNext, current_log, acts_of, HistoryReaches}
 use Rattle.kahn_net.specs.Laws.Prefixes.{prefix_of, prefix_along, prefix_refl}
-use Rattle.retained.specs.LogState.{LogState, IsLogOf, item_at}
+use Rattle.retained.specs.LogState.{item_at}
 use Rattle.outlet.specs.ReleaseLaws.{released_one}
 use Rattle.outlet.proofs.Steps.{goes_on}
-use Rattle.kahn_net.specs.Syntax.{Network}
-use Rattle.record.specs.Ends.{sent_of}
-use Rattle.record.specs.RecordView.{RecordView}
-use Rattle.protocol.specs.Node.NodeView.{ModeView, Down, InDoubt, Runs, running_node, running_in}
-use Rattle.protocol.specs.Node.Modes.{is_running}
-use Rattle.protocol.specs.Node.Trimming.{HasNext, TookNext, current_log, logged_at}
-use Rattle.protocol.specs.Node.Reached.{acts_of}
+use Rattle.protocol.specs.Node.Trimming.{logged_at}
 use Rattle.protocol_laws.specs.Node.ReleaseLaws.{acts_put_prefix}
 use Rattle.protocol_laws.specs.Node.SentLaws.{sent_stands}
-use Rattle.protocol.specs.World.Invariant.{output_of, outputs_of, StationInvariant}
-use Rattle.protocol.specs.World.OutputView.{OutputView}
-use Rattle.protocol.specs.World.RecordSound.{RecordHasCome, RecordIsSound}
-use Rattle.stream_eq.specs.Reached.{HistoryReaches}
+use Rattle.protocol.specs.World.Common.{output_of, outputs_of, StationInvariant, OutputView, RecordIsSound, ReplyView}
+use Rattle.protocol.specs.World.Common.{OutletView, StationView, first_waiting, next_release}
+use Rattle.protocol.specs.World.RecordSound.{RecordHasCome}
 use Rattle.protocol_laws.specs.World.LeaveLaws.{beginning_length, has_next}
 use Rattle.protocol_laws.specs.World.OutputLaws.{map_at, output_here}
-use Rattle.protocol.specs.World.ReplyView.{ReplyView}
-use Rattle.protocol.specs.World.StationView.{OutletView, StationView}
-use Rattle.protocol.specs.World.Steps.{has_failed_in, is_waiting, first_waiting, next_release, IsHanded}
+use Rattle.protocol.specs.World.Steps.{has_failed_in, is_waiting, IsHanded}
 
 -- The outlet that is next
 

@@ -11,44 +11,30 @@ use Rattle.std.proofs.lemmas.Bool.{ltb-true}
 use Rattle.std.proofs.lemmas.Bool.Decides.{eqb_tells}
 use Rattle.std.proofs.lemmas.List.{get_or_past, get_or-drop, length-drop, length-append}
 use Rattle.std.proofs.lemmas.Option.{slice_get_cases, slice_get_within, get_or_from_slice_get}
-use Rattle.kahn_net.specs.Streams.{history_of, IsPrefix}
-use Rattle.kahn_net.specs.Fits.{Fits}
-use Rattle.kahn_net.specs.Syntax.{Network}
-use Rattle.kahn_net.specs.Valid.{IsValid}
-use Rattle.kahn_net.specs.Approximations.{approximation, Belongs}
+use Rattle.protocol.specs.Node.Common.{history_of, IsPrefix, Fits, Network, IsValid, approximation, MAX_COUNT}
+use Rattle.protocol.specs.Node.Common.{Channel, Port, Outside, Process, LogState, log_end, items_since, log_with}
+use Rattle.protocol.specs.Node.Common.{received_of, log_of, ImageView, RecordView, Body, taking, hearing, is_process}
+use Rattle.protocol.specs.Node.Common.{next_in_log, next_items, items_from, first_log, inbox_log, source_of}
+use Rattle.protocol.specs.Node.Common.{RunningView, RunningNode, running_node, InboxIsSound, LinksAreLaidOut}
+use Rattle.protocol.specs.Node.Common.{InboxStands, AreInOrder}
+use Rattle.kahn_net.specs.Approximations.{Belongs}
 use Rattle.kahn_net.specs.Laws.Approximations.{approximations_grow}
 use Rattle.kahn_net.specs.Laws.Prefixes.{IsFollowed, prefix_of, prefix_refl, prefix_nil, prefix_along, prefix_trans}
 use Rattle.kahn_net.specs.Laws.Prefixes.{prefix_item}
-use Rattle.kahn_net.specs.declared.limits.TheConstants.{MAX_COUNT}
-use Rattle.kahn_net.specs.declared.program.Channel.{Channel}
-use Rattle.kahn_net.specs.declared.program.Port.{Port}
-use Rattle.kahn_net.specs.declared.program.Port.TheVariants.{Outside, Process}
-use Rattle.retained.specs.LogState.{LogState, log_end, items_since}
-use Rattle.record.specs.Changes.{log_with}
-use Rattle.record.specs.Ends.{received_of, log_of}
-use Rattle.record.specs.ImageView.{ImageView}
-use Rattle.record.specs.RecordView.{RecordView}
 use Rattle.window_link.specs.Windows.{received, arrival_at, window_after, advanced, with_held}
 use Rattle.window_link.specs.Laws.Arriving.{IsTaken, IsHeld, arrival_tells}
 use Rattle.window_link.specs.Laws.Holding.{holds_advanced, holds_with_held}
 use Rattle.window_link.specs.declared.receiving.Arrival.{Arrival}
 use Rattle.window_link.specs.declared.receiving.Arrival.TheVariants as arrival
 use Rattle.window_link.specs.declared.receiving.Arrival.TheVariants.{Dropped}
-use Rattle.datagram.specs.declared.packet.Body.{Body}
 use Rattle.datagram.specs.declared.packet.Body.TheVariants.{Data, Ack, Kept, Ask, Took, Covered, Refused, Query, Commit}
 use Rattle.datagram.specs.declared.packet.Body.TheVariants.{Ended, Settled, Undone}
 use Rattle.protocol.specs.Node.Popping.{has_place, items_out, popping}
-use Rattle.protocol.specs.Node.Delivering.{with_arrival, after_arrival, taking, acknowledged, put_at, changed_at}
-use Rattle.protocol.specs.Node.Delivering.{inbox_place, outbox_place, hearing}
-use Rattle.protocol.specs.Node.Granting.{is_process, next_in_log, next_items, items_from, first_log, inbox_log}
-use Rattle.protocol.specs.Node.Granting.{source_of}
-use Rattle.protocol.specs.Node.NodeView.{RunningView, RunningNode, running_node}
-use Rattle.protocol.specs.Node.Reached.{InboxIsSound, LinksAreLaidOut, InboxStands}
-use Rattle.protocol.specs.Node.Starting.{AreInOrder}
+use Rattle.protocol.specs.Node.Delivering.{with_arrival, after_arrival, acknowledged, put_at, changed_at}
+use Rattle.protocol.specs.Node.Delivering.{inbox_place, outbox_place}
 use Rattle.protocol_laws.specs.Node.PoppingLaws.{popping_sound, popping_stands}
 use Rattle.protocol_laws.specs.Node.ReachedLaws.{items_of_channel, length-items_from}
-use Rattle.protocol.specs.World.OutputView.{OutputView}
-use Rattle.protocol.specs.World.Sound.{HasCome, IsSound}
+use Rattle.protocol.specs.World.Common.{OutputView, HasCome, IsSound}
 use Rattle.protocol.specs.World.Traffic.{BodyIsSound}
 use Rattle.protocol_laws.specs.World.OutputLaws.{set_cases}
 use Rattle.protocol_laws.specs.World.TurnLaws.{come_on_next}

@@ -8,49 +8,32 @@ use Rattle.std.proofs.Math.Logic.{∥∥₁_elim, ∥∥₁_map}
 use Rattle.std.proofs.lemmas.Bool.{eqb-true, ltb-true}
 use mathlib.Core.HLevel.{⊥_prop}
 use Rattle.ckpt_codec.specs.SizeLaws.{within_permanent}
-use Rattle.ckpt_codec.specs.declared.lengths.TheConstants.{MAX_RETAINED_ITEMS}
+use Rattle.protocol.specs.Node.Common.{MAX_RETAINED_ITEMS, IsPacket, Body, Need, Packet, Fits, Network, IsValid}
+use Rattle.protocol.specs.Node.Common.{MAX_COUNT, Tentative, trimmed_image, with_confirmed, with_permanent}
+use Rattle.protocol.specs.Node.Common.{with_tentative, without_tentative, names_right, names_run, AskAnswer, Silent}
+use Rattle.protocol.specs.Node.Common.{CoveredBefore, TookBefore, TakesNow, Declines, holds, answer_to_ask}
+use Rattle.protocol.specs.Node.Common.{with_current_as, live_in, Ignores, Joins, GivesUp, answer_to_took}
+use Rattle.protocol.specs.Node.Common.{hearing_covered, refused_prospect, took_prospect, hearing, packet_for}
+use Rattle.protocol.specs.Node.Common.{PassesOver, Notes, GoesBack, noting_undone, undone_prospect, hear_prospect}
+use Rattle.protocol.specs.Node.Common.{with_kept, ModeView, Down, InDoubt, Runs, RunningView, RunningNode}
+use Rattle.protocol.specs.Node.Common.{running_node, on_running, Planned, becoming, putting, telling, cut_at}
+use Rattle.protocol.specs.Node.Common.{after_verdict, commit_prospect, ended_prospect, settled_packets}
+use Rattle.protocol.specs.Node.Common.{settled_prospect, verdict_packets}
 use Rattle.datagram.proofs.Exactness.{whole_again}
-use Rattle.datagram.specs.PacketText.{IsBody, IsPacket}
+use Rattle.datagram.specs.PacketText.{IsBody}
 use Rattle.datagram.specs.Reading.{whole_at}
-use Rattle.datagram.specs.declared.packet.Body.{Body}
 use Rattle.datagram.specs.declared.packet.Body.TheVariants as says
-use Rattle.datagram.specs.declared.packet.Need.{Need}
-use Rattle.datagram.specs.declared.packet.Packet.{Packet}
-use Rattle.kahn_net.specs.Fits.{Fits}
-use Rattle.kahn_net.specs.Syntax.{Network}
-use Rattle.kahn_net.specs.Valid.{IsValid}
-use Rattle.kahn_net.specs.declared.limits.TheConstants.{MAX_COUNT}
-use Rattle.record.specs.declared.record.Tentative.{Tentative}
 use Rattle.protocol.specs.declared.links.Inbox.{Inbox}
-use Rattle.record.specs.Changes.{trimmed_image}
-use Rattle.record.specs.Moves.{with_confirmed, with_permanent, with_tentative, without_tentative}
-use Rattle.recovery_line.specs.Observers.{names}
+use Rattle.protocol.specs.World.Common.{names, outputs_of, RunsSoundly, StationInvariant, StationView, BytesAreSound}
 use Rattle.protocol_laws.specs.Join.Crossings.{between_cross, both_true}
-use Rattle.protocol.specs.Node.Addresses.{names_right, names_run}
-use Rattle.protocol.specs.Node.Answering.{AskAnswer, Silent, CoveredBefore, TookBefore, TakesNow, Declines, holds}
-use Rattle.protocol.specs.Node.Answering.{answer_to_ask, answering, ask_prospect}
-use Rattle.protocol.specs.Node.Answering.{with_current_as}
-use Rattle.protocol.specs.Node.Beginning.{live_in}
-use Rattle.protocol.specs.Node.Collecting.{TookAnswer, Ignores, Joins, GivesUp, answer_to_took, give_up_prospect}
-use Rattle.protocol.specs.Node.Collecting.{hearing_covered, joining, loses, refused_prospect, took_by}
-use Rattle.protocol.specs.Node.Collecting.{took_prospect}
-use Rattle.protocol.specs.Node.Delivering.{IsHeard, hearing, if_right, packet_for}
-use Rattle.protocol.specs.Node.GoingBack.{PassesOver, Notes, GoesBack, answer_at, answer_with, inbox_of, noting_undone}
-use Rattle.protocol.specs.Node.GoingBack.{undone_by, undone_prospect}
-use Rattle.protocol.specs.Node.Hearing.{hear_prospect}
-use Rattle.protocol.specs.Node.Modes.{with_kept}
-use Rattle.protocol.specs.Node.NodeView.{ModeView, Down, InDoubt, Runs, RunningView, RunningNode}
-use Rattle.protocol.specs.Node.NodeView.{running_node}
-use Rattle.protocol.specs.Node.NodeView.{on_running}
-use Rattle.protocol.specs.Node.Plans.{Planned, becoming, putting, telling}
-use Rattle.protocol.specs.Node.Trimming.{cut_at}
-use Rattle.protocol.specs.Node.Verdicts.{after_verdict, commit_prospect, ended_prospect}
-use Rattle.protocol.specs.Node.Verdicts.{settled_packets}
-use Rattle.protocol.specs.Node.Verdicts.{settled_prospect, verdict_packets}
+use Rattle.protocol.specs.Node.Answering.{answering, ask_prospect}
+use Rattle.protocol.specs.Node.Collecting.{TookAnswer, give_up_prospect}
+use Rattle.protocol.specs.Node.Collecting.{joining, loses, took_by}
+use Rattle.protocol.specs.Node.Delivering.{IsHeard, if_right}
+use Rattle.protocol.specs.Node.GoingBack.{answer_at, answer_with, inbox_of}
+use Rattle.protocol.specs.Node.GoingBack.{undone_by}
 use Rattle.protocol_laws.specs.Node.TrimLaws.{behind_trimmed}
-use Rattle.protocol.specs.World.Invariant.{outputs_of, RunsSoundly, StationInvariant}
-use Rattle.protocol.specs.World.StationView.{StationView}
-use Rattle.protocol.specs.World.Traffic.{BodyIsSound, BytesAreSound}
+use Rattle.protocol.specs.World.Traffic.{BodyIsSound}
 use Rattle.protocol_laws.specs.World.CutLaws.{GoesElsewhere, cross_elsewhere, sound_cut}
 use Rattle.protocol_laws.specs.World.HearLaws.{body_known, hear_sound, order_heard}
 use Rattle.protocol_laws.specs.World.MoveLaws.{changed_from, confirmed_keeps, gives_up_keeps, node_keeps, over_keeps}

@@ -3,15 +3,10 @@ use Rattle.std.proofs.Common.{◌≡◌, ⊎_elim, ℕ, Bool, true, false, cond,
 use Rattle.std.proofs.Common.{◌∙◌}
 use Rattle.std.specs.Prelude.{slice_get, IsTrue}
 use Rattle.std.proofs.lemmas.Bool.{eqb-true}
-use Rattle.kahn_net.specs.Syntax.{Code, Network}
-use Rattle.record.specs.ProcessView.{SavedProcessView}
-use Rattle.record.specs.RecordView.{RecordView}
-use Rattle.protocol.specs.Node.Choosing.{job_at, job_of, may_grant, next_job, next_process, node_job}
-use Rattle.protocol.specs.Node.JobView.{JobView}
-use Rattle.protocol.specs.Node.Layout.{has_process, is_on}
-use Rattle.protocol.specs.Node.NodeView.{ModeView, Down, InDoubt, Runs, RunningNode, running_in, running_node}
-use Rattle.protocol.specs.Node.Reached.{IsLaidOut}
-use Rattle.protocol.specs.Node.Recovering.{restored_mode}
+use Rattle.protocol.specs.Node.Common.{Code, Network, SavedProcessView, RecordView, may_grant, next_job, node_job}
+use Rattle.protocol.specs.Node.Common.{JobView, has_process, is_on, ModeView, Down, InDoubt, Runs, RunningNode}
+use Rattle.protocol.specs.Node.Common.{running_in, running_node, IsLaidOut, restored_mode, with_epoch}
+use Rattle.protocol.specs.Node.Choosing.{job_at, job_of, next_process}
 use Rattle.protocol.specs.Node.Sharing.{retained_share}
 use Rattle.protocol_laws.specs.Node.GrantLaws.{next_within}
 use Rattle.protocol_laws.specs.Node.NumberedLaws.{where_mark}
@@ -20,18 +15,15 @@ use Rattle.protocol.specs.declared.delivery.Delivery.TheVariants as delivery
 use Rattle.protocol.specs.declared.outcome.Outcome.{Outcome}
 use Rattle.protocol.specs.declared.outcome.Outcome.TheVariants as outcome
 use Rattle.protocol.specs.declared.outcome.Refusal.TheVariants.{TooLarge, Spent}
-use Rattle.protocol.specs.World.EventView.{EventView, ByNode, ByNetwork, Install, Release, event_node, node_in}
+use Rattle.protocol.specs.World.Common.{EventView, ByNode, ByNetwork, Install, Release, event_node, node_in}
+use Rattle.protocol.specs.World.Common.{StationInvariant, WorldInvariant, act_reply, answer_by, back_reply}
+use Rattle.protocol.specs.World.Common.{delivery_reply, grant_reply, install_reply, IsGrantedAt, ReplyView}
+use Rattle.protocol.specs.World.Common.{StationView, IsActOf, IsRelease, IsStationStep, IsStep, Setting, WorldView}
+use Rattle.protocol.specs.World.Common.{deliver_plan, can_act, due_bytes, flight_at, next_release, plan_of}
+use Rattle.protocol.specs.World.Common.{setting_of}
 use Rattle.protocol.specs.declared.event.Deed.{Deed}
 use Rattle.protocol.specs.declared.event.Deed.TheVariants as event
-use Rattle.protocol.specs.World.Invariant.{StationInvariant, WorldInvariant}
-use Rattle.protocol.specs.World.Replies.{act_reply, answer_by, back_reply, delivery_reply, grant_reply, install_reply}
-use Rattle.protocol.specs.World.Replies.{IsGrantedAt}
-use Rattle.protocol.specs.World.ReplyView.{ReplyView}
 use Rattle.protocol.specs.declared.reply.Reply.TheVariants as reply
-use Rattle.protocol.specs.World.StationView.{StationView}
-use Rattle.protocol.specs.World.Steps.{IsActOf, IsRelease, IsStationStep, IsStep, Setting, WorldView, deliver_plan}
-use Rattle.protocol.specs.World.Steps.{can_act, due_bytes, flight_at, next_release, plan_of, setting_of}
-use Rattle.record.specs.Moves.{with_epoch}
 
 -- ---- the job
 

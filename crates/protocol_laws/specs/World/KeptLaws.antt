@@ -1,19 +1,11 @@
 -- Laws of what an event leaves of a station: the record that it keeps, its number, and that of its node.
 use Rattle.std.proofs.Common.{◌≡◌, ◌⊎◌, inl, inr, ℕ, Bool, true, false, List, Option, Some, None, refl, ap, ◌∙◌}
-use Rattle.kahn_net.specs.declared.program.Channel.{Channel}
-use Rattle.record.specs.RecordView.{RecordView}
-use Rattle.protocol.specs.Node.ArmedRestarts.{restart_after}
-use Rattle.protocol.specs.Node.Installing.{IsInstall}
-use Rattle.protocol.specs.Node.NodeView.{NodeView}
-use Rattle.protocol.specs.World.DoneView.{DoneView}
-use Rattle.protocol.specs.World.EventView.{EventView, ByNode, ByNetwork, Install, Release}
-use Rattle.protocol.specs.World.RecoveryLine.{next_kept}
+use Rattle.protocol.specs.Node.Common.{Channel, RecordView, restart_after, IsInstall, NodeView}
+use Rattle.protocol.specs.World.Common.{DoneView, EventView, ByNode, ByNetwork, Install, Release, next_kept}
+use Rattle.protocol.specs.World.Common.{ReplyView, StationView, IsRelease, IsStationStep, Setting, next_release}
+use Rattle.protocol.specs.World.Common.{plan_of, IsSoundSetting, IsSoundStation}
 use Rattle.protocol.specs.declared.outcome.Outcome.{Outcome}
-use Rattle.protocol.specs.World.ReplyView.{ReplyView}
-use Rattle.protocol.specs.World.StationView.{StationView}
-use Rattle.protocol.specs.World.Steps.{IsRelease, IsStationStep, Setting, next_release, plan_of}
 use Rattle.protocol_laws.specs.World.DeedLaws.{deed_sound}
-use Rattle.protocol.specs.World.Invariant.{IsSoundSetting, IsSoundStation}
 use Rattle.protocol_laws.specs.World.PlanLaws.{made_kept, next_record_node}
 
 install_kept : (channels : List Channel) (done : DoneView) (old : NodeView) (applied : Bool) (new : NodeView)

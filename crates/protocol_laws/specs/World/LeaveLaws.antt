@@ -6,28 +6,16 @@ use Rattle.std.specs.Prelude.{slice_get, slice_set}
 use Rattle.std.proofs.Math.Logic.{∥∥₁_map}
 use Rattle.std.proofs.Math.Nat.{min-le_right}
 use Rattle.std.proofs.lemmas.List.{length-take}
-use Rattle.kahn_net.specs.Syntax.{Network}
-use Rattle.kahn_net.specs.Processes.{sent_on}
-use Rattle.kahn_net.specs.Approximations.{approximation}
-use Rattle.kahn_net.specs.declared.program.Channel.{Channel}
-use Rattle.kahn_net.specs.declared.program.Port.TheVariants.{Process}
-use Rattle.retained.specs.LogState.{LogState, IsLogOf}
-use Rattle.record.specs.ImageView.{ImageView}
-use Rattle.protocol.specs.Node.NodeView.{RunningNode}
-use Rattle.record.specs.Ends.{log_of, log_at, base_in, base_of, sent_in, sent_of}
-use Rattle.record.specs.Changes.{trimmed_image}
-use Rattle.protocol.specs.Node.Layout.{port_on}
-use Rattle.protocol.specs.Node.Trimming.{with_current, HasNext}
-use Rattle.protocol.specs.Node.Reached.{acts_of}
+use Rattle.protocol.specs.Node.Common.{Network, sent_on, approximation, Channel, Process, LogState, IsLogOf}
+use Rattle.protocol.specs.Node.Common.{ImageView, RunningNode, log_of, log_at, base_in, base_of, sent_in, sent_of}
+use Rattle.protocol.specs.Node.Common.{trimmed_image, port_on, HasNext, acts_of, End, AreInOrder, IsPrefix}
+use Rattle.protocol.specs.Node.Trimming.{with_current}
 use Rattle.protocol_laws.specs.Node.TrimLaws.{laid_out_trimmed, links_trimmed, counts_trimmed, logs_trimmed, job_trimmed}
 use Rattle.protocol_laws.specs.Node.TrimLaws.{image_trimmed, base_trimmed, end_elsewhere}
 use Rattle.protocol_laws.specs.Node.ReleaseLaws.{log_stands}
-use Rattle.record.specs.declared.image.End.{End}
-use Rattle.protocol.specs.World.OutputView.{OutputView}
-use Rattle.protocol.specs.Node.Starting.{AreInOrder}
-use Rattle.protocol.specs.World.Sound.{OutputIsSound, OutputsAreSound, HasCome, IsSound}
+use Rattle.protocol.specs.World.Common.{OutputView, HasCome, IsSound}
+use Rattle.protocol.specs.World.Sound.{OutputIsSound, OutputsAreSound}
 use Rattle.protocol_laws.specs.World.OutputLaws.{IsOutputOf, output_here, set_cases, set_keeps, same_output}
-use Rattle.kahn_net.specs.Streams.{IsPrefix}
 
 -- Where a trimmed log begins
 

@@ -4,26 +4,21 @@ use Rattle.std.proofs.Common.{◌≡◌, ◌≢◌, ◌⊎◌, inl, inr, ℕ, ze
 use Rattle.std.proofs.Common.{Option, Some, None, refl, sym, ap, subst, ◌∙◌, arith}
 use Rattle.std.specs.Prelude.{slice_get, slice_set}
 use Rattle.std.proofs.lemmas.Bool.{eq-eqb, ne_eqb}
-use Rattle.record.specs.RecordView.{RecordView}
+use Rattle.protocol.specs.Node.Common.{RecordView, IsBehind}
 use Rattle.recovery_line.specs.Line.{NotBehind}
 use Rattle.protocol_laws.specs.Join.Leading.{set_itself}
 use Rattle.protocol_laws.specs.Join.Whole.{deeds_keep_the_line, lines_are_sound, releases_keep_the_line}
 use Rattle.protocol_laws.specs.Join.Lines.{none_other}
-use Rattle.protocol.specs.Node.Starting.{IsBehind}
-use Rattle.protocol.specs.World.EventView.{EventView, ByNode, ByNetwork, Install, Release, event_node}
+use Rattle.protocol.specs.World.Common.{EventView, ByNode, ByNetwork, Install, Release, event_node, AreSound}
+use Rattle.protocol.specs.World.Common.{IsNumbered, WorldInvariant, AreInLine, AreEither, next_kept, records_of}
+use Rattle.protocol.specs.World.Common.{records_seen, ReplyView, StationView, IsAct, IsActOf, IsStationStep, Setting}
+use Rattle.protocol.specs.World.Common.{WorldView, plan_of, setting_of, IsSoundSetting, IsSoundStation}
 use Rattle.protocol.specs.declared.event.Deed.TheVariants as event
-use Rattle.protocol.specs.World.Invariant.{AreSound, IsNumbered, WorldInvariant}
-use Rattle.protocol.specs.World.InLine.{AreInLine}
-use Rattle.protocol.specs.World.RecoveryLine.{AreEither, LinesFollow, next_for, next_kept, records_of}
-use Rattle.protocol.specs.World.RecoveryLine.{records_seen}
-use Rattle.protocol.specs.World.ReplyView.{ReplyView}
-use Rattle.protocol.specs.World.StationView.{StationView}
-use Rattle.protocol.specs.World.Steps.{IsAct, IsActOf, IsStationStep, Setting, WorldView, plan_of, setting_of}
+use Rattle.protocol.specs.World.RecoveryLine.{LinesFollow, next_for}
 use Rattle.protocol_laws.specs.World.DeedLaws.{deed_sound}
 use Rattle.protocol_laws.specs.World.KeptLaws.{step_kept}
 use Rattle.protocol_laws.specs.World.OrderLaws.{behind_itself}
 use Rattle.protocol_laws.specs.World.OutputLaws.{map_at}
-use Rattle.protocol.specs.World.Invariant.{IsSoundSetting, IsSoundStation}
 use Rattle.protocol_laws.specs.World.PlanLaws.{next_record_ahead}
 use Rattle.protocol_laws.specs.World.StepKeeps.{act_keeps, act_numbered, stands_in, world_station, world_sure}
 use Rattle.protocol.specs.declared.outcome.Outcome.{Outcome}

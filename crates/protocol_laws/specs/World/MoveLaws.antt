@@ -6,39 +6,23 @@ use Rattle.std.proofs.Common.{Some, None, refl, sym, ap, subst, ◌∙◌, arith
 use Rattle.std.specs.Prelude.{◌==◌}
 use Rattle.std.proofs.lemmas.Bool.{eqb-true}
 use Rattle.ckpt_codec.specs.SizeLaws.{IsRecordWithin, within_confirmed, within_without_tentative}
-use Rattle.ckpt_codec.specs.declared.lengths.TheConstants.{MAX_RETAINED_ITEMS}
-use Rattle.datagram.specs.declared.packet.Packet.{Packet}
-use Rattle.kahn_net.specs.Syntax.{Network}
-use Rattle.kahn_net.specs.Valid.{IsValid}
-use Rattle.kahn_net.specs.declared.limits.TheConstants.{MAX_COUNT}
-use Rattle.record.specs.DecisionView.{DecisionView}
-use Rattle.record.specs.Moves.{confirmed, highest_seen, with_confirmed, with_decision, with_tentative}
-use Rattle.record.specs.Moves.{without_tentative}
-use Rattle.record.specs.RecordView.{RecordView}
-use Rattle.record.specs.declared.record.Tentative.{Tentative}
-use Rattle.record.specs.declared.record.TheConstants.{MAX_DECISIONS}
-use Rattle.recovery_line.specs.Observers.{has_node}
-use Rattle.protocol.specs.Join.Joined.{IsJoined}
+use Rattle.protocol.specs.Node.Common.{MAX_RETAINED_ITEMS, Packet, Network, IsValid, MAX_COUNT, DecisionView}
+use Rattle.protocol.specs.Node.Common.{highest_seen, with_confirmed, with_decision, with_tentative, without_tentative}
+use Rattle.protocol.specs.Node.Common.{RecordView, Tentative, MAX_DECISIONS, holds, beginning, begun, live_in}
+use Rattle.protocol.specs.Node.Common.{may_start, collecting, numbers_where, LiveView, is_running, with_kept}
+use Rattle.protocol.specs.Node.Common.{NodeView, ModeView, Down, InDoubt, Runs, RunningView, RunningNode}
+use Rattle.protocol.specs.Node.Common.{running_node, running_in, on_mode, on_running, IsBehind, own_at, after_verdict}
+use Rattle.protocol.specs.Node.Common.{concluded, may_decide, mode_then, participants_of}
+use Rattle.record.specs.Moves.{confirmed}
+use Rattle.protocol.specs.World.Common.{has_node, IsJoined, outputs_of, RunsSoundly, StationInvariant, RecordIsSound}
+use Rattle.protocol.specs.World.Common.{StationView, moved_to}
 use Rattle.protocol_laws.specs.Join.Crossings.{both_true}
-use Rattle.protocol.specs.Node.Answering.{holds}
-use Rattle.protocol.specs.Node.Beginning.{beginning, begun, live_in, may_start}
 use Rattle.protocol.specs.Node.Collecting.{given_up}
-use Rattle.protocol.specs.Node.Beginning.{collecting}
-use Rattle.protocol.specs.Node.Layout.{numbers_where}
-use Rattle.protocol.specs.Node.LiveView.{LiveView}
-use Rattle.protocol.specs.Node.Modes.{is_running, with_kept}
-use Rattle.protocol.specs.Node.NodeView.{NodeView, ModeView, Down, InDoubt, Runs, RunningView, RunningNode}
-use Rattle.protocol.specs.Node.NodeView.{running_node}
-use Rattle.protocol.specs.Node.NodeView.{running_in, on_mode, on_running}
 use Rattle.protocol.specs.Node.Recovering.{restored_running}
-use Rattle.protocol.specs.Node.Starting.{IsBehind, own_at, with_own, with_own_now}
-use Rattle.protocol.specs.Node.Verdicts.{after_verdict, concluded, decided_now, may_decide, mode_then, participants_of}
+use Rattle.protocol.specs.Node.Starting.{with_own, with_own_now}
+use Rattle.protocol.specs.Node.Verdicts.{decided_now}
 use Rattle.protocol_laws.specs.Node.SizeLaws.{decided_within}
 use Rattle.protocol_laws.specs.Node.StepLaws.{lessened}
-use Rattle.protocol.specs.World.Invariant.{outputs_of, RunsSoundly, StationInvariant}
-use Rattle.protocol.specs.World.RecordSound.{RecordIsSound}
-use Rattle.protocol.specs.World.StationView.{StationView}
-use Rattle.protocol.specs.World.Steps.{moved_to}
 use Rattle.protocol_laws.specs.World.BoundLaws.{taken_bounded}
 use Rattle.protocol_laws.specs.World.OrderLaws.{behind_itself, order_decided, order_less, order_taken}
 use Rattle.protocol_laws.specs.World.PlanLaws.{KeepsStation, first_true, moved_keeps, restored_runs, runs_at, runs_now}

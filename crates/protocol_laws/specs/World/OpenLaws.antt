@@ -2,24 +2,19 @@
 use Rattle.std.proofs.Common.{◌≡◌, ℕ, zero, suc, ◌+◌, ◌≤◌, ◌&&◌, Bool, true, false, eqb, cond, ℤ, List, [], ◌∷◌, length}
 use Rattle.std.proofs.Common.{take, map, Some, option_map, refl, sym, ap, subst, ◌∙◌, arith}
 use Rattle.std.specs.Prelude.{slice_get, find, filter}
-use Rattle.protocol.specs.Node.Layout.{numbers_where, port_on, channel_on}
-use Rattle.kahn_net.specs.Approximations.{approximation}
-use Rattle.kahn_net.specs.Fits.{Fits}
-use Rattle.kahn_net.specs.Nodes.{node_count}
-use Rattle.kahn_net.specs.Valid.{IsValid}
-use Rattle.kahn_net.specs.Syntax.{Network}
-use Rattle.kahn_net.specs.declared.limits.TheConstants.{MAX_NODES}
-use Rattle.kahn_net.specs.declared.program.Channel.{Channel}
-use Rattle.record.specs.Ends.{log_at, base_in, base_of}
-use Rattle.protocol.specs.Node.Opening.{opening_end, opening_ends, opening_image, opening_running}
+use Rattle.protocol.specs.Node.Common.{numbers_where, port_on, approximation, Fits, node_count, IsValid, Network}
+use Rattle.protocol.specs.Node.Common.{MAX_NODES, Channel, log_at, base_in, base_of, opening_ends, opening_image}
+use Rattle.protocol.specs.Node.Common.{SavedEnd, AreInOrder, RunningNode, IsPrefix}
+use Rattle.protocol.specs.Node.Layout.{channel_on}
+use Rattle.protocol.specs.Node.Opening.{opening_end, opening_running}
 use Rattle.protocol_laws.specs.Node.ImageLaws.{map_got}
 use Rattle.protocol_laws.specs.Node.PlaceLaws.{nodes_few}
 use Rattle.protocol_laws.specs.Node.SizeLaws.{opening_within}
 use Rattle.protocol_laws.specs.Node.OpeningLaws.{reached_opening, laid_out_opening, counts_opening, logs_opening}
 use Rattle.protocol_laws.specs.Node.OpeningLaws.{links_opening, inboxes_opening}
-use Rattle.record.specs.declared.image.SavedEnd.{SavedEnd}
-use Rattle.protocol.specs.Node.Starting.{AreInOrder}
-use Rattle.protocol.specs.World.Invariant.{output_of, outputs_of, RunsSoundly, StationInvariant, WorldInvariant}
+use Rattle.protocol.specs.World.Common.{output_of, outputs_of, RunsSoundly, StationInvariant, WorldInvariant}
+use Rattle.protocol.specs.World.Common.{opening_world, OutputView, OutletView, StationView, goes_outside, is_output}
+use Rattle.protocol.specs.World.Common.{output_channels, outputs_on, HasCome, IsSound}
 use Rattle.protocol_laws.specs.World.OrderLaws.{behind_itself}
 use Rattle.protocol_laws.specs.World.OutputLaws.{map_at}
 use Rattle.protocol_laws.specs.Join.Lasting.{opening_is_joined}
@@ -27,13 +22,8 @@ use Rattle.protocol_laws.specs.Join.Whole.{opening_has_run}
 use Rattle.protocol.specs.World.RecordSound.{ImageIsSound}
 use Rattle.protocol_laws.specs.World.TrafficLaws.{traffic_opened}
 use Rattle.protocol_laws.specs.World.RecordLaws.{record_of}
-use Rattle.protocol.specs.Node.NodeView.{RunningNode}
-use Rattle.protocol.specs.World.OpeningWorld.{opening_outlet, outlets_on, opening_station, stations_from, opening_world}
-use Rattle.protocol.specs.World.OutputView.{OutputView}
-use Rattle.protocol.specs.World.StationView.{OutletView, StationView}
-use Rattle.protocol.specs.World.Sound.{goes_outside, leaves_from, is_output, output_channels, outputs_on, HasCome}
-use Rattle.protocol.specs.World.Sound.{IsSound}
-use Rattle.kahn_net.specs.Streams.{IsPrefix}
+use Rattle.protocol.specs.World.OpeningWorld.{opening_outlet, outlets_on, opening_station, stations_from}
+use Rattle.protocol.specs.World.Sound.{leaves_from}
 
 -- nothing has left of any output
 abbrev pub NothingLeft : List OutputView → Type 0

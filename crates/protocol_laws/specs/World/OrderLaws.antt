@@ -1,14 +1,9 @@
 -- The images of a node stay one after another.
 use Rattle.std.proofs.Common.{◌≡◌, ℕ, List, Option, Some, None, refl, subst, arith}
-use Rattle.record.specs.DecisionView.{DecisionView}
-use Rattle.record.specs.ImageView.{ImageView}
-use Rattle.record.specs.RecordView.{RecordView}
-use Rattle.record.specs.declared.record.Tentative.{Tentative}
-use Rattle.protocol.specs.Node.JobView.{JobView}
-use Rattle.protocol.specs.Node.NodeView.{RunningNode}
+use Rattle.protocol.specs.Node.Common.{DecisionView, ImageView, RecordView, Tentative, JobView, RunningNode}
+use Rattle.protocol.specs.Node.Common.{with_decision, with_tentative, AreInOrder, IsBehind}
 use Rattle.protocol.specs.Node.Choosing.{after_grant}
-use Rattle.record.specs.Moves.{last_image, with_decision, with_tentative}
-use Rattle.protocol.specs.Node.Starting.{AreInOrder, IsBehind}
+use Rattle.record.specs.Moves.{last_image}
 use Rattle.protocol_laws.specs.Node.StepLaws.{lessened}
 
 -- Images

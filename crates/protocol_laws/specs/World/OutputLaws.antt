@@ -4,14 +4,10 @@ use Rattle.std.proofs.Common.{◌≡◌, ◌≢◌, ◌⊎◌, inl, inr, ℕ, ze
 use Rattle.std.proofs.Common.{length, map, Option, Some, None, refl, sym, ap, ◌∙◌, arith}
 use Rattle.std.specs.Prelude.{slice_get, slice_set, IsTrue}
 use Rattle.std.proofs.lemmas.Bool.{and_parts, eqb-true}
-use Rattle.kahn_net.specs.Syntax.{Code, Network}
-use Rattle.kahn_net.specs.declared.program.Channel.{Channel}
-use Rattle.kahn_net.specs.declared.program.Port.{Port}
-use Rattle.kahn_net.specs.declared.program.Port.TheVariants.{Outside, Process}
-use Rattle.protocol.specs.Node.Layout.{is_on, has_process, port_on}
+use Rattle.protocol.specs.Node.Common.{Code, Network, Channel, Port, Outside, Process, is_on, has_process, port_on}
 use Rattle.protocol_laws.specs.Node.NumberedLaws.{where_mark, where_once}
-use Rattle.protocol.specs.World.OutputView.{OutputView}
-use Rattle.protocol.specs.World.Sound.{goes_outside, leaves_from, is_output, output_channels, outputs_on}
+use Rattle.protocol.specs.World.Common.{OutputView, goes_outside, is_output, output_channels, outputs_on}
+use Rattle.protocol.specs.World.Sound.{leaves_from}
 
 -- The numbers of the outputs' channels
 

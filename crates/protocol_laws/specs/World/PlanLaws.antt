@@ -3,36 +3,23 @@ use Rattle.std.proofs.Common.{◌≡◌, ◌⊎◌, inl, inr, ⊎_elim, ℕ, ◌
 use Rattle.std.proofs.Common.{Some}
 use Rattle.std.proofs.Common.{None, refl, sym, ap, subst, ◌∙◌, All}
 use Rattle.std.proofs.lemmas.List.Elements.{All-nil}
-use Rattle.kahn_net.specs.Fits.{Fits}
-use Rattle.kahn_net.specs.Syntax.{Network}
-use Rattle.kahn_net.specs.Valid.{IsValid}
-use Rattle.kahn_net.specs.declared.limits.TheConstants.{MAX_COUNT}
-use Rattle.datagram.specs.declared.packet.Packet.{Packet}
-use Rattle.record.specs.Moves.{with_epoch}
-use Rattle.record.specs.RecordView.{RecordView}
-use Rattle.record.specs.declared.record.Tentative.{Tentative}
-use Rattle.protocol.specs.Node.JobView.{JobView}
-use Rattle.protocol.specs.Node.NodeView.{NodeView, ModeView, Down, InDoubt, Runs, RunningView, RunningNode}
-use Rattle.protocol.specs.Node.NodeView.{running_node, running_in, running_of, on_mode}
-use Rattle.protocol.specs.Node.Plans.{Plan, Prospect, Undue, Exhausted, Planned, becoming, if_due, unless_spent}
-use Rattle.protocol.specs.Node.Plans.{HasFailedAt, IsCarriedOut, IsHeldUp, IsMade, next_record, plan_record}
-use Rattle.protocol.specs.Node.Recovering.{restored, restored_running, restored_with}
+use Rattle.protocol.specs.Node.Common.{Fits, Network, IsValid, MAX_COUNT, Packet, with_epoch, RecordView, Tentative}
+use Rattle.protocol.specs.Node.Common.{JobView, NodeView, ModeView, Down, InDoubt, Runs, RunningView, RunningNode}
+use Rattle.protocol.specs.Node.Common.{running_node, running_in, running_of, on_mode, Plan, Prospect, Undue}
+use Rattle.protocol.specs.Node.Common.{Exhausted, Planned, becoming, if_due, unless_spent, IsCarriedOut, IsMade}
+use Rattle.protocol.specs.Node.Common.{next_record, restored, node_count, granted, grant_prospect, next_job, node_job}
+use Rattle.protocol.specs.Node.Common.{with_grant, crashed, is_running, with_kept, IsBehind}
+use Rattle.protocol.specs.Node.Plans.{HasFailedAt, IsHeldUp, plan_record}
+use Rattle.protocol.specs.Node.Recovering.{restored_running, restored_with}
 use Rattle.protocol_laws.specs.Node.RestoreLaws.{restored_begin}
 use Rattle.protocol.specs.declared.outcome.Outcome.{Outcome}
 use Rattle.protocol.specs.declared.outcome.Outcome.TheVariants as outcome
 use Rattle.protocol.specs.declared.outcome.Refusal.TheVariants.{TooLarge, Spent}
 use Rattle.protocol.specs.declared.round_turns.RoundTurns.{RoundTurns}
-use Rattle.protocol.specs.World.Invariant.{outputs_of, IsSoundSetting, IsSoundStation, RunsSoundly, StationInvariant}
-use Rattle.protocol.specs.World.OutputView.{OutputView}
-use Rattle.protocol.specs.World.RecordSound.{RecordIsSound}
-use Rattle.protocol.specs.World.StationView.{StationView}
-use Rattle.protocol.specs.World.Steps.{Setting, moved_to}
-use Rattle.kahn_net.specs.Nodes.{node_count}
-use Rattle.protocol.specs.Node.Choosing.{after_grant, granted, grant_prospect, job_at, next_job, node_job, with_grant}
-use Rattle.protocol.specs.Node.Modes.{crashed, is_running, with_kept}
-use Rattle.protocol.specs.Node.Starting.{IsBehind}
-use Rattle.protocol.specs.Join.Joined.{IsJoined}
-use Rattle.protocol.specs.World.Traffic.{TrafficIsSound}
+use Rattle.protocol.specs.World.Common.{outputs_of, IsSoundSetting, IsSoundStation, RunsSoundly, StationInvariant}
+use Rattle.protocol.specs.World.Common.{OutputView, RecordIsSound, StationView, Setting, moved_to, IsJoined}
+use Rattle.protocol.specs.World.Common.{TrafficIsSound}
+use Rattle.protocol.specs.Node.Choosing.{after_grant, job_at}
 use Rattle.protocol_laws.specs.Join.Sayable.{ProspectSays}
 use Rattle.protocol_laws.specs.Join.Spelled.{all_sendable}
 use Rattle.protocol_laws.specs.World.OrderLaws.{behind_itself, order_granted}

@@ -1,23 +1,15 @@
 -- What has left a world is a prefix of each channel's history, in one approximation.
 use Rattle.std.proofs.Common.{◌≡◌, ℕ, zero, suc, ◌+◌, ◌≤◌, ℤ, List, [], ◌∷◌, refl, subst, arith}
 use Rattle.std.proofs.Math.Logic.{∥∥₁_map, ∥∥₁_map₂}
-use Rattle.kahn_net.specs.Streams.{history_of}
-use Rattle.kahn_net.specs.Fits.{Fits}
-use Rattle.kahn_net.specs.Valid.{IsValid}
-use Rattle.kahn_net.specs.Syntax.{Network}
-use Rattle.kahn_net.specs.Processes.{sent_on}
-use Rattle.kahn_net.specs.Approximations.{approximation}
+use Rattle.protocol.specs.Node.Common.{history_of, Fits, IsValid, Network, sent_on, approximation, RecordView}
+use Rattle.protocol.specs.Node.Common.{acts_of}
 use Rattle.kahn_net.specs.Laws.Approximations.{approximations_grow}
 use Rattle.kahn_net.specs.Laws.Prefixes.{prefix_trans}
-use Rattle.record.specs.RecordView.{RecordView}
-use Rattle.protocol.specs.Node.Reached.{acts_of}
 use Rattle.protocol_laws.specs.Node.ReleaseLaws.{acts_put_prefix}
-use Rattle.protocol.specs.World.Headline.{AreWithin, AreAllWithin, AreApproximated}
-use Rattle.protocol.specs.World.Invariant.{outputs_of, AreSound, WorldInvariant}
-use Rattle.protocol.specs.World.OutputView.{OutputView}
-use Rattle.protocol.specs.World.RecordSound.{RecordHasCome, RecordIsSound}
-use Rattle.protocol.specs.World.StationView.{StationView}
-use Rattle.protocol.specs.World.Steps.{WorldView}
+use Rattle.protocol.specs.World.Common.{AreApproximated, outputs_of, AreSound, WorldInvariant, OutputView}
+use Rattle.protocol.specs.World.Common.{RecordIsSound, StationView, WorldView}
+use Rattle.protocol.specs.World.Headline.{AreWithin, AreAllWithin}
+use Rattle.protocol.specs.World.RecordSound.{RecordHasCome}
 use Rattle.protocol_laws.specs.World.OutputLaws.{output_here}
 
 module _ (net : Network) (inputs : List (List ℤ)) (kept : RecordView) (outputs : List OutputView) where

@@ -8,15 +8,16 @@ use Rattle.std.proofs.Math.Nat.{min-eq_left}
 use Rattle.std.proofs.lemmas.Bool.{and_parts, eq-eqb, eqb-true, leb-true}
 use Rattle.std.proofs.lemmas.List.{take-append-le, length-append}
 use Rattle.std.proofs.lemmas.Option.{slice_get_cases, slice_get_within}
-use Rattle.kahn_net.specs.Streams.{history_of, IsPrefix, ArePrefixes}
-use Rattle.kahn_net.specs.Fits.{Fits}
-use Rattle.kahn_net.specs.Nodes.{node_count}
-use Rattle.kahn_net.specs.Syntax.{Code, Network}
-use Rattle.kahn_net.specs.Valid.{IsValid, code_gets}
-use Rattle.kahn_net.specs.Statements.{Step}
-use Rattle.kahn_net.specs.Processes.{StandsAt, HasPassingLoop, process_trace, sent_on, got_on}
+use Rattle.protocol.specs.Node.Common.{history_of, IsPrefix, Fits, node_count, Code, Network, IsValid, Step, StandsAt}
+use Rattle.protocol.specs.Node.Common.{process_trace, sent_on, got_on, approximation, Channel, Port, Outside, Process}
+use Rattle.protocol.specs.Node.Common.{SavedProcessView, ImageView, RecordView, ModeView, Down, InDoubt, Runs}
+use Rattle.protocol.specs.Node.Common.{RunningNode, running_node, running_in, running_of, received_of, sent_of}
+use Rattle.protocol.specs.Node.Common.{SavedEnd, is_none, first_acts, is_on, has_process}
+use Rattle.kahn_net.specs.Streams.{ArePrefixes}
+use Rattle.kahn_net.specs.Valid.{code_gets}
+use Rattle.kahn_net.specs.Processes.{HasPassingLoop}
 use Rattle.kahn_net.specs.Resuming.{left_after}
-use Rattle.kahn_net.specs.Approximations.{approximation, IsReached}
+use Rattle.kahn_net.specs.Approximations.{IsReached}
 use Rattle.kahn_net.specs.Laws.Approximations.{next_histories_past, approximation_grows}
 use Rattle.kahn_net.specs.Laws.Prefixes.{prefix_refl, prefix_nil, prefix_along}
 use Rattle.kahn_net.specs.Laws.Streams.{longer_process, stands_on}
@@ -25,20 +26,7 @@ use Rattle.kahn_net.specs.NextActs.{Next, Begins, Gets, Puts, NoNext, next_of}
 use Rattle.kahn_net.specs.Laws.Rests.{IsStuck, acts_at_rest}
 use Rattle.kahn_net.specs.Laws.Fixpoints.{put_so_far, put_by_now, put_by_now-at, put_by_now_past, prefix_whole}
 use Rattle.kahn_net.specs.Laws.Fixpoints.{settled_is_reached, settled_rests}
-use Rattle.kahn_net.specs.declared.program.Channel.{Channel}
-use Rattle.kahn_net.specs.declared.program.Port.{Port}
-use Rattle.kahn_net.specs.declared.program.Port.TheVariants.{Outside, Process}
-use Rattle.record.specs.ProcessView.{SavedProcessView}
-use Rattle.record.specs.ImageView.{ImageView}
-use Rattle.record.specs.RecordView.{RecordView}
-use Rattle.protocol.specs.Node.NodeView.{ModeView, Down, InDoubt, Runs, RunningNode, running_node, running_in}
-use Rattle.protocol.specs.Node.NodeView.{running_of}
-use Rattle.record.specs.Ends.{received_of, sent_of}
-use Rattle.record.specs.declared.image.SavedEnd.{SavedEnd}
 use Rattle.protocol.specs.Node.Choosing.{next_at}
-use Rattle.protocol.specs.Node.Modes.{is_none}
-use Rattle.protocol.specs.Node.Reached.{first_acts}
-use Rattle.protocol.specs.Node.Layout.{is_on, has_process}
 use Rattle.protocol_laws.specs.Node.NumberedLaws.{where_there}
 use Rattle.protocol_laws.specs.Node.PlaceLaws.{node_below}
 use Rattle.protocol_laws.specs.Node.InnerLaws.{end_there, consumer_on, outer_within}
@@ -47,15 +35,12 @@ use Rattle.protocol_laws.specs.Node.ReachedLaws.{input_stays, received_stands}
 use Rattle.protocol_laws.specs.Node.ReleaseLaws.{acts_put_prefix}
 use Rattle.protocol_laws.specs.Node.SentLaws.{sent_stands}
 use Rattle.std.specs.List.{list_all}
-use Rattle.protocol.specs.World.Invariant.{outputs_of, AreSound, IsNumbered, StationInvariant, WorldInvariant}
-use Rattle.protocol.specs.World.OutputView.{OutputView}
-use Rattle.protocol.specs.World.StationView.{StationView}
-use Rattle.protocol.specs.World.Steps.{WorldView}
-use Rattle.protocol.specs.World.Sound.{HasCome, IsSound}
+use Rattle.protocol.specs.World.Common.{outputs_of, AreSound, IsNumbered, StationInvariant, WorldInvariant}
+use Rattle.protocol.specs.World.Common.{OutputView, StationView, WorldView, HasCome, IsSound, are_quiet}
 use Rattle.protocol_laws.specs.World.OutputLaws.{IsOutputOf, output_here}
 use Rattle.protocol.specs.World.Quiet.{sent_by, sent_at, put_on_by, got_all, has_got_all, can_rest, is_at_rest}
 use Rattle.protocol.specs.World.Quiet.{are_at_rest, was_put, has_been_put, have_been_put, have_all_left, is_quiet}
-use Rattle.protocol.specs.World.Quiet.{is_quiet_at, is_quiet_of, is_node_quiet, are_quiet, AreAll, AreWhole}
+use Rattle.protocol.specs.World.Quiet.{is_quiet_at, is_quiet_of, is_node_quiet, AreAll, AreWhole}
 
 -- What the tests say
 

@@ -5,32 +5,19 @@ use Rattle.std.proofs.Common.{length, map, take, Option, Some, None, refl, sym, 
 use Rattle.std.specs.Prelude.{slice_get}
 use Rattle.std.proofs.Math.Logic.{∥∥₁_map}
 use Rattle.std.proofs.lemmas.List.{take-take}
-use Rattle.kahn_net.specs.declared.limits.TheConstants.{MAX_COUNT}
-use Rattle.kahn_net.specs.Streams.{IsPrefix}
-use Rattle.kahn_net.specs.Syntax.{Network}
-use Rattle.kahn_net.specs.Processes.{sent_on}
-use Rattle.kahn_net.specs.Approximations.{approximation}
+use Rattle.protocol.specs.Node.Common.{MAX_COUNT, IsPrefix, Network, sent_on, approximation, sent_of, ImageView}
+use Rattle.protocol.specs.Node.Common.{RecordView, DecisionView, with_decision, with_epoch, with_tentative, Tentative}
+use Rattle.protocol.specs.Node.Common.{MAX_RETAINED_ITEMS, RunningNode, ImageStands, acts_of, AreInOrder, IsBehind}
 use Rattle.kahn_net.specs.Laws.Prefixes.{prefix_trans}
-use Rattle.record.specs.Ends.{sent_of}
-use Rattle.record.specs.ImageView.{ImageView}
-use Rattle.record.specs.RecordView.{RecordView}
-use Rattle.record.specs.DecisionView.{DecisionView}
-use Rattle.record.specs.Moves.{last_image, with_decision, with_epoch, with_tentative, without_own}
-use Rattle.record.specs.declared.record.Tentative.{Tentative}
+use Rattle.record.specs.Moves.{last_image, without_own}
 use Rattle.ckpt_codec.specs.SizeLaws.{IsRecordWithin, within_epoch}
-use Rattle.ckpt_codec.specs.declared.lengths.TheConstants.{MAX_RETAINED_ITEMS}
-use Rattle.protocol.specs.Node.NodeView.{RunningNode}
-use Rattle.protocol.specs.Node.Reached.{ImageStands, acts_of}
 use Rattle.protocol_laws.specs.Node.ReleaseLaws.{acts_grow}
 use Rattle.protocol_laws.specs.Node.SentLaws.{sent_stands}
 use Rattle.protocol_laws.specs.Node.RestoreLaws.{BeginAnew, anew_node, inboxes_anew, links_anew}
 use Rattle.protocol_laws.specs.Node.StepLaws.{lessened}
-use Rattle.protocol.specs.Node.Starting.{AreInOrder, IsBehind}
 use Rattle.protocol_laws.specs.World.OrderLaws.{behind_itself}
-use Rattle.protocol.specs.World.Invariant.{RunsSoundly}
-use Rattle.protocol.specs.World.OutputView.{OutputView}
-use Rattle.protocol.specs.World.RecordSound.{ImageIsSound, RecordHasCome, RecordIsSound}
-use Rattle.protocol.specs.World.Sound.{outputs_on, HasCome, IsSound}
+use Rattle.protocol.specs.World.Common.{RunsSoundly, OutputView, RecordIsSound, outputs_on, HasCome, IsSound}
+use Rattle.protocol.specs.World.RecordSound.{ImageIsSound, RecordHasCome}
 use Rattle.protocol_laws.specs.World.OutputLaws.{output_from}
 use Rattle.protocol.specs.declared.links.Inbox.{Inbox}
 use Rattle.protocol.specs.declared.links.Outbox.{Outbox}

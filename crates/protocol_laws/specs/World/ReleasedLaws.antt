@@ -6,17 +6,13 @@ use Rattle.std.specs.Prelude.{slice_get, find}
 use Rattle.std.proofs.Math.Logic.{∥∥₁_map}
 use Rattle.std.proofs.lemmas.Bool.Decides.{eqb_tells}
 use Rattle.std.proofs.lemmas.Option.{slice_get_cases}
-use Rattle.kahn_net.specs.Streams.{history_of, IsPrefix}
-use Rattle.kahn_net.specs.Approximations.{approximation}
+use Rattle.protocol.specs.Node.Common.{history_of, IsPrefix, approximation, Channel, sent_of}
 use Rattle.kahn_net.specs.Laws.Prefixes.{prefix_nil}
-use Rattle.kahn_net.specs.declared.program.Channel.{Channel}
-use Rattle.record.specs.Ends.{sent_of}
 use Rattle.protocol.specs.World.Headline.{AreAllWithin}
-use Rattle.protocol.specs.World.Invariant.{output_of, WorldInvariant}
-use Rattle.protocol.specs.World.Released.{taken_or, released_of, IsStreamOf, IsPutAtHome}
+use Rattle.protocol.specs.World.Common.{output_of, WorldInvariant, taken_or, released_of, OutletView, StationView}
+use Rattle.protocol.specs.World.Common.{WorldView}
+use Rattle.protocol.specs.World.Released.{IsStreamOf, IsPutAtHome}
 use Rattle.protocol.specs.World.Sound.{leaves_from}
-use Rattle.protocol.specs.World.StationView.{OutletView, StationView}
-use Rattle.protocol.specs.World.Steps.{WorldView}
 use Rattle.protocol_laws.specs.World.OutputLaws.{map_at}
 use Rattle.protocol_laws.specs.World.PrefixLaws.{released_prefix}
 use Rattle.protocol_laws.specs.World.ShownLaws.{shown_at}

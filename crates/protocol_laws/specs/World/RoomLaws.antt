@@ -3,42 +3,32 @@ use Rattle.std.proofs.Common.{◌≡◌, ⊎_elim, ℕ, zero, suc, ◌≤◌, Bo
 use Rattle.std.proofs.Common.{Option, Some, None, option_map, refl, sym, ap, subst, ◌∙◌, arith}
 use Rattle.std.specs.Prelude.{slice_get}
 use Rattle.std.proofs.lemmas.Bool.{le-leb}
-use Rattle.kahn_net.specs.Syntax.{Network}
-use Rattle.record.specs.RecordView.{RecordView}
-use Rattle.record.specs.declared.record.Tentative.{Tentative}
-use Rattle.ckpt_codec.specs.Lengths.{image_length, record_length, spelled_length, tentative_length}
+use Rattle.protocol.specs.Node.Common.{Network, RecordView, Tentative, image_length, MAX_RETAINED_ITEMS, fits_in}
+use Rattle.protocol.specs.Node.Common.{Packet, with_epoch, node_job, packet_for, JobView, Down, InDoubt, ModeView}
+use Rattle.protocol.specs.Node.Common.{Runs, restored_mode, Prospect, Undue, Exhausted, Planned, IsPut, room_for}
+use Rattle.ckpt_codec.specs.Lengths.{record_length, spelled_length, tentative_length}
 use Rattle.ckpt_codec.specs.SizeLaws.{IsRecordWithin, record_fits}
-use Rattle.ckpt_codec.specs.declared.lengths.TheConstants.{MAX_RECORD_BYTES, MAX_RETAINED_ITEMS}
+use Rattle.ckpt_codec.specs.declared.lengths.TheConstants.{MAX_RECORD_BYTES}
 use Rattle.ckpt_codec.specs.declared.version.TheConstants.{VERSION}
 use Rattle.ckpt_codec.proofs.Sizes.{length-record}
-use Rattle.ckpt_store.specs.Spelling.{fits_in, held_fits}
+use Rattle.ckpt_store.specs.Spelling.{held_fits}
 use Rattle.ckpt_store.proofs.Room.{fits_so}
-use Rattle.datagram.specs.declared.packet.Packet.{Packet}
-use Rattle.record.specs.Moves.{with_epoch}
-use Rattle.protocol.specs.Node.Choosing.{node_job}
-use Rattle.protocol.specs.Node.Delivering.{delivery_of, packet_for}
-use Rattle.protocol.specs.Node.JobView.{JobView}
-use Rattle.protocol.specs.Node.NodeView.{Down, InDoubt, ModeView, Runs}
-use Rattle.protocol.specs.Node.Recovering.{restored_mode}
-use Rattle.protocol.specs.Node.Plans.{Prospect, Undue, Exhausted, Planned, IsPut, room_for}
+use Rattle.protocol.specs.Node.Delivering.{delivery_of}
 use Rattle.protocol.specs.declared.outcome.Outcome.{Outcome}
 use Rattle.protocol.specs.declared.outcome.Outcome.TheVariants as outcome
 use Rattle.protocol.specs.declared.outcome.Refusal.TheVariants.{TooLarge, Spent}
-use Rattle.protocol.specs.World.EventView.{EventView, ByNode, ByNetwork, Install, Release}
+use Rattle.protocol.specs.World.Common.{EventView, ByNode, ByNetwork, Install, Release, WorldInvariant, act_reply}
+use Rattle.protocol.specs.World.Common.{answer_by, back_reply, delivery_reply, grant_reply, install_reply, ReplyView}
+use Rattle.protocol.specs.World.Common.{StationView, IsAct, IsActOf, IsRelease, IsStationStep, Setting, WorldView}
+use Rattle.protocol.specs.World.Common.{deliver_plan, can_act, due_bytes, flight_at, next_release, plan_of}
+use Rattle.protocol.specs.World.Common.{setting_of, IsSoundSetting, IsSoundStation}
 use Rattle.protocol.specs.declared.event.Deed.{Deed}
 use Rattle.protocol.specs.declared.event.Deed.TheVariants as event
-use Rattle.protocol.specs.World.Invariant.{WorldInvariant}
-use Rattle.protocol.specs.World.Replies.{act_reply, answer_by, back_reply, delivery_reply, grant_reply, install_reply}
 use Rattle.protocol.specs.World.Replies.{IsTooLarge}
-use Rattle.protocol.specs.World.ReplyView.{ReplyView, leaving}
+use Rattle.protocol.specs.World.ReplyView.{leaving}
 use Rattle.protocol.specs.declared.reply.Reply.TheVariants as reply
 use Rattle.protocol.specs.World.Roomy.{HasFullRoom}
-use Rattle.protocol.specs.World.StationView.{StationView}
-use Rattle.protocol.specs.World.Steps.{IsAct, IsActOf, IsRelease, IsStationStep, Setting, WorldView, deliver_plan}
-use Rattle.protocol.specs.World.Steps.{can_act, due_bytes, flight_at}
-use Rattle.protocol.specs.World.Steps.{next_release, plan_of, setting_of}
 use Rattle.protocol_laws.specs.World.DeedLaws.{deed_sound}
-use Rattle.protocol.specs.World.Invariant.{IsSoundSetting, IsSoundStation}
 use Rattle.protocol_laws.specs.World.PlanLaws.{IsSoundProspect}
 use Rattle.protocol_laws.specs.World.StepKeeps.{world_station, world_sure}
 

@@ -10,36 +10,23 @@ use Rattle.std.proofs.lemmas.Bool.{and_parts, eqb-true, eq-eqb, ne_eqb}
 use Rattle.std.proofs.lemmas.List.{take-append-drop}
 use Rattle.std.proofs.lemmas.List.Elements.{All-append, All-cons, All-nil}
 use Rattle.std.proofs.lemmas.Option.{slice_get_cases, slice_get_within}
-use Rattle.kahn_net.specs.Syntax.{Code, Network}
-use Rattle.kahn_net.specs.Valid.{IsValid}
-use Rattle.kahn_net.specs.Processes.{sent_on}
-use Rattle.kahn_net.specs.Approximations.{approximation, Belongs}
+use Rattle.protocol.specs.Node.Common.{Code, Network, IsValid, sent_on, approximation, MAX_CHANNELS, MAX_COUNT}
+use Rattle.protocol.specs.Node.Common.{MAX_NODES, Channel, Port, Outside, Process, LogState, IsLogOf, log_end}
+use Rattle.protocol.specs.Node.Common.{items_since, received_of, log_of, log_at, ImageView, End, Packet}
+use Rattle.protocol.specs.Node.Common.{producer_node, names_right, producer_of, consumer_of, incoming_on, is_incoming}
+use Rattle.protocol.specs.Node.Common.{is_on, is_outgoing, comes_in, port_away, port_on, RunningNode, InboxIsSound}
+use Rattle.protocol.specs.Node.Common.{LinksAreLaidOut, acts_of, inbox_packets, first_due, IsWritable, kept_packet}
+use Rattle.kahn_net.specs.Approximations.{Belongs}
 use Rattle.kahn_net.specs.Laws.Prefixes.{prefix_of, prefix_item}
-use Rattle.kahn_net.specs.declared.limits.TheConstants.{MAX_CHANNELS, MAX_COUNT, MAX_NODES}
-use Rattle.kahn_net.specs.declared.program.Channel.{Channel}
-use Rattle.kahn_net.specs.declared.program.Port.{Port}
-use Rattle.kahn_net.specs.declared.program.Port.TheVariants.{Outside, Process}
-use Rattle.retained.specs.LogState.{LogState, IsLogOf, log_end, items_since}
-use Rattle.record.specs.Ends.{received_of, log_of, log_at}
-use Rattle.record.specs.ImageView.{ImageView}
-use Rattle.record.specs.declared.image.End.{End}
 use Rattle.datagram.specs.declared.packet.Body.TheVariants.{Data, Ack, Kept}
-use Rattle.datagram.specs.declared.packet.Packet.{Packet}
-use Rattle.protocol.specs.Node.Addresses.{address, port_node, producer_node, consumer_node, ends_run, runs_between}
-use Rattle.protocol.specs.Node.Addresses.{names_right}
-use Rattle.protocol.specs.Node.Layout.{producer_of, consumer_of, incoming_on, is_incoming, is_on, is_outgoing, comes_in, goes_out}
-use Rattle.protocol.specs.Node.Layout.{port_away, port_on}
-use Rattle.protocol.specs.Node.NodeView.{RunningNode}
-use Rattle.protocol.specs.Node.Reached.{InboxIsSound, LinksAreLaidOut, acts_of}
-use Rattle.protocol.specs.Node.Sending.{inbox_packets, data_packets, first_due, items_due, log_packets, outbox_packets}
-use Rattle.protocol.specs.Node.Sending.{IsWritable}
-use Rattle.protocol.specs.Node.Telling.{kept_packet, undone_packet}
-use Rattle.protocol.specs.Join.Joined.{MayBeAskedFor}
+use Rattle.protocol.specs.Node.Addresses.{address, port_node, consumer_node, ends_run, runs_between}
+use Rattle.protocol.specs.Node.Layout.{goes_out}
+use Rattle.protocol.specs.Node.Sending.{data_packets, items_due, log_packets, outbox_packets}
+use Rattle.protocol.specs.Node.Telling.{undone_packet}
+use Rattle.protocol.specs.World.Common.{MayBeAskedFor, RunsSoundly, OutputView}
 use Rattle.protocol_laws.specs.Node.ImageLaws.{entry_of}
 use Rattle.protocol_laws.specs.Node.NumberedLaws.{where_mark}
 use Rattle.protocol_laws.specs.Node.ReleaseLaws.{acts_put_prefix, log_entry, log_stands}
-use Rattle.protocol.specs.World.Invariant.{RunsSoundly}
-use Rattle.protocol.specs.World.OutputView.{OutputView}
 use Rattle.protocol.specs.World.Traffic.{PacketIsSound}
 use Rattle.protocol.specs.declared.links.Inbox.{Inbox}
 use Rattle.protocol.specs.declared.links.Outbox.{Outbox}

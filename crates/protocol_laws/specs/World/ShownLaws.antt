@@ -5,19 +5,11 @@ use Rattle.std.proofs.Common.{List, [], ◌∷◌, length, map, get_or, Option, 
 use Rattle.std.specs.Prelude.{slice_get, find, IsTrue}
 use Rattle.std.proofs.lemmas.Bool.Decides.{eqb_tells}
 use Rattle.std.proofs.lemmas.Option.{slice_get_cases, slice_get_within}
-use Rattle.kahn_net.specs.Syntax.{Code, Network}
-use Rattle.kahn_net.specs.declared.program.Channel.{Channel}
-use Rattle.kahn_net.specs.declared.program.Port.{Port}
-use Rattle.kahn_net.specs.declared.program.Port.TheVariants.{Outside, Process}
-use Rattle.protocol.specs.Node.Layout.{is_on, has_process}
+use Rattle.protocol.specs.Node.Common.{Code, Network, Channel, Port, Outside, Process, is_on, has_process}
 use Rattle.protocol_laws.specs.Node.NumberedLaws.{where_mark, where_there, where_find}
 use Rattle.protocol_laws.specs.Node.PlaceLaws.{node_below}
-use Rattle.protocol.specs.World.Invariant.{outputs_of, AreSound, IsNumbered, WorldInvariant}
-use Rattle.protocol.specs.World.OutputView.{OutputView}
-use Rattle.protocol.specs.World.Released.{taken_or, released_of}
-use Rattle.protocol.specs.World.Sound.{is_output, outputs_on}
-use Rattle.protocol.specs.World.StationView.{OutletView, StationView}
-use Rattle.protocol.specs.World.Steps.{WorldView}
+use Rattle.protocol.specs.World.Common.{outputs_of, AreSound, IsNumbered, WorldInvariant, OutputView, taken_or}
+use Rattle.protocol.specs.World.Common.{released_of, is_output, outputs_on, OutletView, StationView, WorldView}
 use Rattle.protocol_laws.specs.World.OutputLaws.{output_once, output_there}
 use Rattle.std.proofs.lemmas.Bool.{eq-eqb}
 

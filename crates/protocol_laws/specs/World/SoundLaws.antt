@@ -1,25 +1,16 @@
 -- What is true of a station stays so as jobs are granted, and through its checkpoints.
 use Rattle.std.proofs.Common.{◌≡◌, ℕ, ◌≤◌, List, ℤ, Option, Some, None, sym, subst, arith}
 use Rattle.std.proofs.Math.Logic.{∥∥₁_map}
-use Rattle.kahn_net.specs.Syntax.{Network}
-use Rattle.record.specs.Ends.{sent_of}
-use Rattle.protocol.specs.Node.JobView.{JobView}
-use Rattle.protocol.specs.Node.NodeView.{RunningNode}
-use Rattle.kahn_net.specs.Approximations.{approximation}
-use Rattle.protocol.specs.Node.Reached.{InboxesStand, IsJobOf}
+use Rattle.protocol.specs.Node.Common.{Network, sent_of, JobView, RunningNode, approximation, InboxesStand, IsJobOf}
+use Rattle.protocol.specs.Node.Common.{DecisionView, with_decision, with_tentative, Tentative, IsBehind, next_job}
 use Rattle.protocol_laws.specs.Node.LinkLaws.{links_kept}
-use Rattle.record.specs.DecisionView.{DecisionView}
-use Rattle.record.specs.Moves.{with_decision, with_tentative}
-use Rattle.record.specs.declared.record.Tentative.{Tentative}
-use Rattle.protocol.specs.Node.Starting.{IsBehind}
 use Rattle.protocol.specs.Node.Modes.{keeping}
 use Rattle.protocol_laws.specs.Node.StepLaws.{lessened, reached_taken, reached_decide, reached_less, reached_grant}
 use Rattle.protocol_laws.specs.Node.StepLaws.{on_taken, on_decide, on_less, on_grant}
-use Rattle.protocol.specs.Node.Choosing.{next_job, after_grant}
+use Rattle.protocol.specs.Node.Choosing.{after_grant}
 use Rattle.protocol_laws.specs.Node.GrantLaws.{job_granted}
 use Rattle.protocol_laws.specs.Node.ReleaseLaws.{beginning_stays}
-use Rattle.protocol.specs.World.OutputView.{OutputView}
-use Rattle.protocol.specs.World.Sound.{HasCome, IsSound}
+use Rattle.protocol.specs.World.Common.{OutputView, HasCome, IsSound}
 
 module _ (net : Network) (inputs : List (List ℤ)) (outputs : List OutputView) where
   come_taken : (x n : ℕ) (old : RunningNode) → HasCome net inputs old outputs

@@ -6,59 +6,45 @@ use Rattle.std.proofs.Math.Logic.{∥∥₁_map}
 use Rattle.std.proofs.lemmas.List.{map-set}
 use Rattle.std.proofs.lemmas.List.Elements.{All-map, All-nil}
 use Rattle.std.proofs.lemmas.Option.{slice_get_within}
-use Rattle.kahn_net.specs.Streams.{IsPrefix}
+use Rattle.protocol.specs.Node.Common.{IsPrefix, Fits, node_count, Network, IsValid, IsPacket, Packet, LogState}
+use Rattle.protocol.specs.Node.Common.{trimmed_image, log_of, base_of, sent_of, ImageView, RecordView, restart_after}
+use Rattle.protocol.specs.Node.Common.{IsOut, IsInstall, is_running, NodeView, ModeView, Runs, RunningView}
+use Rattle.protocol.specs.Node.Common.{RunningNode, running_node, running_in, running_of, on_mode, on_running, Plan}
+use Rattle.protocol.specs.Node.Common.{Prospect, Undue, Exhausted, Planned, packets_by, AreInOrder, current_log}
+use Rattle.protocol.specs.Node.Common.{cut_at, trimmed_node, HasNext, TookNext}
 use Rattle.kahn_net.specs.Laws.Prefixes.{prefix_length}
-use Rattle.kahn_net.specs.Fits.{Fits}
-use Rattle.kahn_net.specs.Nodes.{node_count}
-use Rattle.kahn_net.specs.Syntax.{Network}
-use Rattle.kahn_net.specs.Valid.{IsValid}
-use Rattle.datagram.specs.PacketText.{IsPacket, packet_text}
-use Rattle.datagram.specs.declared.packet.Packet.{Packet}
-use Rattle.retained.specs.LogState.{LogState}
-use Rattle.record.specs.Changes.{trimmed_image}
-use Rattle.record.specs.Ends.{log_of, base_of, sent_of}
-use Rattle.record.specs.ImageView.{ImageView}
-use Rattle.record.specs.RecordView.{RecordView}
-use Rattle.wire.specs.Traffic.{Traffic, all_sent}
-use Rattle.protocol.specs.Node.ArmedRestarts.{restart_after}
-use Rattle.protocol.specs.Node.Installing.{turned, IsOut, IsInstall}
-use Rattle.protocol.specs.Node.Modes.{is_running}
-use Rattle.protocol.specs.Node.NodeView.{NodeView, ModeView, Runs, RunningView, RunningNode, running_node, running_in}
-use Rattle.protocol.specs.Node.NodeView.{running_of, on_mode, on_running}
-use Rattle.protocol.specs.Node.Plans.{Plan, Prospect, Undue, Exhausted, Planned, packets_by, plan_packets}
-use Rattle.protocol.specs.Node.Starting.{AreInOrder}
-use Rattle.protocol.specs.Node.Trimming.{with_current, current_log, cut_at, trimmed_node, HasNext, TookNext}
+use Rattle.datagram.specs.PacketText.{packet_text}
+use Rattle.protocol.specs.World.Common.{Traffic, all_sent, DoneView, EventView, ByNode, ByNetwork, Install, Release}
+use Rattle.protocol.specs.World.Common.{event_node, IsJoined, HasRun, RunsOn, output_of, outputs_of, AreSound}
+use Rattle.protocol.specs.World.Common.{IsNumbered, RunsSoundly, StationInvariant, WorldInvariant, OutputView}
+use Rattle.protocol.specs.World.Common.{RecordIsSound, has_happened, ReplyView, IsSound, StationView, IsActOf, IsAct}
+use Rattle.protocol.specs.World.Common.{IsRelease, IsStationStep, IsStep, Setting, with_room, WorldView}
+use Rattle.protocol.specs.World.Common.{first_waiting, moved_to, next_release, plan_of, round_after, sending_of}
+use Rattle.protocol.specs.World.Common.{setting_of, traffic_acted, traffic_after, traffic_left, TrafficIsSound}
+use Rattle.protocol.specs.World.Common.{IsSoundSetting, IsSoundStation}
+use Rattle.protocol.specs.Node.Installing.{turned}
+use Rattle.protocol.specs.Node.Plans.{plan_packets}
+use Rattle.protocol.specs.Node.Trimming.{with_current}
 use Rattle.protocol_laws.specs.Node.FitLaws.{behind_installed}
 use Rattle.protocol_laws.specs.Node.TrimLaws.{behind_trimmed}
 use Rattle.protocol.specs.declared.outcome.Outcome.{Outcome}
 use Rattle.protocol.specs.declared.outcome.Outcome.TheVariants as outcome
 use Rattle.protocol.specs.declared.outcome.Refusal.TheVariants.{TooLarge, Spent}
-use Rattle.protocol.specs.World.DoneView.{DoneView, IsTurnOfJob}
-use Rattle.protocol.specs.World.EventView.{EventView, ByNode, ByNetwork, Install, Release, event_node}
+use Rattle.protocol.specs.World.DoneView.{IsTurnOfJob}
 use Rattle.protocol.specs.declared.event.NetworkAct.{NetworkAct}
 use Rattle.protocol.specs.declared.event.NetworkAct.TheVariants as act_is
-use Rattle.protocol.specs.Join.Joined.{IsJoined}
 use Rattle.protocol_laws.specs.Join.Promises.{StandsIn}
-use Rattle.protocol.specs.Join.Runs.{HasRun, RunsOn}
 use Rattle.protocol_laws.specs.Join.Lasting.{deeds_stay_joined, install_joined, release_joined}
 use Rattle.protocol_laws.specs.Join.Leading.{set_there}
 use Rattle.protocol_laws.specs.Join.Flown.{has_run_then}
 use Rattle.protocol_laws.specs.Join.Whole.{deeds_run, installs_run, network_runs, releases_run, runs_still}
-use Rattle.protocol.specs.World.Invariant.{output_of, outputs_of, AreJoined, AreSound, IsNumbered, RunsSoundly}
-use Rattle.protocol.specs.World.Invariant.{StationInvariant, WorldInvariant}
-use Rattle.protocol.specs.World.OutputView.{OutputView}
-use Rattle.protocol.specs.World.RecordSound.{ImageIsSound, RecordIsSound}
-use Rattle.protocol.specs.World.Replies.{has_happened}
-use Rattle.protocol.specs.World.ReplyView.{ReplyView}
+use Rattle.protocol.specs.World.Invariant.{AreJoined}
+use Rattle.protocol.specs.World.RecordSound.{ImageIsSound}
 use Rattle.protocol.specs.declared.reply.Reply.TheVariants as reply
-use Rattle.protocol.specs.World.Sound.{IsSound}
-use Rattle.protocol.specs.World.StationView.{StationView}
-use Rattle.protocol.specs.World.Steps.{IsActOf, IsAct, IsRelease, IsReleaseAt, IsStationStep, IsStep, Setting}
-use Rattle.protocol.specs.World.Steps.{with_room}
-use Rattle.protocol.specs.World.Steps.{WorldView, first_waiting, moved_to, next_release, plan_of}
-use Rattle.protocol.specs.World.Steps.{round_after, sending_of, sendings_then, setting_of, traffic_acted, traffic_after}
-use Rattle.protocol.specs.World.Steps.{traffic_left, traffic_then}
-use Rattle.protocol.specs.World.Traffic.{SendingIsSound, TrafficIsSound}
+use Rattle.protocol.specs.World.Steps.{IsReleaseAt}
+use Rattle.protocol.specs.World.Steps.{sendings_then}
+use Rattle.protocol.specs.World.Steps.{traffic_then}
+use Rattle.protocol.specs.World.Traffic.{SendingIsSound}
 use Rattle.protocol_laws.specs.World.HandedLaws.{next_waits, next_there, took_or_not, took_begins, took_one}
 use Rattle.protocol_laws.specs.World.HandedLaws.{took_goes_on}
 use Rattle.protocol_laws.specs.World.KeptLaws.{step_node, step_number}
@@ -66,7 +52,6 @@ use Rattle.protocol_laws.specs.World.LeaveLaws.{sound_released}
 use Rattle.protocol_laws.specs.World.OrderLaws.{order_ahead}
 use Rattle.protocol_laws.specs.World.OutputLaws.{map_at, set_cases, set_same}
 use Rattle.protocol_laws.specs.World.DeedLaws.{deed_sound}
-use Rattle.protocol.specs.World.Invariant.{IsSoundSetting, IsSoundStation}
 use Rattle.protocol_laws.specs.World.PlanLaws.{IsSoundPlan, IsSoundProspect, made_keeps}
 use Rattle.protocol_laws.specs.World.PlanLaws.{moved_keeps, ran, runs_at, runs_now, same_keeps}
 use Rattle.protocol_laws.specs.World.RecordLaws.{record_of}

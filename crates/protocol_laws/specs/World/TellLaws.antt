@@ -3,41 +3,23 @@ use Rattle.std.proofs.Common.{◌≡◌, ◌<◌, List, ℤ, All, map, Option, S
 use Rattle.std.specs.Prelude.{◌==◌}
 use Rattle.std.specs.List.{flat_map}
 use Rattle.std.proofs.lemmas.List.Elements.{All-append, All-nil}
-use Rattle.kahn_net.specs.Nodes.{node_count}
-use Rattle.kahn_net.specs.Syntax.{Network}
-use Rattle.kahn_net.specs.Valid.{IsValid}
-use Rattle.protocol.specs.Join.Joined.{IsJoined, LiveIsSound}
+use Rattle.protocol.specs.Node.Common.{node_count, Network, IsValid, live_asks, live_in, LiveView, is_none, Down}
+use Rattle.protocol.specs.Node.Common.{InDoubt, ModeView, Runs, running_in, running_node, inbox_packets, IsWritable}
+use Rattle.protocol.specs.Node.Common.{kept_packet, turn_packets, incoming_on, IsLaidOut, IsPacket, Packet, names_run}
+use Rattle.protocol.specs.Node.Common.{start_prospect, packet_for, hear_prospect, packets_by, decide_prospect}
+use Rattle.protocol.specs.Node.Common.{RunningView}
+use Rattle.protocol.specs.World.Common.{IsJoined, LiveIsSound, StationInvariant, outputs_of, StationView}
+use Rattle.protocol.specs.World.Common.{MayBeAskedFor, BytesAreSound}
 use Rattle.protocol_laws.specs.Join.Spelled.{all_sendable, asks_sendable, told_sendable}
-use Rattle.protocol.specs.Node.Beginning.{live_asks, live_in}
-use Rattle.protocol.specs.Node.LiveView.{LiveView}
-use Rattle.protocol.specs.Node.Modes.{is_none}
-use Rattle.protocol.specs.Node.NodeView.{Down, InDoubt, ModeView, Runs, running_in}
-use Rattle.protocol.specs.Node.NodeView.{running_node}
-use Rattle.protocol.specs.Node.Sending.{inbox_packets, IsWritable}
-use Rattle.protocol.specs.Node.Telling.{kept_packet, turn_packets, undone_packets, verdicts_told}
-use Rattle.protocol.specs.Node.Layout.{incoming_on}
-use Rattle.protocol.specs.Node.Reached.{IsLaidOut}
+use Rattle.protocol.specs.Node.Telling.{undone_packets, verdicts_told}
 use Rattle.protocol_laws.specs.Node.RestoreLaws.{received_few}
-use Rattle.protocol.specs.World.Invariant.{StationInvariant, outputs_of}
-use Rattle.protocol.specs.World.StationView.{StationView}
 use Rattle.protocol_laws.specs.World.SendLaws.{IsSendable, inboxes_sendable, kept_sendable, outboxes_sendable, undone_sendable}
-use Rattle.datagram.specs.PacketText.{IsPacket}
 use Rattle.datagram.specs.Reading.{whole_at}
-use Rattle.datagram.specs.declared.packet.Packet.{Packet}
-use Rattle.protocol.specs.Join.Joined.{MayBeAskedFor}
 use Rattle.protocol_laws.specs.Join.Keeps.{current_counts}
 use Rattle.protocol_laws.specs.Join.Sayable.{ProspectSays, begins_says, concludes_says, hears_says, says_allowed}
-use Rattle.protocol.specs.Node.Addresses.{names_run}
-use Rattle.protocol.specs.Node.Beginning.{start_prospect}
-use Rattle.protocol.specs.Node.Delivering.{packet_for}
-use Rattle.protocol.specs.Node.Hearing.{hear_prospect}
-use Rattle.protocol.specs.Node.Plans.{packets_by}
-use Rattle.protocol.specs.Node.Verdicts.{decide_prospect}
-use Rattle.protocol.specs.World.Traffic.{BytesAreSound}
 use Rattle.protocol_laws.specs.World.HeardLaws.{named_here, right_is, whole_written}
 use Rattle.protocol.specs.declared.outcome.Outcome.{Outcome}
 use Rattle.std.proofs.Common.{sym, subst, ℕ, ap, ◌∙◌}
-use Rattle.protocol.specs.Node.NodeView.{RunningView}
 
 module _ (net : Network) (inputs : List (List ℤ)) (valid : IsValid net) (station : StationView)
     (inv : StationInvariant net inputs station) (named : station.node.kept.node ≡ station.number)

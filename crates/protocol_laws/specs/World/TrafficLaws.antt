@@ -1,16 +1,14 @@
 -- Laws of what is in flight: whatever becomes of it, it stays sound, and what arrives of it is.
 use Rattle.std.proofs.Common.{◌≡◌, ℕ, ℤ, List, All, Some, option_map, refl}
 use Rattle.std.specs.Prelude.{IsTrue, slice_get}
-use Rattle.kahn_net.specs.Syntax.{Network}
+use Rattle.protocol.specs.Node.Common.{Network, Packet, names_right}
 use Rattle.datagram.specs.PacketText.{IsPacketText}
-use Rattle.datagram.specs.declared.packet.Packet.{Packet}
 use Rattle.wire.proofs.Passing.{arrived_passes}
-use Rattle.wire.specs.Traffic.{Traffic, flights_to, traffic_without, traffic_delayed, traffic_repeated, all_sent}
-use Rattle.wire.specs.Traffic.{opening_traffic}
-use Rattle.wire.specs.declared.sending.Sending.{Sending}
-use Rattle.protocol.specs.Node.Addresses.{names_right}
+use Rattle.protocol.specs.World.Common.{Traffic, flights_to, traffic_without, all_sent, opening_traffic, Sending}
+use Rattle.protocol.specs.World.Common.{BytesAreSound, TrafficIsSound}
+use Rattle.wire.specs.Traffic.{traffic_delayed, traffic_repeated}
 use Rattle.protocol_laws.specs.World.FlightLaws.{all_sent_holds, delayed_holds, gone_holds, opened_holds, repeated_holds}
-use Rattle.protocol.specs.World.Traffic.{PacketIsSound, BytesAreSound, SendingIsSound, TrafficIsSound}
+use Rattle.protocol.specs.World.Traffic.{PacketIsSound, SendingIsSound}
 
 -- What is in flight
 

@@ -5,25 +5,16 @@ use Rattle.std.proofs.Math.Logic.{∥∥₁_elim, ∥∥₁_map₂}
 use Rattle.std.proofs.Math.Bridge.{le_prop}
 use mathlib.Core.HLevel.{⊥_prop}
 use native.Mathlib.Nat.{ℕ_set}
-use Rattle.kahn_net.specs.Approximations.{approximation}
-use Rattle.kahn_net.specs.Statements.{Step}
-use Rattle.kahn_net.specs.Streams.{IsPrefix}
-use Rattle.kahn_net.specs.Valid.{IsValid}
-use Rattle.kahn_net.specs.Fits.{Fits}
-use Rattle.kahn_net.specs.Syntax.{Network}
-use Rattle.kahn_net.specs.Processes.{Standing, sent_on}
-use Rattle.retained.specs.LogState.{LogState}
-use Rattle.protocol.specs.Node.JobView.{JobView}
-use Rattle.protocol.specs.Node.NodeView.{RunningNode}
-use Rattle.record.specs.Ends.{log_at, base_of}
+use Rattle.protocol.specs.Node.Common.{approximation, Step, IsPrefix, IsValid, Fits, Network, Standing, sent_on}
+use Rattle.protocol.specs.Node.Common.{LogState, JobView, RunningNode, log_at, base_of, put_on, installed}
+use Rattle.protocol.specs.Node.Common.{inbox_turned, ImageTakes, log_share, IsJobOf, LinksAreLaidOut, InboxesStand}
+use Rattle.protocol.specs.Node.Common.{CountIsWithin, CountsAreWithin, LogsAreWithin, port_on}
 use Rattle.record.specs.Changes.{LogTakes}
-use Rattle.protocol.specs.Node.Installing.{put_on, installed, inbox_turned, inboxes_turned, with_turn, ImageTakes}
-use Rattle.protocol.specs.Node.Sharing.{log_share, IsWithinShare}
-use Rattle.protocol.specs.Node.Reached.{IsJobOf, IsTurnOf, LinksAreLaidOut, InboxesStand, CountIsWithin}
-use Rattle.protocol.specs.Node.Reached.{CountsAreWithin, LogsAreWithin}
+use Rattle.protocol.specs.Node.Installing.{inboxes_turned, with_turn}
+use Rattle.protocol.specs.Node.Sharing.{IsWithinShare}
+use Rattle.protocol.specs.Node.Reached.{IsTurnOf}
 use Rattle.protocol_laws.specs.Node.ImageLaws.{map_keeps}
 use Rattle.protocol_laws.specs.Node.InboxLaws.{inboxes_installed, links_installed}
-use Rattle.protocol.specs.Node.Layout.{port_on}
 use Rattle.protocol_laws.specs.Node.InnerLaws.{output_apart}
 use Rattle.protocol_laws.specs.Node.LinkLaws.{inboxes_on_next}
 use Rattle.protocol_laws.specs.Node.InstallLaws.{job_here, reached_install, on_install}
@@ -32,9 +23,9 @@ use Rattle.protocol_laws.specs.World.OutputLaws.{output_here}
 use Rattle.protocol_laws.specs.Node.FitLaws.{turn_fits, counts_installed, laid_out_installed, logs_installed}
 use Rattle.protocol_laws.specs.Node.FitLaws.{base_installed}
 use Rattle.protocol_laws.specs.Node.ReleaseLaws.{beginning_stays}
-use Rattle.protocol.specs.World.OutputView.{OutputView}
+use Rattle.protocol.specs.World.Common.{OutputView, HasCome, IsSound}
 use Rattle.protocol.specs.World.DoneView.{IsTurnOfJob}
-use Rattle.protocol.specs.World.Sound.{OutputsAreSound, HasCome, IsSound}
+use Rattle.protocol.specs.World.Sound.{OutputsAreSound}
 use Rattle.protocol.specs.declared.links.Inbox.{Inbox}
 
 -- a node that has come so far on one approximation has come so far on the next, where what it has at hand comes next

@@ -1,5 +1,5 @@
 use Rattle.std.proofs.Common.{rules, ℕ}
-use Rattle.kahn_net.specs.Streams.{history_of}
+use Rattle.protocol.specs.Node.Common.{history_of}
 use Rattle.kahn_program.proofs.Released.{streams_next}
 use Rattle.kahn_program.proofs.approximating.output_histories.Goals as goal
 

@@ -1,6 +1,6 @@
 use Rattle.std.proofs.Common.{◌≡◌, ◌++◌, ℕ, drop, map}
-use Rattle.kahn_net.specs.Streams.{history_of}
-use Rattle.protocol.specs.World.Sound.{output_channels}
+use Rattle.protocol.specs.Node.Common.{history_of}
+use Rattle.protocol.specs.World.Common.{output_channels}
 use Rattle.kahn_program.proofs.approximating.output_histories.Given as goal
 
 -- what was listed, and then what is to come

@@ -1,5 +1,5 @@
 use Rattle.std.proofs.Common.{ℕ, ℤ, List, length, ap, ◌∙◌}
-use Rattle.kahn_net.specs.Streams.{history_of}
+use Rattle.protocol.specs.Node.Common.{history_of}
 use Rattle.kahn_program.specs.Report.{output_count}
 use Rattle.kahn_program.proofs.Released.{counted_streams}
 use Rattle.kahn_program.proofs.approximating.report_of_approximation.Goals as goal

@@ -1,6 +1,6 @@
 use Rattle.std.proofs.Common.{ℕ, ℤ, List, length}
 use Rattle.std.specs.Prelude.{nat_le}
-use Rattle.protocol.specs.World.Released.{released_of}
+use Rattle.protocol.specs.World.Common.{released_of}
 use Rattle.world.specs.WholeView.{world_of}
 use Rattle.kahn_program.proofs.Released.{all_next}
 use Rattle.kahn_program.proofs.ending.have_left.Goals as goal

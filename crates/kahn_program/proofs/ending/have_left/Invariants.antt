@@ -1,8 +1,7 @@
 use Rattle.std.proofs.Common.{◌≡◌, ℕ, ℤ, List, drop, length, map}
 use Rattle.std.specs.Prelude.{nat_le}
 use Rattle.std.specs.List.{list_all}
-use Rattle.protocol.specs.World.Sound.{output_channels}
-use Rattle.protocol.specs.World.Released.{released_of}
+use Rattle.protocol.specs.World.Common.{output_channels, released_of}
 use Rattle.world.specs.WholeView.{world_of}
 use Rattle.kahn_program.proofs.ending.have_left.Given as goal
 

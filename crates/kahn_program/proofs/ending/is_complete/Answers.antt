@@ -1,6 +1,6 @@
 use Rattle.std.proofs.Common.{◌≡◌, Bool, false, ◌&&◌, ℕ, ◌∙◌, sym, ap}
-use Rattle.protocol.specs.World.Quiet.{is_node_quiet, are_quiet}
-use Rattle.protocol.specs.World.Steps.{WorldView}
+use Rattle.protocol.specs.World.Common.{are_quiet, WorldView}
+use Rattle.protocol.specs.World.Quiet.{is_node_quiet}
 use Rattle.protocol_laws.specs.World.QuietLaws.{quiet_first}
 use Rattle.world.specs.WholeView.{world_of}
 use Rattle.kahn_program.proofs.ending.is_complete.Goals as goal

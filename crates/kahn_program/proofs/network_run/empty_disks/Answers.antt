@@ -1,7 +1,7 @@
 use Rattle.std.proofs.Common.{rules, ◌≡◌, map, sym, ap, subst, ◌∙◌}
 use Rattle.std.specs.List.{AllByRecursion}
-use Rattle.gate_cell.specs.declared.TheConstants.{SECTORS}
-use Rattle.sector_disk.specs.MemDisk.{failures_of, sectors_of}
+use Rattle.protocol.specs.Node.Common.{SECTORS, sectors_of}
+use Rattle.sector_disk.specs.MemDisk.{failures_of}
 use Rattle.sector_disk.specs.declared.memory.MemDisk.{MemDisk}
 use Rattle.kahn_program.proofs.Turns.{each_more, none_more}
 use Rattle.kahn_program.proofs.network_run.empty_disks.Goals as goal

@@ -1,8 +1,8 @@
 use Rattle.std.proofs.Common.{◌≡◌, map, length}
 use Rattle.std.specs.Prelude.{replicate}
 use Rattle.std.specs.List.{AllByRecursion}
-use Rattle.gate_cell.specs.declared.TheConstants.{SECTORS}
-use Rattle.sector_disk.specs.MemDisk.{failures_of, sectors_of}
+use Rattle.protocol.specs.Node.Common.{SECTORS, sectors_of}
+use Rattle.sector_disk.specs.MemDisk.{failures_of}
 use Rattle.kahn_program.proofs.network_run.empty_disks.Given as goal
 
 -- so many disks, none of which failed, each of so many sectors

@@ -1,10 +1,7 @@
 use Rattle.std.proofs.Common.{◌∙◌, ℕ, ap, refl, subst, sym}
 use Rattle.std.specs.Prelude.{replicate}
-use Rattle.kahn_net.specs.Syntax.{network_of}
-use Rattle.net_check.specs.declared.net.Net.{Net}
-use Rattle.protocol.specs.World.Sound.{output_channels}
-use Rattle.protocol.specs.World.Steps.{with_room}
-use Rattle.sector_disk.specs.MemDisk.{sectors_of}
+use Rattle.protocol.specs.Node.Common.{network_of, Net, sectors_of}
+use Rattle.protocol.specs.World.Common.{output_channels, with_room}
 use Rattle.world.specs.WholeView.{world_of}
 use Rattle.world.specs.WorldView.{capacities}
 use Rattle.kahn_program.specs.Runnable.{IsStoreFailure}

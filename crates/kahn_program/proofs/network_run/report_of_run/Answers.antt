@@ -1,7 +1,6 @@
 use Rattle.std.proofs.Common.{◌≡◌, ◌∙◌, ap, refl, subst, sym}
-use Rattle.kahn_net.specs.Syntax.{network_of}
-use Rattle.net_check.specs.declared.net.Net.{Net}
-use Rattle.protocol.specs.World.Steps.{WorldView}
+use Rattle.protocol.specs.Node.Common.{network_of, Net}
+use Rattle.protocol.specs.World.Common.{WorldView}
 use Rattle.world.specs.WholeView.{world_of}
 use Rattle.kahn_program.specs.Runs.{IsEnd, IsToldOf}
 use Rattle.kahn_program.specs.Turning.{first_world}

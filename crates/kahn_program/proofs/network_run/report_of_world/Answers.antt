@@ -1,6 +1,6 @@
 use Rattle.std.proofs.Common.{◌∙◌, ℕ, ℤ, List, ap, length, subst, sym}
 use Rattle.std.specs.Prelude.{IsTrue}
-use Rattle.protocol.specs.World.Released.{released_of}
+use Rattle.protocol.specs.World.Common.{released_of}
 use Rattle.world.specs.WholeView.{world_of}
 use Rattle.kahn_program.specs.Report.{output_count, report_text}
 use Rattle.kahn_program.specs.Runs.{first_items}

@@ -1,5 +1,5 @@
 use Rattle.std.proofs.Common.{refl}
-use Rattle.kahn_net.specs.Syntax.{network_of}
+use Rattle.protocol.specs.Node.Common.{network_of}
 use Rattle.world.specs.WholeView.{world_of}
 use Rattle.kahn_program.proofs.Turns.{by_threads_ends, by_threads_stays, if_ok_then, replayed_world}
 use Rattle.kahn_program.proofs.network_run.run_to_end.Goals as goal

@@ -1,6 +1,5 @@
 use Rattle.std.proofs.Common.{◌≡◌, ◌++◌, ℕ, drop, map}
-use Rattle.protocol.specs.World.Sound.{output_channels}
-use Rattle.protocol.specs.World.Released.{released_of}
+use Rattle.protocol.specs.World.Common.{output_channels, released_of}
 use Rattle.world.specs.WholeView.{world_of}
 use Rattle.kahn_program.specs.Runs.{first_items}
 use Rattle.kahn_program.proofs.network_run.streams.Given as goal

@@ -1,7 +1,7 @@
 use Rattle.std.proofs.Common.{◌∙◌, ap, sym, subst, List}
 use Rattle.net_text.specs.Trees.{InputTree}
 use Rattle.net_check.specs.Binding.{Binds}
-use Rattle.kahn_net.specs.Syntax.{network_of}
+use Rattle.protocol.specs.Node.Common.{network_of}
 use Rattle.kahn_program.specs.Readings.{bad_lines, bad_inputs, net_failure_of, text_failure_of}
 use Rattle.kahn_program.specs.declared.failure.Source.TheVariants as source
 use Rattle.kahn_program.proofs.reading.inputs_of_text.Goals as goal

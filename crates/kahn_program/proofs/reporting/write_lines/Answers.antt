@@ -1,6 +1,6 @@
 use Rattle.std.proofs.Common.{◌∙◌, sym, ap, ◌+◌, ◌<◌, ◌++◌, [], ℕ, List, drop, get_or, length, arith, string_bytes}
 use Rattle.net_text.specs.Names.{NameTree}
-use Rattle.kahn_net.specs.declared.program.Port.TheVariants.{Outside, Process}
+use Rattle.protocol.specs.Node.Common.{Outside, Process}
 use Rattle.kahn_program.specs.Report.{output_line, output_lines}
 use Rattle.kahn_program.proofs.Lines.{count_at, lines_at, line_at, written_more}
 use Rattle.kahn_program.proofs.reporting.write_lines.Goals as goal

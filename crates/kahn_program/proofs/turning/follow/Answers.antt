@@ -1,6 +1,6 @@
 use Rattle.std.proofs.Common.{refl, sym, subst, ap}
 use Rattle.node_memory.specs.JobView.{shared_view}
-use Rattle.protocol.specs.World.EventView.{Install}
+use Rattle.protocol.specs.World.Common.{Install}
 use Rattle.replay.specs.Armed.{OfWorld}
 use Rattle.run_log.specs.ArmedWorlds.{armed_view}
 use Rattle.station.specs.DoneView.{done_view}

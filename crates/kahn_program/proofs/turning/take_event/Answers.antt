@@ -1,7 +1,6 @@
 use Rattle.std.proofs.Common.{refl, subst}
 use Rattle.std.proofs.lemmas.Result.{on_ok_weaker}
-use Rattle.protocol.specs.World.Choice.{choice}
-use Rattle.protocol.specs.World.EventView.{EventView}
+use Rattle.protocol.specs.World.Common.{choice, EventView}
 use Rattle.replay.specs.Armed.{IsArmedStep, OfWorld}
 use Rattle.run_log.specs.ArmedWorlds.{armed_view}
 use Rattle.station.specs.EventView.{event_view}

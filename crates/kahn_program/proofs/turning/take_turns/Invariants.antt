@@ -1,6 +1,6 @@
 use Rattle.std.proofs.Common.{◌≡◌}
 use Rattle.std.specs.List.{AllByRecursion}
-use Rattle.protocol.specs.World.Sound.{output_channels}
+use Rattle.protocol.specs.World.Common.{output_channels}
 use Rattle.run_log.specs.ArmedWorlds.{armed_view}
 use Rattle.world.specs.WholeView.{world_of}
 use Rattle.world.specs.WorldView.{capacities}

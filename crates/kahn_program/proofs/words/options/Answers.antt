@@ -6,7 +6,7 @@ use Rattle.clap.proofs.WalkLemmas.{first_value-rows, one_text-rows}
 use Rattle.kahn_program.specs.CommandLine.{kahnrun, IsNumber}
 use Rattle.kahn_program.specs.declared.asked.TheConstants.{MAX_ROUNDS, MAX_ITEMS, MAX_APPROXIMATION}
 use Rattle.protocol.specs.declared.limits.TheConstants.{MIN_ROOM}
-use Rattle.ckpt_codec.specs.declared.lengths.TheConstants.{MAX_RETAINED_ITEMS}
+use Rattle.protocol.specs.Node.Common.{MAX_RETAINED_ITEMS}
 use Rattle.kahn_program.proofs.words.options.Goals as goal
 
 simple : is_simple kahnrun ≡ true

@@ -1,7 +1,6 @@
 use Rattle.std.proofs.Common.{ℕ, ap, ◌∙◌}
-use Rattle.protocol.specs.Node.ArmedRestarts.{restart_after}
+use Rattle.protocol.specs.Node.Common.{restart_after, crashed}
 use Rattle.node.specs.NodeView.{node_view}
-use Rattle.protocol.specs.Node.Modes.{crashed}
 use Rattle.node.proofs.checkpoint.go_down.Goals as goal
 
 pub returns-clause-store : goal.returns-clause-store

@@ -1,11 +1,7 @@
 use Rattle.std.proofs.Common.{◌≡◌, ◌≤◌, ℕ, List, Some, false, true, length, refl, ap, sym, ◌∙◌, arith}
-use Rattle.kahn_net.specs.declared.limits.TheConstants.{MAX_NODES}
-use Rattle.protocol.specs.Node.Answering.{holds}
-use Rattle.protocol.specs.Node.Beginning.{live_in}
-use Rattle.protocol.specs.Node.LiveView.{LiveView}
-use Rattle.protocol.specs.Node.Modes.{is_down}
-use Rattle.protocol.specs.Node.NodeView.{ModeView, Down, InDoubt, Runs}
-use Rattle.protocol.specs.Node.Verdicts.{all_answered, may_decide, participants_of}
+use Rattle.protocol.specs.Node.Common.{MAX_NODES, holds, live_in, LiveView, is_down, ModeView, Down, InDoubt, Runs}
+use Rattle.protocol.specs.Node.Common.{may_decide, participants_of}
+use Rattle.protocol.specs.Node.Verdicts.{all_answered}
 use Rattle.node.specs.NodeView.{mode_view}
 use Rattle.node.proofs.Starts.{both_of}
 use Rattle.node.proofs.Verdicts.{are_others, decide_fine, decided_fits, participants_few}

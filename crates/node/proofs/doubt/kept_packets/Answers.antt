@@ -1,8 +1,6 @@
 use Rattle.std.proofs.Common.{rules, sym, ◌∙◌, arith}
-use Rattle.kahn_net.specs.Syntax.{network_of}
+use Rattle.protocol.specs.Node.Common.{network_of, is_incoming, kept_packet}
 use Rattle.layout.proofs.Walking.{taken_next, passed_next}
-use Rattle.protocol.specs.Node.Layout.{is_incoming}
-use Rattle.protocol.specs.Node.Telling.{kept_packet}
 use Rattle.node.proofs.doubt.kept_packets.Goals as goal
 use Rattle.node.proofs.doubt.kept_packets.Goals.{then-is_incoming+in_ok-push, else-is_incoming}
 

@@ -1,7 +1,5 @@
 use Rattle.std.proofs.Common.{◌≡◌, ◌++◌, ◌-◌, map, length}
-use Rattle.kahn_net.specs.Syntax.{network_of}
-use Rattle.protocol.specs.Node.Layout.{incoming_on, is_incoming, numbers_where}
-use Rattle.protocol.specs.Node.Telling.{kept_packet}
+use Rattle.protocol.specs.Node.Common.{network_of, incoming_on, is_incoming, numbers_where, kept_packet}
 use Rattle.node.proofs.doubt.kept_packets.Given as goal
 
 -- what is listed, and then what is to come

@@ -1,6 +1,5 @@
 use Rattle.std.proofs.Common.{◌≡◌, true, ap, subst, sym, ◌∙◌}
-use Rattle.record.specs.RecordView.{RecordView}
-use Rattle.protocol.specs.Node.Answering.{holds}
+use Rattle.protocol.specs.Node.Common.{RecordView, holds}
 use Rattle.node.specs.NodeView.{node_view}
 use Rattle.node.specs.Planned.{CanDo}
 use Rattle.node.proofs.Verdicts.{dropped_fits, fine_unless_held}

@@ -1,7 +1,5 @@
 use Rattle.std.proofs.Common.{subst, sym, ◌∙◌}
-use Rattle.protocol.specs.Node.Answering.{holds}
-use Rattle.protocol.specs.Node.Beginning.{live_in}
-use Rattle.protocol.specs.Node.Collecting.{is_live}
+use Rattle.protocol.specs.Node.Common.{holds, live_in, is_live}
 use Rattle.node.specs.NodeView.{mode_view, node_view}
 use Rattle.node.specs.Planned.{CanDo}
 use Rattle.node.proofs.Starts.{both_of}

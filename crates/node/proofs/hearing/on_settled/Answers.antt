@@ -1,6 +1,6 @@
 use Rattle.std.proofs.Common.{◌≡◌, true, ap, refl, subst, sym, ◌∙◌}
-use Rattle.record.specs.RecordView.{RecordView}
-use Rattle.recovery_line.specs.Observers.{names}
+use Rattle.protocol.specs.Node.Common.{RecordView}
+use Rattle.protocol.specs.World.Common.{names}
 use Rattle.node.specs.NodeView.{node_view}
 use Rattle.node.specs.Planned.{CanDo}
 use Rattle.node.proofs.Verdicts.{confirmed_fits, names_same}

@@ -1,10 +1,7 @@
 use Rattle.std.proofs.Common.{◌≡◌, ◌==◌, ◌&&◌, Bool, true, false, cond, ℕ, List, Some, ap, refl, subst, sym, ◌∙◌}
-use Rattle.datagram.specs.declared.packet.Need.{Need}
-use Rattle.kahn_net.specs.Syntax.{Network, network_of}
-use Rattle.record.specs.RecordView.{RecordView}
-use Rattle.protocol.specs.Node.Answering.{holds}
-use Rattle.protocol.specs.Node.Collecting.{GivesUp, Ignores, Joins, TookAnswer, answer_to_took, are_met, was_asked}
-use Rattle.protocol.specs.Node.LiveView.{LiveView}
+use Rattle.protocol.specs.Node.Common.{Need, Network, network_of, RecordView, holds, GivesUp, Ignores, Joins}
+use Rattle.protocol.specs.Node.Common.{answer_to_took, was_asked, LiveView}
+use Rattle.protocol.specs.Node.Collecting.{TookAnswer, are_met}
 use Rattle.decide_core.specs.InitiatorView.{took_view}
 use Rattle.node.specs.NodeView.{node_view}
 use Rattle.node.specs.Planned.{CanDo}

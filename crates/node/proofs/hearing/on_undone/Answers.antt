@@ -1,15 +1,11 @@
 use Rattle.std.proofs.Common.{◌≡◌, ◌≤◌, Bool, true, false, cond, ℕ, Option, Some, None, ap, refl, subst, sym, ◌∙◌, arith}
 use Rattle.std.specs.Prelude.{nat_lt}
 use Rattle.std.proofs.lemmas.Bool.{ltb-true}
-use Rattle.kahn_net.specs.declared.limits.TheConstants.{MAX_COUNT}
-use Rattle.record.specs.Ends.{received_of}
-use Rattle.record.specs.ImageView.{ImageView}
-use Rattle.record.specs.RecordView.{RecordView}
-use Rattle.record.specs.declared.record.Tentative.{Tentative}
+use Rattle.protocol.specs.Node.Common.{MAX_COUNT, received_of, ImageView, RecordView, Tentative, GoesBack, Notes}
+use Rattle.protocol.specs.Node.Common.{PassesOver, ModeView, Down, InDoubt, Runs}
 use Rattle.ckpt_store.proofs.Room.{epoch_fits}
 use Rattle.ckpt_store.specs.declared.fault.StoreFault.TheVariants as fault
-use Rattle.protocol.specs.Node.GoingBack.{GoesBack, Notes, PassesOver, UndoneAnswer, answer_at, answer_with, inbox_of}
-use Rattle.protocol.specs.Node.NodeView.{ModeView, Down, InDoubt, Runs}
+use Rattle.protocol.specs.Node.GoingBack.{UndoneAnswer, answer_at, answer_with, inbox_of}
 use Rattle.protocol.specs.declared.links.Inbox.{Inbox}
 use Rattle.node.specs.NodeView.{node_view}
 use Rattle.node.specs.Planned.{CanDo}

@@ -1,4 +1,4 @@
-use Rattle.kahn_net.specs.Syntax.{network_of}
+use Rattle.protocol.specs.Node.Common.{network_of}
 use Rattle.node.proofs.Opened.{all_opened}
 use Rattle.node.proofs.opening.open_ends.Goals as goal
 

@@ -1,6 +1,5 @@
 use Rattle.std.proofs.Common.{◌≡◌, ◌++◌, drop}
-use Rattle.kahn_net.specs.Syntax.{network_of}
-use Rattle.protocol.specs.Node.Opening.{opening_ends}
+use Rattle.protocol.specs.Node.Common.{network_of, opening_ends}
 use Rattle.node.proofs.opening.open_ends.Given as goal
 
 abbrev pub invariant-loop-number : goal.invariant-loop-number

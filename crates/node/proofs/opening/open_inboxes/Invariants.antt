@@ -1,6 +1,5 @@
 use Rattle.std.proofs.Common.{◌≡◌, ◌++◌, ◌-◌, map, length}
-use Rattle.kahn_net.specs.Syntax.{network_of}
-use Rattle.protocol.specs.Node.Layout.{numbers_where, is_incoming}
+use Rattle.protocol.specs.Node.Common.{network_of, numbers_where, is_incoming}
 use Rattle.protocol.specs.Node.Opening.{new_inbox, opening_inboxes}
 use Rattle.node.proofs.opening.open_inboxes.Given as goal
 

@@ -1,6 +1,5 @@
 use Rattle.std.proofs.Common.{rules, sym, ◌∙◌, arith}
-use Rattle.kahn_net.specs.Syntax.{network_of}
-use Rattle.protocol.specs.Node.Layout.{is_outgoing}
+use Rattle.protocol.specs.Node.Common.{network_of, is_outgoing}
 use Rattle.protocol.specs.Node.Opening.{new_outbox}
 use Rattle.layout.proofs.Walking.{taken_next, passed_next}
 use Rattle.node.proofs.opening.open_outboxes.Goals as goal

@@ -1,5 +1,5 @@
 use Rattle.std.proofs.Common.{◌≡◌, ◌++◌, map, drop}
-use Rattle.kahn_net.specs.Syntax.{code_of}
+use Rattle.protocol.specs.Node.Common.{code_of}
 use Rattle.protocol.specs.Node.Opening.{opening_processes}
 use Rattle.node.proofs.opening.open_processes.Given as goal
 

@@ -1,6 +1,5 @@
 use Rattle.std.proofs.Common.{refl, ap, subst, sym, ◌∙◌}
-use Rattle.ckpt_store.specs.StoreView.{record_in}
-use Rattle.protocol.specs.Node.Plans.{Planned}
+use Rattle.protocol.specs.Node.Common.{record_in, Planned}
 use Rattle.node.specs.NodeView.{node_view}
 use Rattle.node.specs.Planned.{CanDo, effect_node, effect_puts, plan_view}
 use Rattle.node.specs.Putting.{IsPutEvent}

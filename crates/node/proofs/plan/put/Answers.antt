@@ -1,9 +1,8 @@
 use Rattle.std.proofs.Common.{◌<◌, length, ap, subst, sym, ◌∙◌}
-use Rattle.record.specs.RecordView.{RecordView}
+use Rattle.protocol.specs.Node.Common.{RecordView, Changes, record_in}
 use Rattle.ckpt_store.proofs.Seen.{known_is}
 use Rattle.ckpt_store.specs.Refusals.{has_effect}
 use Rattle.ckpt_store.specs.Spelling.{AreOthers, IsLike}
-use Rattle.ckpt_store.specs.StoreView.{Changes, record_in}
 use Rattle.node.specs.Planned.{MayBePut, cause_of, changed}
 use Rattle.node.specs.declared.plan.Change.{Change}
 use Rattle.node.proofs.Records.{some_known}

@@ -1,9 +1,6 @@
 use Rattle.std.proofs.Common.{List, refl, true}
 use Rattle.ckpt_store.proofs.Room.{record_fits}
-use Rattle.ckpt_store.specs.StoreView.{cell_in, record_in}
-use Rattle.datagram.specs.declared.packet.Packet.{Packet}
-use Rattle.protocol.specs.Node.Modes.{with_kept}
-use Rattle.protocol.specs.Node.Plans.{Plan, Planned}
+use Rattle.protocol.specs.Node.Common.{cell_in, record_in, Packet, with_kept, Plan, Planned}
 use Rattle.node.specs.NodeView.{node_view}
 use Rattle.node.specs.Planned.{cause_of, change_grows, changed}
 use Rattle.node.specs.Then.{then_node}

@@ -1,6 +1,5 @@
 use Rattle.std.proofs.Common.{sym, ◌∙◌}
-use Rattle.kahn_net.specs.Syntax.{network_of}
-use Rattle.ckpt_store.specs.StoreView.{cell_in, record_in}
+use Rattle.protocol.specs.Node.Common.{network_of, cell_in, record_in}
 use Rattle.ckpt_store.proofs.Room.{epoch_fits, record_fits}
 use Rattle.node.proofs.Recoveries.{not_raised}
 use Rattle.node.proofs.recover.come_back.Goals as goal

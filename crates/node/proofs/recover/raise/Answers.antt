@@ -1,7 +1,6 @@
 use Rattle.std.proofs.Common.{Result, subst}
-use Rattle.kahn_net.specs.Syntax.{network_of}
+use Rattle.protocol.specs.Node.Common.{network_of, StoreFault}
 use Rattle.ckpt_store.specs.StoreView.{Reopens}
-use Rattle.ckpt_store.specs.declared.fault.StoreFault.{StoreFault}
 use Rattle.node.proofs.Raising.{not_reopened, reopened_then}
 use Rattle.node.proofs.recover.raise.Goals as goal
 

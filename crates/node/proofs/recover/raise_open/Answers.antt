@@ -1,13 +1,7 @@
 use Rattle.std.proofs.Common.{◌≤◌, Result, sym, ap, subst, ◌∙◌}
-use Rattle.kahn_net.specs.Syntax.{network_of}
-use Rattle.record.specs.Moves.{with_epoch}
+use Rattle.protocol.specs.Node.Common.{network_of, with_epoch, Changes, StoreFault, RecordView, MAX_COUNT}
+use Rattle.protocol.specs.Node.Common.{restored_mode, received_of}
 use Rattle.ckpt_store.specs.Refusals.{refusal_to_raise}
-use Rattle.ckpt_store.specs.StoreView.{Changes}
-use Rattle.ckpt_store.specs.declared.fault.StoreFault.{StoreFault}
-use Rattle.record.specs.RecordView.{RecordView}
-use Rattle.kahn_net.specs.declared.limits.TheConstants.{MAX_COUNT}
-use Rattle.protocol.specs.Node.Recovering.{restored_mode}
-use Rattle.record.specs.Ends.{received_of}
 use Rattle.node.proofs.Raising.{raised, refused_so}
 use Rattle.node.proofs.Restores.{permanent_counts}
 use Rattle.node.proofs.recover.raise_open.Goals as goal

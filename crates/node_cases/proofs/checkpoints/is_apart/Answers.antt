@@ -1,5 +1,5 @@
 use Rattle.std.proofs.Common.{◌<◌, arith}
-use Rattle.kahn_net.specs.declared.limits.TheConstants.{MAX_NODES}
+use Rattle.protocol.specs.Node.Common.{MAX_NODES}
 use Rattle.node_cases.proofs.Apart.{not_among}
 use Rattle.node_cases.proofs.checkpoints.is_apart.Goals as goal
 

@@ -1,8 +1,7 @@
 use Rattle.std.proofs.Common.{◌≡◌, List, Some, rules, subst, sym}
 use Rattle.std.specs.Prelude.{slice_get}
-use Rattle.record.specs.ImageView.{ImageView}
+use Rattle.protocol.specs.Node.Common.{ImageView, SavedEnd}
 use Rattle.protocol.specs.Node.Installing.{EndTakes}
-use Rattle.record.specs.declared.image.SavedEnd.{SavedEnd}
 use Rattle.node_cases.proofs.Seen.{holds_next, gone_through}
 use Rattle.node_cases.proofs.taking.image_fits.Goals as goal
 

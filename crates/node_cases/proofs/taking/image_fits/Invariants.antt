@@ -1,7 +1,7 @@
 use Rattle.std.proofs.Common.{◌≡◌, ℕ, Some, take}
 use Rattle.std.specs.Prelude.{slice_get}
 use Rattle.protocol.specs.Node.Installing.{EndTakes}
-use Rattle.record.specs.declared.image.SavedEnd.{SavedEnd}
+use Rattle.protocol.specs.Node.Common.{SavedEnd}
 use Rattle.node_cases.proofs.taking.image_fits.Given as goal
 
 abbrev pub invariant-loop-saved : goal.invariant-loop-saved

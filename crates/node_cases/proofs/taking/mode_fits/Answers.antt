@@ -1,5 +1,5 @@
 use Rattle.std.proofs.Common.{sym, subst}
-use Rattle.protocol.specs.Node.Installing.{TakesTurn}
+use Rattle.protocol.specs.Node.Common.{TakesTurn}
 use Rattle.node.specs.NodeView.{mode_view}
 use Rattle.node.specs.declared.mode.Mode.{Mode}
 use Rattle.node_cases.proofs.taking.mode_fits.Goals as goal

@@ -1,7 +1,6 @@
 use Rattle.std.proofs.Common.{◌≡◌, ℕ, ◌<◌, List, length, get_or, Some, refl, sym, subst, ◌∙◌}
 use Rattle.std.specs.Prelude.{slice_get}
-use Rattle.kahn_net.specs.Syntax.{code_of, network_of}
-use Rattle.kahn_net.specs.States.{standing_of}
+use Rattle.protocol.specs.Node.Common.{code_of, network_of, standing_of}
 use Rattle.kahn_net.specs.declared.program.Program.{Program}
 use Rattle.kahn_net.specs.declared.program.Process.{Process}
 use Rattle.node_memory.proofs.Choices.{code_found, code_not_found, ready_at, not_ready, item_on, room_on}

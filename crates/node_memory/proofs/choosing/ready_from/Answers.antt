@@ -1,5 +1,5 @@
 use Rattle.std.proofs.Common.{◌∙◌, ap, option_copied}
-use Rattle.record.specs.ImageView.{ImageView}
+use Rattle.protocol.specs.Node.Common.{ImageView}
 use Rattle.node_memory.proofs.Choices.{least_found, process_found}
 use Rattle.node_memory.proofs.choosing.ready_from.Goals as goal
 

@@ -1,5 +1,5 @@
 use Rattle.std.proofs.Common.{drop, option_copied}
-use Rattle.kahn_net.specs.Syntax.{network_of}
+use Rattle.protocol.specs.Node.Common.{network_of}
 use Rattle.protocol.specs.Node.Choosing.{is_ready}
 use Rattle.node_memory.proofs.Searching.{IsSearched}
 use Rattle.node_memory.proofs.choosing.ready_from.Given as goal

@@ -1,5 +1,6 @@
 use Rattle.std.proofs.Common.{◌≡◌, ℤ, get_or, ap, sym, ◌∙◌, rules, to_z, of_z, w64}
-use Rattle.protocol.specs.Node.Delivering.{inbox_place, taking}
+use Rattle.protocol.specs.Node.Common.{taking}
+use Rattle.protocol.specs.Node.Delivering.{inbox_place}
 use Rattle.node_memory.proofs.Pops.{changed_here}
 use Rattle.node_memory.proofs.delivering.hear_item.Goals as goal
 

@@ -1,5 +1,5 @@
 use Rattle.std.proofs.Common.{◌≡◌, ◌++◌, drop}
-use Rattle.protocol.specs.Node.Granting.{items_from}
+use Rattle.protocol.specs.Node.Common.{items_from}
 use Rattle.node_memory.proofs.granting.copy_items.Given as goal
 
 -- what is listed, and then what is to come

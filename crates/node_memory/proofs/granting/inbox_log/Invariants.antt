@@ -1,5 +1,5 @@
 use Rattle.std.proofs.Common.{◌≡◌, drop}
-use Rattle.protocol.specs.Node.Granting.{inbox_log}
+use Rattle.protocol.specs.Node.Common.{inbox_log}
 use Rattle.node_memory.proofs.granting.inbox_log.Given as goal
 
 -- the inbox is among those that weren't looked at yet

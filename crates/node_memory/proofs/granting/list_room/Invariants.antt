@@ -1,5 +1,5 @@
 use Rattle.std.proofs.Common.{◌≡◌, ◌++◌, drop}
-use Rattle.protocol.specs.Node.Granting.{room_from}
+use Rattle.protocol.specs.Node.Common.{room_from}
 use Rattle.node_memory.proofs.granting.list_room.Given as goal
 
 abbrev pub invariant-loop-number : goal.invariant-loop-number

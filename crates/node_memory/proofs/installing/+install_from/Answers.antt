@@ -1,5 +1,5 @@
 use Rattle.std.proofs.Common.{arith}
-use Rattle.protocol.specs.Node.Installing.{inbox_turned}
+use Rattle.protocol.specs.Node.Common.{inbox_turned}
 use Rattle.node_memory.proofs.Pops.{front_read, turned_here}
 use Rattle.node_memory.proofs.installing.+install_from.Goals as goal
 

@@ -1,5 +1,5 @@
 use Rattle.std.proofs.Common.{rules}
-use Rattle.protocol.specs.Node.Installing.{saved_counted}
+use Rattle.protocol.specs.Node.Common.{saved_counted}
 use Rattle.record.specs.Laws.Walks.{changed_next}
 use Rattle.node_memory.proofs.Installs.{counted_is}
 use Rattle.node_memory.proofs.installing.count_all.Goals as goal

@@ -1,5 +1,5 @@
 use Rattle.std.proofs.Common.{◌≡◌, ◌++◌, map, take, drop}
-use Rattle.protocol.specs.Node.Installing.{saved_counted}
+use Rattle.protocol.specs.Node.Common.{saved_counted}
 use Rattle.node_memory.proofs.installing.count_all.Given as goal
 
 abbrev pub invariant-loop-saved : goal.invariant-loop-saved

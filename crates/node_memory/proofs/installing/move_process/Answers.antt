@@ -1,8 +1,6 @@
 use Rattle.std.proofs.Common.{ap, sym, ◌∙◌, rules}
 use Rattle.std.specs.Prelude.{slice_set}
-use Rattle.kahn_net.specs.States.{standing_of}
-use Rattle.record.specs.ProcessView.{SavedProcessView}
-use Rattle.protocol.specs.Node.Installing.{moved}
+use Rattle.protocol.specs.Node.Common.{standing_of, SavedProcessView, moved}
 use Rattle.node_memory.proofs.Installs.{moved_here, standing_now}
 use Rattle.node_memory.proofs.installing.move_process.Goals as goal
 

@@ -1,6 +1,5 @@
 use Rattle.std.proofs.Common.{◌≡◌, ◌++◌, take, drop}
-use Rattle.kahn_net.specs.States.{standing_of}
-use Rattle.protocol.specs.Node.Installing.{moved}
+use Rattle.protocol.specs.Node.Common.{standing_of, moved}
 use Rattle.node_memory.proofs.installing.move_process.Given as goal
 
 abbrev pub invariant-loop-k : goal.invariant-loop-k

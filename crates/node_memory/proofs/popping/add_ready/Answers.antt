@@ -1,5 +1,5 @@
 use Rattle.std.proofs.Common.{◌≡◌, [], ◌∷◌, rules, ◌++◌, ◌+◌, ◌-◌, ℤ, List, take, drop, ap, sym, ◌∙◌, arith}
-use Rattle.window_link.specs.Windows.{ready_items}
+use Rattle.protocol.specs.Node.Common.{ready_items}
 use Rattle.node_memory.proofs.Pops.{ready_all, none_ready, ready_next}
 use Rattle.node_memory.proofs.popping.add_ready.Goals as goal
 

@@ -1,6 +1,6 @@
 use Rattle.std.proofs.Common.{◌≡◌, ◌≤◌, ◌++◌, take, drop}
 use Rattle.arrayvec.specs.ArrayVec.{array_vec_len}
-use Rattle.window_link.specs.Windows.{ready_items}
+use Rattle.protocol.specs.Node.Common.{ready_items}
 use Rattle.node_memory.proofs.popping.add_ready.Given as goal
 
 -- what is listed, and then what is to come

@@ -1,5 +1,5 @@
 use Rattle.std.proofs.Common.{◌≡◌}
-use Rattle.window_link.specs.Windows.{popped_times}
+use Rattle.protocol.specs.Node.Common.{popped_times}
 use Rattle.node_memory.proofs.popping.pop_times.Given as goal
 
 abbrev pub invariant-loop : goal.invariant-loop

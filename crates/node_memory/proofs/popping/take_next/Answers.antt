@@ -1,6 +1,6 @@
 use Rattle.std.proofs.Common.{◌≡◌, ◌-◌, ◌++◌, [], ◌∷◌, ℤ, ℕ, List, take, drop, ap, ◌∙◌, rules, to_z, of_z, w64}
-use Rattle.record.specs.Changes.{log_with}
-use Rattle.window_link.specs.Windows.{popped_times, ready_items, received}
+use Rattle.protocol.specs.Node.Common.{log_with, popped_times, ready_items}
+use Rattle.window_link.specs.Windows.{received}
 use Rattle.node_memory.proofs.Pops.{taken_is}
 use Rattle.node_memory.proofs.popping.take_next.Goals as goal
 

@@ -1,7 +1,6 @@
 use Rattle.std.proofs.Common.{◌≡◌, ◌++◌, take}
 use Rattle.std.specs.List.{flat_map}
-use Rattle.kahn_net.specs.Syntax.{network_of}
-use Rattle.protocol.specs.Node.Sending.{inbox_packets}
+use Rattle.protocol.specs.Node.Common.{network_of, inbox_packets}
 use Rattle.node_memory.proofs.sending.add_all_answers.Given as goal
 
 abbrev pub invariant-loop-inbox : goal.invariant-loop-inbox

@@ -1,6 +1,6 @@
 use Rattle.std.proofs.Common.{◌≡◌, ◌++◌, take}
 use Rattle.std.specs.List.{flat_map}
-use Rattle.kahn_net.specs.Syntax.{network_of}
+use Rattle.protocol.specs.Node.Common.{network_of}
 use Rattle.protocol.specs.Node.Sending.{outbox_packets}
 use Rattle.node_memory.proofs.sending.add_all_outgoing.Given as goal
 

@@ -1,5 +1,5 @@
 use Rattle.std.proofs.Common.{◌≡◌, ◌++◌, drop, map}
-use Rattle.kahn_net.specs.Syntax.{network_of}
+use Rattle.protocol.specs.Node.Common.{network_of}
 use Rattle.protocol.specs.Node.Telling.{undone_packet}
 use Rattle.node_memory.proofs.sending.add_undone.Given as goal
 

@@ -2,8 +2,7 @@ use Rattle.std.proofs.Common.{◌∙◌, ap, sym, ◌+◌, ◌≤◌, length, su
 use Rattle.std.specs.Prelude.{◌↔◌, ◌<◌, IsTrue, max}
 use Rattle.std.proofs.lemmas.Result.{IfOk-weaker}
 use Rattle.window_link.specs.Windows.{is_due}
-use Rattle.protocol.specs.Node.Sending.{first_due}
-use Rattle.kahn_net.specs.declared.limits.TheConstants.{MAX_COUNT}
+use Rattle.protocol.specs.Node.Common.{first_due, MAX_COUNT}
 use Rattle.node_memory.proofs.Dues.{taken_due, due_within}
 use Rattle.node_memory.proofs.sending.copy_due.Goals as goal
 

@@ -1,5 +1,5 @@
 use Rattle.std.proofs.Common.{◌≡◌, ◌++◌, drop, map}
-use Rattle.protocol.specs.Node.Verdicts.{commit_to}
+use Rattle.protocol.specs.Node.Common.{commit_to}
 use Rattle.node_memory.proofs.telling.add_decision.Given as goal
 
 abbrev pub invariant-loop-node : goal.invariant-loop-node

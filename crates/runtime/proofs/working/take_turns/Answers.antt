@@ -1,6 +1,6 @@
 use Rattle.std.proofs.Common.{◌∙◌, refl, sym, subst}
 use Rattle.node_memory.specs.JobView.{shared_view}
-use Rattle.protocol.specs.World.Replies.{IsGrantedAt}
+use Rattle.protocol.specs.World.Common.{IsGrantedAt}
 use Rattle.run_log.specs.Answers.{IsGrantedIn}
 use Rattle.run_log.specs.declared.answer.TurnAnswer.{TurnAnswer}
 use Rattle.station.specs.ReplyView.{reply_view}

@@ -1,7 +1,5 @@
 use Rattle.std.proofs.Common.{◌≡◌, ℤ, List, rules, subst}
-use Rattle.kahn_net.specs.Syntax.{network_of}
-use Rattle.net_check.specs.declared.net.Net.{Net}
-use Rattle.stream_eq.specs.Reached.{HistoryReaches}
+use Rattle.protocol.specs.Node.Common.{network_of, Net, HistoryReaches}
 use Rattle.runtime_tests.proofs.marks_tests.freed_of.Goals as goal
 
 -- what the approximation was asked of is what is handed on

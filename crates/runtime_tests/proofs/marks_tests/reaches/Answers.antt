@@ -1,5 +1,5 @@
 use Rattle.std.proofs.Common.{◌≤◌, ℤ, List, length, rules, subst, arith}
-use Rattle.kahn_net.specs.Streams.{history_of}
+use Rattle.protocol.specs.Node.Common.{history_of}
 use Rattle.runtime_tests.proofs.marks_tests.reaches.Goals as goal
 
 pub returns : goal.returns

@@ -1,8 +1,8 @@
 use Rattle.std.proofs.Common.{List, sym, subst}
 use Rattle.std.specs.Prelude.{All}
 use Rattle.wire.specs.Staging.{IsStaged}
-use Rattle.wire.specs.Traffic.{AreNodes, Traffic, traffic_of}
-use Rattle.wire.specs.declared.sending.Sending.{Sending}
+use Rattle.protocol.specs.World.Common.{Traffic, traffic_of, Sending}
+use Rattle.wire.specs.Traffic.{AreNodes}
 use Rattle.wire.proofs.Ready.{same_room}
 use Rattle.station.proofs.Packets.{are_nodes}
 use Rattle.station.proofs.network.make_ready.Goals as goal

@@ -1,6 +1,6 @@
 use Rattle.std.proofs.Common.{List, map, subst}
-use Rattle.datagram.specs.declared.packet.Packet.{Packet}
-use Rattle.protocol.specs.World.Steps.{sending_of}
+use Rattle.protocol.specs.Node.Common.{Packet}
+use Rattle.protocol.specs.World.Common.{sending_of}
 use Rattle.station.specs.Coming.{IsReadyFor}
 use Rattle.station.proofs.Ready.{still_ready}
 use Rattle.station.proofs.network.prepare.Goals as goal

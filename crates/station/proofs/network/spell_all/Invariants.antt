@@ -1,7 +1,7 @@
 use Rattle.std.proofs.Common.{◌≡◌, map, take}
 use Rattle.std.specs.Prelude.{All}
-use Rattle.datagram.specs.PacketText.{IsPacket}
-use Rattle.protocol.specs.World.Steps.{sending_of}
+use Rattle.protocol.specs.Node.Common.{IsPacket}
+use Rattle.protocol.specs.World.Common.{sending_of}
 use Rattle.station.proofs.network.spell_all.Given as goal
 
 -- those that were looked at may be written, and are

@@ -1,5 +1,5 @@
 use Rattle.std.proofs.Common.{◌≡◌, drop, map}
-use Rattle.kahn_net.specs.Syntax.{network_of}
+use Rattle.protocol.specs.Node.Common.{network_of}
 use Rattle.protocol.specs.World.Quiet.{are_at_rest}
 use Rattle.station.specs.StationView.{station_view}
 use Rattle.station.proofs.quiet.are_at_rest.Given as goal

@@ -1,5 +1,5 @@
 use Rattle.std.proofs.Common.{◌≡◌, drop}
-use Rattle.protocol.specs.World.Invariant.{outputs_of}
+use Rattle.protocol.specs.World.Common.{outputs_of}
 use Rattle.protocol.specs.World.Quiet.{have_all_left}
 use Rattle.station.specs.StationView.{outlet_views}
 use Rattle.station.proofs.quiet.have_all_left.Given as goal

@@ -1,6 +1,6 @@
 use Rattle.std.proofs.Common.{◌≡◌, drop}
 use Rattle.station.specs.StationView.{outlet_views}
-use Rattle.protocol.specs.World.Steps.{first_waiting}
+use Rattle.protocol.specs.World.Common.{first_waiting}
 use Rattle.station.proofs.releasing.next_output.Given as goal
 
 -- what is found from here on is what is found in all

@@ -1,7 +1,5 @@
 use Rattle.std.proofs.Common.{rules, ◌≡◌, ◌+◌, ◌∙◌, ℕ, ℤ, List, length, sym, subst}
-use Rattle.kahn_net.specs.Syntax.{network_of}
-use Rattle.net_check.specs.declared.net.Net.{Net}
-use Rattle.stream_eq.specs.Reached.{HistoryReaches}
+use Rattle.protocol.specs.Node.Common.{network_of, Net, HistoryReaches}
 use Rattle.station.proofs.releasing.release_at.Goals as goal
 
 -- the outlet took one item more, which some approximation has

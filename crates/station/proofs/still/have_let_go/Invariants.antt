@@ -1,6 +1,6 @@
 use Rattle.std.proofs.Common.{◌≡◌, drop, map}
 use Rattle.std.specs.List.{list_all}
-use Rattle.kahn_net.specs.Syntax.{network_of}
+use Rattle.protocol.specs.Node.Common.{network_of}
 use Rattle.protocol.specs.World.Still.{has_let_go}
 use Rattle.station.specs.StationView.{station_view}
 use Rattle.station.proofs.still.have_let_go.Given as goal

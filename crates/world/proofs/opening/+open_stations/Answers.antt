@@ -1,10 +1,7 @@
 use Rattle.std.proofs.Common.{rules, ◌≡◌, ◌++◌, vec_len, ◌≤◌, length, map, sym, ap, subst, ◌∙◌, arith}
-use Rattle.kahn_net.specs.Nodes.{node_count}
-use Rattle.kahn_net.specs.Syntax.{network_of}
-use Rattle.kahn_net.specs.declared.limits.TheConstants.{MAX_NODES}
+use Rattle.protocol.specs.Node.Common.{node_count, network_of, MAX_NODES, slot_room_on}
 use Rattle.gate_cell.specs.SplitCell.{disk_in}
-use Rattle.gate_cell.specs.SplitLayout.{slot_room_on}
-use Rattle.protocol.specs.World.Sound.{is_output}
+use Rattle.protocol.specs.World.Common.{is_output}
 use Rattle.protocol_laws.specs.Node.PlaceLaws.{nodes_few}
 use Rattle.world.proofs.OpenedStations.{none_opened, last_back, before_back, world_refused, last_refused}
 use Rattle.world.proofs.OpenedStations.{before_refused, station_opened, stations_more, others_left, nothing_before}

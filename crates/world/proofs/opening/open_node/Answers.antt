@@ -1,13 +1,9 @@
 use Rattle.std.proofs.Common.{ℕ, rules, length, sym, ap, subst, ◌∙◌, arith}
 use Rattle.std.proofs.lemmas.List.{length-replicate}
-use Rattle.kahn_net.specs.Syntax.{network_of}
-use Rattle.ckpt_codec.specs.RecordText.{IsRecord}
+use Rattle.protocol.specs.Node.Common.{network_of, IsRecord, MAX_RETAINED_ITEMS, RecordView, image_length}
 use Rattle.ckpt_codec.specs.SizeLaws.{IsRecordWithin}
-use Rattle.ckpt_codec.specs.declared.lengths.TheConstants.{MAX_RETAINED_ITEMS}
 use Rattle.protocol_laws.specs.Node.SizeLaws.{opening_within}
 use Rattle.protocol_laws.specs.Node.LikeLaws.{opening_allowed}
-use Rattle.record.specs.RecordView.{RecordView}
-use Rattle.ckpt_codec.specs.Lengths.{image_length}
 use Rattle.world.specs.OpeningWorld.{HasRoom}
 use Rattle.world.proofs.OpeningStores.{node_left, node_stands}
 use Rattle.world.proofs.opening.open_node.Goals as goal

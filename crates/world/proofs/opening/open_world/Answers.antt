@@ -1,7 +1,7 @@
 use Rattle.std.proofs.Common.{map, refl}
-use Rattle.kahn_net.specs.Syntax.{network_of}
+use Rattle.protocol.specs.Node.Common.{network_of}
 use Rattle.protocol_laws.specs.World.PrefixLaws.{released_prefix}
-use Rattle.wire.specs.Traffic.{traffic_of}
+use Rattle.protocol.specs.World.Common.{traffic_of}
 use Rattle.station.specs.OutputView.{fresh}
 use Rattle.world.proofs.OpenedStations.{opened_all, opened_sound, opened_world, opened_outlets, opened_left}
 use Rattle.world.proofs.OpenedStations.{opened_armed, opened_calls, opened_rooms, opened_fits, opened_versions, world_refused, none_opened}

@@ -1,8 +1,8 @@
 use Rattle.std.proofs.Common.{◌≡◌, ◌++◌, ◌+◌, ◌≤◌, length}
 use Rattle.std.specs.Prelude.{not, filter, vec_capacity, vec_len}
 use Rattle.std.specs.Vec.Iter.{into_iter_items}
-use Rattle.kahn_net.specs.Syntax.{network_of}
-use Rattle.protocol.specs.World.Sound.{is_output}
+use Rattle.protocol.specs.Node.Common.{network_of}
+use Rattle.protocol.specs.World.Common.{is_output}
 use Rattle.world.specs.OpeningWorld.{own_outputs}
 use Rattle.world.proofs.opening.part_outputs.Given as goal
 

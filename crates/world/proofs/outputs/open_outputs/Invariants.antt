@@ -1,5 +1,5 @@
 use Rattle.std.proofs.Common.{◌≡◌, ◌++◌, map, drop}
-use Rattle.protocol.specs.World.Sound.{output_channels}
+use Rattle.protocol.specs.World.Common.{output_channels}
 use Rattle.std.specs.List.{AllByRecursion}
 use Rattle.world.specs.OpeningWorld.{HasNotFailed, IsMade, IsUnused}
 use Rattle.world.proofs.outputs.open_outputs.Given as goal

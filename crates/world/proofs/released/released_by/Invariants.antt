@@ -1,6 +1,6 @@
 use Rattle.std.proofs.Common.{◌≡◌, drop}
 use Rattle.std.specs.Prelude.{◌==◌, find}
-use Rattle.protocol.specs.World.StationView.{OutletView}
+use Rattle.protocol.specs.World.Common.{OutletView}
 use Rattle.station.specs.StationView.{outlet_views}
 use Rattle.world.proofs.released.released_by.Given as goal
 

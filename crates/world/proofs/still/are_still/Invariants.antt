@@ -1,6 +1,6 @@
 use Rattle.std.proofs.Common.{◌≡◌, drop, map}
 use Rattle.std.specs.List.{list_all}
-use Rattle.kahn_net.specs.Syntax.{network_of}
+use Rattle.protocol.specs.Node.Common.{network_of}
 use Rattle.protocol.specs.World.Still.{is_still}
 use Rattle.station.specs.StationView.{station_view}
 use Rattle.world.proofs.still.are_still.Given as goal

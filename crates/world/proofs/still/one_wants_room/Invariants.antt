@@ -1,6 +1,6 @@
 use Rattle.std.proofs.Common.{◌≡◌, drop, map}
 use Rattle.std.specs.List.{list_any}
-use Rattle.kahn_net.specs.Syntax.{network_of}
+use Rattle.protocol.specs.Node.Common.{network_of}
 use Rattle.protocol.specs.World.Still.{wants_room}
 use Rattle.station.specs.StationView.{station_view}
 use Rattle.world.proofs.still.one_wants_room.Given as goal

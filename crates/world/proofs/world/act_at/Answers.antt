@@ -2,14 +2,11 @@ use Rattle.std.proofs.Common.{rules, refl, ◌<◌, ◌≤◌, ◌∙◌, sym, s
 use Rattle.std.specs.Prelude.{slice_set}
 use Rattle.std.proofs.lemmas.List.{length-map}
 use Rattle.protocol_laws.specs.Node.PlaceLaws.{nodes_few}
-use Rattle.protocol.specs.World.EventView.{event_node}
-use Rattle.wire.specs.Traffic.{traffic_of}
+use Rattle.protocol.specs.World.Common.{event_node, traffic_of}
 use Rattle.station.specs.Lending.{setting_by}
 use Rattle.station.specs.ReplyView.{answer_view}
 use Rattle.std.proofs.lemmas.Option.{slice_get_read}
-use Rattle.kahn_net.specs.Syntax.{network_of}
-use Rattle.ckpt_store.specs.Spelling.{fits_in}
-use Rattle.ckpt_store.specs.StoreView.{cell_in}
+use Rattle.protocol.specs.Node.Common.{network_of, fits_in, cell_in}
 use Rattle.station.specs.EventView.{event_view}
 use Rattle.protocol_laws.specs.World.OutputLaws.{set_keeps}
 use Rattle.protocol.specs.World.Pairs.{AreSameElsewhere}

@@ -1,6 +1,5 @@
 use Rattle.std.proofs.Common.{ap, sym, subst}
-use Rattle.protocol.specs.Node.Installing.{IsOut, TakesTurn}
-use Rattle.protocol.specs.Node.NodeView.{ModeView}
+use Rattle.protocol.specs.Node.Common.{IsOut, TakesTurn, ModeView}
 use Rattle.node.specs.NodeView.{mode_view}
 use Rattle.node_memory.specs.JobView.{job_view}
 use Rattle.node.proofs.node.Node.install.Goals as goal

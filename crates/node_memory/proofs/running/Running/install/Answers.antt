@@ -1,6 +1,5 @@
 use Rattle.std.proofs.Common.{◌≡◌, List, ℕ, ℤ, Some, sym, subst}
-use Rattle.proc_step.specs.declared.job.Job.{Job}
-use Rattle.protocol.specs.Node.Installing.{ImageTakes}
+use Rattle.protocol.specs.Node.Common.{Job, ImageTakes}
 use Rattle.node_memory.specs.JobView.{job_view}
 use Rattle.node_memory.specs.RunningView.{running_view}
 use Rattle.node_memory.proofs.running.Running.install.Goals as goal

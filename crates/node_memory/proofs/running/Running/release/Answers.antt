@@ -1,6 +1,5 @@
 use Rattle.std.proofs.Common.{length, Option, subst, sym}
-use Rattle.retained.specs.LogState.{LogState}
-use Rattle.protocol.specs.Node.Trimming.{HasNext}
+use Rattle.protocol.specs.Node.Common.{LogState, HasNext}
 use Rattle.node_memory.specs.Handing.{IsHandedTo}
 use Rattle.node_memory.proofs.Handing.{handed_to}
 use Rattle.node_memory.proofs.running.Running.release.Goals as goal

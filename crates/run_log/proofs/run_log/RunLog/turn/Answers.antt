@@ -1,5 +1,5 @@
 use Rattle.std.proofs.Common.{◌∙◌, ap}
-use Rattle.protocol.specs.World.EventView.{event_node}
+use Rattle.protocol.specs.World.Common.{event_node}
 use Rattle.replay.proofs.Choices.{choice_at_home}
 use Rattle.world.specs.WholeView.{world_of}
 use Rattle.run_log.proofs.run_log.RunLog.turn.Goals as goal

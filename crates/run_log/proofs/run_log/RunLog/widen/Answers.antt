@@ -1,5 +1,5 @@
 use Rattle.std.proofs.Common.{◌∙◌, sym, ap}
-use Rattle.protocol.specs.World.Steps.{WorldView}
+use Rattle.protocol.specs.World.Common.{WorldView}
 use Rattle.replay.specs.Armed.{with_world}
 use Rattle.run_log.specs.ArmedWorlds.{armed_view}
 use Rattle.run_log.specs.Numbers.{Numbers, counted}

@@ -2,7 +2,8 @@ use Rattle.std.proofs.Common.{◌≡◌, ◌<◌, Err, Result, ℕ, Ok, refl, sy
 use Rattle.std.proofs.Common.{arith}
 use Rattle.std.specs.Prelude.{IfOk, slice_get}
 use Rattle.std.specs.declared.alloc.AllocError.{AllocError}
-use Rattle.wire.specs.declared.queue.TheConstants.{NODES}
+use Rattle.protocol.specs.World.Common.{NODES, flights_to, traffic_of, ByNode, EventView, event_node, HasMoved}
+use Rattle.protocol.specs.World.Common.{next_kept, deliver_plan, due_bytes}
 use Rattle.protocol.specs.declared.reply.Reply.TheVariants.{Down}
 use Rattle.station.specs.ReplyView.{reply_view}
 use Rattle.station.specs.declared.event.Event.{Event}
@@ -11,18 +12,11 @@ use Rattle.protocol.specs.declared.event.Deed.{Deed}
 use Rattle.protocol.specs.declared.event.PlainEvent.{PlainEvent}
 use Rattle.protocol.specs.declared.event.PlainEvent.TheVariants as plain_is
 use Rattle.station.specs.ReplyView.{Reply}
-use Rattle.kahn_net.specs.Syntax.{network_of}
-use Rattle.ckpt_store.specs.Spelling.{fits_in}
-use Rattle.ckpt_store.specs.StoreView.{cell_in}
-use Rattle.wire.specs.Traffic.{flights_to, traffic_of}
-use Rattle.protocol.specs.Node.ArmedRestarts.{round_later, with_armed}
-use Rattle.protocol.specs.Node.Choosing.{node_job}
+use Rattle.protocol.specs.Node.Common.{network_of, fits_in, cell_in, round_later, with_armed, node_job}
 use Rattle.protocol_laws.specs.Node.PlaceLaws.{nodes_few}
-use Rattle.protocol.specs.World.EventView.{ByNode, EventView, event_node, plain_view}
+use Rattle.protocol.specs.World.EventView.{plain_view}
 use Rattle.protocol.specs.declared.event.Deed.TheVariants as view
-use Rattle.protocol.specs.World.Pairs.{HasMoved}
-use Rattle.protocol.specs.World.RecoveryLine.{next_kept}
-use Rattle.protocol.specs.World.Steps.{crash_plan, decide_plan, deliver_plan, due_bytes, idle_plan}
+use Rattle.protocol.specs.World.Steps.{crash_plan, decide_plan, idle_plan}
 use Rattle.protocol.specs.World.Steps.{recover_plan}
 use Rattle.protocol.specs.World.Steps.{arm_plan, send_plan, start_plan}
 use Rattle.protocol_laws.specs.World.ActLaws.{takes_turn, like_now}

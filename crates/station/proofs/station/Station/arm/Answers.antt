@@ -1,10 +1,8 @@
 use Rattle.std.proofs.Common.{ℕ, refl, ap, ◌∙◌}
-use Rattle.ckpt_store.specs.Spelling.{fits_in}
-use Rattle.ckpt_store.specs.StoreView.{cell_in}
+use Rattle.protocol.specs.Node.Common.{fits_in, cell_in, with_armed, NodeView}
 use Rattle.node.specs.NodeOf.{view_of}
-use Rattle.protocol.specs.Node.ArmedRestarts.{with_armed}
-use Rattle.protocol.specs.Node.NodeView.{NodeView}
-use Rattle.protocol.specs.World.Steps.{arm_plan, moved_to}
+use Rattle.protocol.specs.World.Common.{moved_to}
+use Rattle.protocol.specs.World.Steps.{arm_plan}
 use Rattle.station.specs.StationView.{station_view}
 use Rattle.station.proofs.Planned.{becomes, seen_moved}
 use Rattle.station.proofs.Cells.{through_crash}

@@ -1,6 +1,6 @@
 use Rattle.node.specs.NodeOf.{view_of}
 use Rattle.node.specs.Planned.{prospect_view}
-use Rattle.wire.specs.Traffic.{traffic_of}
+use Rattle.protocol.specs.World.Common.{traffic_of}
 use Rattle.station.proofs.Ready.{deed_sent}
 use Rattle.station.proofs.station.Station.carry_out.Goals as goal
 

@@ -1,10 +1,7 @@
 use Rattle.std.proofs.Common.{ℕ, refl, ap, ◌∙◌}
-use Rattle.ckpt_store.specs.Spelling.{fits_in}
-use Rattle.ckpt_store.specs.StoreView.{cell_in}
+use Rattle.protocol.specs.Node.Common.{fits_in, cell_in, round_later, crashed}
 use Rattle.node.specs.NodeOf.{view_of}
-use Rattle.protocol.specs.Node.ArmedRestarts.{round_later}
-use Rattle.protocol.specs.Node.Modes.{crashed}
-use Rattle.protocol.specs.World.Steps.{moved_to}
+use Rattle.protocol.specs.World.Common.{moved_to}
 use Rattle.station.specs.StationView.{station_view}
 use Rattle.station.proofs.Cells.{through_crash}
 use Rattle.station.proofs.Crashes.{crashes}

@@ -1,19 +1,14 @@
 use Rattle.std.proofs.Common.{Ok, Result, ap, map, refl, subst, sym, ◌∙◌}
 use Rattle.std.specs.Prelude.{All}
 use Rattle.std.specs.declared.alloc.AllocError.{AllocError}
-use Rattle.ckpt_store.specs.StoreView.{cell_in}
-use Rattle.datagram.specs.PacketText.{IsPacket}
+use Rattle.protocol.specs.Node.Common.{cell_in, IsPacket, decide_prospect, Prospect, next_record, packets_by}
 use Rattle.node.specs.NodeOf.{view_of}
 use Rattle.node.specs.Putting.{IsPutEvent}
 use Rattle.node.specs.StoredView.{LeavesNext}
-use Rattle.protocol.specs.Node.Verdicts.{decide_prospect}
-use Rattle.protocol.specs.Node.Plans.{Prospect, next_record, packets_by}
 use Rattle.protocol.specs.declared.reply.Reply.TheVariants.{Refused, Decided}
-use Rattle.protocol.specs.World.StationView.{StationView}
-use Rattle.protocol.specs.World.Steps.{sending_of}
+use Rattle.protocol.specs.World.Common.{StationView, sending_of, all_sent, traffic_of}
 use Rattle.protocol.specs.declared.outcome.Outcome.{Outcome}
 use Rattle.protocol.specs.declared.outcome.Refusal.TheVariants.{TooLarge}
-use Rattle.wire.specs.Traffic.{all_sent, traffic_of}
 use Rattle.station.specs.StationView.{outlet_views}
 use Rattle.station.specs.StationView.{station_view}
 use Rattle.station.proofs.Cells.{through, untouched}

@@ -1,20 +1,15 @@
 use Rattle.std.proofs.Common.{◌<◌, ◌∙◌, ap, refl, sym, subst, List, length, Result, Ok, Err}
 use Rattle.std.specs.Prelude.{IfOk}
 use Rattle.std.specs.declared.alloc.AllocError.{AllocError}
-use Rattle.ckpt_store.specs.Spelling.{fits_in}
-use Rattle.ckpt_store.specs.StoreView.{cell_in}
-use Rattle.wire.specs.declared.queue.Flight.{Flight}
+use Rattle.protocol.specs.Node.Common.{fits_in, cell_in, Net, network_of, packet_for}
+use Rattle.protocol.specs.World.Common.{Flight, traffic_of}
 use Rattle.station.specs.ReplyView.{reply_view}
 use Rattle.station.specs.ReplyView.{Reply}
 use Rattle.station.proofs.Ready.{flying_seen}
-use Rattle.wire.specs.Traffic.{traffic_of}
 use Rattle.station.specs.StationView.{station_view}
 use Rattle.station.proofs.Cells.{untouched}
 use Rattle.station.proofs.Planned.{came_heard}
 use Rattle.station.specs.Lending.{net_lent}
-use Rattle.net_check.specs.declared.net.Net.{Net}
-use Rattle.kahn_net.specs.Syntax.{network_of}
-use Rattle.protocol.specs.Node.Delivering.{packet_for}
 use Rattle.station.proofs.station.Station.deliver.Goals as goal
 
 pub returns-in_default-clause-leaves : goal.returns-in_default-clause-leaves

@@ -1,13 +1,9 @@
 use Rattle.std.proofs.Common.{ℤ, List, Option, ap, ◌∙◌}
-use Rattle.ckpt_store.specs.Spelling.{fits_in}
-use Rattle.ckpt_store.specs.StoreView.{cell_in}
-use Rattle.ckpt_store.specs.declared.store.Store.{Store}
+use Rattle.protocol.specs.Node.Common.{fits_in, cell_in, Store, node_job, with_grant, JobView}
 use Rattle.node.specs.NodeOf.{view_of}
-use Rattle.protocol.specs.Node.Choosing.{node_job, with_grant}
 use Rattle.station.specs.StationView.{station_view}
 use Rattle.station.proofs.Planned.{grants}
 use Rattle.station.specs.Lending.{inputs_lent, net_lent}
-use Rattle.protocol.specs.Node.JobView.{JobView}
 use Rattle.station.proofs.station.Station.grant.Goals as goal
 
 pub returns-clause-step : goal.returns-clause-step

@@ -1,26 +1,20 @@
 use Rattle.std.proofs.Common.{Ok, Result, ap, map, refl, subst, sym, ◌∙◌}
 use Rattle.std.specs.Prelude.{All}
 use Rattle.std.specs.declared.alloc.AllocError.{AllocError}
-use Rattle.kahn_net.specs.Syntax.{network_of}
-use Rattle.ckpt_store.specs.StoreView.{cell_in}
-use Rattle.datagram.specs.PacketText.{IsPacket}
+use Rattle.protocol.specs.Node.Common.{network_of, cell_in, IsPacket, hear_prospect, Prospect, next_record}
+use Rattle.protocol.specs.Node.Common.{packets_by, Net, node_count}
 use Rattle.node.specs.NodeOf.{view_of}
 use Rattle.node.specs.Planned.{prospect_view}
 use Rattle.node.specs.Putting.{IsPutEvent}
 use Rattle.node.specs.StoredView.{LeavesNext}
-use Rattle.protocol.specs.Node.Hearing.{hear_prospect}
-use Rattle.protocol.specs.Node.Plans.{Prospect, next_record, packets_by}
-use Rattle.protocol.specs.World.Steps.{sending_of}
+use Rattle.protocol.specs.World.Common.{sending_of, all_sent, traffic_of}
 use Rattle.protocol.specs.declared.outcome.Outcome.{Outcome}
-use Rattle.wire.specs.Traffic.{all_sent, traffic_of}
 use Rattle.station.specs.Coming.{taken_by}
 use Rattle.station.specs.StationView.{station_view}
 use Rattle.station.proofs.Cells.{through, untouched}
 use Rattle.station.proofs.Planned.{seen_moved}
 use Rattle.station.proofs.Ready.{heard_sent, still_there}
-use Rattle.net_check.specs.declared.net.Net.{Net}
 use Rattle.station.specs.Lending.{net_lent}
-use Rattle.kahn_net.specs.Nodes.{node_count}
 use Rattle.protocol_laws.specs.World.HeardLaws.{IsHeard}
 use Rattle.station.proofs.station.Station.hear.Goals as goal
 

@@ -1,9 +1,9 @@
 use Rattle.std.proofs.Common.{rules, ◌≡◌, refl}
-use Rattle.ckpt_store.specs.Spelling.{fits_in}
-use Rattle.ckpt_store.specs.StoreView.{cell_in}
+use Rattle.protocol.specs.Node.Common.{fits_in, cell_in}
 use Rattle.node.specs.NodeOf.{view_of}
 use Rattle.protocol.specs.World.Steps.{idle_plan}
-use Rattle.protocol.specs.World.Turns.{turns_of, count_idle}
+use Rattle.protocol.specs.World.Common.{turns_of}
+use Rattle.protocol.specs.World.Turns.{count_idle}
 use Rattle.station.specs.StationView.{station_view}
 use Rattle.station.proofs.Planned.{becomes, seen_moved}
 use Rattle.station.proofs.station.Station.idle.Goals as goal

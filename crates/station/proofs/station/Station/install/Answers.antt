@@ -1,9 +1,6 @@
 use Rattle.std.proofs.Common.{List, sym, subst}
-use Rattle.kahn_net.specs.declared.program.Channel.{Channel}
-use Rattle.protocol.specs.Node.Installing.{TakesTurn}
+use Rattle.protocol.specs.Node.Common.{Channel, TakesTurn, Net, network_of}
 use Rattle.node.specs.NodeOf.{view_of}
-use Rattle.net_check.specs.declared.net.Net.{Net}
-use Rattle.kahn_net.specs.Syntax.{network_of}
 use Rattle.station.proofs.station.Station.install.Goals as goal
 
 pub install-requires : goal.install-requires

@@ -1,12 +1,10 @@
 use Rattle.std.proofs.Common.{◌≡◌, ⊎_elim, List, [], ap, map, refl, subst, sym, ◌∙◌}
 use Rattle.std.specs.Prelude.{All}
-use Rattle.datagram.specs.PacketText.{IsPacket}
-use Rattle.datagram.specs.declared.packet.Packet.{Packet}
+use Rattle.protocol.specs.Node.Common.{IsPacket, Packet, packets_by}
 use Rattle.node.specs.NodeOf.{view_of}
 use Rattle.node.specs.Planned.{prospect_view}
 use Rattle.node.specs.declared.plan.Prospect.{Prospect}
-use Rattle.protocol.specs.Node.Plans.{packets_by}
-use Rattle.protocol.specs.World.Steps.{sending_of}
+use Rattle.protocol.specs.World.Common.{sending_of}
 use Rattle.protocol.specs.declared.outcome.Outcome.TheVariants as outcome
 use Rattle.protocol.specs.declared.outcome.Refusal.TheVariants.{TooLarge}
 use Rattle.station.specs.Coming.{IsReadyFor}

@@ -1,16 +1,13 @@
 use Rattle.std.proofs.Common.{Ok, Result, ap, subst, ◌∙◌}
 use Rattle.std.specs.declared.alloc.AllocError.{AllocError}
-use Rattle.ckpt_store.specs.StoreView.{cell_in}
+use Rattle.protocol.specs.Node.Common.{cell_in, restart_after, next_record, packets_by, recover_prospect, Net}
+use Rattle.protocol.specs.Node.Common.{network_of}
 use Rattle.node.specs.NodeOf.{view_of}
 use Rattle.node.specs.NodeView.{mode_view}
-use Rattle.protocol.specs.Node.ArmedRestarts.{restart_after}
-use Rattle.protocol.specs.World.Replies.{answer_by, back_reply}
+use Rattle.protocol.specs.World.Common.{answer_by, back_reply, ReplyView}
 use Rattle.node.specs.Putting.{IsPutEvent}
 use Rattle.node.specs.StoredView.{LeavesNext}
-use Rattle.protocol.specs.Node.Plans.{next_record, packets_by}
-use Rattle.protocol.specs.Node.Recovering.{recover_prospect}
 use Rattle.protocol.specs.declared.outcome.Outcome.{Outcome}
-use Rattle.protocol.specs.World.ReplyView.{ReplyView}
 use Rattle.protocol.specs.declared.reply.Reply.TheVariants.{Refused}
 use Rattle.protocol.specs.declared.outcome.Refusal.TheVariants.{TooLarge}
 use Rattle.protocol.specs.World.Steps.{recover_plan}
@@ -19,8 +16,6 @@ use Rattle.station.specs.StationView.{station_view}
 use Rattle.station.proofs.Cells.{through}
 use Rattle.station.proofs.Planned.{answer_then, back_mode, seen_moved, silent_allowed, turns_kept}
 use Rattle.station.specs.Lending.{net_lent}
-use Rattle.net_check.specs.declared.net.Net.{Net}
-use Rattle.kahn_net.specs.Syntax.{network_of}
 use Rattle.station.proofs.station.Station.recover.Goals as goal
 
 pub returns-in-Err-clause-leaves : goal.returns-in-Err-clause-leaves

@@ -1,10 +1,9 @@
 use Rattle.std.proofs.Common.{ℕ, Option, refl, sym, ap, subst}
-use Rattle.ckpt_store.specs.StoreView.{cell_in}
-use Rattle.ckpt_store.specs.declared.store.Store.{Store}
+use Rattle.protocol.specs.Node.Common.{cell_in, Store}
 use Rattle.node.specs.NodeOf.{view_of}
 use Rattle.protocol.specs.declared.reply.Reply.TheVariants as reply
 use Rattle.station.specs.StationView.{outlet_view}
-use Rattle.protocol.specs.World.Steps.{IsRelease}
+use Rattle.protocol.specs.World.Common.{IsRelease}
 use Rattle.station.specs.StationView.{station_view}
 use Rattle.station.proofs.Releases.{outlet_at, outlet_set, release_refused, release_step}
 use Rattle.station.proofs.station.Station.release.Goals as goal

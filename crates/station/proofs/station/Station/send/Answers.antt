@@ -1,15 +1,10 @@
 use Rattle.std.proofs.Common.{rules, ◌≡◌, ◌∙◌, ap, false, refl}
-use Rattle.kahn_net.specs.Syntax.{network_of}
-use Rattle.ckpt_store.specs.Spelling.{fits_in}
-use Rattle.ckpt_store.specs.StoreView.{cell_in}
-use Rattle.protocol.specs.Node.Modes.{is_down}
-use Rattle.wire.specs.Traffic.{traffic_of}
+use Rattle.protocol.specs.Node.Common.{network_of, fits_in, cell_in, is_down, Net, turn_packets}
+use Rattle.protocol.specs.World.Common.{traffic_of}
 use Rattle.station.specs.StationView.{station_view}
 use Rattle.station.proofs.Packets.{are_nodes}
 use Rattle.station.proofs.Sends.{sends}
-use Rattle.net_check.specs.declared.net.Net.{Net}
 use Rattle.station.specs.Lending.{net_lent}
-use Rattle.protocol.specs.Node.Telling.{turn_packets}
 use Rattle.station.proofs.station.Station.send.Goals as goal
 
 pub send_all-requires : goal.send_all-requires

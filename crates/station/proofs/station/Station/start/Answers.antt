@@ -1,28 +1,21 @@
 use Rattle.std.proofs.Common.{rules, ◌≡◌, Ok, Result, ap, map, refl, subst, sym, ◌∙◌}
 use Rattle.std.specs.Prelude.{All}
 use Rattle.std.specs.declared.alloc.AllocError.{AllocError}
-use Rattle.ckpt_store.specs.StoreView.{cell_in}
-use Rattle.datagram.specs.PacketText.{IsPacket}
-use Rattle.kahn_net.specs.Syntax.{network_of}
-use Rattle.protocol.specs.World.Steps.{turns_by}
-use Rattle.protocol.specs.World.Turns.{turns_of, count_start}
+use Rattle.protocol.specs.Node.Common.{cell_in, IsPacket, network_of, start_prospect, Prospect, next_record}
+use Rattle.protocol.specs.Node.Common.{packets_by, Net}
+use Rattle.protocol.specs.World.Common.{turns_by, turns_of, StationView, sending_of, all_sent, traffic_of}
+use Rattle.protocol.specs.World.Turns.{count_start}
 use Rattle.protocol.specs.declared.round_turns.RoundTurns.{RoundTurns}
 use Rattle.node.specs.NodeOf.{view_of}
 use Rattle.node.specs.Putting.{IsPutEvent}
 use Rattle.node.specs.StoredView.{LeavesNext}
-use Rattle.protocol.specs.Node.Beginning.{start_prospect}
-use Rattle.protocol.specs.Node.Plans.{Prospect, next_record, packets_by}
 use Rattle.protocol.specs.declared.reply.Reply.TheVariants.{Refused, Started}
-use Rattle.protocol.specs.World.StationView.{StationView}
-use Rattle.protocol.specs.World.Steps.{sending_of}
 use Rattle.protocol.specs.declared.outcome.Outcome.{Outcome}
 use Rattle.protocol.specs.declared.outcome.Refusal.TheVariants.{TooLarge}
-use Rattle.wire.specs.Traffic.{all_sent, traffic_of}
 use Rattle.station.specs.StationView.{outlet_views}
 use Rattle.station.specs.StationView.{station_view}
 use Rattle.station.proofs.Cells.{through, untouched}
 use Rattle.station.proofs.Planned.{own_traffic, seen_moved, undue_silent}
-use Rattle.net_check.specs.declared.net.Net.{Net}
 use Rattle.station.specs.Lending.{net_lent}
 use Rattle.station.proofs.station.Station.start.Goals as goal
 

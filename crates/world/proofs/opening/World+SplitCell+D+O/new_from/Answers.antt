@@ -1,5 +1,5 @@
 use Rattle.std.proofs.Common.{rules, ℕ, ◌≡◌, length, map, subst}
-use Rattle.kahn_net.specs.Syntax.{network_of}
+use Rattle.protocol.specs.Node.Common.{network_of}
 use Rattle.world.specs.OpeningWorld.{AreVersionsFor}
 use Rattle.world.proofs.OpenedStations.{none_tried, never_versions, never_untouched}
 use Rattle.world.proofs.opening.World+SplitCell+D+O.new_from.Goals as goal

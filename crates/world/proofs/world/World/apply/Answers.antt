@@ -1,9 +1,7 @@
 use Rattle.std.proofs.Common.{List, [], map, refl, ap, sym, subst, ◌∙◌}
-use Rattle.kahn_net.specs.Syntax.{network_of}
-use Rattle.ckpt_store.specs.Spelling.{fits_in}
-use Rattle.ckpt_store.specs.StoreView.{cell_in}
+use Rattle.protocol.specs.Node.Common.{network_of, fits_in, cell_in}
 use Rattle.station.specs.EventView.{event_view}
-use Rattle.protocol.specs.World.Headline.{AreApproximated}
+use Rattle.protocol.specs.World.Common.{AreApproximated, StationView, round_after, Traffic, traffic_of, event_node}
 use Rattle.protocol.specs.World.Coordination.{AreCoordinated}
 use Rattle.protocol_laws.specs.World.CoordinationLaws.{coordinated_still, events_are_coordinated}
 use Rattle.protocol_laws.specs.World.PrefixLaws.{released_prefix}
@@ -12,16 +10,13 @@ use Rattle.protocol_laws.specs.World.DropLaws.{never_dropped}
 use Rattle.protocol_laws.specs.World.HomeLaws.{granted_at_home}
 use Rattle.protocol_laws.specs.World.RoomLaws.{never_too_large, rooms_of}
 use Rattle.protocol.specs.declared.reply.Reply.TheVariants.{NotDue}
-use Rattle.protocol.specs.World.StationView.{StationView}
 use Rattle.protocol.specs.declared.outcome.Outcome.TheVariants as outcome
-use Rattle.protocol.specs.World.Steps.{round_after, setting_in}
+use Rattle.protocol.specs.World.Steps.{setting_in}
 use Rattle.protocol_laws.specs.World.StepKeeps.{step_keeps}
-use Rattle.wire.specs.Traffic.{Traffic, traffic_of}
 use Rattle.world.specs.WholeView.{world_of}
 use Rattle.world.specs.WorldView.{rooms, world_view}
 use Rattle.station.specs.StationView.{station_view}
 use Rattle.station.specs.declared.station.Station.{Station}
-use Rattle.protocol.specs.World.EventView.{event_node}
 use Rattle.world.proofs.Held.{held_at}
 use Rattle.world.proofs.Lines.{keeps_line, one_line}
 use Rattle.world.proofs.Views.{setting_is, world_steps}

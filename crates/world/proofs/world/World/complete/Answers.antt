@@ -1,11 +1,9 @@
 use Rattle.std.proofs.Common.{List, ap, map, sym, ◌∙◌}
 use Rattle.std.specs.List.{list_all}
 use Rattle.std.proofs.lemmas.List.{drop_all}
-use Rattle.kahn_net.specs.Syntax.{network_of}
-use Rattle.protocol.specs.Node.NodeView.{running_of}
-use Rattle.protocol.specs.World.Invariant.{outputs_of}
+use Rattle.protocol.specs.Node.Common.{network_of, running_of}
+use Rattle.protocol.specs.World.Common.{outputs_of, StationView}
 use Rattle.protocol.specs.World.Quiet.{is_quiet_at}
-use Rattle.protocol.specs.World.StationView.{StationView}
 use Rattle.protocol_laws.specs.World.QuietLaws.{quiet_is_whole}
 use Rattle.world.specs.WholeView.{world_of}
 use Rattle.station.specs.StationView.{station_view}

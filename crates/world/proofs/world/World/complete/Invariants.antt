@@ -1,11 +1,8 @@
 use Rattle.std.proofs.Common.{◌≡◌, drop, map}
 use Rattle.std.specs.List.{list_all}
-use Rattle.kahn_net.specs.Syntax.{network_of}
-use Rattle.protocol.specs.Node.NodeView.{running_of}
-use Rattle.protocol.specs.World.Invariant.{outputs_of}
-use Rattle.protocol.specs.World.Quiet.{are_quiet, is_quiet_at}
-use Rattle.protocol.specs.World.StationView.{StationView}
-use Rattle.wire.specs.Traffic.{traffic_of}
+use Rattle.protocol.specs.Node.Common.{network_of, running_of}
+use Rattle.protocol.specs.World.Common.{outputs_of, are_quiet, StationView, traffic_of}
+use Rattle.protocol.specs.World.Quiet.{is_quiet_at}
 use Rattle.station.specs.StationView.{station_view}
 use Rattle.world.specs.WorldView.{world_view}
 use Rattle.world.proofs.world.World.complete.Given as goal

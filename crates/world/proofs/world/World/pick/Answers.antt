@@ -1,10 +1,9 @@
 use Rattle.std.proofs.Common.{rules, ◌≡◌, ◌<◌, ◌≤◌, ◌∙◌, ℕ, ℤ, List, length, map, ap, sym, arith}
 use Rattle.std.proofs.lemmas.List.{length-map}
 use Rattle.std.proofs.lemmas.Option.{slice_get_past}
-use Rattle.kahn_net.specs.Syntax.{network_of}
-use Rattle.net_check.specs.declared.net.Net.{Net}
+use Rattle.protocol.specs.Node.Common.{network_of, Net}
 use Rattle.protocol.specs.World.Choice.{choice_of, station_choice}
-use Rattle.wire.specs.Traffic.{traffic_of}
+use Rattle.protocol.specs.World.Common.{traffic_of}
 use Rattle.world.specs.WholeView.{world_of}
 use Rattle.station.specs.StationView.{station_view}
 use Rattle.world.proofs.Places.{number_few}

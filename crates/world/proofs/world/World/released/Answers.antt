@@ -1,5 +1,5 @@
 use Rattle.std.proofs.Common.{sym, subst}
-use Rattle.kahn_net.specs.Syntax.{network_of}
+use Rattle.protocol.specs.Node.Common.{network_of}
 use Rattle.protocol.specs.World.Released.{IsPutAtHome, IsStreamOf}
 use Rattle.protocol_laws.specs.World.ReleasedLaws.{released_is_put, released_is_right}
 use Rattle.world.specs.WholeView.{world_of}

@@ -1,5 +1,5 @@
 use Rattle.std.proofs.Common.{◌≡◌, drop, map}
-use Rattle.protocol.specs.World.Released.{released_of}
+use Rattle.protocol.specs.World.Common.{released_of}
 use Rattle.station.specs.StationView.{station_view}
 use Rattle.world.proofs.world.World.stream.Given as goal
 
