@@ -392,17 +392,7 @@ crash_delivers : (e : EventView) (said : ReplyView) (deliveries : List ℕ) (cra
     → crash_after (delivered_to e) said deliveries crashes ≡ Some c
     → (n : ℕ) × (place : ℕ) × (e ≡ ByNode n (event.Deliver place))
 crash_delivers (ByNode n (event.Deliver place)) said deliveries crashes c is = (n, place, refl)
-crash_delivers (ByNode n event.Grant) said deliveries crashes c is = absurd (cc)
-crash_delivers (ByNode n event.Send) said deliveries crashes c is = absurd (cc)
-crash_delivers (ByNode n event.Start) said deliveries crashes c is = absurd (cc)
-crash_delivers (ByNode n event.Decide) said deliveries crashes c is = absurd (cc)
-crash_delivers (ByNode n (event.Crash fill rounds)) said deliveries crashes c is = absurd (cc)
-crash_delivers (ByNode n event.Recover) said deliveries crashes c is = absurd (cc)
-crash_delivers (ByNode n (event.Arm fault rounds)) said deliveries crashes c is = absurd (cc)
-crash_delivers (ByNode n event.Idle) said deliveries crashes c is = absurd (cc)
-crash_delivers (Install done) said deliveries crashes c is = absurd (cc)
-crash_delivers (Release n) said deliveries crashes c is = absurd (cc)
-crash_delivers (ByNetwork n place act) said deliveries crashes c is = absurd (cc)
+crash_delivers e said deliveries crashes c is = absurd (cc)
 
 world_goes : (k : ℕ) (fits : List (RecordView → Bool)) (e : EventView) (old : ArmedView) (answer : ReplyView) (new : ArmedView)
     → IsWorldStep fits e old answer new → StepGoes k e answer (look_at old.world k) (look_at new.world k)

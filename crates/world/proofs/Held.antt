@@ -87,18 +87,11 @@ module _ {C O : Type 0} {cell : CellWords C} {slots : SlotWords C} where
 
     held_by : (e : EventView) (old new : Station C O slots cell) → TakesMemory e → LeavesWhatItFound e old new
         → (LeavesCells e None → IsCellUnchanged old new) → HoldsAsBefore old new
-    held_by (ByNode k (event.Deliver place)) old new takes found same = untouched old new (same tt)
-    held_by (ByNode k event.Grant) old new takes found same = untouched old new (same tt)
-    held_by (ByNode k event.Send) old new takes found same = untouched old new (same tt)
-    held_by (ByNode k event.Start) old new takes found same = untouched old new (same tt)
-    held_by (ByNode k event.Decide) old new takes found same = untouched old new (same tt)
     held_by (ByNode k (event.Crash fill rounds)) old new takes found same = absurd takes
     held_by (ByNode k event.Recover) old new takes found same = looked old new found
     held_by (ByNode k (event.Arm fault rounds)) old new takes found same = looked old new found
     held_by (ByNode k event.Idle) old new takes found same = absurd takes
-    held_by (Install done) old new takes found same = untouched old new (same tt)
-    held_by (Release k) old new takes found same = untouched old new (same tt)
-    held_by (ByNetwork k place act) old new takes found same = untouched old new (same tt)
+    held_by e old new takes found same = untouched old new (same tt)
 
     pub held_at : (e : EventView) (place : ℕ) (olds news : List (Station C O slots cell)) → TakesMemory e
         → LeavesWhatItFoundAt e place olds news → (LeavesCells e None → AllZip IsCellUnchanged olds news)

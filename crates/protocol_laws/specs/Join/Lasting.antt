@@ -230,25 +230,11 @@ module _ (setting : Setting) (stations : List StationView) (k : ℕ) (old : Stat
     where
       place_of : Deed → ℕ
       place_of (event.Deliver p) = p
-      place_of event.Grant = 0
-      place_of event.Send = 0
-      place_of event.Start = 0
-      place_of event.Decide = 0
-      place_of (event.Crash fill rounds) = 0
-      place_of event.Recover = 0
-      place_of (event.Arm fault rounds) = 0
-      place_of event.Idle = 0
+      place_of deed = 0
 
       place_in : {other : ℕ} → event.Deliver place ≡ event.Deliver other → place ≡ other
       place_in same = ap place_of same
-  known_bytes event.Grant = ∣ (λ place same. absurd (cc)) ∣₁
-  known_bytes event.Send = ∣ (λ place same. absurd (cc)) ∣₁
-  known_bytes event.Start = ∣ (λ place same. absurd (cc)) ∣₁
-  known_bytes event.Decide = ∣ (λ place same. absurd (cc)) ∣₁
-  known_bytes (event.Crash fill rounds) = ∣ (λ place same. absurd (cc)) ∣₁
-  known_bytes event.Recover = ∣ (λ place same. absurd (cc)) ∣₁
-  known_bytes (event.Arm fault rounds) = ∣ (λ place same. absurd (cc)) ∣₁
-  known_bytes event.Idle = ∣ (λ place same. absurd (cc)) ∣₁
+  known_bytes deed = ∣ (λ place same. absurd (cc)) ∣₁
 
 pub deeds_stay_joined : DeedsStayJoined
 deeds_stay_joined setting stations k old new deed fits came answer in_world step =

@@ -61,14 +61,7 @@ SpelledBytes setting k (Some bytes) = SpellsSound setting.net setting.inputs k b
 abbrev Spelled : Setting → ℕ → Deed → Type 0
 Spelled setting k (event.Deliver place) =
     SpelledBytes setting k (due_bytes setting.round (flight_at setting k place))
-Spelled setting k event.Grant = Unit {0}
-Spelled setting k event.Send = Unit {0}
-Spelled setting k event.Start = Unit {0}
-Spelled setting k event.Decide = Unit {0}
-Spelled setting k (event.Crash fill rounds) = Unit {0}
-Spelled setting k event.Recover = Unit {0}
-Spelled setting k (event.Arm fault rounds) = Unit {0}
-Spelled setting k event.Idle = Unit {0}
+Spelled setting k deed = Unit {0}
 
 -- bytes that are due are those in flight
 due_are : (round : ℕ) (o : Option Flight) (bytes : List ℕ) → due_bytes round o ≡ Some bytes
@@ -92,14 +85,7 @@ module _ (setting : Setting) (stations : List StationView) (k : ℕ) (old : Stat
   all_spelled : (deed : Deed) → ∥ Spelled setting k deed ∥₁
   all_spelled (event.Deliver place) =
       bytes_spelled place (due_bytes setting.round (flight_at setting k place)) refl
-  all_spelled event.Grant = ∣ tt ∣₁
-  all_spelled event.Send = ∣ tt ∣₁
-  all_spelled event.Start = ∣ tt ∣₁
-  all_spelled event.Decide = ∣ tt ∣₁
-  all_spelled (event.Crash fill rounds) = ∣ tt ∣₁
-  all_spelled event.Recover = ∣ tt ∣₁
-  all_spelled (event.Arm fault rounds) = ∣ tt ∣₁
-  all_spelled event.Idle = ∣ tt ∣₁
+  all_spelled deed = ∣ tt ∣₁
 
   -- ---- each deed's plan is steps
 
@@ -180,14 +166,9 @@ answers_so setting k (event.Deliver place) station =
 answers_so setting k event.Grant station =
     job_answers (node_job setting.net setting.inputs setting.room station.node)
     (count_grant (turns_of setting.round station.turns)) station.node
-answers_so setting k event.Send station = inr (refl, refl)
-answers_so setting k event.Start station = inr (refl, refl)
-answers_so setting k event.Decide station = inr (refl, refl)
-answers_so setting k (event.Crash fill rounds) station = inr (refl, refl)
 answers_so setting k event.Recover station =
     inr (back_answers (restored_mode setting.net station.number (with_epoch station.node.kept)), refl)
-answers_so setting k (event.Arm fault rounds) station = inr (refl, refl)
-answers_so setting k event.Idle station = inr (refl, refl)
+answers_so setting k deed station = inr (refl, refl)
 
 pub deeds_run : DeedsRun
 deeds_run setting stations k old new deed fits came answer in_world step known =

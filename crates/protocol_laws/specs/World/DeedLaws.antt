@@ -330,13 +330,8 @@ module _ (setting : Setting) (flying : TrafficIsSound setting.net setting.inputs
       → is_dropped (plan_of setting k deed old).answer ≡ false
   deed_is k (event.Deliver place) old here = came_is setting flying k place old here (flight_at setting k place) refl
   deed_is k event.Grant old here = grant_is (node_job setting.net setting.inputs setting.room old.node)
-  deed_is k event.Send old here = refl
-  deed_is k event.Start old here = refl
-  deed_is k event.Decide old here = refl
-  deed_is k (event.Crash fill rounds) old here = refl
   deed_is k event.Recover old here = back_is (restored_mode setting.net old.number (with_epoch old.node.kept))
-  deed_is k (event.Arm fault rounds) old here = refl
-  deed_is k event.Idle old here = refl
+  deed_is k deed old here = refl
 
 pub only_nodes_that_are_up_send : OnlyNodesThatAreUpSend
 only_nodes_that_are_up_send setting (ByNode k deed) came station down =

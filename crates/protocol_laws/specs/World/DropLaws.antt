@@ -51,14 +51,7 @@ declined_is : (setting : Setting) (k : ℕ) (deed : Deed) (station : StationView
     → is_dropped (plan_of setting k deed station).declined ≡ false
 declined_is setting k (event.Deliver place) station =
     bytes_declined setting.net place (due_bytes setting.round (flight_at setting k place)) station
-declined_is setting k event.Grant station = refl
-declined_is setting k event.Send station = refl
-declined_is setting k event.Start station = refl
-declined_is setting k event.Decide station = refl
-declined_is setting k (event.Crash fill rounds) station = refl
-declined_is setting k event.Recover station = refl
-declined_is setting k (event.Arm fault rounds) station = refl
-declined_is setting k event.Idle station = refl
+declined_is setting k deed station = refl
 
 -- ---- events
 

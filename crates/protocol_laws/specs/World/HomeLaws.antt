@@ -122,14 +122,7 @@ declined_is : (setting : Setting) (k : ℕ) (deed : Deed) (station : StationView
     → is_grant (plan_of setting k deed station).declined ≡ false
 declined_is setting k (event.Deliver place) station =
     bytes_declined setting.net place (due_bytes setting.round (flight_at setting k place)) station
-declined_is setting k event.Grant station = refl
-declined_is setting k event.Send station = refl
-declined_is setting k event.Start station = refl
-declined_is setting k event.Decide station = refl
-declined_is setting k (event.Crash fill rounds) station = refl
-declined_is setting k event.Recover station = refl
-declined_is setting k (event.Arm fault rounds) station = refl
-declined_is setting k event.Idle station = refl
+declined_is setting k deed station = refl
 
 -- ---- events
 
@@ -154,14 +147,9 @@ module _ (setting : Setting) (station : StationView) (inv : StationInvariant set
   deed_grants k event.Grant here =
       grant_is k (node_job setting.net setting.inputs setting.room station.node) (λ job is.
       node_grants setting.net setting.inputs setting.room station inv job is ∙ here)
-  deed_grants k event.Send here = grants_nothing k _ refl
-  deed_grants k event.Start here = grants_nothing k _ refl
-  deed_grants k event.Decide here = grants_nothing k _ refl
-  deed_grants k (event.Crash fill rounds) here = grants_nothing k _ refl
   deed_grants k event.Recover here =
       grants_nothing k _ (back_is (restored_mode setting.net station.number (with_epoch station.node.kept)))
-  deed_grants k (event.Arm fault rounds) here = grants_nothing k _ refl
-  deed_grants k event.Idle here = grants_nothing k _ refl
+  deed_grants k deed here = grants_nothing k _ refl
 
   station_grants : (fits : RecordView → Bool) (e : EventView) (came : Outcome) (answer : ReplyView) (new : StationView)
       → station.node.kept.node ≡ event_node e → IsStationStep setting fits e came station answer new

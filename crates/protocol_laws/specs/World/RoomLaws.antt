@@ -125,14 +125,9 @@ made_fits : (setting : Setting) (k : ℕ) (deed : Deed) (station : StationView)
 made_fits setting k (event.Deliver place) station =
     bytes_fit setting.net place (due_bytes setting.round (flight_at setting k place)) station
 made_fits setting k event.Grant station = job_fits (node_job setting.net setting.inputs setting.room station.node)
-made_fits setting k event.Send station = λ large. cc
-made_fits setting k event.Start station = λ large. cc
-made_fits setting k event.Decide station = λ large. cc
-made_fits setting k (event.Crash fill rounds) station = λ large. cc
 made_fits setting k event.Recover station =
     back_fits (restored_mode setting.net station.number (with_epoch station.node.kept))
-made_fits setting k (event.Arm fault rounds) station = λ large. cc
-made_fits setting k event.Idle station = λ large. cc
+made_fits setting k deed station = λ large. cc
 
 module _ (setting : Setting) (sure : IsSoundSetting setting) (capacity : ℕ) (room : MAX_RECORD_BYTES ≤ capacity) where
   -- No record is too large: no start is refused for that, and nobody who is asked declines for it.
