@@ -37,7 +37,8 @@ impl<C: SlotCell, O: Outlet> Station<C, O> {
             (station_view O.taken O.failures self.new ≡ station_view O.taken O.failures self.old) }
         ensures come { (k : ℕ) → IfOk result
             (λ reply. ComesOut (fits_in (C.slot_capacity (cell_in self.old.node.store)))
-            lent.now.round (send_plan (net_lent lent.now) lent.now.round (station_view O.taken O.failures self.old))
+            lent.now.round (send_plan (net_lent lent.now) lent.now.round
+            (station_view O.taken O.failures self.old))
             (station_view O.taken O.failures self.old) (reply_view reply)
             (station_view O.taken O.failures self.new) k
             (traffic_of wire.old) (traffic_of wire.new)) }

@@ -63,7 +63,8 @@ impl<C: SlotCell, O: Outlet> Station<C, O> {
         ensures refused { OnErr result
             (station_view O.taken O.failures self.new ≡ station_view O.taken O.failures self.old) }
         ensures come { IfOk result
-            (λ reply. ComesHeard (fits_in (C.slot_capacity (cell_in self.old.node.store))) lent.now.round
+            (λ reply. ComesHeard (fits_in (C.slot_capacity (cell_in self.old.node.store)))
+            lent.now.round
             (hear_prospect (net_lent lent.now) self.old.node.number packet.now.from
             packet.now.body (view_of self.old.node))
             (station_view O.taken O.failures self.old) (reply_view reply)
@@ -97,11 +98,13 @@ impl<C: SlotCell, O: Outlet> Station<C, O> {
             ≡ node_count (net_lent lent.now) }
         requires bounded { IsRecordWithin MAX_RETAINED_ITEMS (view_of self.old.node).kept }
         requires right { (bytes : List ℕ) (packet : PacketValue)
-            → due_bytes lent.now.round (slice_get (flights_to (traffic_of wire.old) to) place) ≡ Some bytes
+            → due_bytes lent.now.round (slice_get (flights_to (traffic_of wire.old) to) place)
+            ≡ Some bytes
             → packet_for (net_lent lent.now) self.old.node.number bytes ≡ Some packet
             → IsHeard (net_lent lent.now) self.old.node.number packet }
         requires allowed { (bytes : List ℕ) (packet : PacketValue)
-            → due_bytes lent.now.round (slice_get (flights_to (traffic_of wire.old) to) place) ≡ Some bytes
+            → due_bytes lent.now.round (slice_get (flights_to (traffic_of wire.old) to) place)
+            ≡ Some bytes
             → packet_for (net_lent lent.now) self.old.node.number bytes ≡ Some packet
             → (came : OutcomeValue) → All IsPacket (packets_by
             (hear_prospect (net_lent lent.now) self.old.node.number packet.from

@@ -131,7 +131,8 @@ impl<C: SlotCell, O: Outlet> Station<C, O> {
         ensures refused { OnErr result
             (station_view O.taken O.failures self.new ≡ station_view O.taken O.failures self.old) }
         ensures step { IfOk result
-            (λ reply. IsRelease lent.now.round (next_release lent.now.round (station_view O.taken O.failures self.old))
+            (λ reply. IsRelease lent.now.round
+            (next_release lent.now.round (station_view O.taken O.failures self.old))
             (station_view O.taken O.failures self.old) (reply_view reply)
             (station_view O.taken O.failures self.new)) }
     {

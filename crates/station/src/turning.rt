@@ -47,8 +47,8 @@ impl<C: SlotCell, O: Outlet> Station<C, O> {
             (station_view O.taken O.failures self.new ≡ station_view O.taken O.failures self.old) }
         ensures step { IfOk result
             (λ reply. ComesBy (fits_in (C.slot_capacity (cell_in self.old.node.store)))
-            lent.now.round (grant_plan (node_job (net_lent lent.now) (inputs_lent lent.now) lent.now.room
-            (view_of self.old.node)) lent.now.round (station_view O.taken O.failures self.old))
+            lent.now.round (grant_plan (node_job (net_lent lent.now) (inputs_lent lent.now)
+            lent.now.room (view_of self.old.node)) lent.now.round (station_view O.taken O.failures self.old))
             (station_view O.taken O.failures self.old) (reply_view reply)
             (station_view O.taken O.failures self.new)) }
     {
