@@ -5,7 +5,7 @@ ghost use Rattle.protocol.specs.Node.Common.{node_count, Fits, network_of, slot_
 ghost use Rattle.protocol.specs.Node.Common.{MAX_RETAINED_ITEMS, cell_in, known_in, record_in, opening_record};
 ghost use Rattle.protocol.specs.Node.Common.{MAX_NODES};
 ghost use Rattle.gate_cell.specs.SplitCell.{armed_of, calls_of, failures_of, slot_capacity_of};
-ghost use Rattle.ckpt_codec.specs.HeaderText.{IsImageSpelled};
+ghost use Rattle.ckpt_codec.specs.Common.{IsImageSpelled};
 ghost use Rattle.ckpt_codec.specs.SizeLaws.{IsRecordWithin};
 ghost use Rattle.ckpt_store.specs.StoreView.{Holds};
 ghost use Rattle.ckpt_store.specs.declared.fault.StoreFault.TheVariants.{Version};
