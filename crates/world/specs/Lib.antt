@@ -4,4 +4,3 @@ pub mod Acting
 pub mod RecoveryLine
 pub mod OpeningWorld
 pub mod Closing
-pub mod NewWorld

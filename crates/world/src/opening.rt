@@ -1,23 +1,31 @@
 // A world before its first event.
 ghost use Rattle.std.specs.Prelude.{◌≡◌, ◌+◌, ◌++◌, ◌<◌, ◌≤◌, ◌↔◌, ◌⊎◌, ℕ, [], IsTrue, None, not, filter, length, map, IfErr, IfOk, IsSome, OnErr, OnOk, vec_capacity, vec_len};
 ghost use Rattle.std.specs.List.{AllByRecursion};
-ghost use Rattle.protocol.specs.Node.Common.{node_count, Fits, network_of, slot_room_on, image_length, IsRecord};
-ghost use Rattle.protocol.specs.Node.Common.{MAX_RETAINED_ITEMS, cell_in, known_in, record_in, opening_record};
-ghost use Rattle.protocol.specs.Node.Common.{MAX_NODES};
+ghost use Rattle.kahn_net.specs.Nodes.{node_count};
+ghost use Rattle.kahn_net.specs.Fits.{Fits};
+ghost use Rattle.kahn_net.specs.Syntax.{network_of};
 ghost use Rattle.gate_cell.specs.SplitCell.{armed_of, calls_of, failures_of, slot_capacity_of};
-ghost use Rattle.ckpt_codec.specs.Common.{IsImageSpelled};
+ghost use Rattle.gate_cell.specs.SplitLayout.{slot_room_on};
+ghost use Rattle.ckpt_codec.specs.HeaderText.{IsImageSpelled};
+ghost use Rattle.ckpt_codec.specs.Lengths.{image_length};
+ghost use Rattle.ckpt_codec.specs.RecordText.{IsRecord};
 ghost use Rattle.ckpt_codec.specs.SizeLaws.{IsRecordWithin};
-ghost use Rattle.ckpt_store.specs.StoreView.{Holds};
+ghost use Rattle.ckpt_codec.specs.declared.lengths.TheConstants.{MAX_RETAINED_ITEMS};
+ghost use Rattle.ckpt_store.specs.StoreView.{cell_in, known_in, record_in, Holds};
 ghost use Rattle.ckpt_store.specs.declared.fault.StoreFault.TheVariants.{Version};
-ghost use Rattle.protocol.specs.World.Common.{AreApproximated, opening_world, is_output, output_channels};
+ghost use Rattle.protocol.specs.Node.Opening.{opening_record};
+ghost use Rattle.protocol.specs.World.Headline.{AreApproximated};
+ghost use Rattle.protocol.specs.World.OpeningWorld.{opening_world};
+ghost use Rattle.protocol.specs.World.Sound.{is_output, output_channels};
 ghost use Rattle.world.specs.OpeningWorld.{armed_on, calls_on, own_outputs, AllNumbered, HasRoom, HaveRoom, HaveOutlets};
 ghost use Rattle.station.specs.OutputView.{fresh};
 ghost use Rattle.world.specs.OpeningWorld.{IsOpened, IsOpenedNode, IsUnused, LeaveOnlyRecords};
 ghost use Rattle.world.specs.OpeningWorld.{AreHandedBack, IsNotOpened, IsOpeningRefusal, IsWorldRefusal};
 ghost use Rattle.world.specs.OpeningWorld.{version_for, AreFormatted, AreVersions, AreVersionsFor, IsVersion, StandsInVersion};
 ghost use Rattle.station.specs.StationView.{outlet_views};
-ghost use Rattle.world.specs.NewWorld.{IsNew};
+ghost use Rattle.world.specs.WholeView.{world_of};
 ghost use Rattle.world.specs.WorldView.{capacities};
+ghost use Rattle.kahn_net.specs.declared.limits.TheConstants.{MAX_NODES};
 
 use crate::world::World;
 use ckpt_codec::{FIRST_VERSION, VERSION, spelled_image_length, write_header_in, write_image};
@@ -327,7 +335,27 @@ fn open_world<D: Disk, O: Outlet>(
         ≡ output_channels 0 (network_of net.value.program).channels }
     requires empty { AllByRecursion (IsUnused O.taken) outputs.items }
     requires versions { AreVersions versions.now }
-    ensures new { IfOk result (IsNew net inputs versions.now disks.items outputs.items) }
+    ensures opening { IfOk result
+        (λ world. world_of world
+        ≡ opening_world (network_of net.value.program) inputs.value
+        (map (λ disk. D.failure_count disk) disks.items)
+        (outlet_views O.taken O.failures outputs.items)) }
+    ensures same { IfOk result
+        (λ world. (world.net ≡ net) × (world.inputs ≡ inputs)) }
+    ensures outlets { IfOk result
+        (λ world. HaveOutlets (network_of net.value.program) 0 outputs.items
+        world.stations.items) }
+    ensures prefix { IfOk result (λ world. AreApproximated (world_of world)) }
+    ensures left { IfOk result
+        (λ world. LeaveOnlyRecords (network_of net.value.program) 0 world.stations.items) }
+    ensures formatted { IfOk result
+        (λ world. AreFormatted (network_of net.value.program) 0 versions.now world.stations.items) }
+    ensures room { IfOk result
+        (λ world. capacities world.stations.items
+        ≡ map (λ disk. slot_room_on (D.sector_count disk)) disks.items) }
+    ensures armed { IfOk result (λ world. armed_on world.stations.items
+        ≡ map (λ disk. D.armed disk) disks.items) }
+    ensures counted { IfOk result (λ world. calls_on world.stations.items ≡ map (λ disk. 0) disks.items) }
     ensures fits { OnOk result (HaveRoom (network_of net.value.program) 0
         (map (λ disk. D.sector_count disk) disks.items)) }
     ensures refused { IfErr result (λ refused. IsWorldRefusal (network_of net.value.program) 0
@@ -391,8 +419,32 @@ impl<D: Disk, O: Outlet> World<SplitCell<D>, O> {
         requires listed { map (λ output. output.channel) outputs.items
             ≡ output_channels 0 (network_of net.value.program).channels }
         requires empty { AllByRecursion (IsUnused O.taken) outputs.items }
-        // It is the opening world over these disks and outlets, and a crash leaves the opening records.
-        ensures new { IfOk result (IsNew net inputs [] disks.items outputs.items) }
+        // It is the opening world of the network and the inputs, with the outlets that were given.
+        ensures opening { IfOk result
+            (λ world. world_of world
+            ≡ opening_world (network_of net.value.program) inputs.value
+            (map (λ disk. D.failure_count disk) disks.items)
+            (outlet_views O.taken O.failures outputs.items)) }
+        ensures same { IfOk result
+            (λ world. (world.net ≡ net) × (world.inputs ≡ inputs)) }
+        ensures outlets { IfOk result
+            (λ world. HaveOutlets (network_of net.value.program) 0 outputs.items
+            world.stations.items) }
+        // What has left is a prefix of each channel's history.
+        ensures prefix { IfOk result (λ world. AreApproximated (world_of world)) }
+        // A crash leaves the opening records, and each cell has the room that its disk gives.
+        ensures left { IfOk result
+            (λ world. LeaveOnlyRecords (network_of net.value.program) 0 world.stations.items) }
+        // Each header stands in the version in which records are written.
+        ensures formatted { IfOk result
+            (λ world. AreFormatted (network_of net.value.program) 0 [] world.stations.items) }
+        ensures room { IfOk result
+            (λ world. capacities world.stations.items
+            ≡ map (λ disk. slot_room_on (D.sector_count disk)) disks.items) }
+        // No fault is armed on a disk, nor disarmed, and each disk counts its calls from now on.
+        ensures armed { IfOk result (λ world. armed_on world.stations.items
+            ≡ map (λ disk. D.armed disk) disks.items) }
+        ensures counted { IfOk result (λ world. calls_on world.stations.items ≡ map (λ disk. 0) disks.items) }
         // It is made only on disks with room for those records, and refused for no other reasons than those above.
         ensures fits { OnOk result (HaveRoom (network_of net.value.program) 0
             (map (λ disk. D.sector_count disk) disks.items)) }
@@ -425,8 +477,32 @@ impl<D: Disk, O: Outlet> World<SplitCell<D>, O> {
         requires listed { map (λ output. output.channel) outputs.items
             ≡ output_channels 0 (network_of net.value.program).channels }
         requires empty { AllByRecursion (IsUnused O.taken) outputs.items }
-        // It is the opening world over these disks and outlets, and a crash leaves the opening records.
-        ensures new { IfOk result (IsNew net inputs versions.now disks.items outputs.items) }
+        // It is the opening world of the network and the inputs, with the outlets that were given.
+        ensures opening { IfOk result
+            (λ world. world_of world
+            ≡ opening_world (network_of net.value.program) inputs.value
+            (map (λ disk. D.failure_count disk) disks.items)
+            (outlet_views O.taken O.failures outputs.items)) }
+        ensures same { IfOk result
+            (λ world. (world.net ≡ net) × (world.inputs ≡ inputs)) }
+        ensures outlets { IfOk result
+            (λ world. HaveOutlets (network_of net.value.program) 0 outputs.items
+            world.stations.items) }
+        // What has left is a prefix of each channel's history.
+        ensures prefix { IfOk result (λ world. AreApproximated (world_of world)) }
+        // A crash leaves the opening records, and each cell has the room that its disk gives.
+        ensures left { IfOk result
+            (λ world. LeaveOnlyRecords (network_of net.value.program) 0 world.stations.items) }
+        // Each header stands in the version that was given for its disk.
+        ensures formatted { IfOk result
+            (λ world. AreFormatted (network_of net.value.program) 0 versions.now world.stations.items) }
+        ensures room { IfOk result
+            (λ world. capacities world.stations.items
+            ≡ map (λ disk. slot_room_on (D.sector_count disk)) disks.items) }
+        // No fault is armed on a disk, nor disarmed, and each disk counts its calls from now on.
+        ensures armed { IfOk result (λ world. armed_on world.stations.items
+            ≡ map (λ disk. D.armed disk) disks.items) }
+        ensures counted { IfOk result (λ world. calls_on world.stations.items ≡ map (λ disk. 0) disks.items) }
         // It is made only on disks with room for those records, in versions of which there is one for each disk.
         ensures fits { OnOk result (HaveRoom (network_of net.value.program) 0
             (map (λ disk. D.sector_count disk) disks.items)) }

@@ -15,7 +15,7 @@ use Rattle.station.proofs.Cells.{through, untouched}
 use Rattle.station.proofs.Planned.{seen_moved}
 use Rattle.station.proofs.Ready.{heard_sent, still_there}
 use Rattle.station.specs.Lending.{net_lent}
-use Rattle.protocol_laws.specs.World.HeardLaws.{IsHeard}
+use Rattle.protocol.specs.Node.Delivering.{IsHeard}
 use Rattle.station.proofs.station.Station.hear.Goals as goal
 
 pub plan_packet-requires : goal.plan_packet-requires
