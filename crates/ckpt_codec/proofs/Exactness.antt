@@ -1,7 +1,7 @@
 -- Records are read as they are spelled, what is spelled is read, and the first offence decides.
 use Rattle.std.proofs.Common.{◌≡◌, ℕ, ◌++◌, List, [], None, Result, Ok, Err, refl, subst, ◌∙◌}
 use Rattle.std.specs.Prelude.{IfOk, IfErr}
-use Rattle.record.specs.RecordView.{RecordView}
+use Rattle.record.specs.Common.{RecordView}
 use Rattle.ckpt_codec.specs.RecordText.{record_fields, version_of, IsRecordText, IsTextIn}
 use Rattle.ckpt_codec.specs.declared.version.TheConstants.{VERSION}
 use Rattle.ckpt_codec.specs.Faults.{IsCodecFault, IsVersionedFault, IsReadUnlessMemory, IsRefusedUnlessMemory}

@@ -5,13 +5,8 @@ use Rattle.std.specs.Prelude.{FitsSigned}
 use Rattle.std.specs.List.{AllByRecursion}
 use Rattle.std.specs.Int.{w64, cast_unsigned, int_wrap}
 use Rattle.std.proofs.lemmas.Int.{SFits-int_wrap, int_wrap_fits}
-use Rattle.kahn_net.specs.Processes.{Standing}
-use Rattle.kahn_net.specs.Processes.Standing.{NotBegun, At, Done}
-use Rattle.kahn_net.specs.declared.limits.TheConstants.{MAX_COUNT, MAX_PROCESSES, MAX_CHANNELS, MAX_VARIABLES}
-use Rattle.retained.specs.LogState.{LogState}
-use Rattle.record.specs.ProcessView.{SavedProcessView}
-use Rattle.record.specs.ImageView.{ImageView}
-use Rattle.record.specs.RecordView.{RecordView}
+use Rattle.record.specs.Common.{Standing, NotBegun, At, Done, MAX_COUNT, MAX_PROCESSES, MAX_CHANNELS, MAX_VARIABLES}
+use Rattle.record.specs.Common.{LogState, SavedProcessView, ImageView, RecordView}
 use Rattle.record.specs.declared.image.SavedEnd.{SavedEnd}
 use Rattle.record.specs.declared.image.End.{End}
 use Rattle.record.specs.declared.image.End.TheVariants.{Receives, Sends, Both}

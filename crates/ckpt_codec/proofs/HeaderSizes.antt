@@ -5,9 +5,7 @@ use Rattle.std.proofs.Common.{arith, inl, inr}
 use Rattle.std.specs.Prelude.{sum_by}
 use Rattle.std.proofs.lemmas.Bool.{cases_lt, and_parts, eqb-false, leb-true, ltb-true}
 use Rattle.std.proofs.lemmas.List.Sums.{sum_by-cons}
-use Rattle.kahn_net.specs.declared.limits.TheConstants.{MAX_NODES}
-use Rattle.record.specs.DecisionView.{DecisionView}
-use Rattle.record.specs.RecordView.{RecordView}
+use Rattle.record.specs.Common.{MAX_NODES, DecisionView, RecordView}
 use Rattle.record.specs.declared.record.TheConstants.{MAX_DECISIONS}
 use Rattle.record.specs.declared.record.Tentative.{Tentative}
 use Rattle.ckpt_codec.specs.Fields.{number_text}

@@ -2,7 +2,7 @@
 use Rattle.std.proofs.Common.{◌≡◌, ◌≢◌, ℕ, ◌⊎◌, nat_le, List, [], ◌∷◌, ◌++◌, Option, Some, None}
 use Rattle.std.proofs.Common.{Result, Ok, Err, refl, ap, subst, ◌∙◌, inl, inr}
 use Rattle.std.specs.Prelude.{IfOk, IfErr}
-use Rattle.record.specs.ImageView.{ImageView}
+use Rattle.record.specs.Common.{ImageView}
 use Rattle.ckpt_codec.specs.Fields.{Field, text_of}
 use Rattle.ckpt_codec.specs.RecordText.{image_fields, most_decisions, version_of}
 use Rattle.ckpt_codec.specs.HeaderView.{HeaderView}

@@ -5,9 +5,7 @@ use Rattle.std.specs.List.{flat_map, AllByRecursion}
 use Rattle.std.specs.Int.{w64}
 use Rattle.std.proofs.lemmas.List.Elements.{All-from_recursion, recursion_from_All}
 use Rattle.std.proofs.lemmas.List.Concat.{flat_map-cons}
-use Rattle.record.specs.ProcessView.{SavedProcessView}
-use Rattle.record.specs.ImageView.{ImageView}
-use Rattle.record.specs.RecordView.{RecordView}
+use Rattle.record.specs.Common.{SavedProcessView, ImageView, RecordView}
 use Rattle.record.specs.declared.image.SavedEnd.{SavedEnd}
 use Rattle.record.specs.declared.record.Tentative.{Tentative}
 use Rattle.ckpt_codec.specs.RecordText.{variables_of, items_of_end, items_of_image, items_of_tentative, items_of_record}

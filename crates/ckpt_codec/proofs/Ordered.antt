@@ -3,7 +3,7 @@ use Rattle.std.proofs.Common.{◌≡◌, ℕ, zero, suc, ◌+◌, ◌<◌, ◌�
 use Rattle.std.proofs.Common.{IfSome, refl, sym, subst, arith}
 use Rattle.std.specs.Prelude.{slice_get}
 use Rattle.std.proofs.lemmas.List.Quantifiers.{all_pairs_push}
-use Rattle.record.specs.Ascending.{AreAscending}
+use Rattle.record.specs.Common.{AreAscending}
 use Rattle.record.specs.declared.image.SavedEnd.{SavedEnd}
 use Rattle.ckpt_codec.specs.Reading.{channel_wanted}
 use Rattle.ckpt_codec.specs.RecordText.{wanted}

@@ -11,16 +11,10 @@ use Rattle.std.proofs.lemmas.Int.{of_z-to_z, to_z-of_z, int_wrap_fits}
 use Rattle.std.proofs.Math.Facts.{sfits_to_z, Fits-of_lt}
 use Rattle.byteorder.specs.Endian.{big_number}
 use Rattle.byteorder.specs.Numbers.{big_from-lt}
-use Rattle.kahn_net.specs.Statements.{Point, point_at}
-use Rattle.kahn_net.specs.Processes.{Standing}
-use Rattle.kahn_net.specs.Processes.Standing.{NotBegun, At, Done}
-use Rattle.kahn_net.specs.declared.limits.TheConstants.{MAX_COUNT, MAX_NODES, MAX_PROCESSES, MAX_CHANNELS, MAX_TIMES, MAX_REPEATS}
-use Rattle.kahn_net.specs.declared.limits.TheConstants.{MAX_VARIABLES}
-use Rattle.retained.specs.LogState.{LogState}
-use Rattle.retained.specs.declared.log.TheConstants.{MAX_LOG_ITEMS}
-use Rattle.record.specs.DecisionView.{DecisionView}
-use Rattle.record.specs.ProcessView.{SavedProcessView}
-use Rattle.record.specs.ImageView.{ImageView}
+use Rattle.kahn_net.specs.Common.{Point, point_at}
+use Rattle.record.specs.Common.{Standing, NotBegun, At, Done, MAX_COUNT, MAX_NODES, MAX_PROCESSES, MAX_CHANNELS}
+use Rattle.record.specs.Common.{MAX_TIMES, MAX_REPEATS, MAX_VARIABLES, LogState, MAX_LOG_ITEMS, DecisionView}
+use Rattle.record.specs.Common.{SavedProcessView, ImageView}
 use Rattle.record.specs.declared.image.SavedEnd.{SavedEnd}
 use Rattle.record.specs.declared.image.End.{End}
 use Rattle.record.specs.declared.image.End.TheVariants.{Receives, Sends, Both}

@@ -1,8 +1,7 @@
 -- The reader of a whole record is lawful.
 use Rattle.std.proofs.Common.{◌≡◌, ℕ, ◌&&◌, nat_eq, nat_lt, nat_le, List, [], ◌∷◌, ◌++◌, length, map, slice_index}
 use Rattle.std.proofs.Common.{Option, Some, None, refl, sym, ap, append_assoc}
-use Rattle.record.specs.ImageView.{ImageView}
-use Rattle.record.specs.RecordView.{RecordView}
+use Rattle.record.specs.Common.{ImageView, RecordView}
 use Rattle.record.specs.declared.record.Tentative.{Tentative}
 use Rattle.ckpt_codec.specs.Fields.{Field}
 use Rattle.ckpt_codec.specs.RecordText.{any, count, decisions_fields, image_fields, most_decisions, tentative_fields}

@@ -6,14 +6,8 @@ use Rattle.std.specs.List.{flat_map}
 use Rattle.std.proofs.lemmas.List.Concat.{flat_map-cons}
 use Rattle.std.proofs.lemmas.List.Sums.{sum_by-cons}
 use Rattle.byteorder.specs.Numbers.{length-bytes_high_first}
-use Rattle.kahn_net.specs.Processes.{Standing}
-use Rattle.kahn_net.specs.Processes.Standing.{NotBegun, At, Done}
-use Rattle.retained.specs.LogState.{LogState}
-use Rattle.record.specs.DecisionView.{DecisionView}
-use Rattle.record.specs.ProcessView.{SavedProcessView}
-use Rattle.record.specs.ImageView.{ImageView}
-use Rattle.record.specs.RecordView.{RecordView}
-use Rattle.record.specs.Moves.{with_permanent, with_decision, with_epoch}
+use Rattle.record.specs.Common.{Standing, NotBegun, At, Done, LogState, DecisionView, SavedProcessView, ImageView}
+use Rattle.record.specs.Common.{RecordView, with_permanent, with_decision, with_epoch}
 use Rattle.record.specs.declared.image.SavedEnd.{SavedEnd}
 use Rattle.record.specs.declared.image.End.{End}
 use Rattle.record.specs.declared.image.End.TheVariants.{Receives, Sends, Both}

@@ -4,16 +4,11 @@ use Rattle.std.proofs.Common.{◌<◌, ◌+◌, Option, Some, None, refl, sym, �
 use Rattle.std.specs.Prelude.{◌↔◌, IsTrue, slice_index}
 use Rattle.std.proofs.lemmas.Bool.{false≢true}
 use Rattle.std.proofs.lemmas.List.Elements.{All-nil, All-cons, All-head, All-tail, All-append}
-use Rattle.kahn_net.specs.States.{standing_in}
-use Rattle.kahn_net.specs.declared.limits.TheConstants.{MAX_PROCESSES, MAX_CHANNELS, MAX_VARIABLES, MAX_REPEATS}
+use Rattle.record.specs.Common.{standing_in, MAX_PROCESSES, MAX_CHANNELS, MAX_VARIABLES, MAX_REPEATS, LogState}
+use Rattle.record.specs.Common.{DecisionView, SavedProcessView, ImageView, RecordView}
 use Rattle.kahn_net.specs.declared.state.Place.{Place}
 use Rattle.kahn_net.specs.declared.state.Mode.{Mode}
 use Rattle.kahn_net.specs.declared.state.Mode.TheVariants.{NotBegun, At, Finished}
-use Rattle.retained.specs.LogState.{LogState}
-use Rattle.record.specs.DecisionView.{DecisionView}
-use Rattle.record.specs.ProcessView.{SavedProcessView}
-use Rattle.record.specs.ImageView.{ImageView}
-use Rattle.record.specs.RecordView.{RecordView}
 use Rattle.record.specs.declared.record.Tentative.{Tentative}
 use Rattle.record.specs.declared.image.SavedEnd.{SavedEnd}
 use Rattle.ckpt_codec.specs.Fields.{Field, IsAllowed, AreAllowed}

@@ -4,7 +4,7 @@ use Rattle.std.proofs.Common.{◌≡◌, ℕ, suc, ◌≤◌, Bool, true, false,
 use Rattle.std.proofs.Common.{None, Result, Ok, Err, cond, refl, sym, ◌∙◌, arith}
 use Rattle.std.specs.Prelude.{◌==◌, IfOk}
 use Rattle.std.proofs.lemmas.Bool.{leb-true, le-leb, lt-ltb}
-use Rattle.record.specs.RecordView.{RecordView}
+use Rattle.record.specs.Common.{RecordView}
 use Rattle.record.specs.declared.record.TheConstants.{MAX_DECISIONS}
 use Rattle.ckpt_codec.specs.Fields.{IsAllowed, AreAllowed}
 use Rattle.ckpt_codec.specs.RecordText.{at_most, image_fields, version_field}

@@ -1,7 +1,7 @@
 -- Why bytes are no spelling. The first offence from the left decides: the fields before it are some value's, and may
 -- stand there.
 use Rattle.std.specs.Prelude.{◌≡◌, ◌≢◌, ◌⊎◌, ℕ, ◌^◌, ◌<◌, false, List, [], ◌∷◌, ◌++◌, length, Option, Result, Ok, Err}
-use Rattle.record.specs.ImageView.{ImageView}
+use Rattle.record.specs.Common.{ImageView}
 use Rattle.ckpt_codec.specs.Fields.{Field, AreAllowed, number_text, text_of}
 use Rattle.ckpt_codec.specs.RecordText.{record_fields, image_fields, version_field, IsRecordText}
 use Rattle.ckpt_codec.specs.HeaderText.{header_fields, IsHeaderText, IsImageText}

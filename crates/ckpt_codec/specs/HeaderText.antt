@@ -1,8 +1,7 @@
 -- A record apart: its header, which names the slots of its images, and each image by itself.
 use Rattle.std.specs.Prelude.{◌≡◌, ℕ, List, ◌∷◌, [], ◌++◌, length, map, Option, Some, None, slice_index, All, FitsSigned}
 use Rattle.std.specs.Int.{w64}
-use Rattle.record.specs.ImageView.{ImageView}
-use Rattle.record.specs.RecordView.{RecordView}
+use Rattle.record.specs.Common.{ImageView, RecordView}
 use Rattle.record.specs.declared.record.Tentative.{Tentative}
 use Rattle.ckpt_codec.specs.HeaderView.{HeaderView}
 use Rattle.ckpt_codec.specs.declared.header.Instance.{Instance}

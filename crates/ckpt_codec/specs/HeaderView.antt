@@ -1,6 +1,6 @@
 -- What a header says, without pointers: a record but for its images.
 use Rattle.std.specs.Prelude.{ℕ, List, Option}
-use Rattle.record.specs.DecisionView.{DecisionView}
+use Rattle.record.specs.Common.{DecisionView}
 use Rattle.ckpt_codec.specs.declared.header.Instance.{Instance}
 
 pub record HeaderView : Type 0 where

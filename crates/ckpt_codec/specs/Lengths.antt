@@ -1,11 +1,6 @@
 -- How many bytes spell a record, part by part.
 use Rattle.std.specs.Prelude.{ℕ, ◌+◌, ◌*◌, List, length, sum_by, Option, Some, None}
-use Rattle.kahn_net.specs.Processes.{Standing}
-use Rattle.kahn_net.specs.Processes.Standing.{NotBegun, At, Done}
-use Rattle.record.specs.DecisionView.{DecisionView}
-use Rattle.record.specs.ProcessView.{SavedProcessView}
-use Rattle.record.specs.ImageView.{ImageView}
-use Rattle.record.specs.RecordView.{RecordView}
+use Rattle.record.specs.Common.{Standing, NotBegun, At, Done, DecisionView, SavedProcessView, ImageView, RecordView}
 use Rattle.record.specs.declared.image.SavedEnd.{SavedEnd}
 use Rattle.record.specs.declared.image.End.{End}
 use Rattle.record.specs.declared.image.End.TheVariants.{Receives, Sends, Both}

@@ -9,3 +9,4 @@ pub mod Lengths
 pub mod SizeLaws
 pub mod ItemLaws
 pub mod Testing
+pub mod Common

@@ -4,17 +4,11 @@ use Rattle.std.specs.Prelude.{◌≡◌, ℕ, suc, ◌+◌, true, ◌==◌, ◌&
 use Rattle.std.specs.Prelude.{◌++◌, length, map, Option, Some, None, slice_index, All, FitsSigned}
 use Rattle.std.specs.List.{flat_map}
 use Rattle.std.specs.Int.{w64, cast_unsigned, int_wrap}
-use Rattle.kahn_net.specs.Processes.{Standing}
-use Rattle.kahn_net.specs.Processes.Standing.{NotBegun, At, Done}
-use Rattle.kahn_net.specs.declared.limits.TheConstants.{MAX_COUNT, MAX_NODES, MAX_PROCESSES, MAX_CHANNELS, MAX_TIMES, MAX_REPEATS}
-use Rattle.kahn_net.specs.declared.limits.TheConstants.{MAX_VARIABLES}
-use Rattle.retained.specs.declared.log.TheConstants.{MAX_LOG_ITEMS}
+use Rattle.record.specs.Common.{Standing, NotBegun, At, Done, MAX_COUNT, MAX_NODES, MAX_PROCESSES, MAX_CHANNELS}
+use Rattle.record.specs.Common.{MAX_TIMES, MAX_REPEATS, MAX_VARIABLES, MAX_LOG_ITEMS, DecisionView, SavedProcessView}
+use Rattle.record.specs.Common.{ImageView, RecordView}
 use Rattle.record.specs.declared.record.TheConstants.{MAX_DECISIONS}
 use Rattle.ckpt_codec.specs.declared.version.TheConstants.{FIRST_VERSION, VERSION}
-use Rattle.record.specs.DecisionView.{DecisionView}
-use Rattle.record.specs.ProcessView.{SavedProcessView}
-use Rattle.record.specs.ImageView.{ImageView}
-use Rattle.record.specs.RecordView.{RecordView}
 use Rattle.record.specs.declared.image.SavedEnd.{SavedEnd}
 use Rattle.record.specs.declared.image.End.{End}
 use Rattle.record.specs.declared.image.End.TheVariants.{Receives, Sends, Both}

@@ -7,17 +7,12 @@ use Rattle.std.specs.List.{AllByRecursion}
 use Rattle.std.proofs.lemmas.List.{length-set}
 use Rattle.std.proofs.lemmas.List.Concat.{flat_map-cons}
 use Rattle.std.proofs.lemmas.List.Sums.{sum_by-cons, length-filter, count_by-le-length}
-use Rattle.kahn_net.specs.Processes.{Standing}
-use Rattle.kahn_net.specs.Processes.Standing.{NotBegun, At, Done}
-use Rattle.kahn_net.specs.declared.limits.TheConstants.{MAX_NODES, MAX_PROCESSES, MAX_CHANNELS, MAX_VARIABLES, MAX_REPEATS}
-use Rattle.record.specs.DecisionView.{DecisionView}
-use Rattle.record.specs.ProcessView.{SavedProcessView}
-use Rattle.record.specs.ImageView.{ImageView}
-use Rattle.record.specs.RecordView.{RecordView}
-use Rattle.record.specs.Moves.{with_tentative, last_image, with_permanent, without_tentative, decision_by, decided_by}
-use Rattle.record.specs.Moves.{decided_below, confirmed_one}
+use Rattle.record.specs.Common.{Standing, NotBegun, At, Done, MAX_NODES, MAX_PROCESSES, MAX_CHANNELS, MAX_VARIABLES}
+use Rattle.record.specs.Common.{MAX_REPEATS, DecisionView, SavedProcessView, ImageView, RecordView, with_tentative}
+use Rattle.record.specs.Common.{last_image, with_permanent, without_tentative, decision_by, decided_by, decided_below}
+use Rattle.record.specs.Common.{confirmed_one, with_decision, without_node, confirmed, with_confirmed, without_own}
+use Rattle.record.specs.Common.{with_epoch}
 use Rattle.record.specs.declared.record.TheConstants.{MAX_DECISIONS}
-use Rattle.record.specs.Moves.{with_decision, without_node, confirmed, with_confirmed, without_own, with_epoch}
 use Rattle.record.specs.declared.image.SavedEnd.{SavedEnd}
 use Rattle.record.specs.declared.image.End.{End}
 use Rattle.record.specs.declared.image.End.TheVariants.{Receives, Sends, Both}

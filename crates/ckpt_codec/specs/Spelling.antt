@@ -2,13 +2,8 @@
 use Rattle.std.specs.Prelude.{ℕ, ◌^◌, ◌<◌, ℤ, List, ◌++◌, length, Option, Some, None, All, FitsSigned}
 use Rattle.std.specs.List.{flat_map}
 use Rattle.std.specs.Int.{w64, cast_unsigned, int_wrap}
-use Rattle.kahn_net.specs.Processes.{Standing}
-use Rattle.kahn_net.specs.Processes.Standing.{NotBegun, At, Done}
-use Rattle.retained.specs.LogState.{LogState}
-use Rattle.record.specs.DecisionView.{DecisionView}
-use Rattle.record.specs.ProcessView.{SavedProcessView}
-use Rattle.record.specs.ImageView.{ImageView}
-use Rattle.record.specs.RecordView.{RecordView}
+use Rattle.record.specs.Common.{Standing, NotBegun, At, Done, LogState, DecisionView, SavedProcessView, ImageView}
+use Rattle.record.specs.Common.{RecordView}
 use Rattle.record.specs.declared.image.SavedEnd.{SavedEnd}
 use Rattle.record.specs.declared.image.End.{End}
 use Rattle.record.specs.declared.image.End.TheVariants.{Receives, Sends, Both}

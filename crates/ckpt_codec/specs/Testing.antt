@@ -1,9 +1,7 @@
 -- Parts of images and records, as they are tested one by one.
 use Rattle.std.specs.Prelude.{ℕ, nat_lt, nat_le, not, ◌&&◌, ◌==◌, List, [], ◌∷◌, length, map, Option, Some, None}
 use Rattle.std.specs.Prelude.{slice_index}
-use Rattle.kahn_net.specs.declared.limits.TheConstants.{MAX_NODES, MAX_PROCESSES, MAX_CHANNELS}
-use Rattle.retained.specs.LogState.{LogState}
-use Rattle.record.specs.ImageView.{ImageView}
+use Rattle.record.specs.Common.{MAX_NODES, MAX_PROCESSES, MAX_CHANNELS, LogState, ImageView}
 use Rattle.ckpt_codec.specs.Fields.{Field}
 use Rattle.ckpt_codec.specs.RecordText.{at_most, wanted, wanted_or, retained_count, item, processes_in, ends_in}
 use Rattle.ckpt_codec.specs.RecordText.{processes_fields, ends_fields}

@@ -1,8 +1,7 @@
 // Which images and records may be written: each field is tested in its turn.
 ghost use Rattle.std.specs.Prelude.{◌≡◌, ◌↔◌, ◌<◌, [], length, suc, IsTrue, Some, None, option_copied, slice_index, map};
-ghost use Rattle.kahn_net.specs.States.{standing_in};
-ghost use Rattle.kahn_net.specs.declared.limits.TheConstants.{MAX_PROCESSES, MAX_VARIABLES, MAX_CHANNELS, MAX_REPEATS};
-ghost use Rattle.record.specs.ProcessView.{SavedProcessView};
+ghost use Rattle.record.specs.Common.{standing_in, MAX_PROCESSES, MAX_VARIABLES, MAX_CHANNELS, MAX_REPEATS};
+ghost use Rattle.record.specs.Common.{SavedProcessView};
 ghost use Rattle.record.specs.declared.record.TheConstants.{MAX_DECISIONS};
 ghost use Rattle.ckpt_codec.specs.declared.version.TheConstants.{VERSION};
 ghost use Rattle.record.specs.declared.image.SavedEnd.{SavedEnd};

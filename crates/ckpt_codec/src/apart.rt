@@ -1,6 +1,6 @@
 // A record apart: a header, and images by themselves.
 ghost use Rattle.std.specs.Prelude.{◌≡◌, ◌≤◌, ◌++◌, length, Option, IfOk, IfErr, OnOk, option_copied};
-ghost use Rattle.record.specs.ImageView.{ImageView};
+ghost use Rattle.record.specs.Common.{ImageView};
 ghost use Rattle.ckpt_codec.specs.Faults.{IsHeaderFault, IsImageFault, IsReadUnlessMemory, IsRefusedUnlessMemory};
 ghost use Rattle.ckpt_codec.specs.Fields.{AreAllowed};
 ghost use Rattle.ckpt_codec.specs.HeaderText.{header_of, IsHeaderTextIn, IsHeaderText, IsImageText, IsImageSpelled};

@@ -1,6 +1,6 @@
 // The ends of channels, read from the front of bytes.
 ghost use Rattle.std.specs.Prelude.{◌≡◌, ◌≤◌, ◌<◌, ◌+◌, ℕ, IfOk, IfErr, IfSome, None, option_copied};
-ghost use Rattle.record.specs.Ascending.{AreAscending};
+ghost use Rattle.record.specs.Common.{AreAscending};
 ghost use Rattle.ckpt_codec.specs.Reading.{Reads, retained_items_at, log_at, end_at, role_end_at, saved_end_at, channel_wanted, role_wanted, ends_at};
 ghost use Rattle.ckpt_codec.specs.RecordText.{ends_in, role_of as role_in};
 

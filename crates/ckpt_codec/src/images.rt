@@ -1,7 +1,6 @@
 // Images, read from the front of bytes.
 ghost use Rattle.std.specs.Prelude.{◌≡◌, length, IfOk, option_copied};
-ghost use Rattle.record.specs.Ascending.{AreAscending};
-ghost use Rattle.record.specs.ImageView.{ImageView};
+ghost use Rattle.record.specs.Common.{AreAscending, ImageView};
 ghost use Rattle.ckpt_codec.specs.RecordText.{wanted};
 ghost use Rattle.ckpt_codec.specs.Reading.{Reads, process_list_at, end_list_at, image_at};
 

@@ -1,16 +1,14 @@
 // Laws of the records' spellings.
 ghost use Rattle.std.specs.Prelude.{◌≡◌, ◌≤◌, ◌++◌, [], List, length, ℕ, Option, None, All, FitsSigned};
 ghost use Rattle.std.specs.Int.{w64};
-ghost use Rattle.record.specs.ImageView.{ImageView};
-ghost use Rattle.record.specs.RecordView.{RecordView};
-ghost use Rattle.record.specs.Moves.{with_tentative, with_permanent, without_tentative, with_decision, with_confirmed, with_epoch, decided_by};
+ghost use Rattle.record.specs.Common.{ImageView, RecordView, with_tentative, with_permanent, without_tentative};
+ghost use Rattle.record.specs.Common.{with_decision, with_confirmed, with_epoch, decided_by, MAX_NODES};
 ghost use Rattle.ckpt_codec.specs.RecordText.{IsRecord, IsRecordText, items_of_record, image_fields};
 ghost use Rattle.ckpt_codec.specs.Fields.{AreAllowed};
 ghost use Rattle.ckpt_codec.specs.HeaderView.{HeaderView};
 ghost use Rattle.ckpt_codec.specs.HeaderText.{record_with, IsHeaderTextIn, IsHeaderText, IsImageText, IsHeldText, IsApart};
 ghost use Rattle.ckpt_codec.specs.Lengths.{record_length};
 ghost use Rattle.ckpt_codec.specs.SizeLaws.{IsImageWithin, IsRecordWithin};
-ghost use Rattle.kahn_net.specs.declared.limits.TheConstants.{MAX_NODES};
 ghost use Rattle.record.specs.declared.record.TheConstants.{MAX_DECISIONS};
 ghost use Rattle.ckpt_codec.specs.declared.lengths.TheConstants.{MAX_HEADER_BYTES, MAX_RECORD_BYTES, MAX_RETAINED_ITEMS};
 

@@ -1,8 +1,6 @@
 // How many bytes spell a record, without writing them.
 ghost use Rattle.std.specs.Prelude.{◌≡◌, ◌≤◌, ◌<◌, ◌^◌, ◌+◌, [], All, List, length, sum_by};
-ghost use Rattle.kahn_net.specs.States.{standing_in};
-ghost use Rattle.record.specs.DecisionView.{DecisionView};
-ghost use Rattle.record.specs.Moves.{last_image, with_permanent};
+ghost use Rattle.record.specs.Common.{standing_in, DecisionView, last_image, with_permanent};
 ghost use Rattle.ckpt_codec.specs.RecordText.{IsRecord};
 ghost use Rattle.ckpt_codec.specs.HeaderText.{IsImageSpelled};
 ghost use Rattle.ckpt_codec.specs.Spelling.{HasShortMode, IsShortProcess, IsShortImage, AreShortDecisions, IsShortTentative, IsShortRecord};

@@ -1,6 +1,8 @@
 // Processes, read from the front of bytes.
 ghost use Rattle.std.specs.Prelude.{◌≡◌, ◌+◌, option_copied};
-ghost use Rattle.kahn_net.specs.States.{point_of, standing_in, standing_of};
+ghost use Rattle.record.specs.Common.{standing_in};
+ghost use Rattle.kahn_net.specs.Common.{standing_of};
+ghost use Rattle.kahn_net.specs.States.{point_of};
 ghost use Rattle.ckpt_codec.specs.Reading.{Reads, items_at, so_many_passes_at, passes_at, place_at, mode_at, variables_at, state_at, process_at, number_wanted, variables_wanted, processes_at};
 ghost use Rattle.ckpt_codec.specs.RecordText.{processes_in};
 

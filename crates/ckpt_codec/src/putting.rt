@@ -1,7 +1,8 @@
 // The parts of a record, put behind bytes.
 ghost use Rattle.std.specs.Prelude.{◌≡◌, ◌++◌, ◌<◌, ◌^◌, [], OnOk, All, length};
 ghost use Rattle.std.specs.List.{flat_map};
-ghost use Rattle.kahn_net.specs.States.{standing_in, standing_of};
+ghost use Rattle.record.specs.Common.{standing_in};
+ghost use Rattle.kahn_net.specs.Common.{standing_of};
 ghost use Rattle.ckpt_codec.specs.Fields.{number_text};
 ghost use Rattle.ckpt_codec.specs.RecordText.{variables_of, items_of_end};
 ghost use Rattle.ckpt_codec.specs.Spelling.{mode_text, state_text, process_text, HasShortMode, IsShortState, IsShortProcess, HasItems, AreItems, items_text, log_text, end_text, saved_end_text, EndHasItems, process_list_text, end_list_text, image_text, IsShortImage, ImageHasItems, decision_text, decisions_text, IsShortDecision, AreShortDecisions, tentative_text, instance_text, held_text, IsShortTentative, TentativeHasItems};

@@ -4,7 +4,7 @@ ghost use Rattle.ckpt_codec.specs.RecordText.{most_decisions, IsRecord, IsRecord
 ghost use Rattle.ckpt_codec.specs.Faults.{IsCodecFault, IsReadUnlessMemory, IsRefusedUnlessMemory};
 ghost use Rattle.ckpt_codec.specs.Reading.{Reads, entries_at, highest_at, participants_at, participant_list_at, decided_at, decided_so_many, decisions_at, instance_at, pending_at, tentative_at, numbers_at, head_at, front_at, images_at, body_at, version_at, whole_at};
 ghost use Rattle.ckpt_codec.specs.declared.fault.CodecFault.{CodecFault as FaultValue};
-ghost use Rattle.record.specs.RecordView.{RecordView};
+ghost use Rattle.record.specs.Common.{RecordView};
 
 use crate::fault::CodecFault;
 use crate::fields::{

@@ -3,14 +3,10 @@ use Rattle.std.proofs.Common.{◌≡◌, ℕ, suc, Bool, List, [], ◌∷◌, �
 use Rattle.std.proofs.lemmas.Bool.{eq-eqb}
 use Rattle.std.proofs.lemmas.List.{length-map}
 use Rattle.std.proofs.lemmas.List.Elements.{All-nil, All-cons, All-head, All-tail, All-append}
-use Rattle.record.specs.ProcessView.{SavedProcessView}
-use Rattle.record.specs.ImageView.{ImageView}
-use Rattle.record.specs.declared.image.SavedEnd.{SavedEnd}
-use Rattle.kahn_net.specs.declared.limits.TheConstants.{MAX_PROCESSES, MAX_CHANNELS, MAX_VARIABLES}
-use Rattle.ckpt_codec.specs.Fields.{Field, IsAllowed, AreAllowed}
-use Rattle.ckpt_codec.specs.RecordText.{between, at_most, exactly, item, mode_fields, variables_of, process_fields}
+use Rattle.ckpt_codec.specs.Common.{SavedProcessView, ImageView, SavedEnd, MAX_PROCESSES, MAX_CHANNELS, MAX_VARIABLES}
+use Rattle.ckpt_codec.specs.Common.{Field, IsAllowed, AreAllowed, at_most, image_fields}
+use Rattle.ckpt_codec.specs.RecordText.{between, exactly, item, mode_fields, variables_of, process_fields}
 use Rattle.ckpt_codec.specs.RecordText.{processes_fields, role_of, end_fields, saved_end_fields, ends_fields}
-use Rattle.ckpt_codec.specs.RecordText.{image_fields}
 use Rattle.ckpt_store.specs.Shapes.{process_numbers, variable_counts, channel_numbers, roles, HasShapeOf}
 use Rattle.ckpt_store.specs.Spelling.{IsLike}
 use Rattle.ckpt_store.proofs.Parts.{all_front, all_back}

@@ -7,20 +7,14 @@ use Rattle.std.proofs.lemmas.Bool.{eqb-true, eq-eqb, leb-true, le-leb, ltb-true,
 use Rattle.std.proofs.lemmas.List.{get_or-set_same, get_or-set_other, length-set}
 use Rattle.std.proofs.lemmas.List.Elements.{All-append, All-nil, All-cons, All-head, All-tail, All-map, All-set}
 use Rattle.std.proofs.lemmas.List.Concat.{flat_map-cons}
-use Rattle.kahn_net.specs.declared.limits.TheConstants.{MAX_COUNT, MAX_NODES}
-use Rattle.record.specs.RecordView.{RecordView}
-use Rattle.record.specs.DecisionView.{DecisionView}
-use Rattle.record.specs.ImageView.{ImageView}
-use Rattle.record.specs.declared.record.Tentative.{Tentative}
-use Rattle.record.specs.Moves.{highest_seen, with_tentative, with_permanent, without_tentative, with_decision}
-use Rattle.record.specs.Moves.{with_confirmed, with_epoch, decision_by, decided_below, decided_by, without_node}
-use Rattle.record.specs.Moves.{confirmed, confirmed_one}
-use Rattle.record.specs.declared.record.TheConstants.{MAX_DECISIONS}
-use Rattle.record.specs.Moves.{without_own, last_image}
-use Rattle.ckpt_codec.specs.Fields.{Field, IsAllowed, AreAllowed}
-use Rattle.ckpt_codec.specs.RecordText.{IsRecord, any, at_most, count, flag, between, participants, head_fields, version_field}
-use Rattle.ckpt_codec.specs.RecordText.{decision_fields, each_decision_fields, decisions_fields, image_fields}
-use Rattle.ckpt_codec.specs.RecordText.{tentative_fields}
+use Rattle.ckpt_codec.specs.Common.{MAX_COUNT, RecordView, DecisionView, ImageView, Tentative, highest_seen}
+use Rattle.ckpt_codec.specs.Common.{with_tentative, with_permanent, without_tentative, with_decision, with_confirmed}
+use Rattle.ckpt_codec.specs.Common.{with_epoch, decision_by, decided_below, decided_by, confirmed, MAX_DECISIONS}
+use Rattle.ckpt_codec.specs.Common.{without_own, last_image, Field, IsAllowed, AreAllowed, IsRecord, at_most, count}
+use Rattle.ckpt_codec.specs.Common.{image_fields, tentative_fields}
+use Rattle.record.specs.Common.{MAX_NODES, without_node, confirmed_one}
+use Rattle.ckpt_codec.specs.RecordText.{any, flag, between, participants, head_fields, version_field}
+use Rattle.ckpt_codec.specs.RecordText.{decision_fields, each_decision_fields, decisions_fields}
 use Rattle.ckpt_codec.specs.SizeLaws.{confirmed_no_more}
 use Rattle.ckpt_codec.specs.declared.version.TheConstants.{VERSION}
 use Rattle.ckpt_store.specs.Refusals.{is_held, refusal_to_decide}

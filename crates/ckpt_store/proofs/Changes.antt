@@ -5,7 +5,7 @@ use Rattle.gate_cell.specs.declared.cell.StableCell.{Ghosts as CellWords}
 use Rattle.gate_cell.specs.declared.slot_cell.SlotCell.{Ghosts as SlotWords}
 use Rattle.gate_cell.specs.Setup.{setup_stays}
 use Rattle.gate_cell.specs.Whole.{Whole}
-use Rattle.record.specs.RecordView.{RecordView}
+use Rattle.ckpt_codec.specs.Common.{RecordView, decided_by, MAX_DECISIONS}
 use Rattle.ckpt_store.specs.declared.fault.StoreFault.{StoreFault}
 use Rattle.ckpt_store.specs.declared.fault.StoreFault.TheVariants.{NoMemory, Device, TooLarge, Reopen, Truncated}
 use Rattle.ckpt_store.specs.declared.fault.StoreFault.TheVariants.{Version, Malformed, HoldsOther, PastNumber, NotHeld}
@@ -14,8 +14,6 @@ use Rattle.ckpt_store.specs.Refusals.{first_refusal, is_held, no_refusal, refusa
 use Rattle.ckpt_store.specs.Spelling.{SpellsAny, fits_next, IsLengthTold, IsKept, kept_in, known_as}
 use Rattle.ckpt_store.specs.Putting.{IsChange}
 use Rattle.ckpt_store.specs.declared.known.Known.{Known}
-use Rattle.record.specs.Moves.{decided_by}
-use Rattle.record.specs.declared.record.TheConstants.{MAX_DECISIONS}
 use Rattle.std.proofs.lemmas.Option.{none-some, same_Some}
 use Rattle.ckpt_store.proofs.Puts.{no_call}
 

@@ -7,8 +7,8 @@ use Rattle.std.proofs.lemmas.Grind.{flat_map-append}
 use Rattle.std.proofs.lemmas.List.{append-nil}
 use Rattle.std.proofs.lemmas.List.Concat.{flat_map-cons}
 use Rattle.std.proofs.lemmas.List.Elements.{filter-append}
-use Rattle.record.specs.DecisionView.{DecisionView}
-use Rattle.record.specs.Moves.{confirmed, confirmed_one, decided_below, decided_by, decision_by}
+use Rattle.ckpt_codec.specs.Common.{DecisionView, confirmed, decided_below, decided_by, decision_by}
+use Rattle.record.specs.Common.{confirmed_one}
 use Rattle.ckpt_codec.specs.Lengths.{decision_length, decisions_length}
 use Rattle.std.proofs.lemmas.List.Sums.{sum_by-append}
 use Rattle.ckpt_store.specs.Decided.{below_one}

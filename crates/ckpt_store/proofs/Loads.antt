@@ -14,19 +14,14 @@ use Rattle.gate_cell.specs.Whole.{Whole, slot_in, OnlyLooks}
 use Rattle.gate_cell.specs.declared.fault.CellFault.{CellFault}
 use Rattle.gate_cell.specs.declared.fault.CellFault.TheVariants as cell
 use Rattle.gate_cell.specs.CellFault.{HasCause}
-use Rattle.record.specs.ImageView.{ImageView}
-use Rattle.record.specs.RecordView.{RecordView}
-use Rattle.record.specs.declared.record.Tentative.{Tentative}
-use Rattle.ckpt_codec.specs.HeaderView.{HeaderView}
-use Rattle.ckpt_codec.specs.HeaderText.{instance_of, header_of, tentative_with, record_with, IsTentativeText, IsHeldText}
+use Rattle.ckpt_codec.specs.Common.{ImageView, RecordView, Tentative, HeaderView, header_of, spelled_length, IsRecord}
+use Rattle.ckpt_codec.specs.HeaderText.{instance_of, tentative_with, record_with, IsTentativeText, IsHeldText}
 use Rattle.ckpt_codec.specs.Faults.{IsImageFault, IsReadUnlessMemory, IsRefusedUnlessMemory}
-use Rattle.ckpt_codec.specs.Lengths.{spelled_length}
 use Rattle.ckpt_codec.specs.declared.header.Instance.{Instance}
 use Rattle.ckpt_codec.specs.declared.fault.CodecFault.{CodecFault}
 use Rattle.ckpt_codec.specs.declared.fault.CodecFault.TheVariants as codec
 use Rattle.ckpt_codec.specs.declared.lengths.TheConstants.{MAX_RECORD_BYTES}
 use Rattle.ckpt_codec.proofs.Joined.{apart_is_record, joined_is_apart}
-use Rattle.ckpt_codec.specs.RecordText.{IsRecord}
 use Rattle.ckpt_store.specs.declared.known.Known.{Known}
 use Rattle.ckpt_store.specs.declared.fault.StoreFault.{StoreFault}
 use Rattle.ckpt_store.specs.declared.fault.StoreFault.TheVariants.{NoMemory, Device, TooLarge, Reopen, Truncated}

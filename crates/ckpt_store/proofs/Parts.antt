@@ -2,11 +2,10 @@
 use Rattle.std.proofs.Common.{List, [], ◌∷◌, ◌++◌, length, map}
 use Rattle.std.specs.Prelude.{All, None, slice_index}
 use Rattle.std.proofs.lemmas.List.Elements.{All-nil, All-cons, All-head, All-tail, All-append}
-use Rattle.record.specs.RecordView.{RecordView}
-use Rattle.ckpt_codec.specs.Fields.{Field, IsAllowed, AreAllowed}
-use Rattle.ckpt_codec.specs.RecordText.{IsRecord, count, head_fields, decisions_fields, image_fields, tentative_fields}
+use Rattle.ckpt_codec.specs.Common.{RecordView, Field, IsAllowed, AreAllowed, IsRecord, count, image_fields}
+use Rattle.ckpt_codec.specs.Common.{tentative_fields, MAX_DECISIONS}
+use Rattle.ckpt_codec.specs.RecordText.{head_fields, decisions_fields}
 use Rattle.ckpt_codec.specs.declared.version.TheConstants.{VERSION}
-use Rattle.record.specs.declared.record.TheConstants.{MAX_DECISIONS}
 
 -- what holds of each of two lists' elements holds of the first one's, and of the second one's
 pub all_front : {X : Type 0} (P : X → Type 0) (xs ys : List X) → All P (xs ++ ys) → All P xs

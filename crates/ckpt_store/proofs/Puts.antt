@@ -18,14 +18,10 @@ use Rattle.gate_cell.specs.declared.fault.CellFault.TheVariants as cell
 use Rattle.gate_cell.specs.CellFault.{HasCause}
 use Rattle.gate_cell.proofs.Slots.{after_fill, after_put}
 use Rattle.gate_cell.proofs.Slots.{put_done as cell_put}
-use Rattle.record.specs.ImageView.{ImageView}
-use Rattle.record.specs.RecordView.{RecordView}
-use Rattle.record.specs.declared.record.Tentative.{Tentative}
-use Rattle.ckpt_codec.specs.Fields.{Field, IsAllowed, AreAllowed}
-use Rattle.ckpt_codec.specs.RecordText.{IsRecord, flag, image_fields, tentative_fields}
-use Rattle.ckpt_codec.specs.HeaderText.{IsImageSpelled}
+use Rattle.ckpt_codec.specs.Common.{ImageView, RecordView, Tentative, Field, IsAllowed, AreAllowed, IsRecord}
+use Rattle.ckpt_codec.specs.Common.{image_fields, tentative_fields, IsImageSpelled, spelled_length, image_length}
+use Rattle.ckpt_codec.specs.RecordText.{flag}
 use Rattle.ckpt_codec.specs.Testing.{initiator_field, held_number_field}
-use Rattle.ckpt_codec.specs.Lengths.{spelled_length, image_length}
 use Rattle.ckpt_codec.specs.declared.lengths.TheConstants.{MAX_HEADER_BYTES, MAX_RECORD_BYTES}
 use Rattle.ckpt_store.specs.declared.known.Known.{Known}
 use Rattle.ckpt_store.specs.declared.fault.StoreFault.{StoreFault}

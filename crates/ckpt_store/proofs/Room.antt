@@ -6,12 +6,9 @@ use Rattle.std.proofs.Math.Logic.{∥∥₁_elim}
 use Rattle.gate_cell.specs.Whole.{Whole, slot_in}
 use Rattle.gate_cell.specs.declared.cell.StableCell.{Ghosts as CellWords}
 use Rattle.gate_cell.specs.declared.slot_cell.SlotCell.{Ghosts as SlotWords}
-use Rattle.record.specs.ImageView.{ImageView}
-use Rattle.record.specs.RecordView.{RecordView}
-use Rattle.record.specs.declared.record.Tentative.{Tentative}
-use Rattle.record.specs.Moves.{last_image, with_permanent, with_decision, with_epoch, without_own}
-use Rattle.ckpt_codec.specs.HeaderText.{IsImageText, IsTentativeText}
-use Rattle.ckpt_codec.specs.Lengths.{image_length, spelled_length}
+use Rattle.ckpt_codec.specs.Common.{ImageView, RecordView, Tentative, last_image, with_permanent, with_decision}
+use Rattle.ckpt_codec.specs.Common.{with_epoch, without_own, IsImageText, image_length, spelled_length}
+use Rattle.ckpt_codec.specs.HeaderText.{IsTentativeText}
 use Rattle.ckpt_codec.specs.declared.lengths.TheConstants.{MAX_RECORD_BYTES}
 use Rattle.ckpt_codec.proofs.Sizes.{permanent_is_no_longer, decision_is_no_longer, epoch_is_no_longer}
 use Rattle.ckpt_codec.proofs.Joined.{image_text_long}

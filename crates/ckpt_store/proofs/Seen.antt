@@ -5,11 +5,8 @@ use Rattle.std.proofs.lemmas.Option.{same_Some, none-some}
 use Rattle.gate_cell.specs.Whole.{Whole, slot_in}
 use Rattle.gate_cell.specs.declared.cell.StableCell.{Ghosts as CellWords}
 use Rattle.gate_cell.specs.declared.slot_cell.SlotCell.{Ghosts as SlotWords}
-use Rattle.record.specs.ImageView.{ImageView}
-use Rattle.record.specs.RecordView.{RecordView}
-use Rattle.record.specs.declared.record.Tentative.{Tentative}
-use Rattle.record.specs.declared.record.TheConstants.{MAX_DECISIONS}
-use Rattle.ckpt_codec.specs.HeaderText.{instance_of, header_of, tentative_with, IsTentativeText}
+use Rattle.ckpt_codec.specs.Common.{ImageView, RecordView, Tentative, MAX_DECISIONS, header_of}
+use Rattle.ckpt_codec.specs.HeaderText.{instance_of, tentative_with, IsTentativeText}
 use Rattle.ckpt_codec.specs.Reading.{whole_image_at}
 use Rattle.ckpt_codec.proofs.Headers.{header_again, image_again}
 use Rattle.ckpt_store.proofs.Allowed.{decisions_few}

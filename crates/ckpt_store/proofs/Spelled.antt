@@ -7,15 +7,11 @@ use Rattle.std.proofs.lemmas.Bool.{leb-true, false≢true}
 use Rattle.std.proofs.lemmas.Option.{same_Some, none-some}
 use Rattle.std.proofs.lemmas.List.Elements.{All-head}
 use Rattle.gate_cell.specs.Whole.{Whole, slot_in, with_slot, with_header}
-use Rattle.record.specs.ImageView.{ImageView}
-use Rattle.record.specs.RecordView.{RecordView}
-use Rattle.record.specs.declared.record.Tentative.{Tentative}
-use Rattle.ckpt_codec.specs.Fields.{IsAllowed, AreAllowed}
-use Rattle.ckpt_codec.specs.RecordText.{count, first_fields, decisions_fields, most_decisions, version_of, image_fields, IsRecord}
-use Rattle.ckpt_codec.specs.HeaderView.{HeaderView}
-use Rattle.ckpt_codec.specs.HeaderText.{header_of, instance_of, slot_field, held_fields, IsHeaderText, IsHeaderTextIn}
-use Rattle.ckpt_codec.specs.HeaderText.{IsImageText, IsTentativeText, IsApart}
-use Rattle.ckpt_codec.specs.Lengths.{spelled_length}
+use Rattle.ckpt_codec.specs.Common.{ImageView, RecordView, Tentative, IsAllowed, AreAllowed, count, image_fields}
+use Rattle.ckpt_codec.specs.Common.{IsRecord, HeaderView, header_of, IsHeaderText, IsImageText, spelled_length}
+use Rattle.ckpt_codec.specs.RecordText.{first_fields, decisions_fields, most_decisions, version_of}
+use Rattle.ckpt_codec.specs.HeaderText.{instance_of, slot_field, held_fields, IsHeaderTextIn}
+use Rattle.ckpt_codec.specs.HeaderText.{IsTentativeText, IsApart}
 use Rattle.ckpt_codec.specs.Reading.{header_at}
 use Rattle.ckpt_codec.specs.declared.fault.CodecFault.{CodecFault}
 use Rattle.ckpt_codec.specs.declared.lengths.TheConstants.{MAX_RECORD_BYTES}

@@ -4,13 +4,8 @@ use Rattle.std.specs.Prelude.{if◌then◌else◌, ◌==◌, nat_le, length}
 use Rattle.std.proofs.lemmas.Bool.{false≢true}
 use Rattle.std.proofs.lemmas.Option.{none-some}
 use Rattle.gate_cell.specs.Whole.{Whole, slot_in}
-use Rattle.record.specs.ImageView.{ImageView}
-use Rattle.record.specs.RecordView.{RecordView}
-use Rattle.record.specs.declared.record.Tentative.{Tentative}
-use Rattle.record.specs.Moves.{decided_by, last_image, with_permanent, without_own}
-use Rattle.record.specs.declared.record.TheConstants.{MAX_DECISIONS}
-use Rattle.ckpt_codec.specs.Fields.{AreAllowed}
-use Rattle.ckpt_codec.specs.RecordText.{image_fields}
+use Rattle.ckpt_codec.specs.Common.{ImageView, RecordView, Tentative, decided_by, last_image, with_permanent}
+use Rattle.ckpt_codec.specs.Common.{without_own, MAX_DECISIONS, AreAllowed, image_fields}
 use Rattle.ckpt_store.specs.Refusals.{is_held, refusal_to_decide}
 use Rattle.ckpt_store.specs.Spelling.{SpellsAt, StandIn}
 use Rattle.ckpt_store.specs.declared.fault.StoreFault.{StoreFault}

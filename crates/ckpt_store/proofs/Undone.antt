@@ -6,13 +6,9 @@ use Rattle.std.proofs.lemmas.Bool.{eqb-true, and_parts, not-false, leb-false, lt
 use Rattle.std.proofs.lemmas.Option.{none-some, same_Some}
 use Rattle.std.proofs.lemmas.List.{length-set}
 use Rattle.std.proofs.lemmas.List.Elements.{All-head, All-tail}
-use Rattle.kahn_net.specs.declared.limits.TheConstants.{MAX_COUNT}
-use Rattle.record.specs.ImageView.{ImageView}
-use Rattle.record.specs.RecordView.{RecordView}
-use Rattle.record.specs.declared.record.Tentative.{Tentative}
-use Rattle.record.specs.Moves.{highest_seen, with_tentative}
-use Rattle.ckpt_codec.specs.Fields.{Field, IsAllowed, AreAllowed}
-use Rattle.ckpt_codec.specs.RecordText.{IsRecord, flag, image_fields, tentative_fields}
+use Rattle.ckpt_codec.specs.Common.{MAX_COUNT, ImageView, RecordView, Tentative, highest_seen, with_tentative, Field}
+use Rattle.ckpt_codec.specs.Common.{IsAllowed, AreAllowed, IsRecord, image_fields, tentative_fields}
+use Rattle.ckpt_codec.specs.RecordText.{flag}
 use Rattle.ckpt_store.specs.Restoring.{untaken, with_held}
 use Rattle.ckpt_store.specs.Undoing.{TakesBack}
 use Rattle.ckpt_store.specs.declared.undo.Undo.TheVariants.{Take}

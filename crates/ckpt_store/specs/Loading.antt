@@ -6,12 +6,9 @@ use Rattle.gate_cell.specs.declared.cell.StableCell.{Ghosts as CellWords}
 use Rattle.gate_cell.specs.declared.slot_cell.SlotCell.{Ghosts as SlotWords}
 use Rattle.gate_cell.specs.Setup.{LeavesSetup}
 use Rattle.gate_cell.specs.Whole.{Whole, slot_in}
-use Rattle.record.specs.ImageView.{ImageView}
-use Rattle.record.specs.RecordView.{RecordView}
-use Rattle.ckpt_codec.specs.HeaderView.{HeaderView}
-use Rattle.ckpt_codec.specs.HeaderText.{record_with, IsHeaderText, IsImageText}
+use Rattle.ckpt_codec.specs.Common.{ImageView, RecordView, HeaderView, IsHeaderText, IsImageText, spelled_length}
+use Rattle.ckpt_codec.specs.HeaderText.{record_with}
 use Rattle.ckpt_codec.specs.Faults.{IsHeaderFault, IsImageFault}
-use Rattle.ckpt_codec.specs.Lengths.{spelled_length}
 use Rattle.ckpt_codec.specs.declared.header.Instance.{Instance}
 use Rattle.ckpt_codec.specs.declared.fault.CodecFault.{CodecFault}
 use Rattle.ckpt_codec.specs.declared.fault.CodecFault.TheVariants as codec

@@ -6,13 +6,8 @@ use Rattle.sector_disk.specs.Clock.{LeavesOnly}
 use Rattle.gate_cell.specs.declared.cell.StableCell.{Ghosts as CellWords}
 use Rattle.gate_cell.specs.declared.slot_cell.SlotCell.{Ghosts as SlotWords}
 use Rattle.gate_cell.specs.Setup.{LeavesSetup}
-use Rattle.record.specs.ImageView.{ImageView}
-use Rattle.record.specs.RecordView.{RecordView}
-use Rattle.record.specs.declared.record.Tentative.{Tentative}
-use Rattle.ckpt_codec.specs.Fields.{AreAllowed}
-use Rattle.ckpt_codec.specs.RecordText.{image_fields}
-use Rattle.ckpt_codec.specs.HeaderText.{IsImageText}
-use Rattle.ckpt_codec.specs.Lengths.{image_length}
+use Rattle.ckpt_codec.specs.Common.{ImageView, RecordView, Tentative, AreAllowed, image_fields, IsImageText}
+use Rattle.ckpt_codec.specs.Common.{image_length}
 use Rattle.ckpt_store.specs.StoreFault.{IsOfPut, HasFailures, is_failure}
 use Rattle.ckpt_store.specs.Refusals.{first_refusal, ComesFirst}
 use Rattle.ckpt_store.specs.Spelling.{SpellsAt, Spells, SpellsAny, fits_in, fits_next, IsLengthTold}

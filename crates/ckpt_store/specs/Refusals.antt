@@ -2,12 +2,8 @@
 use Rattle.std.specs.Prelude.{◌≡◌, ℕ, ◌==◌, nat_le, nat_lt, not, ◌&&◌, Bool, true, false, if◌then◌else◌, List, length}
 use Rattle.std.specs.Prelude.{Option, Some, None, Result, Err, IfErr}
 use Rattle.std.specs.List.{list_any}
-use Rattle.kahn_net.specs.declared.limits.TheConstants.{MAX_COUNT}
-use Rattle.record.specs.DecisionView.{DecisionView}
-use Rattle.record.specs.RecordView.{RecordView}
-use Rattle.record.specs.Moves.{decided_by, highest_seen}
-use Rattle.record.specs.declared.record.TheConstants.{MAX_DECISIONS}
-use Rattle.record.specs.declared.record.Tentative.{Tentative}
+use Rattle.ckpt_codec.specs.Common.{MAX_COUNT, DecisionView, RecordView, decided_by, highest_seen, MAX_DECISIONS}
+use Rattle.ckpt_codec.specs.Common.{Tentative}
 use Rattle.ckpt_store.specs.StoreFault.{IsOfPut}
 use Rattle.ckpt_store.specs.declared.fault.StoreFault.{StoreFault}
 use Rattle.ckpt_store.specs.declared.fault.StoreFault.TheVariants.{Reopen, HoldsOther, PastNumber, NotHeld, Unsettled}

@@ -1,8 +1,6 @@
 -- A record with parts of it as they were before a move.
 use Rattle.std.specs.Prelude.{ℕ, ◌-◌, ◌==◌, if◌then◌else◌, Bool, false, Option, Some, None, slice_set}
-use Rattle.record.specs.ImageView.{ImageView}
-use Rattle.record.specs.RecordView.{RecordView}
-use Rattle.record.specs.declared.record.Tentative.{Tentative}
+use Rattle.ckpt_codec.specs.Common.{ImageView, RecordView, Tentative}
 
 -- without a tentative image, and with this entry
 abbrev pub untaken : ℕ → ℕ → RecordView → RecordView

@@ -1,8 +1,6 @@
 -- When two images are of the same processes and channels.
 use Rattle.std.specs.Prelude.{◌≡◌, ℕ, List, length, map}
-use Rattle.record.specs.ProcessView.{SavedProcessView}
-use Rattle.record.specs.ImageView.{ImageView}
-use Rattle.record.specs.declared.image.SavedEnd.{SavedEnd}
+use Rattle.ckpt_codec.specs.Common.{SavedProcessView, ImageView, SavedEnd}
 use Rattle.ckpt_codec.specs.RecordText.{variables_of, role_of}
 
 abbrev pub process_numbers : List SavedProcessView → List ℕ

@@ -4,13 +4,9 @@ use Rattle.std.specs.Prelude.{◌≡◌, ℕ, ◌-◌, ◌≤◌, nat_le, ◌&&�
 use Rattle.std.specs.Prelude.{Result, Ok, Err, IsTrue, IsSome}
 use Rattle.std.specs.Option.{ForSome}
 use Rattle.gate_cell.specs.Whole.{Whole, slot_in}
-use Rattle.record.specs.RecordView.{RecordView}
-use Rattle.record.specs.ImageView.{ImageView}
-use Rattle.record.specs.declared.record.Tentative.{Tentative}
-use Rattle.ckpt_codec.specs.Fields.{AreAllowed}
-use Rattle.ckpt_codec.specs.RecordText.{image_fields, participants}
-use Rattle.ckpt_codec.specs.HeaderText.{header_of, IsHeaderText, IsImageText}
-use Rattle.ckpt_codec.specs.Lengths.{image_length, spelled_length}
+use Rattle.ckpt_codec.specs.Common.{RecordView, ImageView, Tentative, AreAllowed, image_fields, header_of}
+use Rattle.ckpt_codec.specs.Common.{IsHeaderText, IsImageText, image_length, spelled_length}
+use Rattle.ckpt_codec.specs.RecordText.{participants}
 use Rattle.ckpt_codec.specs.declared.lengths.TheConstants.{MAX_RECORD_BYTES}
 use Rattle.ckpt_store.specs.declared.known.Known.{Known}
 use Rattle.ckpt_store.specs.declared.fault.StoreFault.{StoreFault}

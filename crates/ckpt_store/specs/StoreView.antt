@@ -4,9 +4,7 @@ use Rattle.sector_disk.specs.Clock.{LeavesOnly}
 use Rattle.gate_cell.specs.declared.cell.StableCell.{Ghosts as CellWords}
 use Rattle.gate_cell.specs.declared.slot_cell.SlotCell.{Ghosts as SlotWords}
 use Rattle.gate_cell.specs.Whole.{Whole, slot_in}
-use Rattle.record.specs.ImageView.{ImageView}
-use Rattle.record.specs.RecordView.{RecordView}
-use Rattle.ckpt_codec.specs.HeaderView.{HeaderView}
+use Rattle.ckpt_codec.specs.Common.{ImageView, RecordView, HeaderView}
 use Rattle.ckpt_codec.specs.HeaderText.{record_with}
 use Rattle.ckpt_codec.specs.Reading.{header_at, whole_image_at}
 use Rattle.ckpt_codec.specs.declared.fault.CodecFault.{CodecFault}

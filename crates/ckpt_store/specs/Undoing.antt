@@ -1,6 +1,6 @@
 -- What takes a move back.
 use Rattle.std.specs.Prelude.{◌≡◌, ◌<◌, length}
-use Rattle.record.specs.RecordView.{RecordView}
+use Rattle.ckpt_codec.specs.Common.{RecordView}
 use Rattle.ckpt_codec.specs.Lengths.{with_decided}
 use Rattle.ckpt_store.specs.Restoring.{untaken, demoted, with_held, lowered}
 use Rattle.ckpt_store.specs.declared.undo.Undo.{Undo}

@@ -4,10 +4,9 @@
 // A change is made in place, with its memory taken first, and is taken back where the put is refused. Where the device
 // failed no record is known any more: the cell holds the old one or the next one.
 ghost use Rattle.std.specs.Prelude.{◌≡◌, ◌<◌, ℕ, List, length, IsTrue, false};
-ghost use Rattle.ckpt_codec.specs.RecordText.{IsRecord};
-ghost use Rattle.ckpt_codec.specs.Lengths.{spelled_length};
+ghost use Rattle.ckpt_codec.specs.Common.{IsRecord, spelled_length, with_tentative, with_permanent};
+ghost use Rattle.ckpt_codec.specs.Common.{without_tentative, with_decision, with_confirmed, with_epoch};
 ghost use Rattle.std.specs.Option.{ForSome};
-ghost use Rattle.record.specs.Moves.{with_tentative, with_permanent, without_tentative, with_decision, with_confirmed, with_epoch};
 ghost use Rattle.ckpt_store.specs.Refusals.{refusal_to_take, refusal_unless_held, refusal_to_decide, refusal_to_raise, no_refusal, has_effect};
 ghost use Rattle.ckpt_store.specs.Spelling.{IsKept, IsLike, AreOthers, kept_in};
 ghost use Rattle.ckpt_store.specs.Putting.{IsChange, IsIdle};

@@ -2,7 +2,8 @@
 // lists themselves.
 ghost use Rattle.std.specs.Prelude.{◌≡◌, ℕ, List, ◌<◌, ◌≤◌, ◌*◌, ◌^◌, ◌++◌, All, IfOk, OnOk, length, sum_by};
 ghost use Rattle.std.specs.Option.{option_to_list};
-ghost use Rattle.record.specs.Moves.{confirmed, confirmed_one, decided_below, decided_by, decision_by, without_node};
+ghost use Rattle.ckpt_codec.specs.Common.{confirmed, decided_below, decided_by, decision_by};
+ghost use Rattle.record.specs.Common.{confirmed_one, without_node};
 ghost use Rattle.ckpt_store.specs.Decided.{below_one};
 ghost use Rattle.ckpt_codec.specs.Lengths.{decision_length, decisions_length};
 ghost use Rattle.ckpt_codec.specs.Spelling.{AreShortDecisions, IsShortDecision};

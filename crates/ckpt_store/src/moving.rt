@@ -1,7 +1,7 @@
 // The moves of a record, each in place, with what takes it back. No image is copied.
 ghost use Rattle.std.specs.Prelude.{◌≡◌, ◌<◌, length, IsSome, IsTrue, None};
-ghost use Rattle.record.specs.Moves.{highest_seen, with_tentative, with_permanent, without_tentative, with_epoch, without_own};
-ghost use Rattle.ckpt_codec.specs.RecordText.{IsRecord};
+ghost use Rattle.ckpt_codec.specs.Common.{highest_seen, with_tentative, with_permanent, without_tentative};
+ghost use Rattle.ckpt_codec.specs.Common.{with_epoch, without_own, IsRecord};
 ghost use Rattle.ckpt_codec.specs.Lengths.{with_decided};
 ghost use Rattle.ckpt_store.specs.Refusals.{is_held, refusal_to_take};
 ghost use Rattle.ckpt_store.specs.Restoring.{with_held, own_in};

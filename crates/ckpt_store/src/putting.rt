@@ -1,12 +1,9 @@
 // One put of a record.
 ghost use Rattle.std.specs.Prelude.{◌≡◌, ◌≤◌, nat_le, ◌&&◌, IsTrue, IfOk, Some, None, Option};
 ghost use Rattle.std.specs.Option.{ForSome};
-ghost use Rattle.record.specs.RecordView.{RecordView};
+ghost use Rattle.ckpt_codec.specs.Common.{RecordView, IsRecord, IsImageSpelled, image_length, last_image};
+ghost use Rattle.ckpt_codec.specs.Common.{with_permanent};
 ghost use Rattle.record.specs.declared.record.Tentative.{Tentative as HeldView};
-ghost use Rattle.ckpt_codec.specs.RecordText.{IsRecord};
-ghost use Rattle.ckpt_codec.specs.HeaderText.{IsImageSpelled};
-ghost use Rattle.ckpt_codec.specs.Lengths.{image_length};
-ghost use Rattle.record.specs.Moves.{last_image, with_permanent};
 ghost use Rattle.ckpt_store.specs.Spelling.{is_short, held_fits, images_fit, fits_in, Spells, SpellsAt, StandIn, IsKept, kept_in, known_as};
 ghost use Rattle.ckpt_store.specs.Refusals.{no_refusal};
 ghost use Rattle.ckpt_store.specs.Putting.{IsHeldWritten, IsPut, known_after, IsChange};

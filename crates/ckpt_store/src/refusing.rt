@@ -1,7 +1,6 @@
 // For which changes a record gives cause to refuse.
 ghost use Rattle.std.specs.Prelude.{◌≡◌, ◌<◌, ◌≤◌, length, nat_le};
-ghost use Rattle.record.specs.Moves.{decided_below, decided_by};
-ghost use Rattle.record.specs.declared.record.TheConstants.{MAX_DECISIONS};
+ghost use Rattle.ckpt_codec.specs.Common.{decided_below, decided_by, MAX_DECISIONS};
 ghost use Rattle.ckpt_store.specs.Refusals.{is_held, is_other_held, refusal_to_take, refusal_to_decide, names, is_named_by};
 ghost use Rattle.ckpt_store.specs.Restoring.{is_own};
 

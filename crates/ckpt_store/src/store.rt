@@ -3,7 +3,8 @@ ghost use Rattle.std.specs.Prelude.{◌≡◌, ◌<◌, ◌++◌, [], ◌∷◌,
 ghost use Rattle.std.specs.Option.{ForSome};
 ghost use Rattle.sector_disk.specs.Clock.{Only, LeavesOnly};
 ghost use Rattle.gate_cell.specs.Setup.{LeavesSetup};
-ghost use Rattle.record.specs.Moves.{with_tentative, with_permanent, without_tentative, with_decision, with_confirmed, with_epoch};
+ghost use Rattle.ckpt_codec.specs.Common.{with_tentative, with_permanent, without_tentative, with_decision};
+ghost use Rattle.ckpt_codec.specs.Common.{with_confirmed, with_epoch};
 ghost use Rattle.ckpt_store.specs.Refusals.{refusal_to_take, refusal_unless_held, refusal_to_decide, refusal_to_raise, no_refusal, has_effect};
 ghost use Rattle.ckpt_store.specs.Spelling.{IsKept, IsLike, AreOthers};
 

@@ -12,3 +12,4 @@ pub mod States
 pub mod NextActs
 pub mod Repeats
 pub mod Laws
+pub mod Common

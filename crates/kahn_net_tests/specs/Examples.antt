@@ -1,9 +1,8 @@
 -- Small networks, on which the definitions are computed.
 use Rattle.std.specs.Prelude.{ℕ, ℤ, pos, List, [], ◌∷◌, replicate, Some}
 use Rattle.kahn_net.specs.declared.program.Operator.TheVariants.{Add}
-use Rattle.kahn_net.specs.Syntax.{Number, Name, Chain, NoLinks, LinkThen, Nothing, GetThen, AssignThen, PutThen, Code}
-use Rattle.kahn_net.specs.Syntax.{Network}
-use Rattle.kahn_net.specs.Approximations.{approximation}
+use Rattle.kahn_net.specs.Common.{Number, Name, Chain, NoLinks, LinkThen, Nothing, GetThen, AssignThen, PutThen, Code}
+use Rattle.kahn_net.specs.Common.{Network, approximation}
 use Rattle.kahn_net.specs.declared.program.Channel.{Channel}
 use Rattle.kahn_net.specs.declared.program.Port.{Port}
 use Rattle.kahn_net.specs.declared.program.Port.TheVariants.{Outside, Process}

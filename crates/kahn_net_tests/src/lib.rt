@@ -3,9 +3,8 @@
 #![tactic(auto)]
 
 ghost use Rattle.std.specs.Prelude.{◌≡◌, pos, negsuc, [], ◌∷◌, ◌++◌};
-ghost use Rattle.kahn_net.specs.Approximations.{approximation, Belongs, IsReached};
-ghost use Rattle.kahn_net.specs.Statements.{point_at};
-ghost use Rattle.kahn_net.specs.Processes.{At, StandsAt};
+ghost use Rattle.kahn_net.specs.Common.{approximation, Belongs, IsReached, point_at, StandsAt};
+ghost use Rattle.kahn_net.specs.Processes.{At};
 ghost use Rattle.kahn_net_tests.specs.Examples.{summing_code, sum_net, sum_inputs, sum_solution};
 ghost use Rattle.kahn_net_tests.specs.Examples.{at_the_end, pair_net, pair_inputs, one_two, tens};
 ghost use Rattle.kahn_net_tests.specs.Examples.{cycle_after, zeros, ones, zero_one};

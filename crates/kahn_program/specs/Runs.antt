@@ -3,7 +3,8 @@ use Rattle.std.specs.Prelude.{◌≡◌, ◌↔◌, ℕ, Bool, true, false, IsTr
 use Rattle.std.specs.Prelude.{List, Option, Some, None, IfSome, length, map, take, slice_get}
 use Rattle.std.specs.Io.KnownBytes.{Appends}
 use Rattle.protocol.specs.Node.Common.{history_of, IsPrefix, node_count, Network, network_of, approximation, Net}
-use Rattle.kahn_net.specs.Approximations.{IsReached, IsSolution}
+use Rattle.kahn_net.specs.Common.{IsReached}
+use Rattle.kahn_net.specs.Approximations.{IsSolution}
 use Rattle.protocol.specs.World.Common.{output_channels, are_quiet, released_of, StationView, WorldView}
 use Rattle.kahn_program.specs.Readings.{IsNetOf, AreInputsOf}
 use Rattle.kahn_program.specs.Report.{report_text}

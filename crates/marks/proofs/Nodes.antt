@@ -4,8 +4,7 @@ use Rattle.std.proofs.Common.{append_assoc, arith}
 use Rattle.std.specs.Prelude.{slice_get, Option, Some}
 use Rattle.std.specs.List.{All}
 use Rattle.std.proofs.lemmas.List.{map-append}
-use Rattle.kahn_net.specs.Syntax.{code_of, network_of}
-use Rattle.kahn_net.specs.Valid.{IsValid}
+use Rattle.kahn_net.specs.Common.{code_of, network_of, IsValid}
 use Rattle.kahn_net.specs.declared.program.Process.{Process}
 use Rattle.kahn_net.specs.declared.program.Program.{Program}
 use Rattle.marks.specs.Owners.{nodes_from}

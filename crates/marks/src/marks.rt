@@ -30,8 +30,7 @@ pub struct Opened {
 }
 
 impl Opened {
-    ghost use Rattle.kahn_net.specs.Nodes.{node_count};
-    ghost use Rattle.kahn_net.specs.Syntax.{network_of};
+    ghost use Rattle.kahn_net.specs.Common.{node_count, network_of};
     ghost use Rattle.marks.specs.Owners.{nodes_from, owners_in};
     ghost use Rattle.std.specs.List.{All};
     ghost use Rattle.marks.specs.Seats.{known, node_of, opened_nodes, opened_owners, owners_of, table_of};

@@ -1,8 +1,7 @@
 //! How many nodes a network has, and whose output each of its channels is.
 
 ghost use Rattle.std.specs.Prelude.{◌≡◌, IfOk};
-ghost use Rattle.kahn_net.specs.Nodes.{node_count};
-ghost use Rattle.kahn_net.specs.Syntax.{network_of};
+ghost use Rattle.kahn_net.specs.Common.{node_count, network_of};
 ghost use Rattle.marks.specs.Owners.{owner_in, owners_in, process_node};
 
 use kahn_net::{Channel, Port};

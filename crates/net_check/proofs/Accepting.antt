@@ -18,9 +18,9 @@ use Rattle.net_check.specs.declared.fault.NetFault.TheVariants.{NoConsumer, Miss
 use Rattle.kahn_net.specs.declared.program.Channel.{Channel}
 use Rattle.kahn_net.specs.declared.program.Port.{Port}
 use Rattle.kahn_net.specs.declared.program.Port.TheVariants.{Outside, Process}
-use Rattle.kahn_net.specs.Syntax.{Tree, Number, Name, Minus, Chain, Links, NoLinks, LinkThen, Block, Nothing, GetThen}
-use Rattle.kahn_net.specs.Syntax.{AssignThen, PutThen, StopThen, IfThen, RepeatThen, Code, Network}
-use Rattle.kahn_net.specs.Valid.{IsValid, code_gets, code_puts}
+use Rattle.kahn_net.specs.Common.{Tree, Number, Name, Minus, Chain, Links, NoLinks, LinkThen, Block, Nothing, GetThen}
+use Rattle.kahn_net.specs.Common.{AssignThen, PutThen, StopThen, IfThen, RepeatThen, Code, Network, IsValid}
+use Rattle.kahn_net.specs.Common.{code_gets, code_puts}
 use Rattle.net_check.specs.NetFaults.{HasFault, HasLoopWithoutGet, HasNoUser, HasPastLimit, HasTwiceNamed, HasTwoUsers}
 use Rattle.net_check.specs.NetFaults.{HasUnknownName, SecondUse, another_too, many_channels, many_processes, many_units, many_times}
 use Rattle.net_check.specs.NetFaults.{many_variables, name_of, high_node, outside_too, space_of, two_channels}

@@ -9,7 +9,7 @@ use Rattle.net_text.specs.declared.tree.ExprText.TheViews as text
 use Rattle.kahn_net.specs.declared.program.Link.{Link}
 use Rattle.kahn_net.specs.declared.program.Expr.{Expr}
 use Rattle.kahn_net.specs.declared.program.Expr.TheViews as view
-use Rattle.kahn_net.specs.Syntax.{Tree, links_of, tree_of}
+use Rattle.kahn_net.specs.Common.{Tree, links_of, tree_of}
 use Rattle.kahn_net.specs.Laws.Syntax.{chain_of}
 use Rattle.net_check.specs.Resolution.{ResolvesExpr, ResolvesLinks}
 use Rattle.net_check.specs.Texts.{expr_units_text, links_units_text}

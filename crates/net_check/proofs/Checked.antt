@@ -13,8 +13,8 @@ use Rattle.net_check.specs.declared.fault.NetFault.TheVariants.{NoMemory, NoProd
 use Rattle.kahn_net.specs.declared.program.Channel.{Channel}
 use Rattle.kahn_net.specs.declared.program.Port.{Port}
 use Rattle.kahn_net.specs.declared.program.Port.TheVariants.{Outside, Process}
-use Rattle.kahn_net.specs.Syntax.{Code, Network}
-use Rattle.kahn_net.specs.Valid.{IsValid, IsValidCode, block_within, body_within, code_gets, code_puts}
+use Rattle.kahn_net.specs.Common.{Code, Network, IsValid, code_gets, code_puts}
+use Rattle.kahn_net.specs.Valid.{IsValidCode, block_within, body_within}
 use Rattle.net_check.specs.Claims.{AreResolved}
 use Rattle.net_check.specs.Joints.{AreJoined, EndFaultAmong}
 use Rattle.net_check.specs.Ready.{AreDeclared, IsFit}

@@ -5,7 +5,7 @@ use Rattle.std.proofs.lemmas.List.{at_drop_more}
 use Rattle.net_text.specs.Trees.{BlockTree, NothingTree, block_tree, row_block, then_tree}
 use Rattle.net_text.specs.declared.tree.StatementText.{StatementText, Get, Assign, Put, Stop, If', Repeat'}
 use Rattle.net_check.specs.Texts.{block_units_text, is_passing_text, or_line, past_line}
-use Rattle.kahn_net.specs.Repeats.{is_repeat_within}
+use Rattle.kahn_net.specs.Common.{is_repeat_within}
 
 -- the statement at hand, and those after it
 tree_at : (ts : List StatementText) (i : ℕ) (t : StatementText) → i < length ts → t ≡ get_or ts i t

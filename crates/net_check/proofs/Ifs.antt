@@ -12,12 +12,11 @@ use Rattle.net_text.specs.declared.tree.StatementText.TheViews as text
 use Rattle.kahn_net.specs.declared.program.Expr.{Expr}
 use Rattle.kahn_net.specs.declared.program.Statement.{Statement}
 use Rattle.kahn_net.specs.declared.program.Statement.TheViews as view
-use Rattle.kahn_net.specs.Syntax.{Block, Nothing, block_of, then_of, tree_of}
-use Rattle.kahn_net.specs.Valid.{block_gets, block_puts}
+use Rattle.kahn_net.specs.Common.{Block, Nothing, block_of, then_of, tree_of, block_gets, block_puts}
+use Rattle.kahn_net.specs.Common.{is_repeat_within}
 use Rattle.kahn_net.specs.Laws.Syntax.{if_of, repeat_of}
 use Rattle.net_check.specs.Resolution.{ResolvesBlock, ResolvesExpr}
 use Rattle.net_check.specs.Texts.{block_units_text, expr_units_text, is_passing_text, or_line, past_line}
-use Rattle.kahn_net.specs.Repeats.{is_repeat_within}
 use Rattle.kahn_net.specs.declared.program.Port.{Port}
 use Rattle.net_text.specs.declared.tree.ChannelText.{ChannelText}
 use Rattle.net_text.specs.declared.tree.Role.{Role}

@@ -14,8 +14,7 @@ use Rattle.net_check.specs.declared.fault.NetFault.TheVariants.{NoMemory, Unknow
 use Rattle.kahn_net.specs.declared.program.Port.{Port}
 use Rattle.kahn_net.specs.declared.program.Port.TheVariants.{Process}
 use Rattle.kahn_net.specs.declared.program.Process.{Process as ProcessCode}
-use Rattle.kahn_net.specs.Syntax.{Code, code_of}
-use Rattle.kahn_net.specs.Valid.{code_gets, code_puts}
+use Rattle.kahn_net.specs.Common.{Code, code_of, code_gets, code_puts}
 use Rattle.net_check.specs.Claims.{AreResolved, Claims, FaultOfText, IsRefused, Joined, stands_outside, is_taken}
 use Rattle.net_check.specs.Claims.{UseFault}
 use Rattle.net_check.specs.Resolution.{Reads, ResolvesProcess, channel_names, channels_of, processes_of, variable_names}

@@ -12,8 +12,7 @@ use Rattle.net_check.specs.declared.fault.NetFault.{NetFault}
 use Rattle.net_check.specs.declared.fault.NetFault.TheVariants.{NoMemory, TwiceNamed, UnknownName, Limit}
 use Rattle.kahn_net.specs.declared.program.Channel.{Channel}
 use Rattle.kahn_net.specs.declared.program.Port.TheVariants.{Outside, Process}
-use Rattle.kahn_net.specs.Syntax.{Network}
-use Rattle.kahn_net.specs.Fits.{Fits}
+use Rattle.kahn_net.specs.Common.{Network, Fits}
 use Rattle.net_check.specs.NetFaults.{SecondUse}
 use Rattle.net_check.specs.Resolution.{AllDifferent, Reads}
 use Rattle.net_check.specs.Binding.{Binds, HasInputFault, IsGiven, IsInput, line_names}

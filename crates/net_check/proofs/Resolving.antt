@@ -17,8 +17,8 @@ use Rattle.kahn_net.specs.declared.program.Port.TheVariants.{Process}
 use Rattle.kahn_net.specs.declared.program.Link.{Link}
 use Rattle.kahn_net.specs.declared.program.Statement.{Statement, Get as Gets, Assign as Assigns, Put as Puts}
 use Rattle.kahn_net.specs.declared.program.Statement.{Stop as Stops, If' as Ifs, Repeat' as Repeats}
-use Rattle.kahn_net.specs.Syntax.{Nothing, block_of, links_of, row_block, then_of, tree_of}
-use Rattle.kahn_net.specs.Valid.{block_gets, block_puts}
+use Rattle.kahn_net.specs.Common.{Nothing, block_of, links_of, then_of, tree_of, block_gets, block_puts}
+use Rattle.kahn_net.specs.Syntax.{row_block}
 use Rattle.net_check.specs.Claims.{IsTaken, Claims, IsRefused, stands_outside, is_taken, UseFault}
 use Rattle.net_check.specs.Resolution.{ResolvesBlock, ResolvesExpr, ResolvesLinks}
 use Rattle.net_check.specs.Uses.{Use}

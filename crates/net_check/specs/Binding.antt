@@ -9,7 +9,7 @@ use Rattle.net_check.specs.declared.fault.NetFault.TheVariants.{TwoConsumers, Lo
 use Rattle.net_check.specs.declared.fault.NetFault.TheVariants.{NoConsumer, MissingInput}
 use Rattle.kahn_net.specs.declared.program.Channel.{Channel}
 use Rattle.kahn_net.specs.declared.program.Port.TheVariants.{Outside}
-use Rattle.kahn_net.specs.Syntax.{Network}
+use Rattle.kahn_net.specs.Common.{Network}
 use Rattle.net_check.specs.Resolution.{AllDifferent, Reads}
 use Rattle.net_check.specs.NetFaults.{SecondUse}
 use Rattle.kahn_net.specs.declared.limits.TheConstants.{MAX_HISTORY_ITEMS}

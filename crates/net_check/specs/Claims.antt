@@ -10,11 +10,10 @@ use Rattle.net_check.specs.declared.fault.NetFault.TheVariants.{TwoConsumers, Lo
 use Rattle.net_check.specs.declared.fault.NetFault.TheVariants.{NoConsumer, MissingInput}
 use Rattle.kahn_net.specs.declared.program.Port.{Port}
 use Rattle.kahn_net.specs.declared.program.Port.TheVariants.{Outside, Process}
-use Rattle.kahn_net.specs.Syntax.{Code}
+use Rattle.kahn_net.specs.Common.{Code, code_puts, code_gets}
 use Rattle.net_check.specs.Uses.{Use, GetFrom, PutOn, Has}
 use Rattle.net_check.specs.NetFaults.{HasFault, name_of, space_of}
 use Rattle.net_check.specs.Resolution.{channel_names, channels_of, processes_of, Reads, ResolvesProcess}
-use Rattle.kahn_net.specs.Valid.{code_puts, code_gets}
 use Rattle.net_text.specs.Trees.{DeclarationTree, ProcessTree}
 
 abbrev pub AreOutside : List Port → Type 0

@@ -10,16 +10,17 @@ use Rattle.net_text.specs.Trees.{LinkThenTree, BlockTree, NothingTree, GetTree, 
 use Rattle.net_text.specs.Trees.{RepeatTree, LoopTree, DeclarationTree, ProcessTree}
 use Rattle.net_text.specs.declared.tree.ChannelText.{ChannelText}
 use Rattle.std.proofs.lemmas.List.{length-map}
-use Rattle.kahn_net.specs.Syntax.{Tree, Number, Name, Minus, Chain, Links, NoLinks, LinkThen, Block, Nothing, GetThen}
-use Rattle.kahn_net.specs.Syntax.{AssignThen, PutThen, StopThen, IfThen, RepeatThen, Code, Network}
+use Rattle.kahn_net.specs.Common.{Tree, Number, Name, Minus, Chain, Links, NoLinks, LinkThen, Block, Nothing, GetThen}
+use Rattle.kahn_net.specs.Common.{AssignThen, PutThen, StopThen, IfThen, RepeatThen, Code, Network, block_gets}
+use Rattle.kahn_net.specs.Common.{block_puts, code_gets, code_puts, is_passing, is_repeat_within, code_repeats_within}
 use Rattle.net_check.specs.Resolution.{Reads, Resolves, channels_of, processes_of, ResolvesExpr, ResolvesLinks}
 use Rattle.net_check.specs.Resolution.{ResolvesBlock, ResolvesLoop, ResolvesProcess}
-use Rattle.kahn_net.specs.Valid.{block_gets, block_puts, body_gets, body_puts, code_gets, code_puts, expr_units}
-use Rattle.kahn_net.specs.Valid.{links_units, block_units, body_units, is_passing, expr_within, links_within}
+use Rattle.kahn_net.specs.Valid.{body_gets, body_puts, expr_units}
+use Rattle.kahn_net.specs.Valid.{links_units, block_units, body_units, expr_within, links_within}
 use Rattle.kahn_net.specs.Valid.{block_within, body_within}
 use Rattle.net_check.specs.Texts.{expr_units_text, links_units_text, block_units_text, loop_units_text}
 use Rattle.net_check.specs.Texts.{process_units_text, is_passing_text, or_line, past_line, loop_past_line, process_past_line}
-use Rattle.kahn_net.specs.Repeats.{is_repeat_within, repeats_within, body_repeats_within, code_repeats_within}
+use Rattle.kahn_net.specs.Repeats.{repeats_within, body_repeats_within}
 use Rattle.kahn_net.specs.declared.limits.TheConstants.{MAX_REPEATS}
 use Rattle.net_check.specs.Resolution.{variable_names}
 use Rattle.net_check.specs.Uses.{Use, GetFrom, PutOn, expr_uses, block_uses, loop_uses, process_uses, Has}

@@ -4,7 +4,7 @@ use Rattle.std.specs.Prelude.{ℕ, suc, ◌+◌, ◌-◌, ◌*◌, Bool, true, f
 use Rattle.net_text.specs.Trees.{ExprTree, LiteralTree, VariableTree, MinusTree, ChainTree, LinksTree, NoLinksTree}
 use Rattle.net_text.specs.Trees.{LinkThenTree, BlockTree, NothingTree, GetTree, AssignTree, PutTree, StopTree, IfTree}
 use Rattle.net_text.specs.Trees.{RepeatTree, LoopTree, ProcessTree}
-use Rattle.kahn_net.specs.Repeats.{is_repeat_within}
+use Rattle.kahn_net.specs.Common.{is_repeat_within}
 use Rattle.kahn_net.specs.declared.limits.TheConstants.{MAX_REPEATS}
 
 -- each literal, each variable in an expression, each operator and each minus of one value is one unit

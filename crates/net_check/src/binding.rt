@@ -6,9 +6,8 @@ ghost use Rattle.kahn_net.specs.declared.program.Port.TheVariants.{Outside};
 ghost use Rattle.net_text.specs.Trees.{input_tree, inputs_tree};
 ghost use Rattle.net_check.specs.Binding.{Binds, HasInputFault, IsInput};
 ghost use Rattle.net_check.specs.Bound.{AreEmpty, AreFalse, BindsLine, LineFault, AreNamed, HasUnnamed, MarkedInput};
-ghost use Rattle.kahn_net.specs.Fits.{Fits};
+ghost use Rattle.kahn_net.specs.Common.{Fits, network_of};
 ghost use Rattle.net_check.specs.Resolution.{Reads};
-ghost use Rattle.kahn_net.specs.Syntax.{network_of};
 
 use crate::fault::NetFault;
 use crate::inputs::Inputs;

@@ -5,8 +5,7 @@ ghost use Rattle.net_text.specs.Names.{NameTree};
 ghost use Rattle.net_text.specs.Trees.{net_tree};
 ghost use Rattle.net_check.specs.NetFaults.{HasFault};
 ghost use Rattle.net_check.specs.Resolution.{Resolves};
-ghost use Rattle.kahn_net.specs.Syntax.{Network, network_of};
-ghost use Rattle.kahn_net.specs.Valid.{IsValid};
+ghost use Rattle.kahn_net.specs.Common.{Network, network_of, IsValid};
 
 use crate::declared::Declared;
 use crate::fault::NetFault;

@@ -1,8 +1,8 @@
 //! The items for a network's inputs.
 
 ghost use Rattle.std.specs.Prelude.{◌≡◌, ◌↔◌, ℤ, IsTrue, List, length};
-ghost use Rattle.kahn_net.specs.Fits.{AreShort, Fits, IsEmptyInside, IsEmptyWhereMade};
-ghost use Rattle.kahn_net.specs.Syntax.{network_of};
+ghost use Rattle.kahn_net.specs.Common.{Fits, network_of};
+ghost use Rattle.kahn_net.specs.Fits.{AreShort, IsEmptyInside, IsEmptyWhereMade};
 
 use crate::net::Net;
 use kahn_net::{Channel, History, Port};

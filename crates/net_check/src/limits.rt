@@ -6,7 +6,7 @@ ghost use Rattle.std.specs.Prelude.{◌≡◌, ◌+◌, ◌<◌, ◌≤◌, ◌�
 ghost use Rattle.net_text.specs.Trees.{NothingTree, ProcessTree, block_tree, expr_tree, process_tree, repeated_tree, then_tree};
 ghost use Rattle.net_check.specs.Ready.{FaultOfProcess, FaultOfProcesses, IsFit};
 ghost use Rattle.net_check.specs.Texts.{block_units_text, expr_units_text, is_passing_text, loop_past_line, loop_units_text, past_line, process_past_line, process_units_text};
-ghost use Rattle.kahn_net.specs.Repeats.{is_repeat_within};
+ghost use Rattle.kahn_net.specs.Common.{is_repeat_within};
 
 use crate::fault::NetFault;
 use kahn_net::{MAX_NESTED_TIMES, MAX_REPEATS, MAX_TIMES, MAX_UNITS};

@@ -8,9 +8,11 @@ ghost use Rattle.net_check.specs.Claims.{AreResolved, Claims, FaultOfText, NameF
 ghost use Rattle.net_check.specs.Ready.{AreDeclared};
 ghost use Rattle.net_text.specs.Trees.{ProcessTree};
 ghost use Rattle.net_check.specs.Resolution.{ResolvesBlock, ResolvesExpr, ResolvesLoop, ResolvesProcess, channel_names, initials, variable_names};
-ghost use Rattle.kahn_net.specs.Syntax.{Nothing, block_of, body_of, code_of, then_of, tree_of};
+ghost use Rattle.kahn_net.specs.Common.{Nothing, block_of, code_of, then_of, tree_of, block_gets, block_puts};
+ghost use Rattle.kahn_net.specs.Common.{code_gets, code_puts};
+ghost use Rattle.kahn_net.specs.Syntax.{body_of};
 ghost use Rattle.net_check.specs.Uses.{block_uses, expr_uses, loop_uses, process_uses};
-ghost use Rattle.kahn_net.specs.Valid.{block_gets, block_puts, body_gets, body_puts, code_gets, code_puts};
+ghost use Rattle.kahn_net.specs.Valid.{body_gets, body_puts};
 
 use crate::declared::Declared;
 use crate::ends::{Ends, Scope};

@@ -2,7 +2,7 @@
 use Rattle.std.proofs.Common.{◌≡◌, ℕ, ◌≤◌, List, ◌++◌, length, drop, sym, ap, subst, ◌∙◌}
 use Rattle.std.proofs.lemmas.List.{at_drop_all, append-nil}
 use Rattle.protocol.specs.Node.Common.{Network, Channel, SavedEnd, opening_ends}
-use Rattle.record.specs.Ascending.{AreAscending}
+use Rattle.record.specs.Common.{AreAscending}
 use Rattle.protocol_laws.specs.Node.OpeningLaws.{opening_ascends}
 
 -- once all channels were gone through

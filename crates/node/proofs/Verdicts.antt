@@ -6,12 +6,12 @@ use Rattle.std.specs.List.{list_any}
 use Rattle.std.proofs.lemmas.Bool.{le-leb, lt-ltb, eqb-true}
 use Rattle.std.proofs.lemmas.List.{length-append}
 use Rattle.std.proofs.lemmas.List.Elements.{All-cons, All-nil}
-use Rattle.ckpt_codec.specs.Fields.{AreAllowed, IsAllowed}
+use Rattle.ckpt_codec.specs.Common.{AreAllowed, IsAllowed, spelled_length, decided_below, decided_by, decision_by}
+use Rattle.ckpt_codec.specs.Common.{last_image}
 use Rattle.protocol.specs.Node.Common.{image_length, MAX_RETAINED_ITEMS, fits_in, numbers_where, mode_then}
 use Rattle.protocol.specs.Node.Common.{participants_of, MAX_NODES, DecisionView, ImageView, with_confirmed}
 use Rattle.protocol.specs.Node.Common.{with_decision, without_tentative, RecordView, Tentative, MAX_DECISIONS}
 use Rattle.protocol.specs.Node.Common.{StoreFault, holds, ModeView, Down, InDoubt, Runs, RunningView, Network}
-use Rattle.ckpt_codec.specs.Lengths.{spelled_length}
 use Rattle.ckpt_codec.specs.RecordText.{participants}
 use Rattle.ckpt_codec.specs.SizeLaws.{IsRecordWithin, within_confirmed, within_without_tentative}
 use Rattle.ckpt_codec.specs.declared.lengths.TheConstants.{MAX_RECORD_BYTES}
@@ -22,7 +22,6 @@ use Rattle.protocol_laws.specs.World.RoomLaws.{bounded_is_short}
 use Rattle.node.proofs.Starts.{both_of}
 use Rattle.protocol.specs.World.Common.{has_node, names}
 use Rattle.protocol.specs.Node.Recovering.{restored_from}
-use Rattle.record.specs.Moves.{decided_below, decided_by, decision_by, last_image}
 use Rattle.ckpt_store.specs.Refusals.{is_held, is_named_by, refusal_to_decide, refusal_unless_held}
 use Rattle.ckpt_store.specs.declared.fault.StoreFault.TheVariants as fault
 use Rattle.node.specs.Said.{held_image, restored_if_doubtful}

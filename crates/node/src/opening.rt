@@ -2,10 +2,10 @@
 ghost use Rattle.std.specs.Prelude.{◌≡◌, ◌≤◌, map, length, IfOk};
 ghost use Rattle.protocol.specs.Node.Common.{code_of, network_of, opening_ends, opening_image, opening_record};
 ghost use Rattle.protocol.specs.Node.Common.{MAX_CHANNELS};
-ghost use Rattle.record.specs.Ascending.{AreAscending};
+ghost use Rattle.record.specs.Common.{AreAscending};
 ghost use Rattle.protocol.specs.Node.Opening.{new_inbox, new_outbox, opening_processes, opening_end, opening_inboxes, opening_outboxes, running_from};
 ghost use Rattle.node.specs.NodeView.{node_view};
-ghost use Rattle.kahn_net.specs.declared.limits.TheConstants.{MAX_PROCESSES};
+ghost use Rattle.ckpt_codec.specs.Common.{MAX_PROCESSES};
 
 use crate::mode::Mode as NodeMode;
 use crate::state::NodeState;

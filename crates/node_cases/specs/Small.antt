@@ -1,7 +1,8 @@
 -- What of a record's parts is within bounds.
 use Rattle.std.specs.Prelude.{◌≤◌, length}
 use Rattle.protocol.specs.Node.Common.{MAX_NODES, DecisionView, SavedProcessView, variables_of}
-use Rattle.kahn_net.specs.declared.limits.TheConstants.{MAX_REPEATS, MAX_VARIABLES}
+use Rattle.record.specs.Common.{MAX_REPEATS}
+use Rattle.ckpt_codec.specs.Common.{MAX_VARIABLES}
 use Rattle.ckpt_codec.specs.SizeLaws.{left_of}
 
 -- a process has no more variables and repetitions round it than a network's

@@ -6,7 +6,7 @@ ghost use Rattle.retained.specs.LogState.{Overfills};
 ghost use Rattle.protocol.specs.Node.Common.{received_at, log_at, is_process, taken_from, put_on, ImageTakes};
 ghost use Rattle.protocol.specs.Node.Common.{TakesTurn};
 ghost use Rattle.node.specs.NodeView.{mode_view};
-ghost use Rattle.record.specs.Changes.{LogTakes};
+ghost use Rattle.ckpt_codec.specs.Common.{LogTakes};
 ghost use Rattle.protocol.specs.Node.Installing.{EndTakes};
 
 use crate::opening::CaseNode;

@@ -7,8 +7,8 @@ use Rattle.std.proofs.lemmas.List.{length-map}
 use Rattle.protocol.specs.Node.Common.{Code, Network, code_of, network_of, Standing, IsValid, Channel}
 use Rattle.protocol.specs.Node.Common.{SavedProcessView, ImageView}
 use Rattle.kahn_net.specs.Laws.Valid.{code_at, code_past}
-use Rattle.kahn_net.specs.NextActs.{next_of}
-use Rattle.kahn_net.specs.declared.limits.TheConstants.{MAX_PROCESSES}
+use Rattle.kahn_net.specs.Common.{next_of}
+use Rattle.ckpt_codec.specs.Common.{MAX_PROCESSES}
 use Rattle.kahn_net.specs.declared.program.Program.{Program}
 use Rattle.kahn_net.specs.declared.program.Process.{Process}
 use Rattle.proc_step.specs.NextView.{next_view}

@@ -7,7 +7,7 @@ use Rattle.std.proofs.lemmas.List.{get_or-set_same}
 use Rattle.std.proofs.lemmas.Bool.{eq-eqb}
 use Rattle.protocol.specs.Node.Common.{Standing, Channel, received_at, SavedProcessView, moved, put_on, taken_from}
 use Rattle.protocol.specs.Node.Common.{saved_pushed, saved_counted, SavedEnd, End, Receives, Sends, Both}
-use Rattle.record.specs.Changes.{pushed, counted}
+use Rattle.ckpt_codec.specs.Common.{pushed, counted}
 
 -- an element is changed, and then changed back
 changed_back : {A : Type 0} (xs : List A) (k : ℕ) (x y z : A) → slice_get xs k ≡ Some x → z ≡ x

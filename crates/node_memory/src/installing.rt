@@ -3,7 +3,7 @@ ghost use Rattle.std.specs.Prelude.{◌≡◌, ◌≤◌, ◌+◌, ◌-◌, ◌+
 ghost use Rattle.protocol.specs.Node.Common.{standing_of, received_at, log_at, taken_from, put_on, saved_pushed};
 ghost use Rattle.protocol.specs.Node.Common.{saved_counted, moved, installed, inbox_turned, ImageTakes, SavedEnd};
 ghost use Rattle.protocol.specs.Node.Common.{MAX_COUNT};
-ghost use Rattle.record.specs.Changes.{LogTakes};
+ghost use Rattle.ckpt_codec.specs.Common.{LogTakes};
 
 use crate::granting::is_at;
 use crate::popping::{turn_inbox, turned_log};

@@ -9,7 +9,7 @@ use Rattle.retained.specs.LogState.{LogState, items_at, IsLogOf}
 use Rattle.outlet.specs.declared.fault.OutletFault.{OutletFault}
 use Rattle.outlet.specs.declared.fault.OutletFault.TheVariants.{NoMemory, Failed}
 use Rattle.outlet.specs.Released.{released_items, CanRelease, TookSome, TookSomeOrAll}
-use Rattle.kahn_net.specs.Streams.{IsPrefix}
+use Rattle.kahn_net.specs.Common.{IsPrefix}
 use Rattle.outlet.specs.ReleaseLaws.{one_more}
 
 -- how far an outlet has come in a release

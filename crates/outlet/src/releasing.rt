@@ -3,7 +3,7 @@ ghost use Rattle.std.specs.Prelude.{◌≡◌, ◌⊎◌, ◌↔◌, List, ◌++
 ghost use Rattle.retained.specs.LogState.{IsLogOf, items_at};
 ghost use Rattle.outlet.specs.Faults.{failures_after};
 ghost use Rattle.outlet.specs.Released.{CanRelease, released_items, TookSome, TookSomeOrAll};
-ghost use Rattle.kahn_net.specs.Streams.{IsPrefix};
+ghost use Rattle.kahn_net.specs.Common.{IsPrefix};
 
 use crate::fault::OutletFault;
 use crate::outlet::Outlet;

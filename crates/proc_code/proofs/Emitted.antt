@@ -2,9 +2,7 @@
 use Rattle.std.proofs.Common.{◌≡◌, ℕ, ◌+◌, List, [], ◌∷◌, ◌++◌, length, set, drop, sym, ap, ◌∙◌, arith}
 use Rattle.std.proofs.Common.{append_assoc, length-append, Vec, Box, Global}
 use Rattle.std.proofs.Math.Seq.{set-append_seam}
-use Rattle.kahn_net.specs.Syntax.{Tree, Block, IfThen, RepeatThen, links_of}
-use Rattle.kahn_net.specs.Syntax.{tree_of, then_of, block_of}
-use Rattle.kahn_net.specs.Statements.{sites_of}
+use Rattle.kahn_net.specs.Common.{Tree, Block, IfThen, RepeatThen, links_of, tree_of, then_of, block_of, sites_of}
 use Rattle.kahn_net.specs.Laws.Syntax.{chain_of, if_of, repeat_of}
 use Rattle.kahn_net.specs.declared.program.Link.{Link}
 use Rattle.kahn_net.specs.declared.program.Expr.{Expr}

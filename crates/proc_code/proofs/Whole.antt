@@ -1,7 +1,6 @@
 -- A process's code, as it is written: the prelude's and then the loop's.
 use Rattle.std.proofs.Common.{◌≡◌, ℕ, List, [], ◌++◌, length, ap, ◌∙◌}
-use Rattle.kahn_net.specs.Syntax.{Block, Code}
-use Rattle.kahn_net.specs.Statements.{sites_of}
+use Rattle.kahn_net.specs.Common.{Block, Code, sites_of}
 use Rattle.proc_code.specs.declared.instruction.Instruction.{Instruction}
 use Rattle.proc_code.specs.declared.instruction.Site.{Site}
 use Rattle.proc_code.specs.Translation.{block_code, sites_at, loop_code, loop_sites, process_code, process_sites}

@@ -1,6 +1,6 @@
 -- What was written for a statement.
 use Rattle.std.specs.Prelude.{◌≡◌, List, ◌++◌, length}
-use Rattle.kahn_net.specs.Syntax.{Block}
+use Rattle.kahn_net.specs.Common.{Block}
 use Rattle.proc_code.specs.declared.instruction.Instruction.{Instruction}
 use Rattle.proc_code.specs.declared.instruction.Site.{Site}
 use Rattle.proc_code.specs.Translation.{block_code, sites_at}

@@ -3,8 +3,8 @@ use Rattle.std.specs.Prelude.{◌≡◌, ℕ, zero, suc, ◌+◌, ◌-◌, ◌�
 use Rattle.std.specs.Prelude.{Some, None, cond, slice_get, slice_index_or, slice_set}
 use Rattle.std.specs.Int.{int_wrapping_neg, w64}
 use Rattle.std.specs.Ordering.{int_eq}
-use Rattle.kahn_net.specs.Streams.{history_of}
-use Rattle.kahn_net.specs.Statements.{Sent, Ended, Stopped, Trace, no_steps, after_step, on_get, point_at, apply}
+use Rattle.kahn_net.specs.Common.{history_of, Sent, Ended, Stopped, Trace, no_steps, on_get, point_at}
+use Rattle.kahn_net.specs.Statements.{after_step, apply}
 use Rattle.proc_code.specs.declared.instruction.Instruction.{Instruction}
 use Rattle.proc_code.specs.declared.instruction.Instruction.TheVariants.{Constant, Load, Store, Negate, Apply, Get, Put}
 use Rattle.proc_code.specs.declared.instruction.Instruction.TheVariants.{Jump, JumpIfZero, Repeat, Again, Stop}

@@ -1,7 +1,7 @@
 //! From a process to its code.
 
 ghost use Rattle.std.specs.Prelude.{◌≡◌, ◌+◌, ◌<◌, ◌^◌, map, IfOk};
-ghost use Rattle.kahn_net.specs.Syntax.{code_of};
+ghost use Rattle.kahn_net.specs.Common.{code_of};
 ghost use Rattle.proc_code.specs.CodeView.{code_view};
 ghost use Rattle.proc_code.specs.Translation.{flat_code, greatest_height, height_after, greatest_nesting, nesting_after};
 

@@ -1,7 +1,8 @@
 //! The code of expressions and statements, behind what was written so far.
 
 ghost use Rattle.std.specs.Prelude.{◌≡◌, [], ◌∷◌, ◌++◌, OnOk, length};
-ghost use Rattle.kahn_net.specs.Syntax.{tree_of, then_of, block_of, body_of};
+ghost use Rattle.kahn_net.specs.Common.{tree_of, then_of, block_of};
+ghost use Rattle.kahn_net.specs.Syntax.{body_of};
 ghost use Rattle.proc_code.specs.Translation.{expr_code, block_code, sites_at, loop_code, loop_sites};
 ghost use Rattle.proc_code.specs.Emitting.{Emits};
 

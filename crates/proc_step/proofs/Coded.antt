@@ -2,16 +2,12 @@
 use Rattle.std.proofs.Common.{◌≤◌, arith, ◌≡◌, ℕ, ◌+◌, ◌*◌, List, ℤ, Option, Some, None, [], length, ap}
 use Rattle.std.proofs.lemmas.Option.{slice_get_past}
 use Rattle.std.specs.Prelude.{IsTrue}
-use Rattle.kahn_net.specs.Streams.{total}
-use Rattle.kahn_net.specs.Syntax.{Block, Code}
-use Rattle.kahn_net.specs.Statements.{Ended, no_steps}
-use Rattle.kahn_net.specs.Processes.{HasPassingLoop}
-use Rattle.kahn_net.specs.Resuming.{trace_from}
-use Rattle.kahn_net.specs.States.{standing_in, point_of}
+use Rattle.kahn_net.specs.Common.{total, Block, Code, Ended, no_steps, HasPassingLoop, trace_from, standing_in}
+use Rattle.kahn_net.specs.Common.{code_repeats_within}
+use Rattle.kahn_net.specs.States.{point_of}
 use Rattle.kahn_net.specs.declared.limits.TheConstants.{MAX_NESTED_TIMES}
 use Rattle.kahn_net.specs.declared.state.Mode.{Mode}
 use Rattle.kahn_net.specs.declared.state.Mode.TheVariants.{NotBegun, At, Finished}
-use Rattle.kahn_net.specs.Repeats.{code_repeats_within}
 use Rattle.proc_code.specs.declared.instruction.Instruction.{Instruction}
 use Rattle.proc_code.specs.Machine.{Runs, perform, run}
 use Rattle.proc_code.specs.Translation.{process_code}

@@ -5,12 +5,10 @@ use Rattle.std.specs.Prelude.{slice_index}
 use Rattle.std.proofs.lemmas.List.{length-append, length-set, get_or_past, get_or-replicate, length-replicate}
 use Rattle.std.proofs.lemmas.Bool.{cases_lt}
 use Rattle.std.proofs.lemmas.Bool.Decides.{eqb_tells}
-use Rattle.kahn_net.specs.Streams.{history_of}
-use Rattle.kahn_net.specs.Statements.{Act, Got, Sent, Step}
-use Rattle.kahn_net.specs.Processes.{sent_on, sent_by}
-use Rattle.kahn_net.specs.Puts.{put_by, put_after}
+use Rattle.kahn_net.specs.Common.{history_of, Got, Sent, Step, sent_on, put_by, put_after, left_by, left_after}
+use Rattle.kahn_net.specs.Statements.{Act}
+use Rattle.kahn_net.specs.Processes.{sent_by}
 use Rattle.kahn_net.specs.Laws.Puts.{put_after-at, length-put_after}
-use Rattle.kahn_net.specs.Resuming.{left_by, left_after}
 use Rattle.proc_step.specs.Turns.{CanBeMade, CanAllBeMade, nothing_sent}
 use Rattle.proc_step.specs.Parts.{taken_of}
 

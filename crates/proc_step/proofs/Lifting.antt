@@ -5,12 +5,13 @@ use Rattle.std.proofs.Math.Nat.{zero-add}
 use Rattle.std.specs.Prelude.{slice_index}
 use Rattle.std.proofs.lemmas.List.{length-append}
 use Rattle.std.proofs.Math.Seq.{drop-append_seam}
-use Rattle.kahn_net.specs.Streams.{history_of, IsPrefix, ArePrefixes}
-use Rattle.kahn_net.specs.Syntax.{Code}
-use Rattle.kahn_net.specs.Statements.{Act, Got, Sent, Step, Trace, End, Ended, Waits, Stopped}
-use Rattle.kahn_net.specs.Processes.{Standing, NotBegun, At, Done, standing_at, IsHere, HasPassingLoop, process_trace}
-use Rattle.kahn_net.specs.Processes.{StandsAt, sent_on, got_on}
-use Rattle.kahn_net.specs.Resuming.{trace_from, left_after}
+use Rattle.kahn_net.specs.Common.{history_of, IsPrefix, Code, Got, Sent, Step, Trace, End, Ended, Waits, Stopped}
+use Rattle.kahn_net.specs.Common.{Standing, standing_at, HasPassingLoop, process_trace, StandsAt, sent_on, trace_from}
+use Rattle.kahn_net.specs.Common.{left_after}
+use Rattle.kahn_net.specs.Streams.{ArePrefixes}
+use Rattle.kahn_net.specs.Statements.{Act}
+use Rattle.kahn_net.specs.Processes.{NotBegun, At, Done, IsHere}
+use Rattle.kahn_net.specs.Processes.{got_on}
 use Rattle.kahn_net.specs.Laws.Streams.{still_stands}
 use Rattle.kahn_net.specs.Laws.Got.{longer_from, next_from, reads, reads_from, reading_first, got_and_left, waits_empty}
 use Rattle.kahn_net.specs.Laws.Got.{IsReading, IsGetFrom, GetsNext, NoPutNext, function_of_got}

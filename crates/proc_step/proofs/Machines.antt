@@ -4,11 +4,10 @@ use Rattle.std.proofs.Common.{◌-◌, true, false, None, refl, sym, ap, ◌∙�
 use mathlib.Core.List.{reverse}
 use Rattle.std.specs.Prelude.{slice_get, slice_index, nat_lt}
 use Rattle.std.proofs.lemmas.Bool.{lt-ltb, le-ltb}
-use Rattle.kahn_net.specs.Statements.{Got, Sent, point_at, on_get, Step, Trace, Ended, Stopped, after_step, no_steps}
-use Rattle.kahn_net.specs.Streams.{history_of}
-use Rattle.kahn_net.specs.Puts.{put_by, put_after}
+use Rattle.kahn_net.specs.Common.{Got, Sent, point_at, on_get, Step, Trace, Ended, Stopped, no_steps, history_of}
+use Rattle.kahn_net.specs.Common.{put_by, put_after, left_by, left_after}
+use Rattle.kahn_net.specs.Statements.{after_step}
 use Rattle.kahn_net.specs.Laws.Puts.{length-put_after}
-use Rattle.kahn_net.specs.Resuming.{left_by, left_after}
 use Rattle.proc_code.specs.declared.instruction.Instruction.{Instruction}
 use Rattle.proc_code.specs.declared.instruction.Instruction.TheVariants.{Get, Put}
 use Rattle.proc_code.specs.Machine.{Continuation, top, below, innermost, round_it, perform, run}

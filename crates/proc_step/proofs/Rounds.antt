@@ -2,8 +2,7 @@
 use Rattle.std.proofs.Common.{◌≡◌, ℕ, zero, suc, ◌+◌, ◌-◌, ◌*◌, ◌<◌, ◌≤◌, List, ℤ, [], ◌∷◌, take, get_or, length}
 use Rattle.std.proofs.Common.{Option}
 use Rattle.std.proofs.Common.{None, Some, ap, ◌∙◌, sym, arith, subst}
-use Rattle.kahn_net.specs.Streams.{total}
-use Rattle.kahn_net.specs.Statements.{Trace}
+use Rattle.kahn_net.specs.Common.{total, Trace}
 use Rattle.proc_code.specs.declared.instruction.Instruction.{Instruction}
 use Rattle.proc_code.specs.Laws.Resuming.{times_monotone}
 use Rattle.proc_step.specs.declared.machine.Flow.{Flow}

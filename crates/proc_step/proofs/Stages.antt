@@ -1,7 +1,6 @@
 -- Where a part of a trace leaves the process.
 use Rattle.std.proofs.Common.{ℕ, List, ℤ, [], sym, ap, ◌∙◌, subst}
-use Rattle.kahn_net.specs.Statements.{Trace, Step}
-use Rattle.kahn_net.specs.Processes.{standing_at}
+use Rattle.kahn_net.specs.Common.{Trace, Step, standing_at}
 use Rattle.proc_step.specs.declared.machine.Flow.{Flow}
 use Rattle.proc_step.specs.declared.machine.Flow.TheVariants.{RanOut, Stopped, Stands}
 use Rattle.proc_step.specs.declared.machine.Machine.{Machine}

@@ -1,7 +1,7 @@
 -- A process of few units has few sites.
 use Rattle.std.proofs.Common.{◌≤◌, arith}
-use Rattle.kahn_net.specs.Syntax.{Block, Nothing, GetThen, PutThen, AssignThen, StopThen, IfThen, RepeatThen}
-use Rattle.kahn_net.specs.Statements.{sites_of}
+use Rattle.kahn_net.specs.Common.{Block, Nothing, GetThen, PutThen, AssignThen, StopThen, IfThen, RepeatThen}
+use Rattle.kahn_net.specs.Common.{sites_of}
 use Rattle.kahn_net.specs.Valid.{block_units}
 
 -- each site is a unit

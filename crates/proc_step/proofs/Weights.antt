@@ -4,9 +4,9 @@ use Rattle.std.proofs.Common.{◌∷◌, ◌++◌, length, length-append, leb, r
 use Rattle.std.proofs.lemmas.Bool.{false≢true}
 use Rattle.std.proofs.lemmas.Bool.Decides.{nat_tests}
 use Rattle.std.specs.Prelude.{nat_lt}
-use Rattle.kahn_net.specs.Syntax.{Block, Nothing, GetThen, AssignThen, PutThen, StopThen, IfThen, RepeatThen, Code}
-use Rattle.kahn_net.specs.Statements.{sites_of}
-use Rattle.kahn_net.specs.Repeats.{is_repeat_within, repeats_within, body_repeats_within, code_repeats_within}
+use Rattle.kahn_net.specs.Common.{Block, Nothing, GetThen, AssignThen, PutThen, StopThen, IfThen, RepeatThen, Code}
+use Rattle.kahn_net.specs.Common.{sites_of, is_repeat_within, code_repeats_within}
+use Rattle.kahn_net.specs.Repeats.{repeats_within, body_repeats_within}
 use Rattle.kahn_net.specs.declared.limits.TheConstants.{MAX_TIMES, MAX_NESTED_TIMES, MAX_REPEATS}
 use Rattle.proc_code.specs.declared.instruction.Instruction.TheVariants.{Store, Put, JumpIfZero, Jump, Again}
 use Rattle.proc_code.specs.Translation.{expr_code, if_code, repeat_code, block_code, loop_code, process_code}

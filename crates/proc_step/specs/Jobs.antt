@@ -1,7 +1,6 @@
 -- When two jobs are the same.
 use Rattle.std.specs.Prelude.{◌≡◌, slice_get}
-use Rattle.kahn_net.specs.Syntax.{network_of}
-use Rattle.kahn_net.specs.States.{standing_of}
+use Rattle.kahn_net.specs.Common.{network_of, standing_of}
 use Rattle.proc_step.specs.declared.job.Job.{Job}
 
 -- Two jobs for the same process, with the same code, at the same version, from the same state, with the same items and

@@ -1,5 +1,6 @@
 -- What a process does next, as the program says it.
-use Rattle.kahn_net.specs.NextActs.{Next, Begins, Gets, Puts, NoNext}
+use Rattle.kahn_net.specs.Common.{Next, Gets, Puts, NoNext}
+use Rattle.kahn_net.specs.NextActs.{Begins}
 use Rattle.proc_step.specs.declared.next.NextAct.{NextAct}
 use Rattle.proc_step.specs.declared.next.NextAct.TheVariants.{Begin, Get, Put, Nothing}
 

@@ -1,13 +1,12 @@
 -- Parts of traces: what a process's code has made so far, and how it stopped.
 use Rattle.std.specs.Prelude.{◌≡◌, ◌-◌, ℕ, ℤ, List, [], ◌∷◌, ◌++◌, length}
-use Rattle.kahn_net.specs.Statements.{Step, Trace, End, Ended, Stopped as StopsAt, point_at}
-use Rattle.kahn_net.specs.Processes.{Standing, NotBegun as Before, At, Done, standing_at}
+use Rattle.kahn_net.specs.Common.{Step, Trace, End, Ended, point_at, Standing, standing_at, Code, put_after}
+use Rattle.kahn_net.specs.Common.{left_after}
+use Rattle.kahn_net.specs.Statements.{Stopped as StopsAt}
+use Rattle.kahn_net.specs.Processes.{NotBegun as Before, At, Done}
 use Rattle.kahn_net.specs.Repeats.{FitsRepeats}
-use Rattle.kahn_net.specs.Syntax.{Code}
 use Rattle.kahn_net.specs.declared.state.Mode.{Mode}
 use Rattle.kahn_net.specs.declared.state.Mode.TheVariants.{NotBegun, At as InPlace, Finished}
-use Rattle.kahn_net.specs.Puts.{put_after}
-use Rattle.kahn_net.specs.Resuming.{left_after}
 use Rattle.proc_step.specs.declared.machine.Flow.{Flow}
 use Rattle.proc_step.specs.declared.machine.Flow.TheVariants.{RanOut, Stopped, Stands}
 use Rattle.proc_code.specs.Translation.{entry_of, process_code}

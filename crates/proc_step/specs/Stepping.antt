@@ -1,9 +1,8 @@
 -- What instructions do to the machine of a turn.
 use Rattle.std.specs.Prelude.{◌≡◌, ◌+◌, ℕ, ℤ, List, Option, Some, None, length}
 use mathlib.Core.List.{reverse}
-use Rattle.kahn_net.specs.Statements.{Step, Trace, after_step}
-use Rattle.kahn_net.specs.Puts.{put_by}
-use Rattle.kahn_net.specs.Resuming.{left_by}
+use Rattle.kahn_net.specs.Common.{Step, Trace, put_by, left_by}
+use Rattle.kahn_net.specs.Statements.{after_step}
 use Rattle.proc_code.specs.declared.instruction.Instruction.{Instruction}
 use Rattle.proc_code.specs.Machine.{Continuation, perform, Runs}
 use Rattle.proc_step.specs.Turns.{CanBeMade}

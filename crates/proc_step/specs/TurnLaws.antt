@@ -6,12 +6,9 @@ use Rattle.std.proofs.lemmas.List.{length-append, length-set, length-replicate, 
 use Rattle.std.proofs.lemmas.List.{get_or_past, get_or-replicate}
 use Rattle.std.proofs.lemmas.Bool.{cases_lt}
 use Rattle.std.proofs.lemmas.Bool.Decides.{eqb_tells}
-use Rattle.kahn_net.specs.Streams.{history_of}
-use Rattle.kahn_net.specs.Syntax.{Code}
-use Rattle.kahn_net.specs.Statements.{Act, Got, Sent, Step}
-use Rattle.kahn_net.specs.Processes.{Standing, sent_on, sent_by, got_on}
-use Rattle.kahn_net.specs.Puts.{put_by}
-use Rattle.kahn_net.specs.Resuming.{left_by, left_after}
+use Rattle.kahn_net.specs.Common.{history_of, Code, Got, Sent, Step, Standing, sent_on, put_by, left_by, left_after}
+use Rattle.kahn_net.specs.Statements.{Act}
+use Rattle.kahn_net.specs.Processes.{sent_by, got_on}
 use Rattle.kahn_net.specs.Laws.Got.{IsNextItem, IsReading, got_and_left}
 use Rattle.proc_step.specs.Turns.{CanBeMade, CanAllBeMade, nothing_sent, Turn}
 

@@ -1,7 +1,7 @@
 //! Whether two jobs are the same.
 
 ghost use Rattle.std.specs.Prelude.{◌≡◌, ◌↔◌, IsTrue, Some, slice_get};
-ghost use Rattle.kahn_net.specs.Syntax.{code_of, network_of};
+ghost use Rattle.kahn_net.specs.Common.{code_of, network_of};
 ghost use Rattle.proc_step.specs.Jobs.{IsSameJob};
 
 use crate::job::Job;

@@ -1,7 +1,7 @@
 //! Jobs, and what they came to.
 
 ghost use Rattle.std.specs.Prelude.{◌≡◌, ◌<◌, length, slice_get, Some, IfOk, MatchResult};
-ghost use Rattle.kahn_net.specs.Syntax.{Code, network_of};
+ghost use Rattle.kahn_net.specs.Common.{Code, network_of};
 ghost use Rattle.proc_step.specs.Turns.{IsOwnTurn};
 
 use crate::outcome::{Outcome, take_turn};

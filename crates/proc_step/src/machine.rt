@@ -8,8 +8,7 @@
 ghost use Rattle.std.specs.Prelude.{◌≡◌, ◌+◌, ◌-◌, ◌*◌, ◌<◌, ◌^◌, [], ◌∷◌, ◌++◌, nat_lt, true, false, length};
 ghost use Rattle.std.specs.Prelude.{IfOk, OnOk};
 ghost use mathlib.Core.List.{reverse};
-ghost use Rattle.kahn_net.specs.Statements.{Trace};
-ghost use Rattle.kahn_net.specs.Streams.{total};
+ghost use Rattle.kahn_net.specs.Common.{Trace, total};
 ghost use Rattle.kahn_net.specs.Syntax.{Code as Syntax};
 ghost use Rattle.proc_code.specs.CodeView.{code_view};
 ghost use Rattle.proc_code.specs.Machine.{top, below, innermost, round_it};

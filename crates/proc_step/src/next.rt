@@ -1,10 +1,9 @@
 //! What a process does next.
 
 ghost use Rattle.std.specs.Prelude.{◌≡◌, ◌<◌, Some, length, slice_get};
-ghost use Rattle.kahn_net.specs.Syntax.{network_of};
+ghost use Rattle.kahn_net.specs.Common.{network_of, next_of, standing_of};
 ghost use Rattle.kahn_net.specs.Syntax.{Code as Syntax};
-ghost use Rattle.kahn_net.specs.NextActs.{next_of, next_at};
-ghost use Rattle.kahn_net.specs.States.{standing_of};
+ghost use Rattle.kahn_net.specs.NextActs.{next_at};
 ghost use Rattle.proc_code.specs.CodeView.{code_view};
 ghost use Rattle.proc_code.specs.Translation.{flat_code};
 ghost use Rattle.proc_step.specs.NextView.{next_view};

@@ -1,9 +1,7 @@
 //! What a turn comes to.
 
 ghost use Rattle.std.specs.Prelude.{◌≡◌, ℤ, List, IfOk, IsTrue};
-ghost use Rattle.kahn_net.specs.Processes.{HasPassingLoop};
-ghost use Rattle.kahn_net.specs.Repeats.{code_repeats_within};
-ghost use Rattle.kahn_net.specs.States.{standing_in, standing_of};
+ghost use Rattle.kahn_net.specs.Common.{HasPassingLoop, code_repeats_within, standing_in, standing_of};
 ghost use Rattle.kahn_net.specs.Syntax.{Code as Syntax};
 ghost use Rattle.proc_code.specs.CodeView.{code_view};
 ghost use Rattle.proc_code.specs.Translation.{flat_code};

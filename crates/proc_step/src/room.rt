@@ -1,7 +1,7 @@
 //! What is sent in a turn, and the room for it.
 
 ghost use Rattle.std.specs.Prelude.{◌≡◌, ◌↔◌, ◌<◌, IsTrue, IfOk, OnOk, length, slice_index, slice_set, [], ◌∷◌, ◌++◌};
-ghost use Rattle.kahn_net.specs.Streams.{history_of};
+ghost use Rattle.kahn_net.specs.Common.{history_of};
 ghost use Rattle.proc_step.specs.Turns.{nothing_sent};
 
 use kahn_net::History;

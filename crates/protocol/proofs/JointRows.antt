@@ -2,13 +2,9 @@
 use Rattle.std.proofs.Common.{◌≡◌, ℕ, zero, suc, true, false, List, [], ◌∷◌, Option, Some, None, refl}
 use Rattle.datagram.specs.declared.packet.Body.TheVariants as says
 use Rattle.datagram.specs.declared.packet.Reason.TheVariants.{Busy, Behind, Recovering}
-use Rattle.kahn_net.specs.Syntax.{Code, Network, Nothing}
-use Rattle.kahn_net.specs.declared.program.Port.TheVariants.{Outside, Process}
-use Rattle.record.specs.DecisionView.{DecisionView}
-use Rattle.record.specs.ImageView.{ImageView}
-use Rattle.record.specs.RecordView.{RecordView}
-use Rattle.record.specs.declared.image.End.TheVariants.{Receives, Sends}
-use Rattle.record.specs.declared.record.Tentative.{Tentative}
+use Rattle.ckpt_codec.specs.Common.{Code, Network, Outside, Process, DecisionView, ImageView, RecordView, Receives}
+use Rattle.ckpt_codec.specs.Common.{Sends, Tentative}
+use Rattle.kahn_net.specs.Common.{Nothing}
 use Rattle.recovery_line.specs.Nodes.{Awaited, By_took}
 use Rattle.protocol.specs.Node.Answering.{Silent, CoveredBefore, TookBefore, TakesNow, Declines, answer_to_ask}
 use Rattle.protocol.specs.Node.Answering.{kept_then}

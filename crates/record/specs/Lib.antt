@@ -7,3 +7,4 @@ pub mod Ends
 pub mod Changes
 pub mod Moves
 pub mod Laws
+pub mod Common

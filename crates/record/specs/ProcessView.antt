@@ -1,6 +1,6 @@
 -- A process's part of an image, without pointers.
 use Rattle.std.specs.Prelude.{ℕ}
-use Rattle.kahn_net.specs.Processes.{Standing}
+use Rattle.kahn_net.specs.Common.{Standing}
 
 -- a process's number, and where it stands with its variables
 pub record SavedProcessView : Type 0 where

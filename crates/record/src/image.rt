@@ -17,7 +17,7 @@ pub struct SavedProcess {
 }
 
 impl Model for SavedProcess {
-    ghost use Rattle.kahn_net.specs.States.{standing_of};
+    ghost use Rattle.kahn_net.specs.Common.{standing_of};
     ghost use Rattle.record.specs.ProcessView.{SavedProcessView};
 
     ghost Value = { SavedProcessView };

@@ -7,9 +7,8 @@ use Rattle.std.proofs.lemmas.List.{append-nil}
 use Rattle.std.proofs.lemmas.List.Concat.{flat_map-cons}
 use Rattle.std.proofs.lemmas.Bool.{eqb-true, eq-eqb, lt-ltb, ne_eqb, both_ways}
 use Rattle.std.proofs.lemmas.List.{get_or-set_same, get_or-set_other}
-use Rattle.record.specs.DecisionView.{DecisionView}
-use Rattle.record.specs.ImageView.{ImageView}
-use Rattle.record.specs.Moves.{last_image, decided_below, decided_by, decision_by, without_node, confirmed, confirmed_one, without_own}
+use Rattle.record.specs.Common.{DecisionView, ImageView, last_image, decided_below, decided_by, decision_by}
+use Rattle.record.specs.Common.{without_node, confirmed, confirmed_one, without_own}
 use Rattle.record.specs.declared.record.Tentative.{Tentative as HeldImage}
 use Rattle.recovery_line.specs.Observers.{image_seen, tentative_seen, has_node, decides, names}
 use Rattle.recovery_line.specs.Observers.{record_seen, TakingMoves, DecidingMoves, SettlingMoves, DroppingMoves}

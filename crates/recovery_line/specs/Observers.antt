@@ -3,12 +3,9 @@
 use Rattle.std.specs.Prelude.{◌≡◌, ◌≢◌, ℕ, ◌<◌, Bool, false, ◌==◌, ◌&&◌, ◌||◌, List, [], ◌∷◌, length, Option, Some}
 use Rattle.std.specs.Prelude.{None, slice_index}
 use Rattle.std.specs.List.{AllByRecursion}
-use Rattle.record.specs.DecisionView.{DecisionView}
-use Rattle.record.specs.ImageView.{ImageView}
-use Rattle.record.specs.RecordView.{RecordView}
-use Rattle.record.specs.Ends.{received_of, base_of, sent_of}
-use Rattle.record.specs.Moves.{highest_seen, with_tentative, with_permanent, without_tentative, with_decision}
-use Rattle.record.specs.Moves.{with_confirmed, with_epoch}
+use Rattle.record.specs.Common.{DecisionView, ImageView, RecordView, received_of, base_of, sent_of, highest_seen}
+use Rattle.record.specs.Common.{with_tentative, with_permanent, without_tentative, with_decision, with_confirmed}
+use Rattle.record.specs.Common.{with_epoch}
 use Rattle.record.specs.declared.record.Tentative.{Tentative as HeldImage}
 use Rattle.recovery_line.specs.Images.{Image}
 use Rattle.recovery_line.specs.Records.{Record, Tentative}

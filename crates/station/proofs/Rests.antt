@@ -4,7 +4,7 @@ use Rattle.std.specs.Prelude.{slice_get}
 use Rattle.protocol.specs.Node.Common.{Code, Network, code_of, network_of, Standing, Channel, SavedProcessView}
 use Rattle.protocol.specs.Node.Common.{ImageView}
 use Rattle.kahn_net.specs.Laws.Valid.{code_at, code_past}
-use Rattle.kahn_net.specs.NextActs.{next_of}
+use Rattle.kahn_net.specs.Common.{next_of}
 use Rattle.kahn_net.specs.declared.program.Program.{Program}
 use Rattle.kahn_net.specs.declared.program.Process.{Process}
 use Rattle.proc_step.specs.NextView.{next_view}

@@ -1,7 +1,7 @@
 -- The value of a chain, before its links are reached.
 use Rattle.std.proofs.Common.{◌≡◌, ◌∙◌, ℤ, List, drop, sym, ap, Vec, Box, Global}
-use Rattle.kahn_net.specs.Statements.{value_of, value_along}
-use Rattle.kahn_net.specs.Syntax.{Tree, links_of, tree_of}
+use Rattle.kahn_net.specs.Common.{value_of, Tree, links_of, tree_of}
+use Rattle.kahn_net.specs.Statements.{value_along}
 use Rattle.kahn_net.specs.Laws.Syntax.{chain_of}
 use Rattle.kahn_net.specs.declared.program.Link.{Link}
 use Rattle.kahn_net.specs.declared.program.Expr.{Expr}

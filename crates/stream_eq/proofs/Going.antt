@@ -1,13 +1,12 @@
 -- One statement after another.
 use Rattle.std.proofs.Common.{Vec, Global, ◌-◌, ◌<◌, arith, ◌∷◌}
 use Rattle.std.proofs.Common.{◌≡◌, ℕ, suc, ◌+◌, Bool, true, false, List, ℤ, [], ◌++◌, refl, sym, ap, ◌∙◌, subst, append-nil}
-use Rattle.kahn_net.specs.Syntax.{Block, Nothing, RepeatThen, block_of, then_of}
+use Rattle.kahn_net.specs.Common.{Block, Nothing, RepeatThen, block_of, then_of, Step, Trace, End, Ended, Waits}
+use Rattle.kahn_net.specs.Common.{Stopped, trace_of, then_do, rounds, sites_of, put_after}
 use Rattle.kahn_net.specs.Laws.Syntax.{repeat_of}
 use Rattle.kahn_net.specs.declared.program.Statement.TheViews as view
-use Rattle.kahn_net.specs.Statements.{Step, Trace, End, Ended, Waits, Stopped, trace_of, from_end, then_do, rounds}
-use Rattle.kahn_net.specs.Statements.{sites_of}
+use Rattle.kahn_net.specs.Statements.{from_end}
 use Rattle.kahn_net.specs.declared.program.Statement.{Statement}
-use Rattle.kahn_net.specs.Puts.{put_after}
 use Rattle.kahn_net.specs.Laws.Puts.{put_after-append}
 use Rattle.kahn_net.specs.Laws.Traces.{first_then_rest, then_nothing}
 use Rattle.stream_eq.specs.Limits.{GoesPast}

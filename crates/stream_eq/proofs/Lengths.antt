@@ -5,11 +5,8 @@ use Rattle.std.specs.Prelude.{slice_get, slice_index}
 use Rattle.std.proofs.lemmas.Bool.{cases_lt}
 use Rattle.std.proofs.lemmas.List.{get_or-replicate, get_or_past, length-replicate}
 use Rattle.std.proofs.lemmas.Option.{slice_get_cases, get_or_from_slice_get}
-use Rattle.kahn_net.specs.Streams.{history_of}
-use Rattle.kahn_net.specs.Fits.{Fits}
-use Rattle.kahn_net.specs.Syntax.{Network}
-use Rattle.kahn_net.specs.Valid.{IsValid}
-use Rattle.kahn_net.specs.Approximations.{approximation, next_histories, IsSolution}
+use Rattle.kahn_net.specs.Common.{history_of, Fits, Network, IsValid, approximation}
+use Rattle.kahn_net.specs.Approximations.{next_histories, IsSolution}
 use Rattle.kahn_net.specs.Laws.Prefixes.{prefix_length}
 use Rattle.kahn_net.specs.Laws.Approximations.{approximations_grow, agreement, length-next_from, solution_is_next}
 use Rattle.stream_eq.specs.Limits.{HasLongHistory, IsWithin, GoesPast}

@@ -1,13 +1,10 @@
 -- The prelude, and then one pass of the body after another.
 use Rattle.std.proofs.Common.{◌≡◌, ℕ, suc, ◌<◌, Bool, true, List, [], ℤ, Option, Some, refl, sym, ap, subst, ◌∙◌, arith}
 use Rattle.std.specs.Prelude.{IsTrue}
-use Rattle.kahn_net.specs.Streams.{total}
-use Rattle.kahn_net.specs.Syntax.{Block}
-use Rattle.kahn_net.specs.Valid.{is_passing}
-use Rattle.kahn_net.specs.Statements.{Trace, End, Ended, Waits, Stopped, trace_of, from_end, then_do}
-use Rattle.kahn_net.specs.Processes.{passes, loop_trace}
+use Rattle.kahn_net.specs.Common.{total, Block, is_passing, Trace, End, Ended, Waits, Stopped, trace_of, then_do}
+use Rattle.kahn_net.specs.Common.{passes, loop_trace, put_after}
+use Rattle.kahn_net.specs.Statements.{from_end}
 use Rattle.kahn_net.specs.Laws.Passes.{fewer_left, one_pass}
-use Rattle.kahn_net.specs.Puts.{put_after}
 use Rattle.kahn_net.specs.Laws.Puts.{put_after-append}
 use Rattle.stream_eq.specs.Limits.{GoesPast}
 use Rattle.stream_eq.specs.Play.{EndsAs, IsPlayed}

@@ -3,10 +3,7 @@ use Rattle.std.proofs.Common.{◌⊎◌, inl, inr, ℕ, ◌<◌, ◌≤◌, List
 use Rattle.std.specs.Prelude.{slice_index}
 use Rattle.std.proofs.lemmas.Bool.{cases_lt}
 use Rattle.std.proofs.lemmas.List.{get_or_past}
-use Rattle.kahn_net.specs.Streams.{history_of}
-use Rattle.kahn_net.specs.Statements.{Step}
-use Rattle.kahn_net.specs.Processes.{sent_on}
-use Rattle.kahn_net.specs.Puts.{put_after}
+use Rattle.kahn_net.specs.Common.{history_of, Step, sent_on, put_after}
 use Rattle.kahn_net.specs.Laws.Puts.{put_after-at}
 use Rattle.stream_eq.specs.Limits.{GoesPast}
 

@@ -6,14 +6,11 @@ use Rattle.std.specs.Prelude.{slice_get}
 use Rattle.std.proofs.lemmas.Bool.{cases_Bool}
 use Rattle.std.proofs.lemmas.List.{ext_get_or, at_drop_more}
 use Rattle.std.proofs.lemmas.Option.{slice_get_cases}
-use Rattle.kahn_net.specs.Streams.{history_of}
-use Rattle.kahn_net.specs.Fits.{Fits}
-use Rattle.kahn_net.specs.Syntax.{Code, Network, code_of}
-use Rattle.kahn_net.specs.Valid.{IsValid, code_puts}
-use Rattle.kahn_net.specs.Processes.{process_trace, output_of}
+use Rattle.kahn_net.specs.Common.{history_of, Fits, Code, Network, code_of, IsValid, code_puts, process_trace}
+use Rattle.kahn_net.specs.Common.{put_after}
+use Rattle.kahn_net.specs.Processes.{output_of}
 use Rattle.kahn_net.specs.Approximations.{output_at, next_history, next_histories}
 use Rattle.kahn_net.specs.Laws.Approximations.{length-next_from, next_histories-at, inner_empty}
-use Rattle.kahn_net.specs.Puts.{put_after}
 use Rattle.kahn_net.specs.Laws.Puts.{silent, length-put_after, put_after-at}
 use Rattle.kahn_net.specs.declared.program.Channel.{Channel}
 use Rattle.kahn_net.specs.declared.program.Port.{Port}

@@ -1,11 +1,10 @@
 -- Laws of networks, over the same definitions by which the solver answers.
 use Rattle.std.specs.Prelude.{◌≡◌, ℕ, suc, ◌≤◌, ℤ, List, IsTrue}
-use Rattle.kahn_net.specs.Streams.{IsPrefix, ArePrefixes, total}
-use Rattle.kahn_net.specs.Fits.{Fits}
-use Rattle.kahn_net.specs.Syntax.{Block, Code, Network}
-use Rattle.kahn_net.specs.Valid.{IsValid, is_passing}
-use Rattle.kahn_net.specs.Processes.{HasPassingLoop, passes, output_of, Standing, StandsAt}
-use Rattle.kahn_net.specs.Approximations.{approximation, Belongs, IsReached, IsSolution}
+use Rattle.kahn_net.specs.Common.{IsPrefix, total, Fits, Block, Code, Network, IsValid, is_passing, HasPassingLoop}
+use Rattle.kahn_net.specs.Common.{passes, Standing, StandsAt, approximation, Belongs, IsReached}
+use Rattle.kahn_net.specs.Streams.{ArePrefixes}
+use Rattle.kahn_net.specs.Processes.{output_of}
+use Rattle.kahn_net.specs.Approximations.{IsSolution}
 
 -- a body that passes is at rest after as many passes as there are items unread, and one: more passes make no more acts
 abbrev pub WellFounded : Type 0

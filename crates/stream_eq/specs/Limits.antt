@@ -1,8 +1,6 @@
 -- Histories that are longer than they may be.
 use Rattle.std.specs.Prelude.{ℕ, ℤ, List, ◌≤◌, ◌<◌, length, slice_index}
-use Rattle.kahn_net.specs.Streams.{history_of}
-use Rattle.kahn_net.specs.Syntax.{Network}
-use Rattle.kahn_net.specs.Approximations.{approximation}
+use Rattle.kahn_net.specs.Common.{history_of, Network, approximation}
 use Rattle.kahn_net.specs.declared.limits.TheConstants.{MAX_HISTORY_ITEMS}
 
 -- an approximation up to the n-th has a history of more than 1,048,576 items

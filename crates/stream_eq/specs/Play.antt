@@ -1,10 +1,7 @@
 -- What the plain solver's walk over statements keeps.
 use Rattle.std.specs.Prelude.{◌≡◌, ℕ, suc, Bool, true, false, List, ℤ, [], ◌∷◌, slice_get, Some}
-use Rattle.kahn_net.specs.Streams.{total}
-use Rattle.kahn_net.specs.Syntax.{Block, Code}
-use Rattle.kahn_net.specs.Statements.{Trace, End, Ended, Waits, Stopped}
-use Rattle.kahn_net.specs.Processes.{HasPassingLoop, passes, process_trace}
-use Rattle.kahn_net.specs.Puts.{put_after}
+use Rattle.kahn_net.specs.Common.{total, Block, Code, Trace, End, Ended, Waits, Stopped, HasPassingLoop, passes}
+use Rattle.kahn_net.specs.Common.{process_trace, put_after}
 
 -- whether statements ended, and with which variables and unread items
 abbrev pub EndsAs : End → Bool → List ℤ → List (List ℤ) → Type 0

@@ -1,8 +1,6 @@
 -- How far a channel's history has come.
 use Rattle.std.specs.Prelude.{ℕ, ◌≤◌, ℤ, List, length}
-use Rattle.kahn_net.specs.Streams.{history_of}
-use Rattle.kahn_net.specs.Syntax.{Network}
-use Rattle.kahn_net.specs.Approximations.{approximation}
+use Rattle.kahn_net.specs.Common.{history_of, Network, approximation}
 
 -- the channel's history in some approximation on these inputs has so many items
 abbrev pub HistoryReaches : Network → List (List ℤ) → ℕ → ℕ → Type 0

@@ -1,9 +1,7 @@
 //! The approximations of a network's histories.
 
 ghost use Rattle.std.specs.Prelude.{◌≡◌, replicate, IfOk, OnOk, IsErrOf};
-ghost use Rattle.kahn_net.specs.Syntax.{network_of};
-ghost use Rattle.kahn_net.specs.Fits.{Fits};
-ghost use Rattle.kahn_net.specs.Approximations.{approximation};
+ghost use Rattle.kahn_net.specs.Common.{network_of, Fits, approximation};
 ghost use Rattle.stream_eq.specs.Limits.{HasLongHistory};
 
 use crate::fault::Fault;

@@ -2,8 +2,8 @@
 
 ghost use Rattle.std.specs.Prelude.{◌≡◌, pos, slice_set};
 ghost use Rattle.std.specs.Ordering.{int_eq};
-ghost use Rattle.kahn_net.specs.Syntax.{tree_of};
-ghost use Rattle.kahn_net.specs.Statements.{apply, one_if_so, value_of};
+ghost use Rattle.kahn_net.specs.Common.{tree_of, value_of};
+ghost use Rattle.kahn_net.specs.Statements.{apply, one_if_so};
 
 use kahn_net::{Expr, Operator};
 

@@ -1,6 +1,6 @@
 //! How far an output has come.
 
-ghost use Rattle.kahn_net.specs.Syntax.{network_of};
+ghost use Rattle.kahn_net.specs.Common.{network_of};
 ghost use Rattle.stream_eq.specs.Reached.{HistoryReaches};
 
 use net_check::{Inputs, Net};

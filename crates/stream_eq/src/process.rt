@@ -2,12 +2,8 @@
 
 ghost use Rattle.std.specs.Prelude.{◌≡◌, ℕ, List, ◌<◌, ◌≤◌, [], ◌∷◌, ◌++◌, length, slice_index, slice_set};
 ghost use Rattle.std.specs.Prelude.{IsTrue, IfOk, OnOk, IsErrOf};
-ghost use Rattle.kahn_net.specs.Streams.{history_of};
-ghost use Rattle.kahn_net.specs.Syntax.{Nothing, block_of, code_of, then_of};
-ghost use Rattle.kahn_net.specs.Valid.{is_passing};
-ghost use Rattle.kahn_net.specs.Statements.{rounds, trace_of};
-ghost use Rattle.kahn_net.specs.Processes.{HasPassingLoop};
-ghost use Rattle.kahn_net.specs.Puts.{put_after};
+ghost use Rattle.kahn_net.specs.Common.{history_of, Nothing, block_of, code_of, then_of, is_passing, rounds};
+ghost use Rattle.kahn_net.specs.Common.{trace_of, HasPassingLoop, put_after};
 ghost use Rattle.stream_eq.specs.Limits.{IsWithin, GoesPast};
 ghost use Rattle.stream_eq.specs.Play.{IsPlayed, put_by_passes, put_by_process};
 

@@ -1,8 +1,7 @@
 //! One round: what all producers make of histories.
 
 ghost use Rattle.std.specs.Prelude.{◌≡◌, length, map, IfOk, OnOk, IsErrOf};
-ghost use Rattle.kahn_net.specs.Syntax.{code_of, network_of};
-ghost use Rattle.kahn_net.specs.Fits.{Fits};
+ghost use Rattle.kahn_net.specs.Common.{code_of, network_of, Fits};
 ghost use Rattle.kahn_net.specs.Approximations.{next_histories};
 ghost use Rattle.stream_eq.specs.Limits.{IsWithin, GoesPast};
 ghost use Rattle.stream_eq.specs.Play.{AllHavePassingLoops, put_by_all};

@@ -1,8 +1,7 @@
 //! Whether histories solve a network's equations.
 
 ghost use Rattle.std.specs.Prelude.{◌≡◌, ◌↔◌, length, map, IsTrue, IfOk, IfErr};
-ghost use Rattle.kahn_net.specs.Syntax.{network_of};
-ghost use Rattle.kahn_net.specs.Fits.{Fits};
+ghost use Rattle.kahn_net.specs.Common.{network_of, Fits};
 ghost use Rattle.kahn_net.specs.Approximations.{IsSolution};
 
 use crate::fault::Fault;

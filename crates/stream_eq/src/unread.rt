@@ -1,7 +1,7 @@
 //! What is unread of a history.
 
 ghost use Rattle.std.specs.Prelude.{◌≡◌, ◌==◌, [], ◌∷◌, List, ℤ, IfOk, IfSome, IfNone, length, slice_set};
-ghost use Rattle.kahn_net.specs.Streams.{history_of};
+ghost use Rattle.kahn_net.specs.Common.{history_of};
 
 use kahn_net::History;
 use std::alloc::{AllocError, Global};

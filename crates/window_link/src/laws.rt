@@ -1,6 +1,6 @@
 // The law of a link.
 ghost use Rattle.std.specs.Prelude.{◌≡◌, ◌≤◌, List, ℕ, length};
-ghost use Rattle.kahn_net.specs.Streams.{IsPrefix};
+ghost use Rattle.kahn_net.specs.Common.{IsPrefix};
 ghost use Rattle.window_link.specs.Link.{LinkEvent, run, opening, IsOneItemEach};
 
 /// Whatever is lost, repeated or reordered, and whenever an end is set back: what the receiver has taken is a beginning of

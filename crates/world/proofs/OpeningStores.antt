@@ -15,15 +15,13 @@ use Rattle.gate_cell.specs.declared.cell.StableCell.{Ghosts as CellWords}
 use Rattle.gate_cell.specs.declared.slot_cell.SlotCell.{Ghosts as SlotWords}
 use Rattle.gate_cell.specs.declared.fault.CellFault.{CellFault}
 use Rattle.gate_cell.specs.declared.fault.CellFault.TheVariants as cell
-use Rattle.ckpt_codec.specs.Fields.{AreAllowed}
-use Rattle.ckpt_codec.specs.HeaderText.{header_of, header_text, IsHeaderText, IsHeaderTextIn, IsImageText}
-use Rattle.ckpt_codec.specs.RecordText.{image_fields}
+use Rattle.ckpt_codec.specs.Common.{AreAllowed, header_of, IsHeaderText, IsImageText, image_fields, spelled_length}
+use Rattle.ckpt_codec.specs.HeaderText.{header_text, IsHeaderTextIn}
 use Rattle.ckpt_codec.specs.SizeLaws.{IsRecordWithin}
 use Rattle.ckpt_codec.proofs.Headers.{told_is_header}
 use Rattle.ckpt_store.proofs.Parts.{parts_of}
 use Rattle.node.specs.declared.node.Node.{Node}
 use Rattle.protocol_laws.specs.World.RoomLaws.{bounded_is_short}
-use Rattle.ckpt_codec.specs.Lengths.{spelled_length}
 use Rattle.ckpt_codec.specs.declared.lengths.TheConstants.{MAX_HEADER_BYTES, MAX_RECORD_BYTES}
 use Rattle.ckpt_store.specs.Loading.{IsLoad, IsOfCell}
 use Rattle.ckpt_store.specs.StoreFault.{of_cell}

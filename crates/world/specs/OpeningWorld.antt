@@ -9,7 +9,8 @@ use Rattle.gate_cell.specs.declared.split.SplitCell.{SplitCell}
 use Rattle.gate_cell.specs.declared.TheConstants.{LEAST_SPLIT_SECTORS}
 use Rattle.gate_cell.specs.declared.cell.StableCell.{Ghosts as CellWords}
 use Rattle.gate_cell.specs.declared.slot_cell.SlotCell.{Ghosts as SlotWords}
-use Rattle.ckpt_codec.specs.HeaderText.{header_of, header_text}
+use Rattle.ckpt_codec.specs.Common.{header_of}
+use Rattle.ckpt_codec.specs.HeaderText.{header_text}
 use Rattle.ckpt_codec.specs.declared.version.TheConstants.{FIRST_VERSION, VERSION}
 use Rattle.ckpt_store.specs.declared.fault.StoreFault.TheVariants.{NoMemory, Device, TooLarge, Reopen, Truncated}
 use Rattle.ckpt_store.specs.declared.fault.StoreFault.TheVariants.{Version, Malformed, HoldsOther, PastNumber, NotHeld}

@@ -1,11 +1,9 @@
 -- What the laws of code say.
 use Rattle.std.specs.Prelude.{◌≡◌, ℕ, List, ℤ, [], slice_get, Some}
-use Rattle.kahn_net.specs.Syntax.{Code}
+use Rattle.kahn_net.specs.Common.{Code, Point, HasPassingLoop, process_trace, trace_from}
 use Rattle.kahn_net.specs.NextActs.{next_at}
-use Rattle.kahn_net.specs.Statements.{Point}
 use Rattle.kahn_net.specs.Repeats.{FitsRepeats}
-use Rattle.kahn_net.specs.Processes.{HasPassingLoop, process_trace, At}
-use Rattle.kahn_net.specs.Resuming.{trace_from}
+use Rattle.kahn_net.specs.Processes.{At}
 use Rattle.proc_code.specs.declared.instruction.Site.{Site}
 use Rattle.proc_code.specs.Machine.{Runs}
 use Rattle.proc_code.specs.Translation.{process_code, process_sites, entry_of, next_by}

@@ -5,11 +5,12 @@ use Rattle.std.specs.Prelude.{slice_get, nat_lt, ◌==◌}
 use Rattle.std.proofs.lemmas.Bool.{lt-ltb, ne_eqb}
 use Rattle.std.specs.Ordering.{int_eq}
 use Rattle.std.specs.Int.{int_wrapping_neg, w64}
-use Rattle.kahn_net.specs.Streams.{history_of}
-use Rattle.kahn_net.specs.Syntax.{Tree, Number, Name, Minus, Chain, Links, NoLinks, LinkThen, Block, Nothing, GetThen}
-use Rattle.kahn_net.specs.Syntax.{AssignThen, PutThen, StopThen, IfThen, RepeatThen}
-use Rattle.kahn_net.specs.Statements.{Got, Sent, Trace, Ended, no_steps, point_at, after_step, on_get, then_do}
-use Rattle.kahn_net.specs.Statements.{trace_of, choose, rounds, value_of, value_along, apply, sites_of}
+use Rattle.kahn_net.specs.Common.{history_of, Tree, Number, Name, Minus, Chain, Links, NoLinks, LinkThen, Block}
+use Rattle.kahn_net.specs.Common.{Nothing, GetThen, AssignThen, PutThen, StopThen, IfThen, RepeatThen, Got, Sent}
+use Rattle.kahn_net.specs.Common.{Trace, Ended, no_steps, point_at, on_get, then_do, trace_of, rounds, value_of}
+use Rattle.kahn_net.specs.Common.{sites_of}
+use Rattle.kahn_net.specs.Statements.{after_step}
+use Rattle.kahn_net.specs.Statements.{choose, value_along, apply}
 use Rattle.kahn_net.specs.Laws.Traces.{then_do_then}
 use Rattle.proc_code.specs.declared.instruction.Instruction.{Instruction}
 use Rattle.proc_code.specs.declared.instruction.Instruction.TheVariants.{Constant, Load, Store, Negate, Apply, Get, Put}

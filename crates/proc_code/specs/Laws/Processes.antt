@@ -3,13 +3,12 @@ use Rattle.std.proofs.Common.{◌≡◌, ℕ, zero, suc, ◌+◌, ◌-◌, ◌<�
 use Rattle.std.proofs.Common.{drop, ◌*◌, length, Option, Some, None, refl, ap, subst, arith, length-append}
 use Rattle.std.specs.Prelude.{IsTrue, nat_lt, ◌==◌}
 use Rattle.std.specs.List.{AllZip}
-use Rattle.kahn_net.specs.Streams.{total}
-use Rattle.kahn_net.specs.Syntax.{Block, Nothing, GetThen, AssignThen, PutThen, StopThen, IfThen, RepeatThen, Code}
-use Rattle.kahn_net.specs.Valid.{is_passing}
-use Rattle.kahn_net.specs.Statements.{Point, Trace, Ended, no_steps, then_do, rounds, trace_of, sites_of}
+use Rattle.kahn_net.specs.Common.{total, Block, Nothing, GetThen, AssignThen, PutThen, StopThen, IfThen, RepeatThen}
+use Rattle.kahn_net.specs.Common.{Code, is_passing, Point, Trace, Ended, no_steps, then_do, rounds, trace_of}
+use Rattle.kahn_net.specs.Common.{sites_of, HasPassingLoop, passes, loop_trace, process_trace, trace_from}
 use Rattle.kahn_net.specs.Repeats.{repeats_on, repeats_in_body, repeats_at, CanRemain, FitsRepeats}
-use Rattle.kahn_net.specs.Processes.{HasPassingLoop, passes, loop_trace, process_trace, At}
-use Rattle.kahn_net.specs.Resuming.{trace_on, passes_left, body_on, trace_from}
+use Rattle.kahn_net.specs.Processes.{At}
+use Rattle.kahn_net.specs.Resuming.{trace_on, passes_left, body_on}
 use Rattle.kahn_net.specs.Laws.Passes.{fewer_left, pass_takes, rounds_take}
 use Rattle.kahn_net.specs.Laws.Traces.{one_of, ended_then}
 use Rattle.proc_code.specs.declared.instruction.Instruction.{Instruction}

@@ -4,8 +4,8 @@ use Rattle.std.proofs.Common.{length, drop, Some, arith, sym, ap, subst, length-
 use Rattle.std.specs.Prelude.{◌==◌, nat_lt, slice_get}
 use Rattle.std.specs.List.{AllZip}
 use Rattle.std.proofs.lemmas.List.{append-nil}
-use Rattle.kahn_net.specs.Syntax.{Block, Nothing, GetThen, AssignThen, PutThen, StopThen, IfThen, RepeatThen}
-use Rattle.kahn_net.specs.Statements.{Trace, Ended, no_steps, then_do, rounds, trace_of, sites_of}
+use Rattle.kahn_net.specs.Common.{Block, Nothing, GetThen, AssignThen, PutThen, StopThen, IfThen, RepeatThen, Trace}
+use Rattle.kahn_net.specs.Common.{Ended, no_steps, then_do, rounds, trace_of, sites_of}
 use Rattle.kahn_net.specs.Repeats.{repeats_on, CanRemain}
 use Rattle.kahn_net.specs.Resuming.{trace_on, passes_left}
 use Rattle.kahn_net.specs.Laws.Traces.{then_do_then}

@@ -2,7 +2,7 @@
 use Rattle.std.proofs.Common.{◌≡◌, ℕ, zero, suc, ◌+◌, ◌≤◌, List, ℤ, [], ◌∷◌, ◌++◌, length, Option, Some, refl, sym, ap}
 use Rattle.std.proofs.Common.{◌∙◌, subst, arith}
 use Rattle.std.specs.Prelude.{slice_get}
-use Rattle.kahn_net.specs.Statements.{Trace, End, Ended, Waits, Stopped, then_do}
+use Rattle.kahn_net.specs.Common.{Trace, End, Ended, Waits, Stopped, then_do}
 use Rattle.kahn_net.specs.Laws.Traces.{then_do_same}
 use Rattle.proc_code.specs.declared.instruction.Instruction.{Instruction}
 use Rattle.proc_code.specs.Machine.{Continuation, perform, step, run, Runs}

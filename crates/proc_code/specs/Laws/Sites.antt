@@ -7,9 +7,9 @@ use Rattle.std.proofs.lemmas.Option.{slice_get-get_or, slice_get_past}
 use Rattle.std.proofs.lemmas.List.{get_or_append_left, get_or-append_right}
 use Rattle.std.proofs.lemmas.Bool.{lt-ltb, le-ltb, cases_lt}
 use Rattle.std.proofs.lemmas.Bool.Decides.{eqb_tells}
-use Rattle.kahn_net.specs.Syntax.{Block, Nothing, GetThen, AssignThen, PutThen, StopThen, IfThen, RepeatThen, Code}
-use Rattle.kahn_net.specs.Statements.{sites_of}
-use Rattle.kahn_net.specs.NextActs.{Next, Gets, Puts, NoNext, next_on, next_in_body, next_at}
+use Rattle.kahn_net.specs.Common.{Block, Nothing, GetThen, AssignThen, PutThen, StopThen, IfThen, RepeatThen, Code}
+use Rattle.kahn_net.specs.Common.{sites_of, Next, Gets, Puts, NoNext}
+use Rattle.kahn_net.specs.NextActs.{next_on, next_in_body, next_at}
 use Rattle.proc_code.specs.declared.instruction.Instruction.TheVariants.{Store, Put, Jump}
 use Rattle.proc_code.specs.declared.instruction.Site.{Site}
 use Rattle.proc_code.specs.Translation.{expr_code, if_code, repeat_code, block_code, loop_code, process_code, entry_at, loop_entry}

@@ -2,15 +2,8 @@
 -- and keeps may be said to other nodes.
 use Rattle.std.specs.Prelude.{◌≡◌, ◌≢◌, ℕ, ◌<◌, ◌≤◌, true, length, Some, slice_get}
 use Rattle.datagram.specs.PacketText.{IsPositive}
-use Rattle.kahn_net.specs.Nodes.{node_count}
-use Rattle.kahn_net.specs.Syntax.{Network}
-use Rattle.kahn_net.specs.declared.limits.TheConstants.{MAX_COUNT}
-use Rattle.record.specs.DecisionView.{DecisionView}
-use Rattle.record.specs.Ends.{received_of}
-use Rattle.record.specs.ImageView.{ImageView}
-use Rattle.record.specs.RecordView.{RecordView}
-use Rattle.record.specs.declared.record.Tentative.{Tentative}
-use Rattle.record.specs.declared.record.TheConstants.{MAX_DECISIONS}
+use Rattle.ckpt_codec.specs.Common.{node_count, Network, MAX_COUNT, DecisionView, received_of, ImageView, RecordView}
+use Rattle.ckpt_codec.specs.Common.{Tentative, MAX_DECISIONS}
 use Rattle.recovery_line.specs.Nodes.{Answer}
 use Rattle.recovery_line.specs.Observers.{has_node}
 use Rattle.protocol.specs.Node.Beginning.{live_in}

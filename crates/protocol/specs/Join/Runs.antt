@@ -1,6 +1,6 @@
 -- That a world has come about by steps of the abstract machine.
 use Rattle.std.specs.Prelude.{◌≡◌, ℕ, List, [], ◌∷◌, Some, All, slice_get}
-use Rattle.kahn_net.specs.Syntax.{Network}
+use Rattle.ckpt_codec.specs.Common.{Network}
 use Rattle.wire.specs.Traffic.{Traffic, flights_to}
 use Rattle.wire.specs.declared.queue.Flight.{Flight}
 use Rattle.recovery_line.specs.Images.{Net}

@@ -1,10 +1,7 @@
 -- Between which nodes a channel runs, and which names in a packet are right.
 use Rattle.std.specs.Prelude.{◌==◌, ℕ, nat_lt, Bool, false, ◌&&◌, not, Option, Some, None, slice_get}
 use Rattle.std.specs.List.{list_all}
-use Rattle.kahn_net.specs.Nodes.{node_count}
-use Rattle.kahn_net.specs.Syntax.{Network}
-use Rattle.kahn_net.specs.declared.program.Channel.{Channel}
-use Rattle.kahn_net.specs.declared.program.Port.{Port}
+use Rattle.ckpt_codec.specs.Common.{node_count, Network, Channel, Port}
 use Rattle.datagram.specs.declared.packet.Need.{Need}
 use Rattle.datagram.specs.declared.packet.Packet.{Packet}
 use Rattle.datagram.specs.declared.packet.Body.{Body}

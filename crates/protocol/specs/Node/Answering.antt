@@ -6,11 +6,7 @@ use Rattle.datagram.specs.declared.packet.Body.TheVariants.{Took, Covered, Refus
 use Rattle.datagram.specs.declared.packet.Packet.{Packet}
 use Rattle.datagram.specs.declared.packet.Reason.{Reason}
 use Rattle.datagram.specs.declared.packet.Reason.TheVariants.{Busy, Behind, Recovering, TooLarge}
-use Rattle.kahn_net.specs.Syntax.{Network}
-use Rattle.record.specs.Ends.{sent_of}
-use Rattle.record.specs.Moves.{highest_seen, with_tentative}
-use Rattle.record.specs.RecordView.{RecordView}
-use Rattle.record.specs.declared.record.Tentative.{Tentative}
+use Rattle.ckpt_codec.specs.Common.{Network, sent_of, highest_seen, with_tentative, RecordView, Tentative}
 use Rattle.protocol.specs.Node.Needs.{held_needs}
 use Rattle.protocol.specs.Node.Modes.{with_kept}
 use Rattle.protocol.specs.Node.NodeView.{NodeView, ModeView, Down, InDoubt, Runs}

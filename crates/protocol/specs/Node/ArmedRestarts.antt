@@ -1,6 +1,6 @@
 -- From which round on a node whose device failed may be recovered.
 use Rattle.std.specs.Prelude.{ℕ, ◌+◌, ◌==◌, ◌++◌, min, List, [], ◌∷◌, find, Option, Some, None}
-use Rattle.kahn_net.specs.declared.limits.TheConstants.{MAX_COUNT}
+use Rattle.ckpt_codec.specs.Common.{MAX_COUNT}
 use Rattle.protocol.specs.Node.NodeView.{NodeView}
 use Rattle.protocol.specs.declared.armed_restart.ArmedRestart.{ArmedRestart}
 

@@ -2,12 +2,7 @@
 use Rattle.std.specs.Prelude.{ℕ, suc, ◌+◌, nat_lt, Bool, true, false, ◌&&◌, List, [], ◌∷◌, length, Option, Some, None}
 use Rattle.datagram.specs.declared.packet.Body.TheVariants.{Ask}
 use Rattle.datagram.specs.declared.packet.Packet.{Packet}
-use Rattle.kahn_net.specs.Syntax.{Network}
-use Rattle.kahn_net.specs.declared.limits.TheConstants.{MAX_COUNT}
-use Rattle.record.specs.ImageView.{ImageView}
-use Rattle.record.specs.Moves.{highest_seen}
-use Rattle.record.specs.RecordView.{RecordView}
-use Rattle.record.specs.declared.record.TheConstants.{MAX_DECISIONS}
+use Rattle.ckpt_codec.specs.Common.{Network, MAX_COUNT, ImageView, highest_seen, RecordView, MAX_DECISIONS}
 use Rattle.recovery_line.specs.Nodes.{Answer, Awaited, By_took, By_covered}
 use Rattle.protocol.specs.Node.Needs.{questions_of}
 use Rattle.protocol.specs.Node.Addresses.{producer_node}

@@ -2,16 +2,11 @@
 use Rattle.std.specs.Prelude.{ℕ, Bool, true, false, ◌&&◌, ◌==◌, nat_lt, if◌then◌else◌, ℤ, List, length, map, find}
 use Rattle.std.specs.Prelude.{is_some, Option, Some, None, slice_get}
 use Rattle.std.specs.List.{range_with_len}
-use Rattle.kahn_net.specs.Streams.{history_of}
-use Rattle.kahn_net.specs.Syntax.{Code, Network}
-use Rattle.kahn_net.specs.Processes.{Standing}
-use Rattle.kahn_net.specs.NextActs.{Next, Begins, Gets, Puts, NoNext, next_of}
-use Rattle.kahn_net.specs.declared.program.Channel.{Channel}
-use Rattle.kahn_net.specs.declared.program.Port.{Port}
-use Rattle.kahn_net.specs.declared.program.Port.TheVariants.{Outside, Process}
-use Rattle.record.specs.ProcessView.{SavedProcessView}
-use Rattle.record.specs.ImageView.{ImageView}
-use Rattle.record.specs.Ends.{sent_in, received_of}
+use Rattle.ckpt_codec.specs.Common.{history_of, Code, Network, Standing, Channel, Port, Outside, Process}
+use Rattle.ckpt_codec.specs.Common.{SavedProcessView, ImageView, received_of, MAX_COUNT}
+use Rattle.kahn_net.specs.Common.{Next, Gets, Puts, NoNext, next_of}
+use Rattle.kahn_net.specs.NextActs.{Begins}
+use Rattle.record.specs.Ends.{sent_in}
 use Rattle.turns.specs.Turns.{next_in_turn}
 use Rattle.protocol.specs.Node.JobView.{JobView}
 use Rattle.protocol.specs.Node.NodeView.{NodeView, RunningView, RunningNode, running_of, on_running}
@@ -20,7 +15,6 @@ use Rattle.protocol.specs.Node.Sharing.{retained_share}
 use Rattle.protocol.specs.Node.Modes.{is_none}
 use Rattle.protocol.specs.Node.Plans.{Prospect, Undue, becoming}
 use Rattle.protocol.specs.declared.links.Inbox.{Inbox}
-use Rattle.kahn_net.specs.declared.limits.TheConstants.{MAX_COUNT}
 
 -- a next item is at hand of a channel whose items come from there: of an input, or of the log from which the channel is
 -- got

@@ -4,11 +4,7 @@ use Rattle.std.specs.Prelude.{Option, Some, None, option_map, slice_get, slice_s
 use Rattle.std.specs.List.{list_all}
 use Rattle.datagram.specs.declared.packet.Need.{Need}
 use Rattle.datagram.specs.declared.packet.Packet.{Packet}
-use Rattle.kahn_net.specs.Syntax.{Network}
-use Rattle.record.specs.Ends.{sent_of}
-use Rattle.record.specs.Moves.{without_tentative}
-use Rattle.record.specs.RecordView.{RecordView}
-use Rattle.record.specs.declared.record.Tentative.{Tentative}
+use Rattle.ckpt_codec.specs.Common.{Network, sent_of, without_tentative, RecordView, Tentative}
 use Rattle.recovery_line.specs.Nodes.{Answer, Awaited, By_took, By_covered}
 use Rattle.recovery_line.specs.Observers.{has_node}
 use Rattle.protocol.specs.Node.Answering.{holds}

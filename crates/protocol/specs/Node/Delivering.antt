@@ -2,7 +2,7 @@
 use Rattle.std.specs.Prelude.{◌≡◌, ℕ, ◌==◌, ◌&&◌, Bool, true, false, if◌then◌else◌, List, [], ◌∷◌, ℤ}
 use Rattle.std.specs.Prelude.{Option, Some, None, option_map, slice_get, slice_set}
 use Rattle.std.specs.List.{position_from}
-use Rattle.kahn_net.specs.Syntax.{Network}
+use Rattle.ckpt_codec.specs.Common.{Network}
 use Rattle.record.specs.Changes.{log_with}
 use Rattle.window_link.specs.Windows.{Receiver, Received, received, sender_after}
 use Rattle.window_link.specs.declared.receiving.Arrival.{Arrival}

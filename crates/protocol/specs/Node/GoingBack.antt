@@ -1,12 +1,7 @@
 -- A node hears that another restored an image: where it is ahead of what that one has put, it goes back to its own
 -- permanent image.
 use Rattle.std.specs.Prelude.{ℕ, ◌==◌, nat_lt, false, if◌then◌else◌, List, [], length, map, replicate, find, Option, Some, None}
-use Rattle.kahn_net.specs.declared.limits.TheConstants.{MAX_COUNT}
-use Rattle.record.specs.Ends.{received_of, sent_of}
-use Rattle.record.specs.ImageView.{ImageView}
-use Rattle.record.specs.Moves.{with_epoch}
-use Rattle.record.specs.RecordView.{RecordView}
-use Rattle.record.specs.declared.record.Tentative.{Tentative}
+use Rattle.ckpt_codec.specs.Common.{MAX_COUNT, received_of, sent_of, ImageView, with_epoch, RecordView, Tentative}
 use Rattle.window_link.specs.Windows.{sender_reset}
 use Rattle.protocol.specs.Node.Modes.{next_number}
 use Rattle.protocol.specs.Node.NodeView.{NodeView, ModeView, Down, InDoubt, Runs, RunningView, on_mode, on_running}

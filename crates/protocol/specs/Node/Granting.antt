@@ -1,17 +1,11 @@
 -- What a job has at hand, and the room that it has.
 use Rattle.std.specs.Prelude.{ℕ, suc, ◌-◌, min, Bool, false, ◌==◌, if◌then◌else◌, ℤ, List, [], ◌∷◌, length, take, drop}
 use Rattle.std.specs.Prelude.{find, Option, Some, None, option_map, slice_get}
-use Rattle.kahn_net.specs.Streams.{history_of}
-use Rattle.kahn_net.specs.Syntax.{Network}
-use Rattle.kahn_net.specs.Processes.{Standing}
-use Rattle.kahn_net.specs.declared.program.Channel.{Channel}
-use Rattle.kahn_net.specs.declared.program.Port.{Port}
-use Rattle.kahn_net.specs.declared.program.Port.TheVariants.{Outside, Process}
-use Rattle.retained.specs.LogState.{LogState, log_end, items_since}
-use Rattle.record.specs.ImageView.{ImageView}
-use Rattle.record.specs.Ends.{received_of, log_of}
+use Rattle.ckpt_codec.specs.Common.{history_of, Network, Standing, Channel, Port, Outside, Process, LogState}
+use Rattle.ckpt_codec.specs.Common.{ImageView, received_of, MAX_COUNT}
+use Rattle.retained.specs.LogState.{log_end, items_since}
+use Rattle.record.specs.Ends.{log_of}
 use Rattle.protocol.specs.Node.JobView.{JobView}
-use Rattle.kahn_net.specs.declared.limits.TheConstants.{MAX_COUNT}
 use Rattle.protocol.specs.declared.limits.TheConstants.{MAX_JOB_ITEMS}
 use Rattle.protocol.specs.declared.links.Inbox.{Inbox}
 

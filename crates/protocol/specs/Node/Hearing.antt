@@ -4,7 +4,7 @@ use Rattle.datagram.specs.declared.packet.Body.{Body}
 use Rattle.datagram.specs.declared.packet.Body.TheVariants.{Data, Ack, Kept, Ask, Took, Covered, Refused, Query, Commit}
 use Rattle.datagram.specs.declared.packet.Body.TheVariants.{Ended, Settled, Undone}
 use Rattle.datagram.specs.declared.packet.Packet.{Packet}
-use Rattle.kahn_net.specs.Syntax.{Network}
+use Rattle.ckpt_codec.specs.Common.{Network}
 use Rattle.protocol.specs.Node.Answering.{ask_prospect}
 use Rattle.protocol.specs.Node.Collecting.{hearing_covered, took_prospect, refused_prospect}
 use Rattle.protocol.specs.Node.Verdicts.{commit_prospect, ended_prospect, query_prospect, settled_prospect}

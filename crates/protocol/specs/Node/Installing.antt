@@ -1,12 +1,9 @@
 -- An image after a turn of one of its processes.
 use Rattle.std.specs.Prelude.{◌≡◌, ℕ, ◌+◌, ◌≤◌, Bool, true, false, ◌==◌, if◌then◌else◌, ℤ, List, [], ◌∷◌, length, map}
 use Rattle.std.specs.Prelude.{Option, Some, None, slice_get, slice_index}
-use Rattle.kahn_net.specs.Streams.{history_of}
-use Rattle.kahn_net.specs.Processes.{Standing}
-use Rattle.kahn_net.specs.declared.program.Channel.{Channel}
-use Rattle.record.specs.Changes.{pushed, counted, trimmed_log, LogTakes}
-use Rattle.record.specs.ProcessView.{SavedProcessView}
-use Rattle.record.specs.ImageView.{ImageView}
+use Rattle.ckpt_codec.specs.Common.{history_of, Standing, Channel, pushed, counted, LogTakes, SavedProcessView}
+use Rattle.ckpt_codec.specs.Common.{ImageView, SavedEnd, MAX_COUNT}
+use Rattle.record.specs.Changes.{trimmed_log}
 use Rattle.record.specs.Ends.{received_at, log_at}
 use Rattle.protocol.specs.Node.JobView.{JobView}
 use Rattle.protocol.specs.Node.NodeView.{NodeView, ModeView, Down, InDoubt, Runs, RunningView, RunningNode, on_mode}
@@ -14,8 +11,6 @@ use Rattle.protocol.specs.Node.NodeView.{on_running}
 use Rattle.protocol.specs.Node.Granting.{is_process}
 use Rattle.protocol.specs.Node.Popping.{popping}
 use Rattle.protocol.specs.declared.links.Inbox.{Inbox}
-use Rattle.record.specs.declared.image.SavedEnd.{SavedEnd}
-use Rattle.kahn_net.specs.declared.limits.TheConstants.{MAX_COUNT}
 
 -- this process gets from the channel, or puts on it
 abbrev pub is_consumer : ℕ → Option Channel → Bool

@@ -1,7 +1,6 @@
 -- A job without pointers: two jobs are the same where these are equal.
 use Rattle.std.specs.Prelude.{ℕ, ℤ, List, Option}
-use Rattle.kahn_net.specs.Syntax.{Code}
-use Rattle.kahn_net.specs.Processes.{Standing}
+use Rattle.ckpt_codec.specs.Common.{Code, Standing}
 
 pub record JobView : Type 0 where
   pub process : ℕ

@@ -1,10 +1,7 @@
 -- What of a network lies on a node: its processes, and its ends of channels.
 use Rattle.std.specs.Prelude.{ℕ, zero, suc, Bool, true, false, ◌==◌, ◌||◌, ◌&&◌, not, if◌then◌else◌}
 use Rattle.std.specs.Prelude.{List, [], ◌∷◌, length, Option, Some, None, option_map, slice_get}
-use Rattle.kahn_net.specs.Syntax.{Code, Network}
-use Rattle.kahn_net.specs.declared.program.Channel.{Channel}
-use Rattle.kahn_net.specs.declared.program.Port.{Port}
-use Rattle.kahn_net.specs.declared.program.Port.TheVariants.{Outside, Process}
+use Rattle.ckpt_codec.specs.Common.{Code, Network, Channel, Port, Outside, Process}
 
 -- of so many numbers from a first one on, those that pass a test
 abbrev pub numbers_where : (ℕ → Bool) → ℕ → ℕ → List ℕ

@@ -1,8 +1,7 @@
 -- In which mode a node is, and how it goes down.
 use Rattle.std.specs.Prelude.{ℕ, ◌+◌, nat_lt, if◌then◌else◌, Bool, true, false, Option, Some, None}
-use Rattle.record.specs.RecordView.{RecordView}
+use Rattle.ckpt_codec.specs.Common.{RecordView, MAX_COUNT}
 use Rattle.protocol.specs.Node.NodeView.{NodeView, ModeView, Down, InDoubt, Runs, RunningNode}
-use Rattle.kahn_net.specs.declared.limits.TheConstants.{MAX_COUNT}
 
 -- nothing is there
 abbrev pub is_none : {A : Type 0} → Option A → Bool

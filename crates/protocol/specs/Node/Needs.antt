@@ -2,10 +2,7 @@
 use Rattle.std.specs.Prelude.{ℕ, zero, suc, nat_lt, Bool, true, false, ◌&&◌, List, [], ◌∷◌, length, map, Option, Some}
 use Rattle.std.specs.Prelude.{None}
 use Rattle.datagram.specs.declared.packet.Need.{Need}
-use Rattle.kahn_net.specs.Syntax.{Network}
-use Rattle.record.specs.Ends.{received_of}
-use Rattle.record.specs.ImageView.{ImageView}
-use Rattle.record.specs.declared.record.Tentative.{Tentative}
+use Rattle.ckpt_codec.specs.Common.{Network, received_of, ImageView, Tentative}
 use Rattle.recovery_line.specs.Nodes.{Awaited}
 use Rattle.protocol.specs.Node.Layout.{is_incoming, numbers_where}
 use Rattle.protocol.specs.Node.LiveView.{QuestionView}

@@ -1,7 +1,6 @@
 -- A node without pointers, its store aside.
 use Rattle.std.specs.Prelude.{ℕ, List, Option, Some, None}
-use Rattle.record.specs.ImageView.{ImageView}
-use Rattle.record.specs.RecordView.{RecordView}
+use Rattle.ckpt_codec.specs.Common.{ImageView, RecordView}
 use Rattle.protocol.specs.Node.JobView.{JobView}
 use Rattle.protocol.specs.Node.LiveView.{LiveView}
 use Rattle.protocol.specs.declared.armed_restart.ArmedRestart.{ArmedRestart}

@@ -1,19 +1,15 @@
 -- A node before its first event.
 use Rattle.std.specs.Prelude.{ℕ, suc, Bool, true, false, ◌==◌, if◌then◌else◌, List, [], ◌∷◌, map, replicate, Some, None}
-use Rattle.kahn_net.specs.Syntax.{Code, Network}
+use Rattle.ckpt_codec.specs.Common.{Code, Network, Channel, SavedProcessView, ImageView, RecordView, SavedEnd}
+use Rattle.ckpt_codec.specs.Common.{Receives, Sends}
 use Rattle.kahn_net.specs.Processes.{NotBegun}
-use Rattle.kahn_net.specs.declared.program.Channel.{Channel}
-use Rattle.record.specs.ProcessView.{SavedProcessView}
-use Rattle.record.specs.ImageView.{ImageView}
-use Rattle.record.specs.RecordView.{RecordView}
 use Rattle.protocol.specs.Node.Layout.{port_on, channel_on, incoming_on, outgoing_on}
 use Rattle.protocol.specs.Node.NodeView.{NodeView, Runs, RunningNode}
 use Rattle.protocol.specs.declared.limits.TheConstants.{WINDOW}
 use Rattle.protocol.specs.declared.links.Inbox.{Inbox}
 use Rattle.protocol.specs.declared.links.Outbox.{Outbox}
-use Rattle.record.specs.declared.image.SavedEnd.{SavedEnd}
 use Rattle.record.specs.declared.image.End.{End}
-use Rattle.record.specs.declared.image.End.TheVariants.{Receives, Sends, Both}
+use Rattle.record.specs.declared.image.End.TheVariants.{Both}
 
 -- none of the node's processes has begun
 abbrev pub opening_processes : ℕ → ℕ → List Code → List SavedProcessView

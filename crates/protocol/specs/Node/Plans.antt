@@ -3,7 +3,7 @@
 use Rattle.std.specs.Prelude.{◌≡◌, ◌⊎◌, ℕ, ◌<◌, Bool, true, false, IsTrue, if◌then◌else◌, List, [], Result, Ok, Err}
 use Rattle.std.specs.declared.alloc.AllocError.{AllocError}
 use Rattle.datagram.specs.declared.packet.Packet.{Packet}
-use Rattle.record.specs.RecordView.{RecordView}
+use Rattle.ckpt_codec.specs.Common.{RecordView}
 use Rattle.protocol.specs.Node.NodeView.{NodeView}
 use Rattle.protocol.specs.Node.Modes.{crashed, with_kept}
 use Rattle.protocol.specs.declared.outcome.Outcome.{Outcome}

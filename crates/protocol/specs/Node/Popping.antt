@@ -1,7 +1,7 @@
 -- What comes out of the window of an inbox in turn.
 use Rattle.std.specs.Prelude.{ℕ, ◌-◌, ◌&&◌, nat_lt, min, Bool, ℤ, List, length, take, Option}
-use Rattle.kahn_net.specs.declared.limits.TheConstants.{MAX_COUNT}
-use Rattle.retained.specs.LogState.{LogState, log_end}
+use Rattle.ckpt_codec.specs.Common.{MAX_COUNT, LogState}
+use Rattle.retained.specs.LogState.{log_end}
 use Rattle.record.specs.Changes.{log_with}
 use Rattle.window_link.specs.Windows.{popped_times, ready_items}
 use Rattle.protocol.specs.declared.links.Inbox.{Inbox}

@@ -2,18 +2,14 @@
 -- network's histories.
 use Rattle.std.specs.Prelude.{◌≡◌, ℕ, ◌≤◌, ◌==◌, Bool, true, false, ℤ, List, [], map, length, take, drop, find, Option}
 use Rattle.std.specs.Prelude.{Some, None, slice_get, slice_index}
-use Rattle.kahn_net.specs.Streams.{history_of, IsPrefix}
-use Rattle.kahn_net.specs.Syntax.{Code, Network}
-use Rattle.kahn_net.specs.Statements.{Step}
-use Rattle.kahn_net.specs.Processes.{Standing, StandsAt, process_trace, sent_on, got_on}
-use Rattle.kahn_net.specs.Approximations.{approximation}
-use Rattle.kahn_net.specs.declared.program.Channel.{Channel}
-use Rattle.kahn_net.specs.declared.program.Port.TheVariants.{Outside, Process}
+use Rattle.ckpt_codec.specs.Common.{history_of, IsPrefix, Code, Network, Standing, approximation, Channel, Outside}
+use Rattle.ckpt_codec.specs.Common.{Process, LogState, SavedProcessView, ImageView, received_of, SavedEnd, Receives}
+use Rattle.ckpt_codec.specs.Common.{Sends, Tentative, MAX_COUNT}
+use Rattle.kahn_net.specs.Common.{Step, StandsAt, process_trace, sent_on}
+use Rattle.kahn_net.specs.Processes.{got_on}
 use Rattle.proc_step.specs.Turns.{IsTurn}
-use Rattle.retained.specs.LogState.{LogState, IsLogOf, IsInLog, log_end}
-use Rattle.record.specs.ProcessView.{SavedProcessView}
-use Rattle.record.specs.ImageView.{ImageView}
-use Rattle.record.specs.Ends.{received_at, received_of, log_at}
+use Rattle.retained.specs.LogState.{IsLogOf, IsInLog, log_end}
+use Rattle.record.specs.Ends.{received_at, log_at}
 use Rattle.ckpt_codec.specs.RecordText.{role_of}
 use Rattle.window_link.specs.Laws.Holding.{HoldsOf}
 use Rattle.protocol.specs.Node.JobView.{JobView}
@@ -21,14 +17,11 @@ use Rattle.protocol.specs.Node.Layout.{role_here, processes_on, ends_on, incomin
 use Rattle.protocol.specs.Node.NodeView.{RunningNode}
 use Rattle.protocol.specs.Node.Sharing.{log_share, IsWithinShare}
 use Rattle.protocol.specs.Node.Granting.{items_from, room_from}
-use Rattle.record.specs.declared.image.SavedEnd.{SavedEnd}
 use Rattle.record.specs.declared.image.End.{End}
-use Rattle.record.specs.declared.image.End.TheVariants.{Receives, Sends, Both}
-use Rattle.record.specs.declared.record.Tentative.{Tentative}
+use Rattle.record.specs.declared.image.End.TheVariants.{Both}
 use Rattle.protocol.specs.declared.links.Inbox.{Inbox}
 use Rattle.protocol.specs.declared.links.Outbox.{Outbox}
 use Rattle.protocol.specs.declared.limits.TheConstants.{MAX_INBOX_ITEMS}
-use Rattle.kahn_net.specs.declared.limits.TheConstants.{MAX_COUNT}
 
 -- the first m acts of a process on these histories
 abbrev pub first_acts : Option Code → List (List ℤ) → ℕ → List Step

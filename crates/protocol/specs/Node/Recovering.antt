@@ -1,12 +1,7 @@
 -- How a node crashes, and how it comes back.
 use Rattle.std.specs.Prelude.{◌≤◌, ℕ, nat_lt, not, true, false, [], map, replicate, Option, Some, None}
-use Rattle.kahn_net.specs.Syntax.{Network}
-use Rattle.kahn_net.specs.declared.limits.TheConstants.{MAX_COUNT}
-use Rattle.record.specs.Ends.{received_of, sent_of}
-use Rattle.record.specs.ImageView.{ImageView}
-use Rattle.record.specs.Moves.{with_epoch}
-use Rattle.record.specs.RecordView.{RecordView}
-use Rattle.record.specs.declared.record.Tentative.{Tentative}
+use Rattle.ckpt_codec.specs.Common.{Network, MAX_COUNT, received_of, sent_of, ImageView, with_epoch, RecordView}
+use Rattle.ckpt_codec.specs.Common.{Tentative}
 use Rattle.protocol.specs.Node.Layout.{incoming_on, outgoing_on}
 use Rattle.protocol.specs.Node.Modes.{is_down, crashed, with_kept}
 use Rattle.protocol.specs.Node.NodeView.{NodeView, ModeView, InDoubt, Runs, RunningView, with_mode}

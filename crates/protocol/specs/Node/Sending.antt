@@ -1,10 +1,9 @@
 -- What a node says to the others of the channels between them.
 use Rattle.std.specs.Prelude.{ℕ, suc, max, List, [], ◌∷◌, ℤ, take, Option, Some, None}
 use Rattle.std.specs.Prelude.{FitsSigned}
-use Rattle.kahn_net.specs.Syntax.{Network}
-use Rattle.retained.specs.LogState.{LogState, items_since}
-use Rattle.record.specs.Ends.{received_of, log_of}
-use Rattle.record.specs.ImageView.{ImageView}
+use Rattle.ckpt_codec.specs.Common.{Network, LogState, received_of, ImageView}
+use Rattle.retained.specs.LogState.{items_since}
+use Rattle.record.specs.Ends.{log_of}
 use Rattle.std.specs.Int.{w64}
 use Rattle.datagram.specs.PacketText.{IsPacket}
 use Rattle.datagram.specs.declared.packet.Packet.{Packet}

@@ -2,12 +2,10 @@
 -- the room that the world gives a channel.
 use Rattle.std.specs.Prelude.{ℕ, ◌≤◌, ◌/◌, min, Bool, true, false, length}
 use Rattle.std.specs.List.{count_by}
-use Rattle.retained.specs.LogState.{LogState, log_end}
-use Rattle.record.specs.ImageView.{ImageView}
-use Rattle.record.specs.declared.image.SavedEnd.{SavedEnd}
+use Rattle.ckpt_codec.specs.Common.{LogState, ImageView, SavedEnd, Receives, Sends, MAX_COUNT}
+use Rattle.retained.specs.LogState.{log_end}
 use Rattle.record.specs.declared.image.End.{End}
-use Rattle.record.specs.declared.image.End.TheVariants.{Receives, Sends, Both}
-use Rattle.kahn_net.specs.declared.limits.TheConstants.{MAX_COUNT}
+use Rattle.record.specs.declared.image.End.TheVariants.{Both}
 use Rattle.ckpt_codec.specs.declared.lengths.TheConstants.{MAX_RETAINED_ITEMS}
 use Rattle.protocol.specs.declared.limits.TheConstants.{MIN_ROOM}
 

@@ -1,10 +1,8 @@
 -- A node's record with what the node has now as a tentative image of its own, and the order of a node's images.
 use Rattle.std.specs.Prelude.{◌≡◌, ℕ, ◌+◌, ◌≤◌, Option, Some, None}
-use Rattle.record.specs.ImageView.{ImageView}
-use Rattle.record.specs.Ends.{received_of, base_of, sent_of}
-use Rattle.record.specs.RecordView.{RecordView}
-use Rattle.record.specs.Moves.{highest_seen, with_tentative}
-use Rattle.record.specs.declared.record.Tentative.{Tentative}
+use Rattle.ckpt_codec.specs.Common.{ImageView, received_of, sent_of, RecordView, highest_seen, with_tentative}
+use Rattle.ckpt_codec.specs.Common.{Tentative}
+use Rattle.record.specs.Common.{base_of}
 use Rattle.ckpt_store.specs.Spelling.{IsLike}
 use Rattle.protocol.specs.Node.NodeView.{NodeView, RunningNode, running_of}
 

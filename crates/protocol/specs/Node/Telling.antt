@@ -4,12 +4,7 @@ use Rattle.std.specs.Prelude.{None}
 use Rattle.std.specs.List.{flat_map}
 use Rattle.datagram.specs.declared.packet.Body.TheVariants.{Kept, Query, Undone}
 use Rattle.datagram.specs.declared.packet.Packet.{Packet}
-use Rattle.kahn_net.specs.Syntax.{Network}
-use Rattle.record.specs.DecisionView.{DecisionView}
-use Rattle.record.specs.Ends.{received_of}
-use Rattle.record.specs.ImageView.{ImageView}
-use Rattle.record.specs.RecordView.{RecordView}
-use Rattle.record.specs.declared.record.Tentative.{Tentative}
+use Rattle.ckpt_codec.specs.Common.{Network, DecisionView, received_of, ImageView, RecordView, Tentative}
 use Rattle.protocol.specs.Node.Beginning.{live_asks}
 use Rattle.protocol.specs.Node.Verdicts.{commit_to}
 use Rattle.protocol.specs.Node.Addresses.{producer_node, consumer_node}

@@ -1,8 +1,8 @@
 -- A log of an image without what has left the system, and how one item leaves.
 use Rattle.std.specs.Prelude.{◌≡◌, ℕ, ◌+◌, ◌++◌, ℤ, List, [], length, Option, Some, None}
-use Rattle.retained.specs.LogState.{LogState, items_at}
+use Rattle.ckpt_codec.specs.Common.{LogState, ImageView}
+use Rattle.retained.specs.LogState.{items_at}
 use Rattle.outlet.specs.Released.{CanRelease}
-use Rattle.record.specs.ImageView.{ImageView}
 use Rattle.record.specs.Changes.{trimmed_image}
 use Rattle.record.specs.Ends.{log_of}
 use Rattle.protocol.specs.Node.NodeView.{NodeView, ModeView, Down, InDoubt, Runs, RunningView, RunningNode, on_running}

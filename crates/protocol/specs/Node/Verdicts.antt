@@ -5,9 +5,8 @@ use Rattle.std.specs.Prelude.{Some, None}
 use Rattle.std.specs.List.{list_all}
 use Rattle.datagram.specs.declared.packet.Body.TheVariants.{Commit, Ended, Settled}
 use Rattle.datagram.specs.declared.packet.Packet.{Packet}
-use Rattle.kahn_net.specs.Syntax.{Network}
-use Rattle.record.specs.Moves.{highest_seen, with_decision, with_permanent, without_tentative, with_confirmed}
-use Rattle.record.specs.RecordView.{RecordView}
+use Rattle.ckpt_codec.specs.Common.{Network, highest_seen, with_decision, with_permanent, without_tentative}
+use Rattle.ckpt_codec.specs.Common.{with_confirmed, RecordView}
 use Rattle.recovery_line.specs.Observers.{decides, has_node, names}
 use Rattle.protocol.specs.Node.Answering.{holds}
 use Rattle.protocol.specs.Node.Beginning.{collecting, live_in}

@@ -1,6 +1,6 @@
 -- The same event, made twice of one world: where no device and no outlet fails, it comes out the same.
 use Rattle.std.specs.Prelude.{◌≡◌, Bool, List}
-use Rattle.record.specs.RecordView.{RecordView}
+use Rattle.ckpt_codec.specs.Common.{RecordView}
 use Rattle.protocol.specs.World.EventView.{EventView}
 use Rattle.protocol.specs.World.ReplyView.{ReplyView}
 use Rattle.protocol.specs.declared.reply.Reply.TheVariants as reply

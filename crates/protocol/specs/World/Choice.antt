@@ -1,15 +1,12 @@
 -- Which event is next for a node: the first one of a list that is due.
 use Rattle.std.specs.Prelude.{◌==◌, ℕ, ◌%◌, nat_le, nat_lt, Bool, false, ◌&&◌, ◌||◌, not, if◌then◌else◌, List, [], ◌∷◌}
 use Rattle.std.specs.Prelude.{length, Option, Some, None, is_some, option_map, slice_get, ℤ}
-use Rattle.kahn_net.specs.Syntax.{Network}
-use Rattle.record.specs.ImageView.{ImageView}
-use Rattle.record.specs.Ends.{received_of, sent_of}
+use Rattle.ckpt_codec.specs.Common.{Network, ImageView, received_of, sent_of, SavedEnd}
 use Rattle.protocol.specs.Node.Choosing.{node_job}
 use Rattle.protocol.specs.Node.NodeView.{RunningNode, running_of}
 use Rattle.protocol.specs.Node.Beginning.{live_in, may_start}
 use Rattle.protocol.specs.Node.Verdicts.{may_decide}
 use Rattle.protocol.specs.Node.Modes.{is_none, is_down}
-use Rattle.record.specs.declared.image.SavedEnd.{SavedEnd}
 use Rattle.std.specs.List.{position_from}
 use Rattle.wire.specs.declared.queue.Flight.{Flight}
 use Rattle.wire.specs.Queue.{is_due}

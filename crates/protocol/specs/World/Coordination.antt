@@ -6,7 +6,7 @@ use Rattle.datagram.specs.PacketText.{IsPacketText}
 use Rattle.datagram.specs.Reading.{whole_at}
 use Rattle.datagram.specs.declared.packet.Body.TheVariants as says
 use Rattle.datagram.specs.declared.packet.Packet.{Packet as Datagram}
-use Rattle.kahn_net.specs.Syntax.{Network}
+use Rattle.ckpt_codec.specs.Common.{Network}
 use Rattle.wire.specs.Traffic.{Traffic, flights_to}
 use Rattle.wire.specs.declared.queue.Flight.{Flight}
 use Rattle.recovery_line.specs.Images.{Image, Net, IsCross}

@@ -1,9 +1,7 @@
 -- What a crash may leave covers what has left the system.
 use Rattle.std.specs.Prelude.{◌≡◌, ◌⊎◌, ℕ, ◌≤◌, List, length, Some, slice_get}
 use Rattle.gate_cell.specs.Whole.{Whole}
-use Rattle.record.specs.ImageView.{ImageView}
-use Rattle.record.specs.RecordView.{RecordView}
-use Rattle.record.specs.Ends.{sent_of}
+use Rattle.ckpt_codec.specs.Common.{ImageView, RecordView, sent_of}
 use Rattle.ckpt_store.specs.Spelling.{Spells, SpellsSome}
 use Rattle.protocol.specs.World.OutputView.{OutputView}
 

@@ -1,7 +1,6 @@
 -- What came of a job, without pointers.
 use Rattle.std.specs.Prelude.{◌≡◌, ℕ, ℤ, List, Some}
-use Rattle.kahn_net.specs.Syntax.{Code}
-use Rattle.kahn_net.specs.Processes.{Standing}
+use Rattle.ckpt_codec.specs.Common.{Code, Standing}
 use Rattle.proc_step.specs.Turns.{IsTurn}
 use Rattle.protocol.specs.Node.JobView.{JobView}
 

@@ -1,6 +1,6 @@
 -- Events without pointers.
 use Rattle.std.specs.Prelude.{ℕ, Option, Some, None}
-use Rattle.kahn_net.specs.Syntax.{Code}
+use Rattle.ckpt_codec.specs.Common.{Code}
 use Rattle.protocol.specs.World.DoneView.{DoneView}
 use Rattle.protocol.specs.declared.event.Deed.{Deed}
 use Rattle.protocol.specs.declared.event.NetworkAct.{NetworkAct}

@@ -1,7 +1,7 @@
 -- Outputs only grow.
 use Rattle.std.specs.Prelude.{◌≡◌, ℕ, List, length, Some, slice_get}
 use Rattle.protocol.specs.World.OutputView.{OutputView}
-use Rattle.kahn_net.specs.Streams.{IsPrefix}
+use Rattle.ckpt_codec.specs.Common.{IsPrefix}
 
 -- the same outputs, and each has what it had, and then more
 pub record EachBegins (old new : List OutputView) : Type 0 where

@@ -1,8 +1,6 @@
 -- What has left the system is right: of each output, a prefix of its channel's history in one approximation.
 use Rattle.std.specs.Prelude.{◌≡◌, ℕ, ℤ, List, Some, slice_get}
-use Rattle.kahn_net.specs.Streams.{history_of, IsPrefix}
-use Rattle.kahn_net.specs.Syntax.{Network}
-use Rattle.kahn_net.specs.Approximations.{approximation}
+use Rattle.ckpt_codec.specs.Common.{history_of, IsPrefix, Network, approximation}
 use Rattle.protocol.specs.World.Invariant.{outputs_of}
 use Rattle.protocol.specs.World.OutputView.{OutputView}
 use Rattle.protocol.specs.World.StationView.{StationView}

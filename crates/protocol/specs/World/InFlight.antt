@@ -2,7 +2,7 @@
 -- bytes, and all packets that are sent pass too, they all pass after each event. So it holds of the test whether a
 -- packet was sent ever before: nothing is made up.
 use Rattle.std.specs.Prelude.{◌≡◌, ℕ, Bool, true, if◌then◌else◌, List, [], Option, Some, All, IsTrue, slice_get}
-use Rattle.record.specs.RecordView.{RecordView}
+use Rattle.ckpt_codec.specs.Common.{RecordView}
 use Rattle.wire.specs.Queue.{AllPackets}
 use Rattle.wire.specs.Traffic.{Traffic, flights_to, opening_traffic}
 use Rattle.wire.specs.declared.sending.Sending.{Sending}

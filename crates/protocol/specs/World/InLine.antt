@@ -1,7 +1,6 @@
 -- What a crash at a moment of an event leaves: its line is in order, and checkpoints are coordinated there too.
 use Rattle.std.specs.Prelude.{◌≡◌, ◌≢◌, ◌⊎◌, ℕ, ◌≤◌, Bool, true, false, List, [], None}
-use Rattle.kahn_net.specs.Syntax.{Network}
-use Rattle.record.specs.RecordView.{RecordView}
+use Rattle.ckpt_codec.specs.Common.{Network, RecordView}
 use Rattle.recovery_line.specs.Images.{Image, Net}
 use Rattle.recovery_line.specs.Laws.{NamesTheNeeded}
 use Rattle.recovery_line.specs.Line.{Sound, Covers, NoOrphan, NotBehind, Over, line_with}

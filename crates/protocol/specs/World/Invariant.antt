@@ -1,9 +1,7 @@
 -- What is true of a world, whatever events came before.
 use Rattle.std.specs.Prelude.{◌≡◌, ◌<◌, ℕ, ℤ, List, length, map, Some, slice_get}
-use Rattle.kahn_net.specs.Fits.{Fits}
-use Rattle.kahn_net.specs.Nodes.{node_count}
-use Rattle.kahn_net.specs.Syntax.{Network}
-use Rattle.kahn_net.specs.Valid.{IsValid}
+use Rattle.kahn_net.specs.Common.{Fits, IsValid}
+use Rattle.ckpt_codec.specs.Common.{node_count, Network}
 use Rattle.protocol.specs.Node.NodeView.{RunningNode, running_of}
 use Rattle.protocol.specs.Node.Starting.{AreInOrder}
 use Rattle.protocol.specs.Join.Joined.{IsJoined}

@@ -1,7 +1,6 @@
 -- A world before its first event.
 use Rattle.std.specs.Prelude.{ℕ, suc, ℤ, List, [], ◌∷◌, map, filter, None}
-use Rattle.kahn_net.specs.Nodes.{node_count}
-use Rattle.kahn_net.specs.Syntax.{Network}
+use Rattle.ckpt_codec.specs.Common.{node_count, Network}
 use Rattle.protocol.specs.Node.Opening.{opening_node}
 use Rattle.protocol.specs.World.Sound.{is_output}
 use Rattle.protocol.specs.World.StationView.{OutletView, StationView}

@@ -1,21 +1,14 @@
 -- A world in which nothing is left to do.
 use Rattle.std.specs.Prelude.{◌≡◌, ◌==◌, ℕ, nat_le, Bool, true, false, ◌&&◌, ℤ, List, [], ◌∷◌, length, Option, Some}
 use Rattle.std.specs.Prelude.{None, slice_get}
-use Rattle.kahn_net.specs.Streams.{history_of}
-use Rattle.kahn_net.specs.Syntax.{Code, Network}
-use Rattle.kahn_net.specs.NextActs.{Next, Begins, Gets, Puts, NoNext}
-use Rattle.kahn_net.specs.Approximations.{approximation, IsReached}
-use Rattle.kahn_net.specs.declared.program.Channel.{Channel}
-use Rattle.kahn_net.specs.declared.program.Port.{Port}
-use Rattle.kahn_net.specs.declared.program.Port.TheVariants.{Outside, Process}
-use Rattle.record.specs.ProcessView.{SavedProcessView}
-use Rattle.record.specs.ImageView.{ImageView}
+use Rattle.ckpt_codec.specs.Common.{history_of, Code, Network, approximation, Channel, Port, Outside, Process}
+use Rattle.ckpt_codec.specs.Common.{SavedProcessView, ImageView, received_of, sent_of, SavedEnd}
+use Rattle.kahn_net.specs.Common.{Next, Gets, Puts, NoNext, IsReached}
+use Rattle.kahn_net.specs.NextActs.{Begins}
 use Rattle.protocol.specs.Node.NodeView.{RunningNode, running_of}
-use Rattle.record.specs.Ends.{received_of, sent_of}
 use Rattle.protocol.specs.Node.Choosing.{next_at}
 use Rattle.protocol.specs.Node.Modes.{is_none}
 use Rattle.std.specs.List.{list_all}
-use Rattle.record.specs.declared.image.SavedEnd.{SavedEnd}
 use Rattle.protocol.specs.World.Invariant.{outputs_of}
 use Rattle.protocol.specs.World.OutputView.{OutputView}
 use Rattle.protocol.specs.World.StationView.{StationView}

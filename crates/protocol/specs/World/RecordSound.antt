@@ -1,16 +1,9 @@
 -- What is true of a node's record with its outputs, in whatever mode the node is: it can start again from it.
 use Rattle.std.specs.Prelude.{◌≡◌, ℕ, ◌≤◌, ℤ, List, map, length, Some, slice_get}
-use Rattle.kahn_net.specs.Streams.{IsPrefix}
-use Rattle.kahn_net.specs.Syntax.{Network}
-use Rattle.kahn_net.specs.Processes.{sent_on}
-use Rattle.kahn_net.specs.Approximations.{approximation}
-use Rattle.kahn_net.specs.declared.limits.TheConstants.{MAX_COUNT}
-use Rattle.kahn_net.specs.declared.program.Channel.{Channel}
-use Rattle.kahn_net.specs.declared.program.Port.TheVariants.{Process}
-use Rattle.record.specs.Ends.{base_of, sent_of}
-use Rattle.record.specs.ImageView.{ImageView}
-use Rattle.record.specs.RecordView.{RecordView}
-use Rattle.record.specs.declared.record.Tentative.{Tentative}
+use Rattle.ckpt_codec.specs.Common.{IsPrefix, Network, approximation, MAX_COUNT, Channel, Process, sent_of, ImageView}
+use Rattle.ckpt_codec.specs.Common.{RecordView, Tentative}
+use Rattle.kahn_net.specs.Common.{sent_on}
+use Rattle.record.specs.Common.{base_of}
 use Rattle.ckpt_codec.specs.SizeLaws.{IsRecordWithin}
 use Rattle.ckpt_codec.specs.declared.lengths.TheConstants.{MAX_RETAINED_ITEMS}
 use Rattle.protocol.specs.Node.Reached.{ImageStands, IsAsFar, IsLaidOut, CountsAreWithin, LogsAreWithin, acts_of}

@@ -3,8 +3,7 @@
 -- be in order.
 use Rattle.std.specs.Prelude.{◌≡◌, ◌⊎◌, ◌==◌, if◌then◌else◌, ℕ, List, [], ◌∷◌, map, length, Option, Some, None}
 use Rattle.std.specs.Prelude.{slice_get}
-use Rattle.kahn_net.specs.Syntax.{Network}
-use Rattle.record.specs.RecordView.{RecordView}
+use Rattle.ckpt_codec.specs.Common.{Network, RecordView}
 use Rattle.recovery_line.specs.Images.{Net}
 use Rattle.recovery_line.specs.Line.{NotBehind}
 use Rattle.recovery_line.specs.Observers.{record_seen}

@@ -1,9 +1,6 @@
 -- What has left the system by an output.
 use Rattle.std.specs.Prelude.{◌≡◌, ◌==◌, ℕ, ◌≤◌, ℤ, List, [], ◌∷◌, find, length, Option, Some, None, slice_get, IsTrue}
-use Rattle.kahn_net.specs.Streams.{history_of, IsPrefix}
-use Rattle.kahn_net.specs.Syntax.{Network}
-use Rattle.kahn_net.specs.Approximations.{approximation}
-use Rattle.record.specs.Ends.{sent_of}
+use Rattle.ckpt_codec.specs.Common.{history_of, IsPrefix, Network, approximation, sent_of}
 use Rattle.protocol.specs.World.Sound.{is_output}
 use Rattle.protocol.specs.World.StationView.{OutletView, StationView}
 

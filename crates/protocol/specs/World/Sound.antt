@@ -1,20 +1,15 @@
 -- What is true of a node with its outputs, whatever events came before.
 use Rattle.std.specs.Prelude.{◌≡◌, ℕ, suc, ◌≤◌, Bool, true, false, ◌&&◌, if◌then◌else◌, ℤ, List, [], ◌∷◌, map, length}
 use Rattle.std.specs.Prelude.{Option, Some, None, slice_get}
-use Rattle.kahn_net.specs.Syntax.{Network}
-use Rattle.kahn_net.specs.Processes.{sent_on}
-use Rattle.kahn_net.specs.Approximations.{approximation}
-use Rattle.kahn_net.specs.declared.program.Channel.{Channel}
-use Rattle.kahn_net.specs.declared.program.Port.{Port}
-use Rattle.kahn_net.specs.declared.program.Port.TheVariants.{Outside, Process}
+use Rattle.ckpt_codec.specs.Common.{Network, approximation, Channel, Port, Outside, Process, sent_of, IsPrefix}
+use Rattle.kahn_net.specs.Common.{sent_on}
 use Rattle.protocol.specs.Node.JobView.{JobView}
 use Rattle.protocol.specs.Node.Layout.{numbers_where, port_on}
 use Rattle.protocol.specs.Node.NodeView.{RunningNode}
-use Rattle.record.specs.Ends.{base_of, sent_of}
+use Rattle.record.specs.Common.{base_of}
 use Rattle.protocol.specs.Node.Reached.{HasReached, IsLaidOut, LinksAreLaidOut, CountsAreWithin, LogsAreWithin}
 use Rattle.protocol.specs.Node.Reached.{InboxesStand, IsJobOf, acts_of}
 use Rattle.protocol.specs.World.OutputView.{OutputView}
-use Rattle.kahn_net.specs.Streams.{IsPrefix}
 
 -- items go outside there
 abbrev pub goes_outside : Port → Bool

@@ -7,12 +7,7 @@
 -- failed, and whether the record was put all the same.
 use Rattle.std.specs.Prelude.{◌≡◌, ◌⊎◌, ◌==◌, ℕ, ◌+◌, nat_lt, Bool, true, false, ◌&&◌, ◌||◌, not, if◌then◌else◌, ℤ}
 use Rattle.std.specs.Prelude.{List, [], ◌∷◌, length, Option, Some, None, slice_get, slice_set, All, map, is_some}
-use Rattle.kahn_net.specs.Syntax.{Network}
-use Rattle.kahn_net.specs.declared.program.Channel.{Channel}
-use Rattle.retained.specs.LogState.{LogState}
-use Rattle.record.specs.Ends.{sent_of}
-use Rattle.record.specs.Moves.{with_epoch}
-use Rattle.record.specs.RecordView.{RecordView}
+use Rattle.ckpt_codec.specs.Common.{Network, Channel, LogState, sent_of, with_epoch, RecordView}
 use Rattle.datagram.specs.PacketText.{IsPacket, packet_text}
 use Rattle.datagram.specs.declared.packet.Packet.{Packet}
 use Rattle.wire.specs.Queue.{is_due}

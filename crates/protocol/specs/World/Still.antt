@@ -2,9 +2,8 @@
 use Rattle.std.specs.Prelude.{◌==◌, ◌*◌, ℕ, nat_le, Bool, false, ◌&&◌, not, if◌then◌else◌, min, ℤ, List, length, Option}
 use Rattle.std.specs.Prelude.{Some, None, is_some, slice_get}
 use Rattle.std.specs.List.{list_all, list_any}
-use Rattle.kahn_net.specs.Syntax.{Network}
-use Rattle.record.specs.Ends.{base_of, received_of}
-use Rattle.record.specs.ImageView.{ImageView}
+use Rattle.ckpt_codec.specs.Common.{Network, received_of, ImageView}
+use Rattle.record.specs.Common.{base_of}
 use Rattle.ckpt_codec.specs.declared.lengths.TheConstants.{MAX_RETAINED_ITEMS}
 use Rattle.protocol.specs.Node.Addresses.{consumer_node, producer_node}
 use Rattle.protocol.specs.Node.Choosing.{node_job}

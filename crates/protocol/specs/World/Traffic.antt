@@ -1,7 +1,7 @@
 -- What may be in flight between the nodes of a network: packets that name what there is, and items that belong.
 use Rattle.std.specs.Prelude.{◌≡◌, ℕ, ℤ, List, All, IsTrue}
-use Rattle.kahn_net.specs.Approximations.{Belongs}
-use Rattle.kahn_net.specs.Syntax.{Network}
+use Rattle.kahn_net.specs.Common.{Belongs}
+use Rattle.ckpt_codec.specs.Common.{Network}
 use Rattle.datagram.specs.PacketText.{IsPacketText}
 use Rattle.datagram.specs.declared.packet.Body.{Body}
 use Rattle.datagram.specs.declared.packet.Body.TheVariants.{Data}

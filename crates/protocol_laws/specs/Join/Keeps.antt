@@ -13,9 +13,8 @@ use Rattle.protocol.specs.Node.Common.{ImageView, highest_seen, with_tentative, 
 use Rattle.protocol.specs.Node.Common.{with_confirmed, with_epoch, RecordView, Tentative, MAX_DECISIONS, with_answer}
 use Rattle.protocol.specs.Node.Common.{with_needs, joined_live, question_on, participants_of, is_incoming}
 use Rattle.protocol.specs.Node.Common.{QuestionView, LiveView, RunningNode, LinksAreLaidOut}
-use Rattle.record.specs.Moves.{without_own, decided_by, decided_below, decision_by}
-use Rattle.record.specs.Moves.{confirmed}
-use Rattle.record.specs.Moves.{confirmed_one, without_node}
+use Rattle.ckpt_codec.specs.Common.{without_own, decided_by, decided_below, decision_by, confirmed}
+use Rattle.record.specs.Common.{confirmed_one, without_node}
 use Rattle.ckpt_codec.specs.SizeLaws.{confirmed_no_more}
 use Rattle.recovery_line.proofs.Basics.{one_inside, same_or_other, some_not_none}
 use Rattle.protocol.specs.World.Common.{Answer, By_took, By_covered, has_node, LiveIsSound, MayBeAskedFor, need_of}

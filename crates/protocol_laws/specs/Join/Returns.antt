@@ -7,7 +7,7 @@ use Rattle.std.proofs.lemmas.Bool.{eqb-true, eq-eqb}
 use Rattle.protocol.specs.Node.Common.{Network, MAX_COUNT, with_epoch, RecordView, set_back_to, is_down, crashed}
 use Rattle.protocol.specs.Node.Common.{ModeView, Down, InDoubt, Runs, RunningView, becoming, if_due, putting}
 use Rattle.protocol.specs.Node.Common.{unless_spent, recover_prospect, restored, restored_mode}
-use Rattle.record.specs.Moves.{without_own}
+use Rattle.ckpt_codec.specs.Common.{without_own}
 use Rattle.record.specs.declared.record.Tentative.{Tentative as HeldImage}
 use Rattle.recovery_line.proofs.Basics.{some_not_none, one_inside}
 use Rattle.recovery_line.proofs.Observing.{epoch_drops_own, epoch_is_not_seen}

@@ -9,7 +9,7 @@ use Rattle.protocol.specs.Node.Common.{received_of, received_at, log_at, base_in
 use Rattle.protocol.specs.Node.Common.{ImageView, End, Receives, Sends, Both, SavedEnd, LogState, log_end, taken_from}
 use Rattle.protocol.specs.Node.Common.{put_on, saved_pushed, saved_counted, installed, producer_of, consumer_of}
 use Rattle.protocol.specs.Node.Common.{has_process, has_end, port_on, role_by, IsLaidOut, CountsAreWithin}
-use Rattle.record.specs.Changes.{pushed, counted}
+use Rattle.ckpt_codec.specs.Common.{pushed, counted}
 use Rattle.recovery_line.specs.Images.{IsLocal}
 use Rattle.protocol.specs.World.Common.{Mode, NodeStep, image_seen, Record, net_seen}
 use Rattle.recovery_line.specs.Nodes.{LetsGoOfGot, Live, Work}

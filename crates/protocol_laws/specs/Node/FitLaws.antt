@@ -22,7 +22,7 @@ use Rattle.proc_step.specs.TurnLaws.{sent_fits, taken_fits}
 use Rattle.protocol.specs.Node.Sharing.{IsWithinShare}
 use Rattle.protocol.specs.Node.Granting.{items_by}
 use Rattle.protocol.specs.Node.Granting.{room_in, room_of}
-use Rattle.record.specs.Changes.{pushed, counted, LogTakes}
+use Rattle.ckpt_codec.specs.Common.{pushed, counted, LogTakes}
 use Rattle.protocol.specs.Node.Installing.{is_consumer, is_producer}
 use Rattle.protocol.specs.Node.Layout.{role_here}
 use Rattle.protocol.specs.Node.Reached.{IsTurnOf}
@@ -39,7 +39,7 @@ use Rattle.protocol_laws.specs.Node.InstallLaws.{turn_of_job, job_has_code, log_
 use Rattle.protocol.specs.declared.links.Inbox.{Inbox}
 use Rattle.kahn_net.specs.declared.limits.TheConstants.{MAX_HISTORY_ITEMS}
 use Rattle.protocol.specs.declared.limits.TheConstants.{MAX_JOB_ITEMS}
-use Rattle.retained.specs.declared.log.TheConstants.{MAX_LOG_ITEMS}
+use Rattle.record.specs.Common.{MAX_LOG_ITEMS}
 
 -- What a turn takes
 

@@ -18,7 +18,7 @@ use Rattle.kahn_net.specs.Laws.Got.{got_on-append}
 use Rattle.kahn_net.specs.Laws.Prefixes.{prefix_trans}
 use Rattle.kahn_net.specs.Laws.Puts.{sent_on-append}
 use Rattle.proc_step.specs.Turns.{AreNext, Turn, IsTurn}
-use Rattle.record.specs.Changes.{pushed, counted}
+use Rattle.ckpt_codec.specs.Common.{pushed, counted}
 use Rattle.protocol.specs.Node.Installing.{is_consumer, is_producer}
 use Rattle.protocol.specs.Node.Installing.{with_turn}
 use Rattle.protocol.specs.Node.Reached.{EndStands}

@@ -14,15 +14,13 @@ use Rattle.protocol.specs.Node.Common.{Sends, Both, variables_of, role_of, IsRec
 use Rattle.protocol.specs.Node.Common.{has_process, has_end, ImageStands, IsLaidOut, CountIsWithin, CountsAreWithin}
 use Rattle.protocol.specs.Node.Common.{LogsAreWithin, opening_image, opening_record}
 use Rattle.kahn_net.specs.Fits.{AreShort}
-use Rattle.kahn_net.specs.Processes.Standing.{NotBegun, Done}
-use Rattle.kahn_net.specs.declared.limits.TheConstants.{MAX_PROCESSES}
-use Rattle.kahn_net.specs.declared.limits.TheConstants.{MAX_VARIABLES, MAX_TIMES, MAX_REPEATS}
+use Rattle.record.specs.Common.{NotBegun, Done, MAX_TIMES, MAX_REPEATS, MAX_LOG_ITEMS}
+use Rattle.ckpt_codec.specs.Common.{MAX_PROCESSES, MAX_VARIABLES, Field, IsAllowed, AreAllowed, at_most, count}
+use Rattle.ckpt_codec.specs.Common.{image_fields}
 use Rattle.retained.specs.LogState.{IsWithinLimits}
-use Rattle.retained.specs.declared.log.TheConstants.{MAX_LOG_ITEMS}
-use Rattle.ckpt_codec.specs.Fields.{Field, IsAllowed, AreAllowed}
-use Rattle.ckpt_codec.specs.RecordText.{any, at_most, remaining, count, item, flag, between, mode_fields}
+use Rattle.ckpt_codec.specs.RecordText.{any, remaining, item, flag, between, mode_fields}
 use Rattle.ckpt_codec.specs.RecordText.{process_fields, processes_fields, retained_count, end_fields}
-use Rattle.ckpt_codec.specs.RecordText.{saved_end_fields, ends_fields, image_fields, version_field}
+use Rattle.ckpt_codec.specs.RecordText.{saved_end_fields, ends_fields, version_field}
 use Rattle.ckpt_codec.specs.declared.version.TheConstants.{VERSION}
 use Rattle.ckpt_codec.specs.ItemLaws.{item_allowed}
 use Rattle.ckpt_store.specs.Shapes.{HasShapeOf}

@@ -10,7 +10,7 @@ use Rattle.protocol.specs.Node.Common.{ImageStands, HasReached, IsLaidOut, Links
 use Rattle.protocol.specs.Node.Common.{CountsAreWithin, LogsAreWithin, InboxIsSound, InboxStands, InboxesStand}
 use Rattle.protocol.specs.Node.Common.{MAX_COUNT, SavedEnd, End, Receives}
 use Rattle.kahn_net.specs.Processes.{NotBegun}
-use Rattle.record.specs.Ascending.{AreAscending}
+use Rattle.record.specs.Common.{AreAscending}
 use Rattle.record.specs.Laws.Ascent.{ascend_behind}
 use Rattle.protocol.specs.Node.Opening.{opening_processes, opening_end, new_inbox}
 use Rattle.protocol.specs.Node.Opening.{new_outbox, opening_inboxes, opening_running}

@@ -6,12 +6,13 @@ use Rattle.std.specs.List.{AllZip}
 use Rattle.std.proofs.lemmas.Bool.{false≢true}
 use Rattle.std.proofs.lemmas.Bool.Decides.{nat_tests}
 use Rattle.protocol.specs.Node.Common.{Code, Network, StandsAt, At, IsValid}
-use Rattle.kahn_net.specs.Syntax.{Block, Nothing, GetThen, AssignThen, PutThen, StopThen, IfThen, RepeatThen}
-use Rattle.kahn_net.specs.Statements.{Point, sites_of}
+use Rattle.kahn_net.specs.Common.{Block, Nothing, GetThen, AssignThen, PutThen, StopThen, IfThen, RepeatThen, Point}
+use Rattle.kahn_net.specs.Common.{sites_of, is_repeat_within, code_repeats_within}
 use Rattle.kahn_net.specs.Repeats.{repeats_on, repeats_in_body, repeats_at, CanRemain}
-use Rattle.kahn_net.specs.Repeats.{is_repeat_within, repeats_within, body_repeats_within, code_repeats_within}
+use Rattle.kahn_net.specs.Repeats.{repeats_within, body_repeats_within}
 use Rattle.kahn_net.specs.Laws.NextActs.{repeats_fit}
-use Rattle.kahn_net.specs.declared.limits.TheConstants.{MAX_TIMES, MAX_NESTED_TIMES, MAX_REPEATS}
+use Rattle.record.specs.Common.{MAX_TIMES, MAX_REPEATS}
+use Rattle.kahn_net.specs.declared.limits.TheConstants.{MAX_NESTED_TIMES}
 
 both_hold : (a b : Bool) → IsTrue (a && b) → IsTrue a × IsTrue b
 both_hold true b h = (refl, h)

@@ -13,7 +13,7 @@ use Rattle.protocol.specs.Node.Common.{is_incoming, incoming_on, role_by, Runnin
 use Rattle.protocol.specs.Node.Common.{IsLaidOut, CountIsWithin, CountsAreWithin, LogsAreWithin, InboxIsSound}
 use Rattle.protocol.specs.Node.Common.{InboxStands, InboxesStand, LinksAreLaidOut, first_acts}
 use Rattle.kahn_net.specs.Laws.Got.{reads}
-use Rattle.kahn_net.specs.Resuming.{left_after}
+use Rattle.kahn_net.specs.Common.{left_after}
 use Rattle.window_link.specs.Laws.Holding.{HoldsOf, holds_none}
 use Rattle.window_link.specs.Windows.{Receiver}
 use Rattle.protocol.specs.Node.GoingBack.{handled_at, inbox_set_back, outbox_set_back}

@@ -5,13 +5,12 @@ use Rattle.std.specs.Prelude.{slice_get, slice_set}
 use Rattle.std.specs.Ordering.{int_eq}
 use Rattle.protocol.specs.Node.Common.{history_of, Code, Network, Step, process_trace, Standing, StandsAt, At}
 use Rattle.protocol.specs.Node.Common.{IsValid}
-use Rattle.kahn_net.specs.Streams.{total}
-use Rattle.kahn_net.specs.Syntax.{Block, Nothing, GetThen, AssignThen, PutThen, StopThen, IfThen}
-use Rattle.kahn_net.specs.Syntax.{RepeatThen}
-use Rattle.kahn_net.specs.Statements.{Point, End, Ended, Waits, Stopped, Trace, point_at, on_get, from_end}
-use Rattle.kahn_net.specs.Statements.{then_do, rounds, sites_of, choose, value_of, trace_of}
-use Rattle.kahn_net.specs.Processes.{passes, loop_trace, standing_at}
-use Rattle.kahn_net.specs.Processes.Standing.{NotBegun, Done}
+use Rattle.kahn_net.specs.Common.{total, Block, Nothing, GetThen, AssignThen, PutThen, StopThen, IfThen, RepeatThen}
+use Rattle.kahn_net.specs.Common.{Point, End, Ended, Waits, Stopped, Trace, point_at, on_get, then_do, rounds}
+use Rattle.kahn_net.specs.Common.{sites_of, value_of, trace_of, passes, loop_trace, standing_at}
+use Rattle.kahn_net.specs.Statements.{from_end}
+use Rattle.kahn_net.specs.Statements.{choose}
+use Rattle.record.specs.Common.{NotBegun, Done}
 use Rattle.kahn_net.specs.Valid.{body_units}
 use Rattle.kahn_net.specs.Laws.Valid.{units_few}
 use Rattle.kahn_net.specs.declared.limits.TheConstants.{MAX_UNITS}

@@ -11,9 +11,8 @@ use Rattle.protocol.specs.Node.Common.{ImageView, RecordView, SavedEnd, variable
 use Rattle.protocol.specs.Node.Common.{with_decision, MAX_DECISIONS, MAX_RETAINED_ITEMS, RunningNode, HasReached}
 use Rattle.protocol.specs.Node.Common.{ImageStands, IsLaidOut, LogsAreWithin, opening_image, opening_record}
 use Rattle.protocol.specs.Node.Common.{has_process, has_end}
-use Rattle.kahn_net.specs.Processes.Standing.{NotBegun, Done}
-use Rattle.kahn_net.specs.declared.limits.TheConstants.{MAX_VARIABLES, MAX_REPEATS}
-use Rattle.record.specs.Moves.{decided_below, decided_by}
+use Rattle.record.specs.Common.{NotBegun, Done, MAX_REPEATS}
+use Rattle.ckpt_codec.specs.Common.{MAX_VARIABLES, decided_below, decided_by}
 use Rattle.ckpt_codec.specs.SizeLaws.{IsImageWithin, IsRecordWithin, within_tentative, within_decision, left_of}
 use Rattle.protocol.specs.Node.Starting.{with_own}
 use Rattle.protocol_laws.specs.Node.OpeningLaws.{reached_opening, laid_out_opening, logs_opening}

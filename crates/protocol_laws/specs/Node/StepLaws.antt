@@ -3,7 +3,7 @@ use Rattle.std.proofs.Common.{◌≡◌, ℕ, ℤ, List, Option, Some, None, ref
 use Rattle.protocol.specs.Node.Common.{Network, approximation, ImageView, JobView, RunningNode, DecisionView}
 use Rattle.protocol.specs.Node.Common.{with_decision, with_tentative, RecordView, ImageStands, HasReached, Tentative}
 use Rattle.protocol.specs.Node.Choosing.{after_grant}
-use Rattle.record.specs.Moves.{last_image}
+use Rattle.ckpt_codec.specs.Common.{last_image}
 use Rattle.protocol.specs.Node.Modes.{keeping}
 use Rattle.protocol.specs.Node.Reached.{IsAsFar, HasComeOn}
 

@@ -5,13 +5,12 @@ use Rattle.std.specs.Prelude.{slice_set}
 use Rattle.std.specs.Ordering.{int_eq}
 use Rattle.std.proofs.lemmas.List.{length-set}
 use Rattle.protocol.specs.Node.Common.{history_of, Code, Step, process_trace, Standing, StandsAt, At, variables_of}
-use Rattle.kahn_net.specs.Streams.{total}
-use Rattle.kahn_net.specs.Syntax.{Block, Nothing, GetThen, AssignThen, PutThen, StopThen, IfThen}
-use Rattle.kahn_net.specs.Syntax.{RepeatThen}
-use Rattle.kahn_net.specs.Statements.{End, Ended, Waits, Stopped, Trace, point_at, on_get, from_end, then_do}
-use Rattle.kahn_net.specs.Statements.{rounds, sites_of, choose, value_of, trace_of}
-use Rattle.kahn_net.specs.Processes.{passes, loop_trace, standing_at}
-use Rattle.kahn_net.specs.Processes.Standing.{NotBegun, Done}
+use Rattle.kahn_net.specs.Common.{total, Block, Nothing, GetThen, AssignThen, PutThen, StopThen, IfThen, RepeatThen}
+use Rattle.kahn_net.specs.Common.{End, Ended, Waits, Stopped, Trace, point_at, on_get, then_do, rounds, sites_of}
+use Rattle.kahn_net.specs.Common.{value_of, trace_of, passes, loop_trace, standing_at}
+use Rattle.kahn_net.specs.Statements.{from_end}
+use Rattle.kahn_net.specs.Statements.{choose}
+use Rattle.record.specs.Common.{NotBegun, Done}
 
 -- the variables with which statements end
 abbrev pub vars_at : End → List ℤ

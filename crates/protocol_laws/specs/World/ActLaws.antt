@@ -9,8 +9,7 @@ use Rattle.std.proofs.lemmas.List.Elements.{All-from_recursion, recursion_from_A
 use Rattle.protocol.specs.Node.Common.{Fits, Network, IsValid, approximation, IsOut, TakesTurn, IsLaidOut, RecordView}
 use Rattle.protocol.specs.Node.Common.{ModeView, Down, InDoubt, Runs, RunningNode, running_node, running_in}
 use Rattle.protocol.specs.Node.Common.{running_of, IsLikeNow}
-use Rattle.ckpt_codec.specs.Fields.{Field, IsAllowed}
-use Rattle.ckpt_codec.specs.RecordText.{image_fields}
+use Rattle.ckpt_codec.specs.Common.{Field, IsAllowed, image_fields}
 use Rattle.ckpt_store.specs.Spelling.{IsLike}
 use Rattle.protocol_laws.specs.Node.LikeLaws.{image_like}
 use Rattle.protocol.specs.Node.Starting.{IsLikeAt}

@@ -9,7 +9,7 @@ use Rattle.protocol.specs.Node.Common.{log_of, received_of, ImageView, with_epoc
 use Rattle.protocol.specs.Node.Common.{set_back_to, first_log, inbox_log, is_process, items_from, next_items, JobView}
 use Rattle.protocol.specs.Node.Common.{next_number, Runs, RunningView, RunningNode, running_node, putting, IsJobOf}
 use Rattle.protocol.specs.Node.Common.{LinksAreLaidOut, InboxIsSound, InboxesStand, InboxStands}
-use Rattle.record.specs.Moves.{without_own}
+use Rattle.ckpt_codec.specs.Common.{without_own}
 use Rattle.protocol.specs.Node.GoingBack.{handled_at, gone_back}
 use Rattle.protocol.specs.Node.Granting.{items_by}
 use Rattle.protocol_laws.specs.Node.ImageLaws.{map_got, map_keeps}

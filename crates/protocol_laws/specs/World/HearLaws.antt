@@ -17,7 +17,7 @@ use Rattle.protocol.specs.Node.Common.{received_of, log_of, ImageView, RecordVie
 use Rattle.protocol.specs.Node.Common.{next_in_log, next_items, items_from, first_log, inbox_log, source_of}
 use Rattle.protocol.specs.Node.Common.{RunningView, RunningNode, running_node, InboxIsSound, LinksAreLaidOut}
 use Rattle.protocol.specs.Node.Common.{InboxStands, AreInOrder}
-use Rattle.kahn_net.specs.Approximations.{Belongs}
+use Rattle.kahn_net.specs.Common.{Belongs}
 use Rattle.kahn_net.specs.Laws.Approximations.{approximations_grow}
 use Rattle.kahn_net.specs.Laws.Prefixes.{IsFollowed, prefix_of, prefix_refl, prefix_nil, prefix_along, prefix_trans}
 use Rattle.kahn_net.specs.Laws.Prefixes.{prefix_item}

@@ -13,7 +13,7 @@ use Rattle.protocol.specs.Node.Common.{may_start, collecting, numbers_where, Liv
 use Rattle.protocol.specs.Node.Common.{NodeView, ModeView, Down, InDoubt, Runs, RunningView, RunningNode}
 use Rattle.protocol.specs.Node.Common.{running_node, running_in, on_mode, on_running, IsBehind, own_at, after_verdict}
 use Rattle.protocol.specs.Node.Common.{concluded, may_decide, mode_then, participants_of}
-use Rattle.record.specs.Moves.{confirmed}
+use Rattle.ckpt_codec.specs.Common.{confirmed}
 use Rattle.protocol.specs.World.Common.{has_node, IsJoined, outputs_of, RunsSoundly, StationInvariant, RecordIsSound}
 use Rattle.protocol.specs.World.Common.{StationView, moved_to}
 use Rattle.protocol_laws.specs.Join.Crossings.{both_true}

@@ -3,7 +3,7 @@ use Rattle.std.proofs.Common.{◌≡◌, ℕ, List, Option, Some, None, refl, su
 use Rattle.protocol.specs.Node.Common.{DecisionView, ImageView, RecordView, Tentative, JobView, RunningNode}
 use Rattle.protocol.specs.Node.Common.{with_decision, with_tentative, AreInOrder, IsBehind}
 use Rattle.protocol.specs.Node.Choosing.{after_grant}
-use Rattle.record.specs.Moves.{last_image}
+use Rattle.ckpt_codec.specs.Common.{last_image}
 use Rattle.protocol_laws.specs.Node.StepLaws.{lessened}
 
 -- Images

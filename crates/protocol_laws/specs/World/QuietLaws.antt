@@ -14,15 +14,12 @@ use Rattle.protocol.specs.Node.Common.{SavedProcessView, ImageView, RecordView, 
 use Rattle.protocol.specs.Node.Common.{RunningNode, running_node, running_in, running_of, received_of, sent_of}
 use Rattle.protocol.specs.Node.Common.{SavedEnd, is_none, first_acts, is_on, has_process}
 use Rattle.kahn_net.specs.Streams.{ArePrefixes}
-use Rattle.kahn_net.specs.Valid.{code_gets}
-use Rattle.kahn_net.specs.Processes.{HasPassingLoop}
-use Rattle.kahn_net.specs.Resuming.{left_after}
-use Rattle.kahn_net.specs.Approximations.{IsReached}
+use Rattle.kahn_net.specs.Common.{code_gets, HasPassingLoop, left_after, IsReached, Next, Gets, Puts, NoNext, next_of}
 use Rattle.kahn_net.specs.Laws.Approximations.{next_histories_past, approximation_grows}
 use Rattle.kahn_net.specs.Laws.Prefixes.{prefix_refl, prefix_nil, prefix_along}
 use Rattle.kahn_net.specs.Laws.Streams.{longer_process, stands_on}
 use Rattle.kahn_net.specs.Laws.Got.{reads}
-use Rattle.kahn_net.specs.NextActs.{Next, Begins, Gets, Puts, NoNext, next_of}
+use Rattle.kahn_net.specs.NextActs.{Begins}
 use Rattle.kahn_net.specs.Laws.Rests.{IsStuck, acts_at_rest}
 use Rattle.kahn_net.specs.Laws.Fixpoints.{put_so_far, put_by_now, put_by_now-at, put_by_now_past, prefix_whole}
 use Rattle.kahn_net.specs.Laws.Fixpoints.{settled_is_reached, settled_rests}

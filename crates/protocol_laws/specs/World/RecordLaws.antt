@@ -9,7 +9,7 @@ use Rattle.protocol.specs.Node.Common.{MAX_COUNT, IsPrefix, Network, sent_on, ap
 use Rattle.protocol.specs.Node.Common.{RecordView, DecisionView, with_decision, with_epoch, with_tentative, Tentative}
 use Rattle.protocol.specs.Node.Common.{MAX_RETAINED_ITEMS, RunningNode, ImageStands, acts_of, AreInOrder, IsBehind}
 use Rattle.kahn_net.specs.Laws.Prefixes.{prefix_trans}
-use Rattle.record.specs.Moves.{last_image, without_own}
+use Rattle.ckpt_codec.specs.Common.{last_image, without_own}
 use Rattle.ckpt_codec.specs.SizeLaws.{IsRecordWithin, within_epoch}
 use Rattle.protocol_laws.specs.Node.ReleaseLaws.{acts_grow}
 use Rattle.protocol_laws.specs.Node.SentLaws.{sent_stands}

@@ -6,7 +6,8 @@ use Rattle.std.proofs.lemmas.Bool.{le-leb}
 use Rattle.protocol.specs.Node.Common.{Network, RecordView, Tentative, image_length, MAX_RETAINED_ITEMS, fits_in}
 use Rattle.protocol.specs.Node.Common.{Packet, with_epoch, node_job, packet_for, JobView, Down, InDoubt, ModeView}
 use Rattle.protocol.specs.Node.Common.{Runs, restored_mode, Prospect, Undue, Exhausted, Planned, IsPut, room_for}
-use Rattle.ckpt_codec.specs.Lengths.{record_length, spelled_length, tentative_length}
+use Rattle.ckpt_codec.specs.Common.{spelled_length}
+use Rattle.ckpt_codec.specs.Lengths.{record_length, tentative_length}
 use Rattle.ckpt_codec.specs.SizeLaws.{IsRecordWithin, record_fits}
 use Rattle.ckpt_codec.specs.declared.lengths.TheConstants.{MAX_RECORD_BYTES}
 use Rattle.ckpt_codec.specs.declared.version.TheConstants.{VERSION}

@@ -16,7 +16,7 @@ use Rattle.protocol.specs.Node.Common.{items_since, received_of, log_of, log_at,
 use Rattle.protocol.specs.Node.Common.{producer_node, names_right, producer_of, consumer_of, incoming_on, is_incoming}
 use Rattle.protocol.specs.Node.Common.{is_on, is_outgoing, comes_in, port_away, port_on, RunningNode, InboxIsSound}
 use Rattle.protocol.specs.Node.Common.{LinksAreLaidOut, acts_of, inbox_packets, first_due, IsWritable, kept_packet}
-use Rattle.kahn_net.specs.Approximations.{Belongs}
+use Rattle.kahn_net.specs.Common.{Belongs}
 use Rattle.kahn_net.specs.Laws.Prefixes.{prefix_of, prefix_item}
 use Rattle.datagram.specs.declared.packet.Body.TheVariants.{Data, Ack, Kept}
 use Rattle.protocol.specs.Node.Addresses.{address, port_node, consumer_node, ends_run, runs_between}

@@ -9,7 +9,7 @@ use Rattle.protocol.specs.Node.Common.{approximation, Step, IsPrefix, IsValid, F
 use Rattle.protocol.specs.Node.Common.{LogState, JobView, RunningNode, log_at, base_of, put_on, installed}
 use Rattle.protocol.specs.Node.Common.{inbox_turned, ImageTakes, log_share, IsJobOf, LinksAreLaidOut, InboxesStand}
 use Rattle.protocol.specs.Node.Common.{CountIsWithin, CountsAreWithin, LogsAreWithin, port_on}
-use Rattle.record.specs.Changes.{LogTakes}
+use Rattle.ckpt_codec.specs.Common.{LogTakes}
 use Rattle.protocol.specs.Node.Installing.{inboxes_turned, with_turn}
 use Rattle.protocol.specs.Node.Sharing.{IsWithinShare}
 use Rattle.protocol.specs.Node.Reached.{IsTurnOf}

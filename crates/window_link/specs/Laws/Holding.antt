@@ -2,7 +2,7 @@
 use Rattle.std.proofs.Common.{◌≡◌, ◌⊎◌, inl, inr, ℕ, zero, suc, ◌+◌, ◌-◌, ◌≤◌, Bool, true, false, ltb, cond, List, []}
 use Rattle.std.proofs.Common.{◌∷◌, ◌++◌, ℤ, drop, replicate, Option, Some, None, refl, sym, ap, subst, ◌∙◌, arith}
 use Rattle.std.specs.Prelude.{slice_get, slice_set}
-use Rattle.kahn_net.specs.Streams.{IsPrefix}
+use Rattle.kahn_net.specs.Common.{IsPrefix}
 use Rattle.kahn_net.specs.Laws.Prefixes.{prefix_item}
 use Rattle.kahn_net.specs.declared.limits.TheConstants.{MAX_COUNT}
 use Rattle.window_link.specs.Windows.{Receiver, advanced, with_held, held_in, held_at, next_held}

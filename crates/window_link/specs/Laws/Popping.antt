@@ -4,7 +4,7 @@ use Rattle.std.proofs.Common.{◌∷◌, ◌++◌, ℤ, length, drop, Option, So
 use Rattle.std.specs.Prelude.{slice_get}
 use Rattle.std.proofs.lemmas.Bool.{lt-ltb}
 use Rattle.std.proofs.lemmas.List.{length-append}
-use Rattle.kahn_net.specs.Streams.{IsPrefix}
+use Rattle.kahn_net.specs.Common.{IsPrefix}
 use Rattle.kahn_net.specs.Laws.Prefixes.{prefix_of, followed, prefix_nil}
 use Rattle.kahn_net.specs.declared.limits.TheConstants.{MAX_COUNT}
 use Rattle.window_link.specs.Windows.{Receiver, held_in, held_at, next_held, window_without, popped, popped_times}

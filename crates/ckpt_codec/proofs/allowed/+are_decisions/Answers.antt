@@ -1,6 +1,6 @@
 use Rattle.std.proofs.Common.{suc, ◌-◌, length, take, drop, get_or, subst, ap, ◌∙◌}
 use Rattle.std.proofs.lemmas.List.{take_rest}
-use Rattle.record.specs.DecisionView.{DecisionView}
+use Rattle.record.specs.Common.{DecisionView}
 use Rattle.ckpt_codec.specs.RecordText.{decision_fields, each_decision_fields}
 use Rattle.ckpt_codec.proofs.Testing.{Tests, decisions_not, decisions_then, one_more}
 use Rattle.ckpt_codec.proofs.allowed.+are_decisions.Goals as goal

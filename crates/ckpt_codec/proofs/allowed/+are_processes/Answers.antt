@@ -1,6 +1,6 @@
 use Rattle.std.proofs.Common.{suc, ◌-◌, Some, length, take, drop, get_or, option_copied, subst, ap, ◌∙◌}
 use Rattle.std.proofs.lemmas.List.{take_rest}
-use Rattle.record.specs.ProcessView.{SavedProcessView}
+use Rattle.record.specs.Common.{SavedProcessView}
 use Rattle.ckpt_codec.specs.RecordText.{process_fields, processes_fields}
 use Rattle.ckpt_codec.proofs.Testing.{Tests, processes_not, processes_then, one_more}
 use Rattle.ckpt_codec.proofs.allowed.+are_processes.Goals as goal

@@ -1,6 +1,5 @@
 use Rattle.std.proofs.Common.{ℕ, List, length, slice_index, subst}
-use Rattle.record.specs.DecisionView.{DecisionView}
-use Rattle.record.specs.RecordView.{RecordView}
+use Rattle.record.specs.Common.{DecisionView, RecordView}
 use Rattle.record.specs.declared.record.TheConstants.{MAX_DECISIONS}
 use Rattle.ckpt_codec.specs.RecordText.{decisions_fields}
 use Rattle.ckpt_codec.proofs.Testing.{Tests}

@@ -1,7 +1,6 @@
 use Rattle.std.proofs.Common.{◌≡◌, Some, rules, length, option_copied, subst, ap, ◌∙◌}
 use Rattle.std.specs.Prelude.{◌↔◌, IsTrue}
-use Rattle.kahn_net.specs.declared.limits.TheConstants.{MAX_CHANNELS}
-use Rattle.record.specs.ImageView.{ImageView}
+use Rattle.record.specs.Common.{MAX_CHANNELS, ImageView}
 use Rattle.ckpt_codec.specs.Fields.{IsAllowed}
 use Rattle.ckpt_codec.specs.RecordText.{at_most, wanted, wanted_or, ends_in, ends_fields}
 use Rattle.ckpt_codec.proofs.Testing.{Tests, as_found, field_then, ends_listed}

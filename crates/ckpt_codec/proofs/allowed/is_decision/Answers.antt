@@ -1,6 +1,6 @@
 use Rattle.std.proofs.Common.{◌≡◌, false, length, rules, subst}
 use Rattle.std.specs.Prelude.{◌↔◌, IsTrue}
-use Rattle.record.specs.DecisionView.{DecisionView}
+use Rattle.record.specs.Common.{DecisionView}
 use Rattle.ckpt_codec.specs.Fields.{IsAllowed}
 use Rattle.ckpt_codec.specs.RecordText.{participants, decision_fields}
 use Rattle.ckpt_codec.specs.Testing.{participant_count_field}

@@ -1,6 +1,6 @@
 use Rattle.std.proofs.Common.{◌≡◌, ◌<◌, rules, length, subst, ap, ◌∙◌}
 use Rattle.std.specs.Prelude.{◌↔◌, IsTrue}
-use Rattle.record.specs.RecordView.{RecordView}
+use Rattle.record.specs.Common.{RecordView}
 use Rattle.ckpt_codec.specs.Fields.{IsAllowed}
 use Rattle.ckpt_codec.specs.RecordText.{count}
 use Rattle.ckpt_codec.specs.Testing.{nodes_field}

@@ -1,7 +1,6 @@
 use Rattle.std.proofs.Common.{◌≡◌, false, [], length, map, rules, sym, subst}
 use Rattle.std.specs.Prelude.{◌↔◌, IsTrue}
-use Rattle.kahn_net.specs.States.{standing_in}
-use Rattle.kahn_net.specs.declared.limits.TheConstants.{MAX_REPEATS}
+use Rattle.record.specs.Common.{standing_in, MAX_REPEATS}
 use Rattle.ckpt_codec.specs.Fields.{IsAllowed}
 use Rattle.ckpt_codec.specs.RecordText.{at_most, mode_fields, remaining}
 use Rattle.ckpt_codec.proofs.Testing.{Tests, mode_not, mode_deep, mode_then}

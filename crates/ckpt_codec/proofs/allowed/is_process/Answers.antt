@@ -1,8 +1,7 @@
 use Rattle.std.proofs.Common.{◌≡◌, false, rules, ℤ, length, option_copied, subst, ap, ◌∙◌}
 use Rattle.std.specs.Prelude.{◌↔◌, IsTrue}
-use Rattle.kahn_net.specs.States.{standing_of}
-use Rattle.kahn_net.specs.declared.limits.TheConstants.{MAX_PROCESSES, MAX_VARIABLES}
-use Rattle.record.specs.ProcessView.{SavedProcessView}
+use Rattle.kahn_net.specs.Common.{standing_of}
+use Rattle.record.specs.Common.{MAX_PROCESSES, MAX_VARIABLES, SavedProcessView}
 use Rattle.ckpt_codec.specs.Fields.{IsAllowed}
 use Rattle.ckpt_codec.specs.RecordText.{at_most, between, wanted, wanted_or, variables_of, process_fields}
 use Rattle.ckpt_codec.proofs.Testing.{Tests, as_found, mode_alone, variables_alone, process_not, process_then}

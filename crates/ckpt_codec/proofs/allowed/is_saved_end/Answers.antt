@@ -1,6 +1,6 @@
 use Rattle.std.proofs.Common.{option_copied, subst}
 use Rattle.std.specs.Prelude.{◌↔◌, IsTrue}
-use Rattle.kahn_net.specs.declared.limits.TheConstants.{MAX_CHANNELS}
+use Rattle.record.specs.Common.{MAX_CHANNELS}
 use Rattle.record.specs.declared.image.SavedEnd.{SavedEnd}
 use Rattle.ckpt_codec.specs.Fields.{IsAllowed}
 use Rattle.ckpt_codec.specs.RecordText.{at_most, between, wanted, wanted_or, role_of}

@@ -1,7 +1,6 @@
 use Rattle.std.proofs.Common.{◌≡◌, Some, rules, length, option_copied, subst, ap, ◌∙◌}
 use Rattle.std.specs.Prelude.{◌↔◌, IsTrue}
-use Rattle.kahn_net.specs.declared.limits.TheConstants.{MAX_PROCESSES}
-use Rattle.record.specs.ImageView.{ImageView}
+use Rattle.record.specs.Common.{MAX_PROCESSES, ImageView}
 use Rattle.ckpt_codec.specs.Fields.{IsAllowed}
 use Rattle.ckpt_codec.specs.RecordText.{at_most, wanted, wanted_or, processes_in, processes_fields}
 use Rattle.ckpt_codec.proofs.Testing.{Tests, as_found, field_then, processes_listed}

@@ -1,5 +1,5 @@
 use Rattle.std.proofs.Common.{◌+◌, ap}
-use Rattle.record.specs.Moves.{with_permanent}
+use Rattle.record.specs.Common.{with_permanent}
 use Rattle.ckpt_codec.proofs.Spelled.{record_short}
 use Rattle.ckpt_codec.proofs.Sizes.{length-with}
 use Rattle.ckpt_codec.proofs.lengths.spelled_length_once_permanent.Goals as goal

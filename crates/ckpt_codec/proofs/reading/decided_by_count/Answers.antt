@@ -1,6 +1,6 @@
 use Rattle.std.proofs.Common.{rules, refl, ◌≡◌, ◌+◌, ◌-◌, subst, sym}
 use Rattle.std.proofs.lemmas.Result.{err_from_is_err_and}
-use Rattle.record.specs.DecisionView.{DecisionView}
+use Rattle.record.specs.Common.{DecisionView}
 use Rattle.ckpt_codec.specs.Reading.{so_many, decided_at, past_decision, decided_so_many}
 use Rattle.ckpt_codec.proofs.Loop.{behind, one_more, stops, has_all, starts}
 use Rattle.ckpt_codec.proofs.reading.decided_by_count.Goals as goal

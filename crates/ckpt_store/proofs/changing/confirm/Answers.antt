@@ -1,9 +1,6 @@
 use Rattle.std.proofs.Common.{◌≡◌, List, refl, rules, sym, subst, ◌∙◌, ap}
-use Rattle.record.specs.DecisionView.{DecisionView}
-use Rattle.record.specs.RecordView.{RecordView}
-use Rattle.record.specs.Moves.{confirmed, with_confirmed}
+use Rattle.ckpt_codec.specs.Common.{DecisionView, RecordView, confirmed, with_confirmed, IsRecord}
 use Rattle.ckpt_codec.specs.Lengths.{with_decided}
-use Rattle.ckpt_codec.specs.RecordText.{IsRecord}
 use Rattle.ckpt_store.specs.Spelling.{StandIn}
 use Rattle.ckpt_store.proofs.Allowed.{allowed_confirmed}
 use Rattle.ckpt_store.proofs.Spelled.{spelled_is_record, images_stand}

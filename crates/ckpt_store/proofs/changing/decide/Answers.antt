@@ -1,11 +1,8 @@
 use Rattle.std.proofs.Common.{◌≡◌, ℕ, ◌-◌, ◌∙◌, List, [], ◌∷◌, Some, None, length, refl, rules, sym, subst, ap, arith}
 use Rattle.std.specs.Vec.{vec_len}
 use Rattle.std.proofs.lemmas.Bool.{eqb-false}
-use Rattle.record.specs.DecisionView.{DecisionView}
-use Rattle.record.specs.RecordView.{RecordView}
-use Rattle.record.specs.Moves.{decided_by, with_decision, with_permanent}
+use Rattle.ckpt_codec.specs.Common.{DecisionView, RecordView, decided_by, with_decision, with_permanent, IsRecord}
 use Rattle.ckpt_codec.specs.Lengths.{with_decided}
-use Rattle.ckpt_codec.specs.RecordText.{IsRecord}
 use Rattle.ckpt_store.specs.Refusals.{refusal_to_decide}
 use Rattle.ckpt_store.specs.Spelling.{StandIn, kept_in}
 use Rattle.ckpt_store.proofs.Allowed.{allowed_permanent, decision_may_be, decisions_few, others_few}

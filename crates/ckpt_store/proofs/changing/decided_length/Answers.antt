@@ -1,5 +1,5 @@
 use Rattle.std.proofs.Common.{sym, subst, ap, ◌∙◌}
-use Rattle.record.specs.RecordView.{RecordView}
+use Rattle.ckpt_codec.specs.Common.{RecordView}
 use Rattle.ckpt_codec.specs.Spelling.{AreShortDecisions}
 use Rattle.ckpt_codec.proofs.Versions.{decisions_are_short}
 use Rattle.ckpt_store.proofs.changing.decided_length.Goals as goal

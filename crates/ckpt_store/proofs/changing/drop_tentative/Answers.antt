@@ -1,12 +1,10 @@
 use Rattle.std.proofs.Common.{◌≡◌, None, refl, rules, sym, subst}
-use Rattle.record.specs.RecordView.{RecordView}
-use Rattle.ckpt_codec.specs.RecordText.{IsRecord}
+use Rattle.ckpt_codec.specs.Common.{RecordView, IsRecord, without_tentative}
 use Rattle.ckpt_store.specs.Spelling.{StandIn}
 use Rattle.ckpt_store.proofs.Allowed.{allowed_without}
 use Rattle.ckpt_store.proofs.Spelled.{spelled_is_record, stand_without}
 use Rattle.ckpt_store.proofs.Changes.{kept_at, change_of}
 use Rattle.ckpt_store.specs.Refusals.{refusal_unless_held}
-use Rattle.record.specs.Moves.{without_tentative}
 use Rattle.ckpt_store.proofs.changing.drop_tentative.Goals as goal
 
 pub put_changed-requires-clause-record : goal.put_changed-requires-clause-record

@@ -1,13 +1,11 @@
 use Rattle.std.proofs.Common.{◌≡◌, ◌-◌, true, None, refl, rules, sym, subst}
-use Rattle.record.specs.RecordView.{RecordView}
-use Rattle.ckpt_codec.specs.RecordText.{IsRecord}
+use Rattle.ckpt_codec.specs.Common.{RecordView, IsRecord, with_permanent}
 use Rattle.ckpt_store.specs.Refusals.{is_held, refusal_unless_held}
 use Rattle.ckpt_store.specs.Spelling.{StandIn}
 use Rattle.ckpt_store.proofs.Allowed.{allowed_permanent}
 use Rattle.ckpt_store.proofs.Spelled.{spelled_is_record}
 use Rattle.ckpt_store.proofs.Stands.{promoted_stands}
 use Rattle.ckpt_store.proofs.Changes.{kept_at, change_of}
-use Rattle.record.specs.Moves.{with_permanent}
 use Rattle.ckpt_store.proofs.changing.make_permanent.Goals as goal
 
 pub put_changed-requires-clause-record : goal.put_changed-requires-clause-record

@@ -1,14 +1,11 @@
 use Rattle.std.proofs.Common.{◌≡◌, ◌<◌, None, refl, rules, sym, subst, ap}
-use Rattle.kahn_net.specs.declared.limits.TheConstants.{MAX_COUNT}
-use Rattle.record.specs.RecordView.{RecordView}
-use Rattle.ckpt_codec.specs.RecordText.{IsRecord}
+use Rattle.ckpt_codec.specs.Common.{MAX_COUNT, RecordView, IsRecord, with_epoch}
 use Rattle.ckpt_store.specs.Spelling.{StandIn}
 use Rattle.ckpt_store.proofs.Allowed.{allowed_epoch}
 use Rattle.ckpt_store.proofs.Spelled.{spelled_is_record}
 use Rattle.ckpt_store.proofs.Stands.{own_stands}
 use Rattle.ckpt_store.proofs.Changes.{kept_at, change_of}
 use Rattle.ckpt_store.specs.Refusals.{refusal_to_raise}
-use Rattle.record.specs.Moves.{with_epoch}
 use Rattle.ckpt_store.proofs.changing.raise_epoch.Goals as goal
 
 pub put_changed-requires-clause-record : goal.put_changed-requires-clause-record

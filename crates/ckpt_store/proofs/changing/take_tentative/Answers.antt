@@ -1,7 +1,5 @@
 use Rattle.std.proofs.Common.{◌≡◌, Some, None, Err, refl, sym, subst, ap, ◌∙◌}
-use Rattle.record.specs.RecordView.{RecordView}
-use Rattle.record.specs.Moves.{with_tentative}
-use Rattle.ckpt_codec.specs.RecordText.{IsRecord}
+use Rattle.ckpt_codec.specs.Common.{RecordView, with_tentative, IsRecord}
 use Rattle.ckpt_store.specs.Refusals.{refusal_to_take}
 use Rattle.ckpt_store.specs.Spelling.{kept_in}
 use Rattle.ckpt_store.specs.Putting.{IsChange}

@@ -1,5 +1,5 @@
 use Rattle.std.proofs.Common.{◌≡◌, take}
-use Rattle.record.specs.Moves.{confirmed}
+use Rattle.ckpt_codec.specs.Common.{confirmed}
 use Rattle.ckpt_store.proofs.deciding.confirmed_by.Given as goal
 
 abbrev pub invariant-loop-decision : goal.invariant-loop-decision

@@ -1,5 +1,5 @@
 use Rattle.std.proofs.Common.{◌≡◌, take}
-use Rattle.record.specs.Moves.{decided_below}
+use Rattle.ckpt_codec.specs.Common.{decided_below}
 use Rattle.ckpt_store.proofs.deciding.copies_below.Given as goal
 
 abbrev pub invariant-loop-decision : goal.invariant-loop-decision

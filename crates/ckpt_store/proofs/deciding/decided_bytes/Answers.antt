@@ -1,6 +1,6 @@
 use Rattle.std.proofs.Common.{◌+◌, ◌<◌, ◌∙◌, ℕ, ap, sym, subst}
 use Rattle.std.specs.Prelude.{sum_by}
-use Rattle.record.specs.Moves.{decided_below}
+use Rattle.ckpt_codec.specs.Common.{decided_below}
 use Rattle.ckpt_codec.specs.Lengths.{decision_length}
 use Rattle.ckpt_store.proofs.Decisions.{bytes_decided}
 use Rattle.ckpt_store.proofs.deciding.decided_bytes.Goals as goal

@@ -1,9 +1,6 @@
 use Rattle.std.proofs.Common.{◌≡◌, ◌-◌, ◌≤◌, true, false, Some, Ok, sym, subst, ap, rules}
 use Rattle.gate_cell.specs.Whole.{slot_in}
-use Rattle.record.specs.RecordView.{RecordView}
-use Rattle.ckpt_codec.specs.HeaderView.{HeaderView}
-use Rattle.ckpt_codec.specs.RecordText.{IsRecord}
-use Rattle.ckpt_codec.specs.Lengths.{spelled_length}
+use Rattle.ckpt_codec.specs.Common.{RecordView, HeaderView, IsRecord, spelled_length}
 use Rattle.ckpt_store.specs.Loading.{IsLoad}
 use Rattle.ckpt_store.specs.Spelling.{IsKept, is_short, known_as}
 use Rattle.ckpt_store.proofs.Loads.{header_refused, image_refused, held_refused, too_long, loaded, loaded_kept, read_is_record}

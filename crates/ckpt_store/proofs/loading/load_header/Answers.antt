@@ -1,7 +1,6 @@
 use Rattle.std.proofs.Common.{inr, Some, Ok, Err, sym, subst, ap, ◌∙◌}
 use Rattle.gate_cell.specs.Whole.{Looks}
-use Rattle.ckpt_codec.specs.HeaderView.{HeaderView}
-use Rattle.ckpt_codec.specs.HeaderText.{IsHeaderText}
+use Rattle.ckpt_codec.specs.Common.{HeaderView, IsHeaderText}
 use Rattle.ckpt_codec.specs.Faults.{IsHeaderFault}
 use Rattle.ckpt_store.specs.Loading.{IsLook, IsRead, IsHeaderOf, IsHeaderWrong}
 use Rattle.ckpt_store.proofs.Loads.{text_found, text_refused, look_done, look_refused, codec_look}

@@ -1,8 +1,6 @@
 use Rattle.std.proofs.Common.{sym, subst}
 use Rattle.std.specs.Option.{ForSome}
-use Rattle.record.specs.RecordView.{RecordView}
-use Rattle.record.specs.declared.record.Tentative.{Tentative}
-use Rattle.ckpt_codec.specs.HeaderText.{IsImageSpelled}
+use Rattle.ckpt_codec.specs.Common.{RecordView, Tentative, IsImageSpelled}
 use Rattle.ckpt_store.proofs.Puts.{permanent_spelled, held_spelled}
 use Rattle.ckpt_store.proofs.putting.images_fit.Goals as goal
 

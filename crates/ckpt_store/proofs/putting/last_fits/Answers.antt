@@ -1,6 +1,5 @@
 use Rattle.std.proofs.Common.{sym, subst, ap, ◌∙◌}
-use Rattle.record.specs.RecordView.{RecordView}
-use Rattle.ckpt_codec.specs.HeaderText.{IsImageSpelled}
+use Rattle.ckpt_codec.specs.Common.{RecordView, IsImageSpelled}
 use Rattle.ckpt_store.proofs.Puts.{permanent_spelled, held_spelled}
 use Rattle.ckpt_store.proofs.putting.last_fits.Goals as goal
 

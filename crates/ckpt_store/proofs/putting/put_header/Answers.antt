@@ -2,7 +2,8 @@ use Rattle.std.proofs.Common.{◌≡◌, ◌≤◌, ◌∙◌, ℕ, List, length
 use Rattle.std.proofs.lemmas.Result.{err_from_is_err_and}
 use Rattle.gate_cell.specs.Whole.{Puts}
 use Rattle.gate_cell.specs.Setup.{setup_stays}
-use Rattle.ckpt_codec.specs.HeaderText.{header_of, IsHeaderTextIn}
+use Rattle.ckpt_codec.specs.Common.{header_of}
+use Rattle.ckpt_codec.specs.HeaderText.{IsHeaderTextIn}
 use Rattle.ckpt_codec.specs.declared.lengths.TheConstants.{MAX_HEADER_BYTES}
 use Rattle.ckpt_codec.specs.declared.version.TheConstants.{VERSION}
 use Rattle.ckpt_store.specs.Spelling.{fits_in}

@@ -4,9 +4,8 @@ use Rattle.std.specs.Option.{ForSome}
 use Rattle.std.proofs.lemmas.Result.{err_from_is_err_and}
 use Rattle.sector_disk.specs.Clock.{LeavesOnly}
 use Rattle.gate_cell.specs.Whole.{Puts, with_slot, LeftByFill}
-use Rattle.record.specs.RecordView.{RecordView}
-use Rattle.record.specs.declared.record.Tentative.{Tentative}
-use Rattle.ckpt_codec.specs.HeaderText.{header_of, IsHeaderTextIn, IsImageSpelled}
+use Rattle.ckpt_codec.specs.Common.{RecordView, Tentative, header_of, IsImageSpelled}
+use Rattle.ckpt_codec.specs.HeaderText.{IsHeaderTextIn}
 use Rattle.ckpt_codec.specs.declared.lengths.TheConstants.{MAX_HEADER_BYTES}
 use Rattle.ckpt_codec.specs.declared.version.TheConstants.{VERSION}
 use Rattle.ckpt_store.specs.Spelling.{Spells, SpellsAt, StandIn, fits_in}

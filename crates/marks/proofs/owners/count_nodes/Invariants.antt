@@ -1,6 +1,6 @@
 use Rattle.std.proofs.Common.{◌≡◌, drop, map, max}
-use Rattle.kahn_net.specs.Nodes.{nodes_above, node_count}
-use Rattle.kahn_net.specs.Syntax.{code_of, network_of}
+use Rattle.kahn_net.specs.Common.{node_count, code_of, network_of}
+use Rattle.kahn_net.specs.Nodes.{nodes_above}
 use Rattle.marks.proofs.owners.count_nodes.Given as goal
 
 -- the nodes of the processes that were looked at, and of those that weren't

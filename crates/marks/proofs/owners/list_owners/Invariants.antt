@@ -1,5 +1,5 @@
 use Rattle.std.proofs.Common.{◌≡◌, ◌++◌, drop, map}
-use Rattle.kahn_net.specs.Syntax.{network_of}
+use Rattle.kahn_net.specs.Common.{network_of}
 use Rattle.marks.specs.Owners.{owner_in, owners_in}
 use Rattle.marks.proofs.owners.list_owners.Given as goal
 

@@ -7,7 +7,7 @@ use Rattle.net_text.specs.Trees.{InputTree, input_tree, inputs_tree}
 use Rattle.net_text.specs.declared.raw_inputs.InputLine.{InputLine}
 use Rattle.net_check.specs.Bound.{AreBound, AreNamed}
 use Rattle.kahn_net.specs.declared.program.Channel.{Channel}
-use Rattle.kahn_net.specs.Syntax.{network_of}
+use Rattle.kahn_net.specs.Common.{network_of}
 use Rattle.net_check.proofs.Lines.{all_bound, bound_fits, bound_push, line_at, line_fault_in, lines_next, map_same}
 use Rattle.net_check.proofs.binding.bind_in_order.Goals as goal
 

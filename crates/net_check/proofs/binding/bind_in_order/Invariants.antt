@@ -2,7 +2,7 @@ use Rattle.std.proofs.Common.{◌≡◌, ◌++◌, map}
 use Rattle.std.specs.Vec.Iter.{into_iter_items}
 use Rattle.net_text.specs.Trees.{input_tree, inputs_tree}
 use Rattle.net_check.specs.Bound.{AreBound}
-use Rattle.kahn_net.specs.Syntax.{network_of}
+use Rattle.kahn_net.specs.Common.{network_of}
 use Rattle.net_check.proofs.binding.bind_in_order.Given as goal
 
 abbrev pub invariant-loop-line : goal.invariant-loop-line

@@ -8,7 +8,7 @@ use Rattle.net_check.specs.Joints.{AreJoined, EndFaultAmong}
 use Rattle.net_check.specs.Ready.{IsFit}
 use Rattle.net_check.specs.Resolution.{AllDifferent}
 use Rattle.kahn_net.specs.declared.program.Process.{Process}
-use Rattle.kahn_net.specs.Syntax.{code_of}
+use Rattle.kahn_net.specs.Common.{code_of}
 use Rattle.proc_code.specs.Translation.{flat_code}
 use Rattle.net_check.proofs.Checked.{end_fault_in, resolves, valid}
 use Rattle.net_check.proofs.checks.check_in_order.Goals as goal

@@ -4,7 +4,7 @@ use Rattle.std.proofs.lemmas.List.{take_all}
 use Rattle.net_text.specs.declared.tree.LinkText.{LinkText}
 use Rattle.net_text.specs.Trees.{link_tree, links_tree}
 use Rattle.net_check.specs.Resolution.{ResolvesLinks, variable_names}
-use Rattle.kahn_net.specs.Syntax.{links_of}
+use Rattle.kahn_net.specs.Common.{links_of}
 use Rattle.net_check.proofs.Chains.{chain_resolves, within_first_value, within_links}
 use Rattle.net_check.proofs.Resolving.{links_more}
 use Rattle.net_check.proofs.Using.{name_more, within_link, within_then}

@@ -1,7 +1,7 @@
 use Rattle.std.proofs.Common.{map, take}
 use Rattle.net_text.specs.Trees.{link_tree, links_tree}
 use Rattle.net_check.specs.Resolution.{ResolvesLinks, variable_names}
-use Rattle.kahn_net.specs.Syntax.{links_of}
+use Rattle.kahn_net.specs.Common.{links_of}
 use Rattle.net_check.proofs.resolve.+resolve_expr.Given as goal
 
 abbrev pub invariant-loop-link : goal.invariant-loop-link

@@ -2,8 +2,7 @@ use Rattle.std.proofs.Common.{[], ◌∷◌, ◌∙◌, ap, arith, List}
 use Rattle.std.proofs.lemmas.Result.{err_from_is_err_and}
 use Rattle.net_text.specs.Trees.{expr_tree}
 use Rattle.kahn_net.specs.declared.program.Statement.{Statement}
-use Rattle.kahn_net.specs.Syntax.{block_of}
-use Rattle.kahn_net.specs.Valid.{block_gets, block_puts}
+use Rattle.kahn_net.specs.Common.{block_of, block_gets, block_puts}
 use Rattle.net_check.specs.Uses.{OfVariable, GetFrom, PutOn, expr_uses}
 use Rattle.net_check.proofs.Ifs.{if_gets, if_puts, if_resolves, within_first, within_second, within_test, within_body}
 use Rattle.net_check.proofs.Ifs.{claims_same, repeat_gets, repeat_puts, repeat_resolves}

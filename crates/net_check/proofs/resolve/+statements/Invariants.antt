@@ -3,8 +3,7 @@ use Rattle.net_text.specs.declared.tree.Role.TheVariants.{Input, Output}
 use Rattle.net_text.specs.Trees.{block_tree}
 use Rattle.net_check.specs.Claims.{Claims}
 use Rattle.net_check.specs.Resolution.{ResolvesBlock, channel_names, variable_names}
-use Rattle.kahn_net.specs.Syntax.{block_of}
-use Rattle.kahn_net.specs.Valid.{block_gets, block_puts}
+use Rattle.kahn_net.specs.Common.{block_of, block_gets, block_puts}
 use Rattle.net_check.proofs.resolve.+statements.Given as goal
 
 abbrev pub invariant-resolve_statements-loop-statement : goal.invariant-resolve_statements-loop-statement

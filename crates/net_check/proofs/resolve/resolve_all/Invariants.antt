@@ -1,7 +1,7 @@
 use Rattle.std.proofs.Common.{◌≡◌, take, map, length}
 use Rattle.net_text.specs.Trees.{process_tree}
 use Rattle.net_check.specs.Claims.{AreResolved}
-use Rattle.kahn_net.specs.Syntax.{code_of}
+use Rattle.kahn_net.specs.Common.{code_of}
 use Rattle.net_check.proofs.resolve.resolve_all.Given as goal
 
 abbrev pub invariant-loop-number : goal.invariant-loop-number

@@ -1,7 +1,7 @@
 use Rattle.std.proofs.Common.{◌≡◌, List, Some, refl, subst, sym}
 use Rattle.std.specs.Prelude.{slice_get}
 use Rattle.protocol.specs.Node.Common.{ImageView, SavedEnd, saved_counted, saved_pushed}
-use Rattle.record.specs.Ascending.{AreAscending}
+use Rattle.record.specs.Common.{AreAscending}
 use Rattle.record.specs.Laws.Ascent.{ascend_changed}
 use Rattle.node_memory.proofs.Installs.{counts_kept}
 use Rattle.node_memory.proofs.installing.install_turn.Goals as goal

@@ -1,5 +1,5 @@
 use Rattle.std.proofs.Common.{ap}
-use Rattle.kahn_net.specs.Syntax.{block_of, code_of}
+use Rattle.kahn_net.specs.Common.{block_of, code_of}
 use Rattle.proc_code.proofs.Whole.{whole}
 use Rattle.proc_code.proofs.compiling.compile.Goals as goal
 

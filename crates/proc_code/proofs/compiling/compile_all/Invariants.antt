@@ -1,5 +1,5 @@
 use Rattle.std.proofs.Common.{◌≡◌, map, take}
-use Rattle.kahn_net.specs.Syntax.{code_of}
+use Rattle.kahn_net.specs.Common.{code_of}
 use Rattle.proc_code.specs.CodeView.{code_view}
 use Rattle.proc_code.specs.Translation.{flat_code}
 use Rattle.proc_code.proofs.compiling.compile_all.Given as goal

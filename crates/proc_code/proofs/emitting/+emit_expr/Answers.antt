@@ -1,5 +1,5 @@
 use Rattle.std.proofs.Common.{◌++◌, ◌∙◌, ap}
-use Rattle.kahn_net.specs.Syntax.{tree_of}
+use Rattle.kahn_net.specs.Common.{tree_of}
 use Rattle.kahn_net.specs.declared.program.Expr.{Expr}
 use Rattle.proc_code.specs.Translation.{expr_code}
 use Rattle.proc_code.proofs.Emitted.{chain_starts}

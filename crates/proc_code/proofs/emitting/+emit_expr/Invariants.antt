@@ -1,5 +1,5 @@
 use Rattle.std.proofs.Common.{◌≡◌, ◌++◌, drop}
-use Rattle.kahn_net.specs.Syntax.{links_of, tree_of}
+use Rattle.kahn_net.specs.Common.{links_of, tree_of}
 use Rattle.proc_code.specs.Translation.{expr_code, links_code}
 use Rattle.proc_code.proofs.emitting.+emit_expr.Given as goal
 

@@ -1,5 +1,5 @@
 use Rattle.std.proofs.Common.{◌≡◌, ◌++◌, drop, length}
-use Rattle.kahn_net.specs.Syntax.{block_of}
+use Rattle.kahn_net.specs.Common.{block_of}
 use Rattle.proc_code.specs.Translation.{block_code, sites_at}
 use Rattle.proc_code.proofs.emitting.+emitting.Given as goal
 

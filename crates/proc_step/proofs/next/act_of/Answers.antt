@@ -1,6 +1,6 @@
 use Rattle.std.proofs.Common.{List, ap, ◌≡◌, ◌∙◌, sym, arith, get_or, length}
 use Rattle.kahn_net.specs.NextActs.{next_at}
-use Rattle.kahn_net.specs.Syntax.{Code}
+use Rattle.kahn_net.specs.Common.{Code}
 use Rattle.proc_code.specs.Translation.{FlatCode, next_by, process_sites}
 use Rattle.proc_code.specs.Laws.Sites.{process_act, process_no_act}
 use Rattle.proc_code.specs.declared.instruction.Site.{Site}

@@ -1,8 +1,6 @@
 use Rattle.std.proofs.Common.{ap, ◌∙◌, sym, arith, length}
 use Rattle.std.proofs.lemmas.List.{length-map}
-use Rattle.kahn_net.specs.NextActs.{next_of}
-use Rattle.kahn_net.specs.Syntax.{code_of, network_of}
-use Rattle.kahn_net.specs.States.{standing_in}
+use Rattle.kahn_net.specs.Common.{next_of, code_of, network_of, standing_in}
 use Rattle.kahn_net.specs.declared.state.Mode.{Mode}
 use Rattle.proc_code.specs.Laws.Codes.{as_many, code_there}
 use Rattle.proc_step.proofs.next.next_act.Goals as goal

@@ -1,7 +1,5 @@
 use Rattle.std.proofs.Common.{List, ℤ, ap, sym, subst, ◌∙◌}
-use Rattle.kahn_net.specs.Processes.{Standing}
-use Rattle.kahn_net.specs.Resuming.{trace_from}
-use Rattle.kahn_net.specs.States.{standing_of}
+use Rattle.kahn_net.specs.Common.{Standing, trace_from, standing_of}
 use Rattle.proc_code.specs.Translation.{FlatCode}
 use Rattle.proc_step.specs.Parts.{Played, taken_of}
 use Rattle.proc_step.proofs.Coded.{runs_at}

@@ -1,4 +1,3 @@
-use Rattle.std.proofs.Common.{rules, arith}
 use Rattle.run_log.proofs.Arming.{found_here, not_here}
 use Rattle.run_log.proofs.armed.first_crash.Goals as goal
 

@@ -1,7 +1,7 @@
 use Rattle.std.proofs.Common.{◌≡◌, ℕ, List, sym, ap, subst, ◌∙◌, refl, arith}
 use Rattle.std.proofs.lemmas.Result.{err_from_is_err_and}
-use Rattle.kahn_net.specs.Syntax.{network_of}
-use Rattle.kahn_net.specs.Approximations.{approximation, next_histories}
+use Rattle.kahn_net.specs.Common.{network_of, approximation}
+use Rattle.kahn_net.specs.Approximations.{next_histories}
 use Rattle.stream_eq.specs.Limits.{IsWithin}
 use Rattle.stream_eq.proofs.Errors.{other_err}
 use Rattle.stream_eq.proofs.Lengths.{inputs_within, not_long, long_at, next_round, at_rest}

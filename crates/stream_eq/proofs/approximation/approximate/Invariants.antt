@@ -1,6 +1,5 @@
 use Rattle.std.proofs.Common.{◌≡◌}
-use Rattle.kahn_net.specs.Syntax.{network_of}
-use Rattle.kahn_net.specs.Approximations.{approximation}
+use Rattle.kahn_net.specs.Common.{network_of, approximation}
 use Rattle.stream_eq.specs.Limits.{IsWithin}
 use Rattle.stream_eq.proofs.approximation.approximate.Given as goal
 

@@ -1,8 +1,7 @@
 use Rattle.std.proofs.Common.{rules, ◌∙◌, ap, w64, FitsSigned}
 use Rattle.std.proofs.lemmas.Int.{to_z-of_z}
 use Rattle.kahn_net.specs.declared.program.Expr.{Expr}
-use Rattle.kahn_net.specs.Statements.{value_of}
-use Rattle.kahn_net.specs.Syntax.{tree_of}
+use Rattle.kahn_net.specs.Common.{value_of, tree_of}
 use Rattle.stream_eq.proofs.Chains.{value_starts}
 use Rattle.stream_eq.proofs.evaluate.+value.Goals as goal
 

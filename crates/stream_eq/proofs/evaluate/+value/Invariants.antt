@@ -1,6 +1,6 @@
 use Rattle.std.proofs.Common.{◌≡◌, drop}
-use Rattle.kahn_net.specs.Statements.{value_of, value_along}
-use Rattle.kahn_net.specs.Syntax.{links_of, tree_of}
+use Rattle.kahn_net.specs.Common.{value_of, links_of, tree_of}
+use Rattle.kahn_net.specs.Statements.{value_along}
 use Rattle.stream_eq.proofs.evaluate.+value.Given as goal
 
 abbrev pub invariant-loop-link : goal.invariant-loop-link

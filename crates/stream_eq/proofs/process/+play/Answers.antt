@@ -1,10 +1,8 @@
 use Rattle.std.proofs.Common.{suc, ◌+◌, ◌-◌, [], ◌∷◌, ◌++◌, drop, sym, ap, ◌∙◌, subst, arith}
 use Rattle.std.proofs.lemmas.Result.{err_from_is_err_and, IfOk-weaker}
-use Rattle.kahn_net.specs.Syntax.{Block, block_of}
-use Rattle.kahn_net.specs.Statements.{Trace, trace_of, sites_of}
+use Rattle.kahn_net.specs.Common.{Block, block_of, Trace, trace_of, sites_of, put_after}
 use Rattle.kahn_net.specs.Laws.Syntax.{block_at}
 use Rattle.kahn_net.specs.Laws.Traces.{takes_first, takes_second}
-use Rattle.kahn_net.specs.Puts.{put_after}
 use Rattle.stream_eq.specs.Limits.{GoesPast}
 use Rattle.stream_eq.specs.Play.{IsPlayed}
 use Rattle.stream_eq.proofs.Errors.{other_err}

@@ -1,6 +1,5 @@
 use Rattle.std.proofs.Common.{◌≡◌, ℕ, ◌-◌, List, [], ◌∷◌, ◌++◌, drop, length}
-use Rattle.kahn_net.specs.Syntax.{block_of}
-use Rattle.kahn_net.specs.Statements.{rounds, trace_of}
+use Rattle.kahn_net.specs.Common.{block_of, rounds, trace_of}
 use Rattle.stream_eq.specs.Limits.{IsWithin}
 use Rattle.stream_eq.proofs.Going.{Going, GoingRound}
 use Rattle.stream_eq.proofs.process.+play.Given as goal

@@ -1,9 +1,7 @@
 use Rattle.std.proofs.Common.{[], ap, subst, ◌∙◌}
 use Rattle.std.proofs.lemmas.Result.{err_from_is_err_and, on_ok_weaker}
-use Rattle.kahn_net.specs.Syntax.{block_of, body_of, code_of}
-use Rattle.kahn_net.specs.Statements.{Trace, trace_of, sites_of}
-use Rattle.kahn_net.specs.Processes.{loop_trace}
-use Rattle.kahn_net.specs.Puts.{put_after}
+use Rattle.kahn_net.specs.Common.{block_of, code_of, Trace, trace_of, sites_of, loop_trace, put_after}
+use Rattle.kahn_net.specs.Syntax.{body_of}
 use Rattle.stream_eq.specs.Limits.{GoesPast}
 use Rattle.stream_eq.proofs.Errors.{other_err}
 use Rattle.stream_eq.proofs.Loops.{ended_then, past_then, then_past, played_at, trace_at, loop_at}

@@ -1,9 +1,6 @@
 use Rattle.std.proofs.Common.{[], sym, subst, ◌∙◌}
 use Rattle.std.proofs.lemmas.Result.{err_from_is_err_and}
-use Rattle.kahn_net.specs.Streams.{total}
-use Rattle.kahn_net.specs.Syntax.{block_of}
-use Rattle.kahn_net.specs.Statements.{trace_of}
-use Rattle.kahn_net.specs.Processes.{passes}
+use Rattle.kahn_net.specs.Common.{total, block_of, trace_of, passes}
 use Rattle.stream_eq.specs.Limits.{GoesPast}
 use Rattle.stream_eq.proofs.Errors.{other_err}
 use Rattle.stream_eq.proofs.Loops.{smaller, goes_on, past_then}

@@ -1,8 +1,5 @@
 use Rattle.std.proofs.Common.{◌≡◌, ℕ, suc, length}
-use Rattle.kahn_net.specs.Streams.{total}
-use Rattle.kahn_net.specs.Syntax.{block_of}
-use Rattle.kahn_net.specs.Processes.{passes}
-use Rattle.kahn_net.specs.Puts.{put_after}
+use Rattle.kahn_net.specs.Common.{total, block_of, passes, put_after}
 use Rattle.stream_eq.specs.Limits.{IsWithin}
 use Rattle.stream_eq.proofs.process.play_loop.Given as goal
 

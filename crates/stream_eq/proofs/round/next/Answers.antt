@@ -2,7 +2,7 @@ use Rattle.std.proofs.Common.{◌≡◌, ◌++◌, List, drop, take, length, map
 use Rattle.std.specs.Prelude.{slice_get}
 use Rattle.std.proofs.lemmas.Grind.{common_steps}
 use Rattle.std.proofs.lemmas.Result.{err_from_is_err_and}
-use Rattle.kahn_net.specs.Syntax.{code_of, network_of}
+use Rattle.kahn_net.specs.Common.{code_of, network_of}
 use Rattle.kahn_net.specs.declared.program.Process.{Process}
 use Rattle.stream_eq.specs.Limits.{GoesPast}
 use Rattle.stream_eq.specs.Play.{put_by_all}

@@ -1,8 +1,6 @@
 use Rattle.std.proofs.Common.{◌+◌, drop, map, subst, ◌∙◌}
 use Rattle.std.proofs.lemmas.Result.{err_from_is_err_and}
-use Rattle.kahn_net.specs.Syntax.{code_of}
-use Rattle.kahn_net.specs.Processes.{process_trace}
-use Rattle.kahn_net.specs.Puts.{put_after}
+use Rattle.kahn_net.specs.Common.{code_of, process_trace, put_after}
 use Rattle.kahn_net.specs.Laws.Valid.{code_at}
 use Rattle.stream_eq.specs.Limits.{GoesPast}
 use Rattle.stream_eq.proofs.Errors.{other_err}

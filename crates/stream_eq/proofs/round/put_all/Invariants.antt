@@ -1,5 +1,5 @@
 use Rattle.std.proofs.Common.{◌≡◌, drop, length, map}
-use Rattle.kahn_net.specs.Syntax.{code_of}
+use Rattle.kahn_net.specs.Common.{code_of}
 use Rattle.stream_eq.specs.Limits.{IsWithin}
 use Rattle.stream_eq.specs.Play.{put_by_all}
 use Rattle.stream_eq.proofs.round.put_all.Given as goal

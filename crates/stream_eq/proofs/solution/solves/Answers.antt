@@ -1,5 +1,5 @@
 use Rattle.std.proofs.Common.{sym, ap, ◌∙◌, Err}
-use Rattle.kahn_net.specs.Syntax.{network_of}
+use Rattle.kahn_net.specs.Common.{network_of}
 use Rattle.kahn_net.specs.Laws.Approximations.{solution_is_next, next_is_solution}
 use Rattle.stream_eq.proofs.Lengths.{solution_within}
 use Rattle.stream_eq.proofs.solution.solves.Goals as goal

@@ -1,5 +1,5 @@
 use Rattle.std.proofs.Common.{◌∙◌, ap, arith, get_or, length, List}
-use Rattle.kahn_net.specs.Syntax.{Code}
+use Rattle.kahn_net.specs.Common.{Code}
 use Rattle.proc_code.specs.Translation.{FlatCode}
 use Rattle.proc_code.specs.Laws.Sites.{process_entry, process_past}
 use Rattle.proc_code.specs.declared.instruction.Site.{Site}

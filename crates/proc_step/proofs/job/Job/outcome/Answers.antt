@@ -1,6 +1,6 @@
 use Rattle.std.proofs.Common.{get_or, ap, ◌∙◌}
 use Rattle.std.proofs.lemmas.Result.{IfOk-weaker}
-use Rattle.kahn_net.specs.Syntax.{network_of}
+use Rattle.kahn_net.specs.Common.{network_of}
 use Rattle.net_check.specs.declared.net.Net.{Net}
 use Rattle.proc_code.specs.Laws.Codes.{code_there}
 use Rattle.proc_step.proofs.job.Job.outcome.Goals as goal

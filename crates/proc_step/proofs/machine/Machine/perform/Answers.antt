@@ -5,7 +5,7 @@ use Rattle.std.specs.Prelude.{slice_index}
 use Rattle.std.specs.Vec.{with_items}
 use Rattle.std.proofs.lemmas.Int.{to_z-of_z}
 use Rattle.std.proofs.lemmas.List.{with_items_is}
-use Rattle.kahn_net.specs.Streams.{history_of}
+use Rattle.kahn_net.specs.Common.{history_of}
 use Rattle.proc_code.specs.Machine.{top}
 use Rattle.proc_step.proofs.Machines.{get_moves, put_moves}
 use Rattle.proc_step.proofs.machine.Machine.perform.Goals as goal

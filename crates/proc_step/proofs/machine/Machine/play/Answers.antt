@@ -2,7 +2,7 @@ use Rattle.std.proofs.Common.{◌≡◌, ◌≤◌, ◌+◌, ◌*◌, ◌∙◌,
 use Rattle.std.proofs.Common.{refl, arith}
 use Rattle.std.proofs.lemmas.List.{take_all}
 use Rattle.kahn_net.specs.declared.limits.TheConstants.{MAX_NESTED_TIMES}
-use Rattle.kahn_net.specs.Streams.{total}
+use Rattle.kahn_net.specs.Common.{total}
 use Rattle.proc_step.specs.Stepping.{WentOn}
 use Rattle.proc_step.specs.declared.machine.Flow.{Flow}
 use Rattle.proc_step.proofs.Rounds.{in_items, one_list, then_on, then_stops, part_made, not_past}

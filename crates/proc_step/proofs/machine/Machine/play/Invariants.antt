@@ -1,6 +1,6 @@
 use Rattle.std.proofs.Common.{None, ◌+◌, ◌*◌, length, take}
 use Rattle.kahn_net.specs.declared.limits.TheConstants.{MAX_NESTED_TIMES}
-use Rattle.kahn_net.specs.Streams.{total}
+use Rattle.kahn_net.specs.Common.{total}
 use Rattle.proc_step.specs.Stepping.{WentOn}
 use Rattle.proc_step.proofs.machine.Machine.play.Given as goal
 

@@ -1,8 +1,16 @@
-use Rattle.std.proofs.Common.{rules, ◌≡◌, ◌∙◌, List, Some, refl, slice_get, subst, arith}
+use Rattle.std.proofs.Common.{rules, ◌≡◌, ◌∙◌, ◌≤◌, List, length, Some, refl, slice_get, ap, subst, arith}
 use Rattle.std.proofs.lemmas.Option.{slice_get_read}
 use Rattle.replay.specs.declared.kept.ScriptedEvent.{ScriptedEvent}
 use Rattle.run_log.proofs.Adding.{due_line}
 use Rattle.run_log.proofs.run_log.RunLog.fault.Goals as goal
+
+pub be_silent-requires-clause-own : goal.be_silent-requires-clause-own
+be_silent-requires-clause-own g c =
+    let log = c.args.self.now in
+    let many : c.len.result ≡ length g.ThisRun.Run.script =
+    c.len.ensures ∙ (log.script.ok.0 ∙ ap (length {A = ScriptedEvent}) log.same_script) in
+    let over : length g.ThisRun.Run.script ≤ log.passed = omega (arith, many, c.if-passed-len.true) in
+    ∣ over ∣₁
 
 pub be_silent-requires-then-line-round-clause-own : goal.be_silent-requires-then-line-round-clause-own
 be_silent-requires-then-line-round-clause-own g c =
