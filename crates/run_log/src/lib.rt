@@ -18,7 +18,7 @@ pub use answer::{FaultAnswer, HeldBack, HubFault, Status, TurnAnswer};
 pub use armed::ArmedWorld;
 pub use history::{Entry, History, KeptEvent, Line};
 pub use keeping::keep_reply;
-pub use run_log::RunLog;
+pub use run_log::{Moment, RunLog};
 pub use seat_count::{
     Counted, Entries, NoMores, NotYets, Nothings, Run, RunCount, RunLedgers, SeatCount, Stops,
     UnusedLedgers,

@@ -33,7 +33,17 @@ use outlet::Outlet;
 use proc_step::Done;
 use replay::{RunEvent, ScriptedEvent, Silence};
 use std::alloc::Global;
+use wire::NODES;
 use world::{Deed, Event, PlainEvent, Refused, Reply, World};
+
+/// What a node that has nothing to do waits for, beside a packet: the round, how many lines of the script are passed, and the room
+/// of channels. As long as these stay, and no packet is due for it, it has nothing to do.
+#[derive(Clone, Copy, Debug, PartialEq, Eq)]
+pub struct Moment {
+    pub round: u64,
+    pub passed: usize,
+    pub room: usize,
+}
 
 /// A world with its script and its history, and how often the seats were answered. Several threads share it under a lock.
 #[derive(Drop)]
@@ -391,6 +401,36 @@ impl<C: SlotCell, O: Outlet, ThisRun: Run> RunLog<C, O, ThisRun> {
             Ok(reply) => Ok(FaultAnswer::Reply(reply)),
             Err(fault) => Err(fault),
         }
+    }
+
+    /// What a node that has nothing to do waits for.
+    pub fn moment(&self) -> Moment
+        ensures { result.round ≡ self.now.armed.world.round }
+    {
+        Moment {
+            round: self.armed.world.round,
+            passed: self.passed,
+            room: self.armed.world.room,
+        }
+    }
+
+    /// Whether a packet is due for a node.
+    pub fn has_packet(&self, node: u8) -> bool {
+        let world = &self.armed.world;
+        usize::from(node) < NODES && world.wire.first_due(node, world.round).is_some()
+    }
+
+    /// The round of the script's next line.
+    pub fn line_round(&self) -> Option<u64> {
+        let line = self.script.get(self.passed)?;
+        Some(line.round)
+    }
+
+    /// Whether no turn and no line of the script makes an event any more.
+    pub fn is_stopped(&self) -> bool
+        ensures { result ≡ self.now.stopped }
+    {
+        self.stopped
     }
 
     /// How many events were made.

@@ -2,6 +2,7 @@
 
 use crate::hub::Hub;
 use crate::seat::DriverSeat;
+use crate::waking::{Seen, Until};
 use gate_cell::SlotCell;
 use kahn_net::{Channel, Port};
 use marks::{Marks, MarksName, Seat};
@@ -9,7 +10,6 @@ use outlet::Outlet;
 use run_log::{FaultAnswer, HubFault, Run};
 use std::alloc::Global;
 use std::sync::Wait;
-use std::thread;
 
 /// Where a run ends: after so many rounds, or once so many items of each output have left.
 #[derive(Clone, Copy, Debug, PartialEq, Eq)]
@@ -57,6 +57,19 @@ pub(crate) fn begin<C: SlotCell, O: Outlet, ThisRun: Run, R: Wait>(
     unreachable!()
 }
 
+// What the driver waits for behind a line: the round of the next one, the last round, and where items are asked for, each that leaves.
+fn wait_until(next: Option<u64>, bounds: Bounds, seen: Seen) -> Until {
+    let round = match next {
+        Some(round) => round.min(bounds.rounds),
+        None => bounds.rounds,
+    };
+    let left = match bounds.items {
+        Some(_) => Some(seen.left),
+        None => None,
+    };
+    Until { round, left }
+}
+
 // Goes through the script, until nothing is left to do or the run has come to its bounds.
 fn go_through<C: SlotCell, O: Outlet, ThisRun: Run, ItsMarks: MarksName, R: Wait>(
     rt: &R,
@@ -68,18 +81,28 @@ fn go_through<C: SlotCell, O: Outlet, ThisRun: Run, ItsMarks: MarksName, R: Wait
     marks_seat: &mut Seat<ItsMarks>,
     bounds: Bounds,
 ) -> Result<(), HubFault> {
+    let mut until = Until {
+        round: 0,
+        left: None,
+    };
     for _ in rt.forever() {
-        let status = hub.status(rt);
-        if status.stopped
-            || status.round >= bounds.rounds
-            || have_left(channels, marks, marks_seat, bounds.items)
-        {
+        let mut entered = hub.enter_driver(rt, until);
+        if entered.is_stopped() || entered.round() >= bounds.rounds {
             return Ok(());
         }
-        match hub.fault(rt, alloc, seat)? {
-            FaultAnswer::Reply(_) => {}
-            _ => thread::yield_now(),
+        let answer = entered.fault(alloc, seat)?;
+        let next = entered.line_round();
+        let seen = entered.leave();
+        if have_left(channels, marks, marks_seat, bounds.items) {
+            return Ok(());
         }
+        until = match answer {
+            FaultAnswer::Reply(_) => Until {
+                round: 0,
+                left: None,
+            },
+            _ => wait_until(next, bounds, seen),
+        };
     }
     unreachable!()
 }

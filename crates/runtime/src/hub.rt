@@ -17,9 +17,10 @@ ghost use Rattle.world.specs.WholeView.{world_of};
 ghost use Rattle.world.specs.WorldView.{rooms};
 ghost use Rattle.station.specs.declared.event.Event.TheVariants as event;
 
+use crate::entered::Entered;
 use crate::seat::{DriverSeat, NodeSeat, driver_seat, node_seat};
+use crate::waking::{Locked, Seen, Sleepers, Until, Woken};
 use gate_cell::SlotCell;
-use kahn_net::MAX_COUNT;
 use outlet::Outlet;
 use proc_step::Done;
 use replay::ScriptedEvent;
@@ -29,12 +30,13 @@ use run_log::{
 };
 use std::alloc::{AllocError, Global};
 use std::sync::{Mutex, Wait};
-use world::{Event, Reply, World};
+use world::{Reply, World};
 
-/// A world with its history, under one lock.
+/// A world with its history, under one lock, and where those sleep who wait for it.
 #[derive(Drop)]
 pub struct Hub<C: SlotCell, O: Outlet, ThisRun: Run> {
-    run_log: Mutex<RunLog<C, O, ThisRun>>,
+    locked: Mutex<Locked<C, O, ThisRun>>,
+    sleepers: Sleepers,
 }
 
 impl<C: SlotCell, O: Outlet, ThisRun: Run> Hub<C, O, ThisRun> {
@@ -64,15 +66,64 @@ impl<C: SlotCell, O: Outlet, ThisRun: Run> Hub<C, O, ThisRun> {
         ensures numbered { IfOk result (λ hub. AreOfNodes nodes hub.1.items) }
     {
         let armed = ArmedWorld::new(alloc, world)?;
+        let sleepers = Sleepers::new(alloc, nodes)?;
         let (totals, mut all) = ledgers.open::<ThisRun>();
         let mut seats = Vec::with_capacity(alloc, usize::from(nodes))?;
         for node in 0..nodes {
             seats.push_reserved(node_seat(node, all.split_off()));
         }
         let hub = Hub {
-            run_log: Mutex::new(RunLog::<C, O, ThisRun>::new(alloc, armed, script, totals)),
+            locked: Mutex::new(Locked {
+                log: RunLog::<C, O, ThisRun>::new(alloc, armed, script, totals),
+                left: 0,
+                until: Until {
+                    round: 0,
+                    left: None,
+                },
+            }),
+            sleepers,
         };
         Ok((hub, seats, driver_seat(all)))
+    }
+
+    /// The lock, for calls in a row.
+    pub fn enter<R: Wait>(&self, rt: &R) -> Entered<'_, C, O, ThisRun> {
+        Entered::new(self.locked.lock(rt), &self.sleepers)
+    }
+
+    /// The lock, once there may be something to do for the seat's node, to which there was nothing when the hub stood so: the run
+    /// is stopped, or a packet is due, the round is another, a line was passed or channels have more room. While a line of an
+    /// earlier round isn't passed yet it waits, so that no line comes more than a round late. A wait makes no event.
+    pub fn enter_node<R: Wait>(
+        &self,
+        rt: &R,
+        seat: &NodeSeat<ThisRun>,
+        nothing_at: Option<Seen>,
+    ) -> Entered<'_, C, O, ThisRun> {
+        let node = seat.node;
+        let mut locked = self.locked.lock(rt);
+        if let Some(place) = self.sleepers.node(node) {
+            for _ in rt.forever() {
+                if locked.wakes_node(node, nothing_at) {
+                    break;
+                }
+                locked = place.wait(rt, locked);
+            }
+        }
+        Entered::new(locked, &self.sleepers)
+    }
+
+    /// The lock, once the run is stopped, or what the driver waits for has come.
+    pub fn enter_driver<R: Wait>(&self, rt: &R, until: Until) -> Entered<'_, C, O, ThisRun> {
+        let mut locked = self.locked.lock(rt);
+        locked.until = until;
+        for _ in rt.forever() {
+            if locked.wakes_driver() {
+                break;
+            }
+            locked = self.sleepers.driver().wait(rt, locked);
+        }
+        Entered::new(locked, &self.sleepers)
     }
 
     /// The event that is next for the seat's node, `Widened`, `Nothing` or `Stopped`.
@@ -92,15 +143,9 @@ impl<C: SlotCell, O: Outlet, ThisRun: Run> Hub<C, O, ThisRun> {
         ensures refused { OnErr result
             (seat_numbers seat.new.count ≡ seat_numbers seat.old.count) }
     {
-        let NodeSeat { node, made, count } = seat;
-        if *made >= MAX_COUNT {
-            return Err(HubFault::PastNumber);
-        }
-        let answer = self.run_log.lock(rt).turn(alloc, *node, count)?;
-        match &answer {
-            TurnAnswer::Reply(_) | TurnAnswer::Widened => *made += 1,
-            TurnAnswer::Nothing | TurnAnswer::Stopped => {}
-        }
+        let mut entered = self.enter(rt);
+        let answer = entered.turn(alloc, seat)?;
+        entered.leave();
         Ok(answer)
     }
 
@@ -122,15 +167,9 @@ impl<C: SlotCell, O: Outlet, ThisRun: Run> Hub<C, O, ThisRun> {
             (seat_numbers seat.new.count ≡ seat_numbers seat.old.count) }
         ensures handed_back { IfErr result (λ held. held.event ≡ event.Install done) }
     {
-        let NodeSeat { node, made, count } = seat;
-        if *made >= MAX_COUNT {
-            return Err(HeldBack {
-                event: Event::Install(done),
-                fault: HubFault::PastNumber,
-            });
-        }
-        let reply = self.run_log.lock(rt).install(alloc, *node, done, count)?;
-        *made += 1;
+        let mut entered = self.enter(rt);
+        let reply = entered.install(alloc, seat, done)?;
+        entered.leave();
         Ok(reply)
     }
 
@@ -148,31 +187,30 @@ impl<C: SlotCell, O: Outlet, ThisRun: Run> Hub<C, O, ThisRun> {
         ensures refused { OnErr result
             (seat_numbers seat.new.count ≡ seat_numbers seat.old.count) }
     {
-        let DriverSeat { made, count } = seat;
-        if *made >= MAX_COUNT {
-            return Err(HubFault::PastNumber);
-        }
-        let answer = self.run_log.lock(rt).fault(alloc, count)?;
-        match &answer {
-            FaultAnswer::Reply(_) => *made += 1,
-            FaultAnswer::NotYet | FaultAnswer::NoMore | FaultAnswer::Stopped => {}
-        }
+        let mut entered = self.enter(rt);
+        let answer = entered.fault(alloc, seat)?;
+        entered.leave();
         Ok(answer)
     }
 
     /// How the run stands. The hub is stopped where nothing is left to do.
     pub fn status<R: Wait>(&self, rt: &R) -> Status {
-        self.run_log.lock(rt).status()
+        let status = self.locked.lock(rt).log.status();
+        if status.stopped {
+            self.sleepers.wake(Woken::all());
+        }
+        status
     }
 
     /// How many events were made by all seats together.
     pub fn entries<R: Wait>(&self, rt: &R) -> u64 {
-        self.run_log.lock(rt).made()
+        self.locked.lock(rt).log.made()
     }
 
     /// From now on no turn and no line of the script makes an event. What comes of a job that is out may still come back.
     pub fn stop<R: Wait>(&self, rt: &R) {
-        self.run_log.lock(rt).stop();
+        self.locked.lock(rt).log.stop();
+        self.sleepers.wake(Woken::all());
     }
 
     /// The world, with the history that leads to it from the one with which the run began. Where these are all seats, the history
@@ -188,8 +226,9 @@ impl<C: SlotCell, O: Outlet, ThisRun: Run> Hub<C, O, ThisRun> {
             → numbers_in result.1.lines.items result.1.stops
             ≡ added (numbers_of_seats seats.items) (seat_numbers driver.count) }
     {
-        let Hub { run_log } = self;
+        let Hub { locked, .. } = self;
+        let Locked { log, .. } = locked.into_inner();
         let mut all = driver.with_all(seats);
-        run_log.into_inner().close(&mut all)
+        log.close(&mut all)
     }
 }

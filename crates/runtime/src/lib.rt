@@ -6,21 +6,25 @@
 #![tactic(auto)]
 
 mod driving;
+mod entered;
 mod hub;
 mod job_watch;
 mod playing;
 mod seat;
 mod threads;
+mod waking;
 mod working;
 
 pub use driving::{Bounds, drive};
+pub use entered::Entered;
 pub use hub::Hub;
 pub use job_watch::{JobWatch, NoWatch};
 pub use playing::run_world;
 pub use run_log::{
-    Entry, FaultAnswer, HeldBack, History, HubFault, KeptEvent, Line, Run, RunLedgers, Status,
+    Entry, FaultAnswer, HeldBack, History, HubFault, KeptEvent, Line, Moment, Run, RunLedgers, Status,
     TurnAnswer, UnusedLedgers,
 };
 pub use seat::{DriverSeat, NodeSeat};
 pub use threads::{DriverSeats, NodeSeats, SharedRun, run_threads};
+pub use waking::{Seen, Until};
 pub use working::work;

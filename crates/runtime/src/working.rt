@@ -1,8 +1,10 @@
 // What a node's thread does at the hub.
-ghost use Rattle.std.specs.Prelude.{◌≡◌};
+ghost use Rattle.std.specs.Prelude.{◌≡◌, IfOk};
 ghost use Rattle.node_memory.specs.JobView.{shared_view};
 ghost use Rattle.protocol.specs.World.Common.{node_in};
+ghost use Rattle.run_log.specs.Answers.{IsGrantedIn};
 
+use crate::entered::Entered;
 use crate::hub::Hub;
 use crate::job_watch::JobWatch;
 use crate::seat::NodeSeat;
@@ -13,7 +15,6 @@ use proc_step::Job;
 use run_log::{HubFault, Run, TurnAnswer};
 use std::alloc::Global;
 use std::sync::{Arc, Wait};
-use std::thread;
 use stream_eq::Freed;
 use world::Reply;
 
@@ -51,8 +52,39 @@ fn run_job<C: SlotCell, O: Outlet, ThisRun: Run, W: JobWatch, R: Wait>(
     }
 }
 
+// How many turns in a row a node takes at most while it has the lock.
+const TURNS: u32 = 256;
+
+// Turns in a row, until a job is granted, nothing is to be done, or others have something to do. It answers what the last one came to.
+fn take_turns<C: SlotCell, O: Outlet, ThisRun: Run, ItsMarks: MarksName>(
+    alloc: Global,
+    entered: &mut Entered<'_, C, O, ThisRun>,
+    seat: &mut NodeSeat<ThisRun>,
+    marks: &Marks<ItsMarks>,
+    marks_seat: &mut Seat<ItsMarks>,
+) -> Result<TurnAnswer, HubFault>
+    ensures node { seat.new.node ≡ seat.old.node }
+    ensures home { IfOk result (IsGrantedIn seat.old.node) }
+{
+    for _ in 1..TURNS {
+        match entered.turn(alloc, seat)? {
+            TurnAnswer::Reply(Reply::Granted(job)) => {
+                return Ok(TurnAnswer::Reply(Reply::Granted(job)));
+            }
+            TurnAnswer::Reply(Reply::Released(freed)) => raise(marks, marks_seat, freed),
+            TurnAnswer::Reply(_) | TurnAnswer::Widened => {}
+            TurnAnswer::Nothing => return Ok(TurnAnswer::Nothing),
+            TurnAnswer::Stopped => return Ok(TurnAnswer::Stopped),
+        }
+        if entered.has_moved_on() {
+            break;
+        }
+    }
+    Ok(TurnAnswer::Widened)
+}
+
 // Takes turns until the hub is stopped, or a call is refused.
-fn take_turns<C: SlotCell, O: Outlet, ThisRun: Run, ItsMarks: MarksName, W: JobWatch, R: Wait>(
+fn work_on<C: SlotCell, O: Outlet, ThisRun: Run, ItsMarks: MarksName, W: JobWatch, R: Wait>(
     rt: &R,
     alloc: Global,
     hub: &Hub<C, O, ThisRun>,
@@ -64,17 +96,20 @@ fn take_turns<C: SlotCell, O: Outlet, ThisRun: Run, ItsMarks: MarksName, W: JobW
     ensures node { seat.new.node ≡ seat.old.node }
 {
     let mut nth: u64 = 0;
+    let mut nothing_at = None;
     for _ in rt.forever() {
-        match hub.turn(rt, alloc, seat)? {
+        let mut entered = hub.enter_node(rt, seat, nothing_at);
+        let answer = take_turns(alloc, &mut entered, seat, marks, marks_seat)?;
+        let seen = entered.leave();
+        nothing_at = None;
+        match answer {
             TurnAnswer::Stopped => return Ok(()),
             TurnAnswer::Reply(Reply::Granted(job)) => {
                 run_job(rt, alloc, hub, seat, watch, nth, job)?;
                 nth = nth.wrapping_add(1);
             }
-            TurnAnswer::Reply(Reply::Released(freed)) => raise(marks, marks_seat, freed),
             TurnAnswer::Reply(_) | TurnAnswer::Widened => {}
-            // Nothing is to be done: somebody else may go first.
-            TurnAnswer::Nothing => thread::yield_now(),
+            TurnAnswer::Nothing => nothing_at = Some(seen),
         }
     }
     unreachable!()
@@ -93,7 +128,7 @@ pub fn work<C: SlotCell, O: Outlet, ThisRun: Run, ItsMarks: MarksName, W: JobWat
 ) -> Result<(), HubFault>
     ensures node { seat.new.node ≡ seat.old.node }
 {
-    let end = take_turns(rt, alloc, hub, seat, marks, marks_seat, watch);
+    let end = work_on(rt, alloc, hub, seat, marks, marks_seat, watch);
     if end.is_err() {
         hub.stop(rt);
     }

@@ -1,0 +1,168 @@
+// A hub's lock, held for calls in a row.
+ghost use Rattle.std.specs.Prelude.{◌≡◌, IfErr, IfOk, OnErr, OnOk};
+ghost use Rattle.protocol.specs.World.Common.{event_node, Install};
+ghost use Rattle.replay.specs.declared.kept.Maker.TheVariants as who;
+ghost use Rattle.run_log.specs.Answers.{fault_kind, turn_kind, IsGrantedIn, IsReplyIn, TellsFault, TellsTurn};
+ghost use Rattle.run_log.specs.Numbers.{counted};
+ghost use Rattle.run_log.specs.SeatCounts.{seat_numbers};
+ghost use Rattle.run_log.specs.declared.seat_count.Counted.TheVariants as kind;
+ghost use Rattle.station.specs.DoneView.{done_view};
+ghost use Rattle.station.specs.ReplyView.{reply_view};
+ghost use Rattle.station.specs.declared.event.Event.TheVariants as event;
+
+use crate::seat::{DriverSeat, NodeSeat};
+use crate::waking::{Locked, Seen, Sleepers};
+use gate_cell::SlotCell;
+use kahn_net::MAX_COUNT;
+use outlet::Outlet;
+use proc_step::Done;
+use run_log::{FaultAnswer, HeldBack, HubFault, Run, TurnAnswer};
+use std::alloc::Global;
+use std::sync::MutexGuard;
+use world::{Event, Reply};
+
+/// The lock of a hub: who has it calls for a seat as often as it wants, and gives it back by `leave`, which wakes whoever has
+/// something to do by then. Where it is only let go of, nobody is woken.
+#[derive(Drop)]
+pub struct Entered<'hub, C: SlotCell, O: Outlet, ThisRun: Run> {
+    pub(crate) locked: MutexGuard<'hub, Locked<C, O, ThisRun>>,
+    pub(crate) sleepers: &'hub Sleepers,
+    pub(crate) found: Seen,
+}
+
+impl<'hub, C: SlotCell, O: Outlet, ThisRun: Run> Entered<'hub, C, O, ThisRun> {
+    pub(crate) fn new(
+        locked: MutexGuard<'hub, Locked<C, O, ThisRun>>,
+        sleepers: &'hub Sleepers,
+    ) -> Entered<'hub, C, O, ThisRun> {
+        let found = locked.seen();
+        Entered {
+            locked,
+            sleepers,
+            found,
+        }
+    }
+
+    /// The event that is next for the seat's node, `Widened`, `Nothing` or `Stopped`.
+    pub fn turn(
+        &mut self,
+        alloc: Global,
+        seat: &mut NodeSeat<ThisRun>,
+    ) -> Result<TurnAnswer, HubFault>
+        ensures node { seat.new.node ≡ seat.old.node }
+        ensures counted { IfOk result (λ answer. seat_numbers seat.new.count
+            ≡ counted (turn_kind answer) (seat_numbers seat.old.count)) }
+        // A job that is granted is of a process of the seat's node.
+        ensures home { IfOk result (IsGrantedIn seat.old.node) }
+        // The reply is that of an event of this node, and a silence its own, in a world to which a history of this run leads.
+        ensures told { IfOk result (TellsTurn ThisRun.rooms ThisRun.script ThisRun.opening seat.old.node) }
+        ensures refused { OnErr result
+            (seat_numbers seat.new.count ≡ seat_numbers seat.old.count) }
+    {
+        let NodeSeat { node, made, count } = seat;
+        if *made >= MAX_COUNT {
+            return Err(HubFault::PastNumber);
+        }
+        let answer = self.locked.log.turn(alloc, *node, count)?;
+        match &answer {
+            TurnAnswer::Reply(reply) => {
+                *made += 1;
+                if let Reply::Released(_) = reply {
+                    self.locked.left = self.locked.left.wrapping_add(1);
+                }
+            }
+            TurnAnswer::Widened => *made += 1,
+            TurnAnswer::Nothing | TurnAnswer::Stopped => {}
+        }
+        Ok(answer)
+    }
+
+    /// What came of a job of the seat's node comes back. A refusal hands it back.
+    pub fn install(
+        &mut self,
+        alloc: Global,
+        seat: &mut NodeSeat<ThisRun>,
+        done: Done,
+    ) -> Result<Reply, HeldBack>
+        requires home { event_node (Install (done_view done)) ≡ seat.old.node }
+        ensures node { seat.new.node ≡ seat.old.node }
+        ensures counted { OnOk result
+            (seat_numbers seat.new.count ≡ counted kind.Entry (seat_numbers seat.old.count)) }
+        ensures told { IfOk result (λ reply. ∥ IsReplyIn ThisRun.rooms ThisRun.script ThisRun.opening
+            (who.Node seat.old.node) (reply_view reply) ∥₁) }
+        ensures refused { OnErr result
+            (seat_numbers seat.new.count ≡ seat_numbers seat.old.count) }
+        ensures handed_back { IfErr result (λ held. held.event ≡ event.Install done) }
+    {
+        let NodeSeat { node, made, count } = seat;
+        if *made >= MAX_COUNT {
+            return Err(HeldBack {
+                event: Event::Install(done),
+                fault: HubFault::PastNumber,
+            });
+        }
+        let reply = self.locked.log.install(alloc, *node, done, count)?;
+        *made += 1;
+        Ok(reply)
+    }
+
+    /// The event of the script's next line, `NotYet`, `NoMore` or `Stopped`.
+    pub fn fault(
+        &mut self,
+        alloc: Global,
+        seat: &mut DriverSeat<ThisRun>,
+    ) -> Result<FaultAnswer, HubFault>
+        ensures counted { IfOk result (λ answer. seat_numbers seat.new.count
+            ≡ counted (fault_kind answer) (seat_numbers seat.old.count)) }
+        // The reply is that of the script's next line, and a silence the driver's, in a world to which a history of this run leads.
+        ensures told { IfOk result (TellsFault ThisRun.rooms ThisRun.script ThisRun.opening) }
+        ensures refused { OnErr result
+            (seat_numbers seat.new.count ≡ seat_numbers seat.old.count) }
+    {
+        let DriverSeat { made, count } = seat;
+        if *made >= MAX_COUNT {
+            return Err(HubFault::PastNumber);
+        }
+        let answer = self.locked.log.fault(alloc, count)?;
+        match &answer {
+            FaultAnswer::Reply(_) => *made += 1,
+            FaultAnswer::NotYet | FaultAnswer::NoMore | FaultAnswer::Stopped => {}
+        }
+        Ok(answer)
+    }
+
+    /// The round.
+    pub fn round(&self) -> u64 {
+        self.locked.log.moment().round
+    }
+
+    /// The round of the script's next line.
+    pub fn line_round(&self) -> Option<u64> {
+        self.locked.log.line_round()
+    }
+
+    /// Whether no turn and no line of the script makes an event any more.
+    pub fn is_stopped(&self) -> bool {
+        self.locked.log.is_stopped()
+    }
+
+    /// Whether a further round began, a line was passed or channels got more room since the lock was taken: then others have
+    /// something to do.
+    pub fn has_moved_on(&self) -> bool {
+        self.locked.log.moment() != self.found.moment
+    }
+
+    /// Gives the lock back, wakes whoever has something to do by now, and says how the hub stands.
+    pub fn leave(self) -> Seen {
+        let Entered {
+            mut locked,
+            sleepers,
+            found,
+        } = self;
+        let seen = locked.seen();
+        let woken = locked.woken(found);
+        drop(locked);
+        sleepers.wake(woken);
+        seen
+    }
+}

@@ -1,0 +1,163 @@
+// What threads wait for, and who is woken.
+
+use gate_cell::SlotCell;
+use outlet::Outlet;
+use run_log::{Moment, Run, RunLog};
+use std::alloc::{AllocError, Global};
+use std::sync::Condvar;
+use wire::NODES;
+
+/// How a hub stood at some moment, as far as anybody waits for it.
+#[derive(Clone, Copy, Debug, PartialEq, Eq)]
+pub struct Seen {
+    pub moment: Moment,
+    /// How many items have left, all outputs together. It begins at 0 again behind 2^64 - 1.
+    pub left: u64,
+}
+
+/// What the driver waits for.
+#[derive(Clone, Copy, Debug, PartialEq, Eq)]
+pub struct Until {
+    /// This round.
+    pub round: u64,
+    /// That more or fewer items than these have left.
+    pub left: Option<u64>,
+}
+
+/// What is under a hub's lock.
+#[derive(Drop)]
+pub(crate) struct Locked<C: SlotCell, O: Outlet, ThisRun: Run> {
+    pub log: RunLog<C, O, ThisRun>,
+    pub left: u64,
+    // What the driver waited for last.
+    pub until: Until,
+}
+
+/// Whom a change wakes.
+#[derive(Clone, Copy)]
+pub(crate) struct Woken {
+    nodes: [bool; NODES],
+    driver: bool,
+}
+
+/// Where threads sleep: one place for each node, and the driver's.
+#[derive(Drop)]
+pub(crate) struct Sleepers {
+    nodes: Vec<Condvar>,
+    driver: Condvar,
+}
+
+impl<C: SlotCell, O: Outlet, ThisRun: Run> Locked<C, O, ThisRun> {
+    pub fn seen(&self) -> Seen {
+        Seen {
+            moment: self.log.moment(),
+            left: self.left,
+        }
+    }
+
+    // Whether a line of an earlier round isn't passed yet: then the driver goes first, so that no line comes more than a round late.
+    fn has_late_line(&self) -> bool {
+        match self.log.line_round() {
+            Some(round) => round < self.log.moment().round,
+            None => false,
+        }
+    }
+
+    /// Whether there may be something to do for a node, to which there was nothing when the hub stood so.
+    pub fn wakes_node(&self, node: u8, nothing_at: Option<Seen>) -> bool {
+        if self.log.is_stopped() {
+            return true;
+        }
+        if self.has_late_line() {
+            return false;
+        }
+        match nothing_at {
+            Some(seen) => self.log.moment() != seen.moment || self.log.has_packet(node),
+            None => true,
+        }
+    }
+
+    /// Whether what the driver waits for has come, or the run is stopped.
+    pub fn wakes_driver(&self) -> bool {
+        let has_left = match self.until.left {
+            Some(left) => left != self.left,
+            None => false,
+        };
+        self.log.is_stopped() || has_left || self.log.moment().round >= self.until.round
+    }
+
+    // The nodes for which a packet is due.
+    fn receivers(&self) -> [bool; NODES] {
+        let mut nodes = [false; NODES];
+        for node in 0..NODES {
+            if self.log.has_packet(node as u8) {
+                nodes[node] = true;
+            }
+        }
+        nodes
+    }
+
+    /// Whom it wakes that the hub stood so before, and stands as it does now. Where a round is over, the run may be too.
+    pub fn woken(&mut self, before: Seen) -> Woken {
+        let has_moved_on = self.log.moment() != before.moment;
+        let stopped = if has_moved_on {
+            self.log.status().stopped
+        } else {
+            self.log.is_stopped()
+        };
+        Woken {
+            nodes: if has_moved_on || stopped {
+                [true; NODES]
+            } else {
+                self.receivers()
+            },
+            driver: self.wakes_driver(),
+        }
+    }
+}
+
+impl Woken {
+    /// Everybody.
+    pub fn all() -> Woken {
+        Woken {
+            nodes: [true; NODES],
+            driver: true,
+        }
+    }
+}
+
+impl Sleepers {
+    /// Places for so many nodes, and the driver's. Refuses for want of memory alone.
+    pub fn new(alloc: Global, nodes: u8) -> Result<Sleepers, AllocError> {
+        let mut places = Vec::with_capacity(alloc, usize::from(nodes))?;
+        for _ in 0..nodes {
+            places.push_reserved(Condvar::new());
+        }
+        Ok(Sleepers {
+            nodes: places,
+            driver: Condvar::new(),
+        })
+    }
+
+    /// A node's place, if it is one of these.
+    pub fn node(&self, node: u8) -> Option<&Condvar> {
+        self.nodes.get(usize::from(node))
+    }
+
+    /// The driver's.
+    pub fn driver(&self) -> &Condvar {
+        &self.driver
+    }
+
+    /// Wakes who is to be woken. Nobody is to hold the lock meanwhile, or they wait for it at once.
+    pub fn wake(&self, woken: Woken) {
+        for (node, place) in self.nodes.iter().enumerate() {
+            if node < NODES && woken.nodes[node] {
+                place.notify_all();
+            }
+        }
+        if woken.driver {
+            self.driver.notify_all();
+        }
+    }
+}
