@@ -576,22 +576,24 @@ noted_behind old between new event answer node resting true false passed inv cho
     (λ yes k other rests. stays fits event old between answer k step round (λ e. other (e ∙ here)) rests)
     (λ yes turn. rests event old between answer node inv chosen (sym idle ∙ turn) step round))
 
+-- where no line was passed all is as it was
+pub same_line : (event : Option RunEvent) (old new : ArmedView) (passed now : ℕ)
+    → IsDriven event (progress old passed) (progress new now) → now ≡ passed → new ≡ old
+same_line None old new passed now same none = ap (λ (p : Progress). p.armed) same
+same_line (Some event) old new passed now line none =
+    let more : now ≡ passed + 1 = line.2 in absurd (omega (arith, more, none))
+
 -- What is noted behind a line, or none, holds: where none came all is as it was.
 pub noted_line : (event : Option RunEvent) (old new : ArmedView) (passed now : ℕ) (resting later : List Bool)
     → IsDriven event (progress old passed) (progress new now) → later ≡ cond (eqb now passed) resting none_rest
     → AllRest resting old.world → AllRest later new.world
 noted_line event old new passed now resting later driven is all = at (eqb now passed) refl is
   where
-    came : (event : Option RunEvent) → IsDriven event (progress old passed) (progress new now) → now ≡ passed
-        → new ≡ old
-    came None same none = ap (λ (p : Progress). p.armed) same
-    came (Some event) line none = let more : now ≡ passed + 1 = line.2 in absurd (omega (arith, more, none))
-
     at : (b : Bool) → eqb now passed ≡ b → later ≡ cond b resting none_rest → AllRest later new.world
     at false test noted = subst (λ (list : List Bool). AllRest list new.world) (sym noted) (none_noted new.world)
     at true test noted =
         subst (λ (list : List Bool). AllRest list new.world) (sym noted)
-        (subst (λ (a : ArmedView). AllRest resting a.world) (sym (came event driven (eqb-true now passed test))) all)
+        (subst (λ (a : ArmedView). AllRest resting a.world) (sym (same_line event old new passed now driven (eqb-true now passed test))) all)
 
 -- the same as a turn finds it
 pub noted_after : (old between new : ArmedView) (event : EventView) (answer : ReplyView) (node round : ℕ)

@@ -1,6 +1,6 @@
 //! A run by turns, on one thread.
 
-ghost use Rattle.std.specs.Prelude.{◌≡◌, ◌==◌, ◌<◌, ◌≤◌, ◌+◌, ℕ, if◌then◌else◌, length, IfOk, IsSome, OnOk, slice_get};
+ghost use Rattle.std.specs.Prelude.{◌≡◌, ◌==◌, ◌<◌, ◌≤◌, ◌+◌, ℕ, true, false, if◌then◌else◌, length, IfOk, IsSome, OnOk, slice_get};
 ghost use Rattle.std.specs.List.{AllByRecursion};
 ghost use Rattle.protocol.specs.Node.Common.{MAX_CHANNELS, MAX_NODES};
 ghost use Rattle.protocol.specs.World.Common.{output_channels};
@@ -113,13 +113,13 @@ fn give_room(armed: &mut RunArmed, resting: &mut Resting, round: u64)
 }
 
 /// A turn of a node: the event that is next for it, or nothing, where that event would be to let the turn pass once more.
-/// Where a round ends by it, and nothing but room is missing, channels get more.
+/// Where a round ends by it, and nothing but room is missing, channels get more. Answers whether nothing happened.
 fn take_turn(
     alloc: Global,
     armed: &mut RunArmed,
     resting: &mut Resting,
     node: u8,
-) -> Result<(), AllocError>
+) -> Result<bool, AllocError>
     requires room { AllByRecursion IsRunRoom (capacities armed.old.world.stations.items) }
     requires rest { AllRest resting.old (world_of armed.old.world) }
     ensures same { (armed.new.world.net ≡ armed.old.world.net)
@@ -127,14 +127,16 @@ fn take_turn(
     ensures room { AllByRecursion IsRunRoom (capacities armed.new.world.stations.items) }
     ensures turn { OnOk result (IsWholeTurn node (armed_view armed.old) (armed_view armed.new)) }
     ensures rest { OnOk result (AllRest resting.new (world_of armed.new.world)) }
+    ensures nothing { IfOk result
+        (λ nothing. nothing ≡ true → armed_view armed.new ≡ armed_view armed.old) }
 {
     if passes_again(armed, resting, node) {
-        return Ok(());
+        return Ok(true);
     }
     let round = armed.world.round();
     take_event(alloc, armed, resting, node)?;
     give_room(armed, resting, round);
-    Ok(())
+    Ok(false)
 }
 
 /// The event of the script's next line, if there is one and it is due.
@@ -222,6 +224,35 @@ fn drive_before(
     }
 }
 
+/// Whether a run is over. Where nothing happened since it wasn't, no world is asked.
+fn is_over_now(
+    goes_on: bool,
+    channels: &[Channel],
+    world: &RunWorld,
+    nodes: usize,
+    busy: &mut u8,
+    rounds: u64,
+    items: Option<u64>,
+) -> bool
+    requires few { length channels.now ≤ MAX_CHANNELS }
+    requires nodes { nodes ≤ MAX_NODES }
+    requires goes_on { goes_on ≡ true
+        → is_over (output_channels 0 channels.now) rounds items (world_of world.now) ≡ false }
+    ensures { result ≡ is_over (output_channels 0 channels.now) rounds items (world_of world.now) }
+{
+    if goes_on {
+        return false;
+    }
+    is_over(channels, world, nodes, busy, rounds, items)
+}
+
+/// Whether nothing happened in a turn, and no line was passed behind it.
+fn is_same(nothing: bool, passed: usize, now: usize) -> bool
+    ensures { result ≡ true → (nothing ≡ true) × (now ≡ passed) }
+{
+    nothing && now == passed
+}
+
 /// Takes turns until the run is over: of the nodes, so many, one after another.
 fn take_turns(
     alloc: Global,
@@ -246,14 +277,25 @@ fn take_turns(
     let mut resting: Resting = [false; MAX_NODES as usize];
     let mut node = 0;
     let mut passed = drive_before(alloc, armed, script, begun, node)?;
+    // Whether the run is known to go on, since nothing happened behind the last time that it was asked.
+    let mut goes_on = false;
     for _turn in 0..MAX_TURNS {
-        if is_over(channels, &armed.world, nodes, &mut busy, rounds, items) {
+        if is_over_now(
+            goes_on,
+            channels,
+            &armed.world,
+            nodes,
+            &mut busy,
+            rounds,
+            items,
+        ) {
             return Ok(());
         }
-        take_turn(alloc, armed, &mut resting, node)?;
+        let nothing = take_turn(alloc, armed, &mut resting, node)?;
         node = node_after(nodes, node);
         let now = drive_before(alloc, armed, script, passed, node)?;
         note_line(&mut resting, now == passed);
+        goes_on = is_same(nothing, passed, now);
         passed = now;
     }
     Ok(())

@@ -3,7 +3,8 @@ use Rattle.std.proofs.Common.{◌≡◌, ◌∙◌, ◌⊎◌, ◌++◌, ◌∷�
 use Rattle.std.proofs.Common.{arith, inl, inr}
 use Rattle.std.proofs.Math.Logic.{∥∥₁_map, ∥∥₁_map₂}
 use Rattle.std.specs.Prelude.{is_some, IfSome, IsTrue}
-use Rattle.std.proofs.lemmas.List.{map-append, take-append-drop}
+use Rattle.std.proofs.lemmas.List.{take-append-drop}
+use Rattle.std.proofs.lemmas.List.Concat.{flat_map-append}
 use Rattle.std.proofs.lemmas.List.Sums.{sum_by-append}
 use Rattle.protocol.specs.Node.Common.{RecordView}
 use Rattle.protocol.specs.World.Common.{ReplyView, WorldView, stands_still}
@@ -11,13 +12,15 @@ use Rattle.replay.specs.Armed.{ArmedEvent, ArmedView, IsArmedStep, armed_at_firs
 use Rattle.replay.specs.Replay.{Happening, Made, Silent, Widened, Happens, IsEventOf, IsReplay, IsScripted, IsSilence, LeadsTo}
 use Rattle.replay.specs.Replay.{at_first, and_then, passed_by}
 use Rattle.replay.specs.Plain.{run_view}
+use Rattle.replay.specs.Replies.{kept_reply}
 use Rattle.replay.proofs.Silences.{silences_stay}
 use Rattle.replay.specs.declared.kept.Maker.{Maker}
 use Rattle.replay.specs.declared.kept.ScriptedEvent.{ScriptedEvent}
 use Rattle.replay.specs.declared.kept.Silence.{Silence}
 use Rattle.run_log.specs.Answers.{IsReplyIn, IsSilentIn, IsStillIn}
 use Rattle.run_log.specs.Counts.{numbers_in, events_in, nothings_in, not_yets_in, no_mores_in}
-use Rattle.run_log.specs.Lines.{IsAdded, IsSaidAt, IsWidened, happening_of, happenings, kept_view}
+use Rattle.run_log.specs.Added.{IsAdded}
+use Rattle.run_log.specs.Lines.{IsSaidAt, IsWidened, happenings, happenings_of}
 use Rattle.run_log.specs.Numbers.{counted}
 use Rattle.run_log.specs.declared.history.Line.{Line}
 use Rattle.run_log.specs.declared.history.Line.TheVariants as line
@@ -42,22 +45,17 @@ pub makes : (fits here : List (RecordView → Bool)) (script : List ScriptedEven
     → IsArmedStep here event old answer new
     → after ≡ passed_by maker passed → here ≡ fits → Replays fits script opening (happenings now) after new
 makes fits here script opening before now passed after old new maker event answer run own added step count same =
-    let next = Made maker (kept_view added.entry.event) added.entry.reply in
-    let longer : happenings now ≡ happenings before ++ next ∷ [] =
-    ap happenings added.longer
-    ∙ (map-append happening_of before (line.Made added.entry ∷ [])
-    ∙ ap (λ (who : Maker). happenings before ++ Made who (kept_view added.entry.event) added.entry.reply ∷ [])
-    added.of_maker) in
+    let next = Made maker added.kept (kept_reply answer) in
     let made : Happens fits script next passed old new =
     record {
       event = event;
       answer = answer;
       own = own;
       is_kept = added.is_kept;
-      is_said = added.is_said;
+      is_said = refl;
       step = subst (λ (rooms : List (RecordView → Bool)). IsArmedStep rooms event old answer new) same step;
     } in
-    ∥∥₁_map run (λ r. and_then (happenings before) (happenings now) next passed after old new r made longer count)
+    ∥∥₁_map run (λ r. and_then (happenings before) (happenings now) next passed after old new r made added.happened count)
 
 -- so whoever is told the answer is told of a run
 pub tells : (fits here : List (RecordView → Bool)) (script : List ScriptedEvent) (opening : WorldView) (before now : List Line)
@@ -71,15 +69,15 @@ tells fits here script opening before now passed old new maker event answer run 
       passed = passed;
       old = old;
       new = new;
-      kept = kept_view added.entry.event;
-      said = added.entry.reply;
+      kept = added.kept;
+      said = kept_reply answer;
       run = r;
       made = record {
         event = event;
         answer = answer;
         own = own;
         is_kept = added.is_kept;
-        is_said = added.is_said;
+        is_said = refl;
         step = subst (λ (rooms : List (RecordView → Bool)). IsArmedStep rooms event old answer new) same step;
       };
       answered = refl;
@@ -98,16 +96,6 @@ pub tells_still : (fits : List (RecordView → Bool)) (script : List ScriptedEve
 tells_still fits script opening happened passed armed run still =
     ∥∥₁_map run (λ r. record { before = happened; passed = passed; old = armed; run = r; still = still })
 
--- and its number
-pub numbers_made : (before now : List Line) (stops : ℕ) (maker : Maker) (event : ArmedEvent) (answer : ReplyView)
-    → IsAdded maker event answer before now → numbers_in now stops ≡ counted kind.Entry (numbers_in before stops)
-numbers_made before now stops maker event answer added =
-    let one = line.Made added.entry ∷ [] in
-    ap (λ (lines : List Line). numbers_in lines stops) added.longer
-    ∙ same_numbers _ _ _ _ _ _ _ _ _ _ (omega (arith, sum_by-append events_in before one))
-    (omega (arith, sum_by-append nothings_in before one)) (omega (arith, sum_by-append not_yets_in before one))
-    (omega (arith, sum_by-append no_mores_in before one)) refl
-
 -- more room for channels
 pub widens : (fits : List (RecordView → Bool)) (script : List ScriptedEvent) (opening : WorldView)
     (before now : List Line) (passed : ℕ) (old new : ArmedView)
@@ -115,7 +103,7 @@ pub widens : (fits : List (RecordView → Bool)) (script : List ScriptedEvent) (
     → IsWidened before now → new ≡ armed_widened old → Replays fits script opening (happenings now) passed new
 widens fits script opening before now passed old new run still added wider =
     let longer : happenings now ≡ happenings before ++ Widened ∷ [] =
-    ap happenings added ∙ map-append happening_of before (line.Widened ∷ []) in
+    ap happenings added ∙ flat_map-append happenings_of before (line.Widened ∷ []) in
     ∥∥₁_map run (λ r.
     and_then (happenings before) (happenings now) Widened passed passed old new r (still, wider) longer refl)
 
@@ -154,7 +142,7 @@ said_at fits script opening lines passed world reason place said run =
     let rest = happenings (drop (place + 1) lines) in
     let split : happenings lines ≡ before ++ Silent reason ∷ rest =
     ap happenings (sym (take-append-drop place lines))
-    ∙ (map-append happening_of (take place lines) (drop place lines)
+    ∙ (flat_map-append happenings_of (take place lines) (drop place lines)
     ∙ ap (λ (ls : List Line). before ++ happenings ls) (from_here lines place reason said.0 said.1)) in
     ∥∥₁_map run (λ r.
     silences_stay fits script opening (happenings lines) passed world r before rest reason split said.2)

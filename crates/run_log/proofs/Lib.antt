@@ -1,3 +1,4 @@
 mod Raising
 mod Adding
 mod Arming
+mod Putting

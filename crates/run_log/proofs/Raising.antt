@@ -1,13 +1,14 @@
 -- Lines in which it stands how often no event was made.
-use Rattle.std.proofs.Common.{◌≡◌, ◌∙◌, ◌+◌, ℕ, suc, List, ◌∷◌, drop, get_or, Option, Some, None, slice_get, slice_set}
+use Rattle.std.proofs.Common.{◌≡◌, ◌∙◌, ◌+◌, ◌++◌, ℕ, zero, suc, List, [], ◌∷◌, drop, get_or, Option, Some, None, slice_get, slice_set}
 use Rattle.std.proofs.Common.{sum_by, refl, sym, ap, subst, arith}
-use Rattle.std.proofs.Math.Seq.{drop-cons, map-set_same}
+use Rattle.std.proofs.Math.Seq.{drop-cons}
 use Rattle.std.proofs.lemmas.List.Sums.{sum_by-set}
 use Rattle.std.proofs.lemmas.Option.{get_or_from_slice_get, slice_get_within}
 use Rattle.replay.specs.declared.kept.Silence.{Silence}
 use Rattle.replay.specs.declared.kept.Silence.TheVariants.{Nothing, NotYet, NoMore}
 use Rattle.run_log.specs.Counts.{kind_of, numbers_in, events_in, nothings_in, not_yets_in, no_mores_in}
-use Rattle.run_log.specs.Lines.{happening_of, happenings}
+use Rattle.replay.specs.Replay.{Happening}
+use Rattle.run_log.specs.Lines.{happenings, happenings_of}
 use Rattle.run_log.specs.Numbers.{counted, numbers}
 use Rattle.run_log.specs.declared.history.Line.{Line}
 use Rattle.run_log.specs.declared.history.Line.TheVariants.{Made, Silent, Widened}
@@ -28,12 +29,18 @@ from_here lines place reason count there =
 
 -- ---- a count that rises
 
+the_line : (one other : Line) → (let first : Option Line = Some one in let second : Option Line = Some other in first ≡ second)
+    → one ≡ other
+the_line one other same = cc
+
 -- nothing else happened
 pub same_happenings : (lines : List Line) (place : ℕ) (was now : Line) → slice_get lines place ≡ Some was
-    → happening_of now ≡ happening_of was → happenings (slice_set lines place now) ≡ happenings lines
-same_happenings lines place was now there same =
-    map-set_same happening_of lines place now was
-    (same ∙ ap happening_of (sym (get_or_from_slice_get lines place was was there)))
+    → happenings_of now ≡ happenings_of was → happenings (slice_set lines place now) ≡ happenings lines
+same_happenings [] place was now there same = absurd (cc)
+same_happenings (line ∷ lines) zero was now there same =
+    ap (λ (first : List Happening). first ++ happenings lines) (same ∙ ap happenings_of (sym (the_line line was there)))
+same_happenings (line ∷ lines) (suc place) was now there same =
+    ap (λ (rest : List Happening). happenings_of line ++ rest) (same_happenings lines place was now there same)
 
 sum_with : (f : Line → ℕ) (lines : List Line) (place : ℕ) (was now : Line) → slice_get lines place ≡ Some was
     → sum_by f (slice_set lines place now) + f was ≡ sum_by f lines + f now
@@ -83,7 +90,7 @@ numbers_raised lines place reason count stops there =
 
 abbrev reason_in : Option Line → Silence
 reason_in None = NoMore
-reason_in (Some (Made entry)) = NoMore
+reason_in (Some (Made entry times rises)) = NoMore
 reason_in (Some (Silent reason count)) = reason
 reason_in (Some Widened) = NoMore
 

@@ -11,7 +11,8 @@ use Rattle.replay.specs.declared.kept.ScriptedEvent.{ScriptedEvent}
 use Rattle.replay.specs.declared.kept.Silence.{Silence}
 use Rattle.replay.specs.declared.kept.Silence.TheVariants.{Nothing, NotYet, NoMore}
 use Rattle.run_log.specs.Counts.{IsCounted}
-use Rattle.run_log.specs.Lines.{IsAdded, IsWidened}
+use Rattle.run_log.specs.Added.{IsAdded}
+use Rattle.run_log.specs.Lines.{IsWidened}
 use Rattle.run_log.specs.declared.history.Line.{Line}
 use Rattle.run_log.specs.declared.answer.FaultAnswer.{FaultAnswer}
 use Rattle.run_log.specs.declared.answer.FaultAnswer.TheVariants as fault

@@ -4,6 +4,7 @@ pub mod SeatCounts
 pub mod LedgerNames
 pub mod Lines
 pub mod Counts
+pub mod Added
 pub mod Answers
 pub mod ArmedWorlds
 pub mod RunLogs

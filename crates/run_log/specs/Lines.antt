@@ -1,14 +1,13 @@
 -- A history as data.
-use Rattle.std.specs.Prelude.{◌≡◌, ℕ, ◌+◌, true, List, [], ◌∷◌, ◌++◌, drop, map, Some, slice_get}
+use Rattle.std.specs.Prelude.{◌≡◌, ℕ, zero, suc, ◌+◌, Bool, true, false, List, [], ◌∷◌, ◌++◌, drop, Some, slice_get}
+use Rattle.std.specs.List.{flat_map}
 use Rattle.node_memory.specs.JobView.{shared_view}
-use Rattle.protocol.specs.World.Common.{ReplyView}
-use Rattle.replay.specs.Armed.{ArmedEvent}
+use Rattle.protocol.specs.declared.reply.Reply.TheVariants.{Released}
 use Rattle.replay.specs.Laws.{no_event}
-use Rattle.replay.specs.Replay.{Happening, IsKeptOf, KeptEventView, Made, OfJob, Plainly, Silent, Widened}
-use Rattle.replay.specs.Replies.{kept_reply}
+use Rattle.replay.specs.Replay.{Happening, KeptEventView, Made, OfJob, Plainly, Silent, Widened}
+use Rattle.replay.specs.Replies.{KeptReply}
 use Rattle.replay.specs.declared.kept.Maker.{Maker}
 use Rattle.replay.specs.declared.kept.Silence.{Silence}
-use Rattle.run_log.specs.declared.history.Entry.{Entry}
 use Rattle.run_log.specs.declared.history.KeptEvent.{KeptEvent}
 use Rattle.run_log.specs.declared.history.KeptEvent.TheVariants as kept
 use Rattle.run_log.specs.declared.history.Line.{Line}
@@ -18,21 +17,26 @@ abbrev pub kept_view : KeptEvent → KeptEventView
 kept_view (kept.Plain event) = Plainly event
 kept_view (kept.Install job) = OfJob (shared_view job)
 
-abbrev pub happening_of : Line → Happening
-happening_of (line.Made entry) = Made entry.maker (kept_view entry.event) entry.reply
-happening_of (line.Silent reason count) = Silent reason
-happening_of line.Widened = Widened
+-- the answer so many places behind one, where numbers of items that left rise by one, and where they don't
+abbrev pub nth_answer : Bool → ℕ → KeptReply → KeptReply
+nth_answer true n (Released left) = Released (record { output = left.output; number = left.number + n })
+nth_answer true n answer = answer
+nth_answer false n answer = answer
 
+-- an event so many times, one after another
+abbrev pub made_times : Bool → ℕ → Maker → KeptEventView → KeptReply → List Happening
+made_times rises zero maker event answer = []
+made_times rises (suc n) maker event answer =
+    made_times rises n maker event answer ++ Made maker event (nth_answer rises n answer) ∷ []
+
+abbrev pub happenings_of : Line → List Happening
+happenings_of (line.Made entry times rises) = made_times rises times entry.maker (kept_view entry.event) entry.reply
+happenings_of (line.Silent reason count) = Silent reason ∷ []
+happenings_of line.Widened = Widened ∷ []
+
+-- what happened, line by line
 abbrev pub happenings : List Line → List Happening
-happenings lines = map happening_of lines
-
--- an event of this maker was put behind all other lines, with this answer
-pub record IsAdded (maker : Maker) (event : ArmedEvent) (answer : ReplyView) (before now : List Line) : Type 0 where
-  pub entry : Entry
-  pub longer : now ≡ before ++ line.Made entry ∷ []
-  pub of_maker : entry.maker ≡ maker
-  pub is_kept : IsKeptOf (kept_view entry.event) event
-  pub is_said : entry.reply ≡ kept_reply answer
+happenings lines = flat_map happenings_of lines
 
 -- channels got more room
 abbrev pub IsWidened : List Line → List Line → Type 0

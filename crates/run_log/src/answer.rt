@@ -1,5 +1,6 @@
 // What a seat is answered.
 
+use thiserror::Error;
 use world::{Event, Reply};
 
 /// What a node's turn is answered: the reply of its event, or why it made none.
@@ -36,11 +37,13 @@ pub struct Status {
 }
 
 /// Why a call is refused. It leaves no event and no count.
-#[derive(Clone, Copy, Debug, PartialEq, Eq)]
+#[derive(Clone, Copy, Debug, PartialEq, Eq, Error)]
 pub enum HubFault {
     /// Want of memory (1).
+    #[error("no memory")]
     NoMemory,
     /// A count would pass 2^63 - 1 (44).
+    #[error("a count would pass 2^63 - 1")]
     PastNumber,
 }
 

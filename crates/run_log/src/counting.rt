@@ -18,7 +18,7 @@ pub(crate) fn find_silence(lines: &[Line], reason: Silence) -> Option<usize>
     while place > 0 {
         place -= 1;
         match &lines[place] {
-            Line::Made(_) | Line::Widened => return None,
+            Line::Made { .. } | Line::Widened => return None,
             Line::Silent { reason: said, .. } => {
                 if *said == reason {
                     return Some(place);
@@ -38,7 +38,7 @@ fn raise(lines: &mut Vec<Line>, place: usize, reason: Silence) -> Result<(), Hub
     ensures refused { OnErr result (lines.new.items ≡ lines.old.items) }
 {
     match &mut lines[place] {
-        Line::Made(_) | Line::Widened => Ok(()),
+        Line::Made { .. } | Line::Widened => Ok(()),
         Line::Silent { count, .. } => {
             if *count >= MAX_COUNT {
                 return Err(HubFault::PastNumber);

@@ -23,9 +23,18 @@ pub struct Entry {
 /// A line of a history.
 #[derive(Drop)]
 pub enum Line {
-    Made(Entry),
+    /// The same node or the driver made the same event so often, one time after another, and was answered the same. Where `rises`
+    /// says so the answers are of items that left: the entry has the first one's number, and each next one's is one more.
+    Made {
+        entry: Entry,
+        times: u64,
+        rises: bool,
+    },
     /// So often no event was made for this reason, between two events.
-    Silent { reason: Silence, count: u64 },
+    Silent {
+        reason: Silence,
+        count: u64,
+    },
     /// The world stood still for want of room, and channels got more.
     Widened,
 }

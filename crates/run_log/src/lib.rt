@@ -5,6 +5,7 @@
 //! world. There is no thread here: several may share a log under a lock.
 #![tactic(auto)]
 
+mod adding;
 mod answer;
 mod armed;
 mod counting;

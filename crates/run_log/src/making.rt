@@ -5,11 +5,12 @@ ghost use Rattle.replay.specs.Armed.{IsArmedStep, OfWorld};
 ghost use Rattle.replay.specs.Plain.{run_view};
 ghost use Rattle.replay.specs.declared.kept.Maker.TheVariants as who;
 ghost use Rattle.run_log.specs.ArmedWorlds.{armed_view};
-ghost use Rattle.run_log.specs.Lines.{IsAdded};
+ghost use Rattle.run_log.specs.Added.{IsAdded};
 ghost use Rattle.station.specs.EventView.{event_view};
 ghost use Rattle.station.specs.ReplyView.{reply_view};
 ghost use Rattle.world.specs.WorldView.{rooms};
 
+use crate::adding::put_entry;
 use crate::armed::ArmedWorld;
 use crate::history::{Entry, KeptEvent, Line};
 use crate::keeping::{keep, keep_reply};
@@ -47,11 +48,12 @@ pub(crate) fn make_event<C: SlotCell, O: Outlet>(
     };
     let reply = world.apply(alloc, event)?;
     let said = keep_reply(&reply);
-    lines.push_reserved(Line::Made(Entry {
+    let entry = Entry {
         maker: Maker::Node(node),
         event: kept,
         reply: said,
-    }));
+    };
+    put_entry(lines, entry);
     Ok(reply)
 }
 
@@ -74,10 +76,11 @@ pub(crate) fn make_scripted<C: SlotCell, O: Outlet>(
     lines.reserve(1)?;
     let reply = world.play(alloc, event)?;
     let said = keep_reply(&reply);
-    lines.push_reserved(Line::Made(Entry {
+    let entry = Entry {
         maker: Maker::Driver,
         event: KeptEvent::Plain(event),
         reply: said,
-    }));
+    };
+    put_entry(lines, entry);
     Ok(reply)
 }

@@ -21,8 +21,8 @@ pub use hub::Hub;
 pub use job_watch::{JobWatch, NoWatch};
 pub use playing::run_world;
 pub use run_log::{
-    Entry, FaultAnswer, HeldBack, History, HubFault, KeptEvent, Line, Moment, Run, RunLedgers, Status,
-    TurnAnswer, UnusedLedgers,
+    Entry, FaultAnswer, HeldBack, History, HubFault, KeptEvent, Line, Moment, Run, RunLedgers,
+    Status, TurnAnswer, UnusedLedgers,
 };
 pub use seat::{DriverSeat, NodeSeat};
 pub use threads::{DriverSeats, NodeSeats, SharedRun, run_threads};

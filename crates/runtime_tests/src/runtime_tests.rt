@@ -16,6 +16,7 @@ use net_check::{Inputs, Net, bind, check};
 use net_text::{parse, parse_inputs};
 use outlet::{ListOutlet, Outlet};
 use proc_step::Job;
+use protocol::Leaving;
 use replay::{ArmedCrash, KeptReply, Maker, RunEvent, ScriptedEvent, Silence};
 use run_log::{ArmedWorld, keep_reply};
 use runtime::{
@@ -196,9 +197,9 @@ fn made_by_seats<ThisRun: Run>(
 fn listed_by(history: &History, maker: Maker) -> u64 {
     let mut made: u64 = 0;
     for line in &history.lines {
-        if let Line::Made(entry) = line {
+        if let Line::Made { entry, times, .. } = line {
             if entry.maker == maker {
-                made = made.saturating_add(1);
+                made = made.saturating_add(*times);
             }
         }
     }
@@ -422,7 +423,7 @@ fn has_silence(history: &History, wanted: Silence) -> bool {
 // Whether the driver made an event that was answered so.
 fn has_driven(history: &History, reply: KeptReply) -> bool {
     for line in &history.lines {
-        if let Line::Made(entry) = line {
+        if let Line::Made { entry, .. } = line {
             if entry.maker == Maker::Driver && entry.reply == reply {
                 return true;
             }
@@ -434,7 +435,7 @@ fn has_driven(history: &History, reply: KeptReply) -> bool {
 // Whether a job of this process came back and was taken in.
 fn has_installed(history: &History, process: usize) -> bool {
     for line in &history.lines {
-        if let Line::Made(entry) = line {
+        if let Line::Made { entry, .. } = line {
             if let KeptEvent::Install(job) = &entry.event {
                 if job.process == process && entry.reply == KeptReply::Installed {
                     return true;
@@ -482,23 +483,55 @@ fn a_script_on_one_thread(rt: HostRuntime) -> Result<(), Fail> {
 fn replay(alloc: Global, armed: &mut SumArmed, history: &History) -> Option<u64> {
     let mut made: u64 = 0;
     for line in &history.lines {
-        if let Line::Made(entry) = line {
-            if !make_again(alloc, armed, entry) {
+        if let Line::Made {
+            entry,
+            times,
+            rises,
+        } = line
+        {
+            if !make_all_again(alloc, armed, entry, *times, *rises) {
                 return None;
             }
-            made = made.saturating_add(1);
+            made = made.saturating_add(*times);
         }
     }
     Some(made)
 }
 
-fn make_again(alloc: Global, armed: &mut SumArmed, entry: &Entry) -> bool {
-    match &entry.event {
+// The answer of the nth of the events of a line, from 0.
+fn nth_answer(first: KeptReply, rises: bool, nth: u64) -> KeptReply {
+    match first {
+        KeptReply::Released(left) if rises => KeptReply::Released(Leaving {
+            output: left.output,
+            number: left.number.saturating_add(nth),
+        }),
+        _ => first,
+    }
+}
+
+fn make_all_again(
+    alloc: Global,
+    armed: &mut SumArmed,
+    entry: &Entry,
+    times: u64,
+    rises: bool,
+) -> bool {
+    for nth in 0..times {
+        let answer = nth_answer(entry.reply, rises, nth);
+        if !make_again(alloc, armed, &entry.event, answer) {
+            return false;
+        }
+    }
+    true
+}
+
+fn make_again(alloc: Global, armed: &mut SumArmed, event: &KeptEvent, answer: KeptReply) -> bool {
+    match event {
         KeptEvent::Plain(event) => match armed.play(alloc, *event) {
-            Ok(reply) => keep_reply(&reply) == entry.reply,
+            Ok(reply) => keep_reply(&reply) == answer,
             Err(_) => false,
         },
-        KeptEvent::Install(job) => install_again(alloc, armed, job, entry.reply),
+        KeptEvent::Install(job) => install_again(alloc, armed, job, answer),
     }
 }
 
@@ -649,8 +682,12 @@ fn led_by_driver(history: &History) -> u64 {
     let mut led: u64 = 0;
     for line in &history.lines {
         match line {
-            Line::Made(entry) if entry.maker == Maker::Driver => led = led.saturating_add(1),
-            Line::Made(_) => return led,
+            Line::Made { entry, times, .. } => {
+                if entry.maker != Maker::Driver {
+                    return led;
+                }
+                led = led.saturating_add(*times);
+            }
             _ => {}
         }
     }
@@ -661,9 +698,9 @@ fn led_by_driver(history: &History) -> u64 {
 fn answered(history: &History, reply: KeptReply) -> u64 {
     let mut count: u64 = 0;
     for line in &history.lines {
-        if let Line::Made(entry) = line {
+        if let Line::Made { entry, times, .. } = line {
             if entry.maker != Maker::Driver && entry.reply == reply {
-                count = count.saturating_add(1);
+                count = count.saturating_add(*times);
             }
         }
     }

@@ -1,9 +1,11 @@
-use Rattle.std.proofs.Common.{sym, subst, ◌∙◌, ℕ}
+use Rattle.std.proofs.Common.{◌≡◌, sym, subst, ◌∙◌, ap, ℕ, false}
+use Rattle.protocol.specs.World.Common.{WorldView, output_channels}
+use Rattle.replay.specs.Armed.{ArmedView}
 use Rattle.run_log.specs.ArmedWorlds.{armed_view}
 use Rattle.world.specs.WholeView.{world_of}
-use Rattle.kahn_program.specs.Turning.{IsDriven, IsWholeTurn, line_before, progress}
+use Rattle.kahn_program.specs.Turning.{IsDriven, IsWholeTurn, is_over, line_before, progress}
 use Rattle.kahn_program.proofs.Next.{first_node}
-use Rattle.kahn_program.proofs.Passing.{none_noted, noted_line}
+use Rattle.kahn_program.proofs.Passing.{none_noted, noted_line, same_line}
 use Rattle.kahn_program.proofs.Turns.{more_turns}
 use Rattle.kahn_program.proofs.turning.take_turns.Goals as goal
 
@@ -18,6 +20,7 @@ loop-turn-init c =
       rest = none_noted (world_of c.drive_before.new.armed.world);
       came = subst (λ (n : ℕ). IsDriven (line_before c.args.script.now n first) first now) (first_node c.args.nodes)
           c.in_ok-passed.ensures.driven;
+      goes_on = λ never. absurd (cc);
     }
 
 pub loop-turn-preserved : goal.loop-turn-preserved
@@ -26,6 +29,7 @@ loop-turn-preserved c =
     let after = armed_view c.take_turn.new.armed in
     let between = progress after c.loop-turn.passed in
     let now = progress (armed_view c.drive_before-in-loop-turn.new.armed) c.in_ok-now.now in
+    let over = sym c.is_over_now.ensures ∙ c.if-is_over_now.false in
     let next = c.node_after-node.ensures c.loop-turn._turn c.loop-turn.invariant.node in
     record {
       same = (
@@ -38,11 +42,21 @@ loop-turn-preserved c =
       rest = noted_line (line_before c.args.script.now c.node_after-node.result between) after
           (armed_view c.drive_before-in-loop-turn.new.armed) c.loop-turn.passed c.in_ok-now.now
           c.take_turn.new.resting c.note_line.new.resting c.in_ok-now.ensures.driven c.note_line.ensures
-          c.in_ok-take_turn.ensures.rest;
+          c.in_ok-nothing.ensures.rest;
       came = more_turns _ c.args.nodes c.args.script.now c.loop-turn._turn _ before now after
-          c.loop-turn.invariant.came (sym c.is_over.ensures ∙ c.if-is_over.false)
+          c.loop-turn.invariant.came over
           (subst (λ (n : ℕ). IsWholeTurn n (armed_view c.loop-turn.armed) after) c.loop-turn.invariant.node
-          c.in_ok-take_turn.ensures.turn)
+          c.in_ok-nothing.ensures.turn)
           (subst (λ (n : ℕ). IsDriven (line_before c.args.script.now n between) between now) next
           c.in_ok-now.ensures.driven);
+      goes_on = λ same.
+          let nothing = c.is_same-goes_on.ensures same in
+          subst (λ (view : WorldView). is_over (output_channels 0 c.args.channels.now) c.args.rounds c.args.items view ≡ false)
+          (sym (ap (λ (view : ArmedView). view.world)
+          (same_line (line_before c.args.script.now c.node_after-node.result between) after
+          (armed_view c.drive_before-in-loop-turn.new.armed) c.loop-turn.passed c.in_ok-now.now c.in_ok-now.ensures.driven nothing.1
+          ∙ c.in_ok-nothing.ensures.nothing nothing.0))) over;
     }
+
+pub is_over_now-requires-clause-goes_on : goal.is_over_now-requires-clause-goes_on
+is_over_now-requires-clause-goes_on c = c.loop-turn.invariant.goes_on

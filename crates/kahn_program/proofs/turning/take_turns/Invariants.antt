@@ -1,4 +1,4 @@
-use Rattle.std.proofs.Common.{◌≡◌}
+use Rattle.std.proofs.Common.{◌≡◌, true, false}
 use Rattle.std.specs.List.{AllByRecursion}
 use Rattle.protocol.specs.World.Common.{output_channels}
 use Rattle.run_log.specs.ArmedWorlds.{armed_view}
@@ -18,4 +18,5 @@ invariant-loop-turn l = record {
   rest : AllRest l.resting (world_of l.armed.world);
   came : CameTo (is_over (output_channels 0 l.channels) l.rounds l.items) l.nodes l.script l._turn
       (progress (armed_view l.fn.armed) l.begun) (progress (armed_view l.armed) l.passed);
+  goes_on : l.goes_on ≡ true → is_over (output_channels 0 l.channels) l.rounds l.items (world_of l.armed.world) ≡ false;
 }

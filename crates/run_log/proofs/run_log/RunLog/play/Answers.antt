@@ -2,7 +2,7 @@ use Rattle.std.proofs.Common.{◌∙◌, refl, sym, ap}
 use Rattle.replay.specs.declared.kept.Maker.TheVariants.{Driver}
 use Rattle.run_log.specs.Numbers.{Numbers, counted}
 use Rattle.run_log.specs.declared.seat_count.Counted.TheVariants as kind
-use Rattle.run_log.proofs.Adding.{makes, numbers_made, tells}
+use Rattle.run_log.proofs.Adding.{makes, tells}
 use Rattle.run_log.proofs.run_log.RunLog.play.Goals as goal
 
 pub invariant_of-self-2-clause-replays : goal.invariant_of-self-2-clause-replays
@@ -14,7 +14,7 @@ invariant_of-self-2-clause-replays g c =
 pub invariant_of-self-2-clause-numbers : goal.invariant_of-self-2-clause-numbers
 invariant_of-self-2-clause-numbers g c =
     let old = c.args.self.now in
-    numbers_made old.lines.items _ old.stops Driver _ _ c.in-Ok.ensures.added
+    c.in-Ok.ensures.added.counts old.stops
     ∙ (ap (λ (n : Numbers). counted kind.Entry n) old.numbers ∙ sym c.add.ensures.total)
 
 pub returns-clause-told : goal.returns-clause-told
