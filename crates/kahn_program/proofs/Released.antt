@@ -1,5 +1,5 @@
 -- What a world's outlets took are the streams of a run.
-use Rattle.std.proofs.Common.{◌≡◌, ◌≢◌, ◌⊎◌, inl, inr, Vec, Global, ℕ, suc, ◌+◌, ◌<◌, Bool, true, false, ◌&&◌, List, ℤ}
+use Rattle.std.proofs.Common.{◌≡◌, ◌≢◌, ◌⊎◌, inl, inr, Vec, Global, ℕ, suc, ◌+◌, ◌<◌, Bool, true, false, List, ℤ}
 use Rattle.std.proofs.Common.{[], ◌∷◌, ◌++◌, length, map, drop, get_or, Option, Some, refl, sym, ap, subst, ◌∙◌}
 use Rattle.std.proofs.Common.{append_assoc, arith}
 use Rattle.std.specs.Prelude.{Result, Ok, Err, IfOk, IfSome, slice_get, IsTrue, if◌then◌else◌}
@@ -14,7 +14,7 @@ use Rattle.protocol_laws.specs.World.OutputLaws.{channel_there, map_at}
 use Rattle.protocol_laws.specs.World.ShownLaws.{output_shown}
 use Rattle.protocol_laws.specs.World.PrefixLaws.{released_prefix}
 use Rattle.protocol.specs.World.Quiet.{AreWhole}
-use Rattle.std.specs.List.{list_all}
+
 use Rattle.kahn_program.specs.Report.{one_if_output, output_count, report_text}
 use Rattle.kahn_program.specs.Readings.{IsNetOf, AreInputsOf}
 use Rattle.kahn_program.specs.Statuses.{status_of_run}
@@ -178,36 +178,6 @@ report_is options net inputs script first now text told complete same_net same_i
           (run_of now (network_of net.program) inputs complete (s.0 ∙ same_net) (s.1 ∙ same_inputs) inv whole),
       told_of,
     ))
-
--- Whether each output has so many items
-
-module _ (f : ℕ → List ℤ) (test : List ℤ → Bool) where
-  one_passed : (b : Bool) (number : ℕ) (rest : List ℕ) (passes : Bool) → passes ≡ (if b then test (f number) else true)
-      → passes ≡ true
-      → list_all test (map f (if b then number ∷ rest else rest)) ≡ list_all test (map f rest)
-  one_passed true number rest passes is yes_it_is =
-      ap (λ (p : Bool). p && list_all test (map f rest)) (sym is ∙ yes_it_is)
-  one_passed false number rest passes is yes_it_is = refl
-
-  here : (channels : List Channel) (k : ℕ) (d : Channel) → k < length channels
-      → list_all test (map f (output_channels k (drop k channels)))
-      ≡ list_all test
-      (map f (if goes_outside (get_or channels k d).consumer then k
-      ∷ output_channels (suc k) (drop (suc k) channels) else output_channels (suc k) (drop (suc k) channels)))
-  here channels k d within =
-      ap (λ (l : List Channel). list_all test (map f (output_channels k l))) (drop-cons channels k d within)
-
-  -- one more channel was looked at, and has them
-  pub all_next : (channels : List Channel) (k : ℕ) (d : Channel) (passes whole : Bool) → k < length channels
-      → list_all test (map f (output_channels k (drop k channels))) ≡ whole
-      → passes ≡ (if goes_outside (get_or channels k d).consumer then test (f k) else true) → passes ≡ true
-      → list_all test (map f (output_channels (k + 1) (drop (k + 1) channels))) ≡ whole
-  all_next channels k d passes whole within so_far is yes_it_is =
-      let next : suc k ≡ k + 1 = omega arith in
-      ap (λ (n : ℕ). list_all test (map f (output_channels n (drop n channels)))) (sym next)
-      ∙ (sym (one_passed (goes_outside (get_or channels k d).consumer) k
-      (output_channels (suc k) (drop (suc k) channels)) passes is yes_it_is)
-      ∙ (sym (here channels k d within) ∙ so_far))
 
 -- The report that is asked for, of the texts of three readers
 pub run_of_readers : (options : Options) (net_bytes input_bytes script_bytes : Option (List ℕ))

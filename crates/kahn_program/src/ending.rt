@@ -1,47 +1,20 @@
 //! Where a run ends.
 
-ghost use Rattle.std.specs.Prelude.{◌≡◌, ◌≤◌, if◌then◌else◌, true, nat_le, length, map};
-ghost use Rattle.std.specs.List.{list_all};
+ghost use Rattle.std.specs.Prelude.{◌≡◌, ◌≤◌, length, map};
 ghost use Rattle.protocol.specs.Node.Common.{MAX_CHANNELS, MAX_NODES};
-ghost use Rattle.protocol.specs.World.Common.{are_quiet, released_of, goes_outside, output_channels};
+ghost use Rattle.protocol.specs.World.Common.{are_quiet, released_of, output_channels};
 ghost use Rattle.world.specs.WholeView.{world_of};
 ghost use Rattle.kahn_program.specs.Turning.{cut_at, is_over};
 
 use gate_cell::SplitCell;
-use kahn_net::{Channel, Port};
+use kahn_net::Channel;
 use outlet::ListOutlet;
+use runtime::have_left;
 use sector_disk::MemDisk;
 use world::World;
 
 /// The world of a run: of nodes on disks in memory, with outlets in memory.
 pub(crate) type RunWorld = World<SplitCell<MemDisk>, ListOutlet>;
-
-/// Whether so many items have left by a channel, if its items go outside.
-fn has_left(number: u8, channel: &Channel, world: &RunWorld, items: u64) -> bool
-    ensures { result ≡ (if goes_outside channel.now.consumer
-        then nat_le items (length (released_of number (world_of world.now).stations))
-        else true) }
-{
-    match channel.consumer {
-        Port::Outside => items <= world.released(number).len() as u64,
-        Port::Process(_) => true,
-    }
-}
-
-/// Whether so many items have left by each output.
-fn have_left(channels: &[Channel], world: &RunWorld, items: u64) -> bool
-    requires { length channels.now ≤ MAX_CHANNELS }
-    ensures { result ≡ list_all (λ stream. nat_le items (length stream))
-        (map (λ channel. released_of channel (world_of world.now).stations)
-        (output_channels 0 channels.now)) }
-{
-    for (number, channel) in channels.iter().enumerate() {
-        if !has_left(number as u8, channel, world, items) {
-            return false;
-        }
-    }
-    true
-}
 
 /// Where what has left is cut: at so many items, where that is asked for and each output has them.
 pub(crate) fn cut(channels: &[Channel], world: &RunWorld, items: Option<u64>) -> Option<u64>

@@ -24,7 +24,7 @@ use ckpt_store::StoreFault;
 use kahn_net::{Channel, Port};
 use net_check::{Inputs, Net};
 use replay::ScriptedEvent;
-use runtime::{Bounds, HubFault, NoWatch, run_world};
+use runtime::{Bounds, Ended, HubFault, NoWatch, RunEnd, run_world};
 use sector_disk::MemDisk;
 use std::alloc::{AllocError, Global};
 use std::sync::{Arc, Wait};
@@ -130,21 +130,19 @@ fn open_world(
 fn run_by_threads<R: Threads + Wait + Sync>(
     rt: &R,
     alloc: Global,
-    net: &Net,
     world: RunWorld,
     script: Vec<ScriptedEvent>,
-    nodes: usize,
     bounds: Bounds,
 ) -> Result<RunWorld, Failure>
-    requires few { nodes ≤ MAX_NODES }
     ensures run { IfOk result (λ now. (happened : List Happening)
         × LeadsTo (rooms world.stations.items) script.items (world_of world) happened
         (world_of now)) }
     ensures err { IfErr result (IsStoreFailure false) }
 {
-    match run_world(rt, alloc, net, world, script, nodes as u8, &NoWatch, bounds) {
-        Ok((world, _)) => Ok(world),
-        Err(fault) => Err(hub_failure(fault)),
+    let Ended { world, end, .. } = run_world(rt, alloc, world, script, &NoWatch, bounds);
+    match end {
+        RunEnd::Refused(fault) => Err(hub_failure(fault)),
+        RunEnd::Complete | RunEnd::Rounds | RunEnd::Items | RunEnd::Stopped => Ok(world),
     }
 }
 
@@ -173,7 +171,7 @@ fn run_to_end<R: Threads + Wait + Sync>(
             rounds: options.rounds,
             items: options.items,
         };
-        return run_by_threads(rt, alloc, net, world, script, nodes, bounds);
+        return run_by_threads(rt, alloc, world, script, bounds);
     }
     match run_by_turns(
         alloc,

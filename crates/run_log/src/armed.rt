@@ -1,5 +1,5 @@
 // A world with crashes that are armed for the ends of deliveries.
-ghost use Rattle.std.specs.Prelude.{◌≡◌, IfErr, IfOk, OnErr};
+ghost use Rattle.std.specs.Prelude.{◌≡◌, replicate, vec_len, IfErr, IfOk, OnErr};
 ghost use Rattle.protocol.specs.World.Common.{event_node, IsGrantedAt, has_happened};
 ghost use Rattle.replay.specs.Armed.{ArmCrash, EndsWith, IsArmedStep, OfWorld, armed_at_first, crash_after, deliveries_after, delivered_to, first_crash, has_come, is_for, one_more};
 ghost use Rattle.replay.specs.Plain.{run_view};
@@ -151,6 +151,13 @@ fn end<C: SlotCell, O: Outlet>(
     }
 }
 
+/// The numbers of deliveries of so many nodes that have had none.
+pub fn no_deliveries(alloc: Global, nodes: usize) -> Result<Vec<u64>, AllocError>
+    ensures { IfOk result (λ deliveries. deliveries.items ≡ replicate nodes 0) }
+{
+    vec![in alloc; 0; nodes]
+}
+
 impl<C: SlotCell, O: Outlet> ArmedWorld<C, O> {
     ghost use Rattle.run_log.specs.ArmedWorlds.{armed_view};
 
@@ -159,12 +166,21 @@ impl<C: SlotCell, O: Outlet> ArmedWorld<C, O> {
         ensures first { IfOk result (λ armed. armed_view armed ≡ armed_at_first (world_of world)) }
         ensures world { IfOk result (λ armed. armed.world ≡ world) }
     {
-        let deliveries = vec![in alloc; 0; world.stations.len()]?;
-        Ok(ArmedWorld {
+        let deliveries = no_deliveries(alloc, world.stations.len())?;
+        Ok(ArmedWorld::over(alloc, world, deliveries))
+    }
+
+    /// The same with what it asks memory for, which was made before.
+    pub fn over(alloc: Global, world: World<C, O>, deliveries: Vec<u64>) -> ArmedWorld<C, O>
+        requires { deliveries.items ≡ replicate (vec_len world.stations) 0 }
+        ensures first { armed_view result ≡ armed_at_first (world_of world) }
+        ensures world { result.world ≡ world }
+    {
+        ArmedWorld {
             world,
             deliveries,
             crashes: Vec::new(alloc),
-        })
+        }
     }
 
     /// One event of the world; where it is a delivery for whose end a crash is armed, the node crashes then, and that is

@@ -1,1 +1,3 @@
 pub mod Sends
+mod Left
+mod Nowhere

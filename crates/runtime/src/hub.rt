@@ -1,5 +1,6 @@
 // A world that threads share.
-ghost use Rattle.std.specs.Prelude.{◌≡◌, ◌+◌, vec_len, IfErr, IfOk, OnErr, OnOk};
+ghost use Rattle.std.specs.Prelude.{◌≡◌, ◌+◌, ◌≤◌, [], replicate, vec_len, IfErr, IfOk, OnErr, OnOk};
+ghost use Rattle.std.specs.Vec.{vec_capacity};
 ghost use Rattle.protocol.specs.World.Common.{event_node, Install};
 ghost use Rattle.replay.specs.Replay.{LeadsTo};
 ghost use Rattle.replay.specs.declared.kept.Maker.TheVariants as who;
@@ -26,7 +27,7 @@ use proc_step::Done;
 use replay::ScriptedEvent;
 use run_log::{
     ArmedWorld, FaultAnswer, HeldBack, History, HubFault, Run, RunLog, Status, TurnAnswer,
-    UnusedLedgers,
+    UnusedLedgers, no_deliveries,
 };
 use std::alloc::{AllocError, Global};
 use std::sync::{Mutex, Wait};
@@ -37,6 +38,33 @@ use world::{Reply, World};
 pub struct Hub<C: SlotCell, O: Outlet, ThisRun: Run> {
     locked: Mutex<Locked<C, O, ThisRun>>,
     sleepers: Sleepers,
+}
+
+/// What a hub asks memory for before it takes a world.
+#[derive(Drop)]
+pub(crate) struct HubParts<ThisRun: Run> {
+    deliveries: Vec<u64>,
+    sleepers: Sleepers,
+    seats: Vec<NodeSeat<ThisRun>>,
+}
+
+impl<ThisRun: Run> HubParts<ThisRun> {
+    /// That of a hub over a world of so many stations, with as many seats as are said.
+    pub(crate) fn new(
+        alloc: Global,
+        stations: usize,
+        nodes: u8,
+    ) -> Result<HubParts<ThisRun>, AllocError>
+        ensures deliveries { IfOk result (λ parts. parts.deliveries.items ≡ replicate stations 0) }
+        ensures none { IfOk result (λ parts. parts.seats.items ≡ []) }
+        ensures room { IfOk result (λ parts. nodes ≤ vec_capacity parts.seats) }
+    {
+        Ok(HubParts {
+            deliveries: no_deliveries(alloc, stations)?,
+            sleepers: Sleepers::new(alloc, nodes)?,
+            seats: Vec::with_capacity(alloc, usize::from(nodes))?,
+        })
+    }
 }
 
 impl<C: SlotCell, O: Outlet, ThisRun: Run> Hub<C, O, ThisRun> {
@@ -65,10 +93,42 @@ impl<C: SlotCell, O: Outlet, ThisRun: Run> Hub<C, O, ThisRun> {
         ensures seats { IfOk result (λ hub. vec_len hub.1 ≡ nodes) }
         ensures numbered { IfOk result (λ hub. AreOfNodes nodes hub.1.items) }
     {
-        let armed = ArmedWorld::new(alloc, world)?;
-        let sleepers = Sleepers::new(alloc, nodes)?;
+        let parts = HubParts::new(alloc, world.stations.len(), nodes)?;
+        Ok(Hub::open(alloc, world, script, nodes, ledgers, parts))
+    }
+
+    /// The same with what it asks memory for, which was made before: so a world isn't lost for want of memory.
+    pub(crate) fn open(
+        alloc: Global,
+        world: World<C, O>,
+        script: Vec<ScriptedEvent>,
+        nodes: u8,
+        ledgers: UnusedLedgers,
+        parts: HubParts<ThisRun>,
+    ) -> (
+        Hub<C, O, ThisRun>,
+        Vec<NodeSeat<ThisRun>>,
+        DriverSeat<ThisRun>,
+    )
+        requires opening { world_of world ≡ ThisRun.opening }
+        requires rooms { rooms world.stations.items ≡ ThisRun.rooms }
+        requires script { script.items ≡ ThisRun.script }
+        requires names { names_of ledgers ≡ ThisRun.names }
+        requires parts { HaveParts ledgers ThisRun.seats }
+        requires seats { ThisRun.seats ≡ nodes + 1 }
+        requires deliveries { parts.deliveries.items ≡ replicate (vec_len world.stations) 0 }
+        requires none { parts.seats.items ≡ [] }
+        requires room { nodes ≤ vec_capacity parts.seats }
+        ensures seats { vec_len result.1 ≡ nodes }
+        ensures numbered { AreOfNodes nodes result.1.items }
+    {
+        let HubParts {
+            deliveries,
+            sleepers,
+            mut seats,
+        } = parts;
+        let armed = ArmedWorld::over(alloc, world, deliveries);
         let (totals, mut all) = ledgers.open::<ThisRun>();
-        let mut seats = Vec::with_capacity(alloc, usize::from(nodes))?;
         for node in 0..nodes {
             seats.push_reserved(node_seat(node, all.split_off()));
         }
@@ -83,7 +143,7 @@ impl<C: SlotCell, O: Outlet, ThisRun: Run> Hub<C, O, ThisRun> {
             }),
             sleepers,
         };
-        Ok((hub, seats, driver_seat(all)))
+        (hub, seats, driver_seat(all))
     }
 
     /// The lock, for calls in a row.

@@ -6,6 +6,7 @@
 #![tactic(auto)]
 
 mod driving;
+mod ending;
 mod entered;
 mod hub;
 mod job_watch;
@@ -16,6 +17,7 @@ mod waking;
 mod working;
 
 pub use driving::{Bounds, drive};
+pub use ending::{Ended, RunEnd, have_left};
 pub use entered::Entered;
 pub use hub::Hub;
 pub use job_watch::{JobWatch, NoWatch};
@@ -25,6 +27,6 @@ pub use run_log::{
     Status, TurnAnswer, UnusedLedgers,
 };
 pub use seat::{DriverSeat, NodeSeat};
-pub use threads::{DriverSeats, NodeSeats, SharedRun, run_threads};
+pub use threads::{DriverSeats, Joined, NodeSeats, SharedRun, run_threads};
 pub use waking::{Seen, Until};
 pub use working::work;

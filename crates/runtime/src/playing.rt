@@ -1,26 +1,29 @@
 // A run by threads, from its world to its history.
-ghost use Rattle.std.specs.Prelude.{◌≡◌, ◌+◌, IfOk};
+ghost use Rattle.std.specs.Prelude.{◌≡◌, ◌+◌, ◌≤◌, length};
 ghost use Rattle.marks.specs.Seats.{table_of};
+ghost use Rattle.protocol.specs.Node.Common.{MAX_CHANNELS, network_of};
 ghost use Rattle.replay.specs.Replay.{LeadsTo};
 ghost use Rattle.run_log.specs.LedgerNames.{HaveParts, names_of};
 ghost use Rattle.run_log.specs.Lines.{happenings};
+ghost use Rattle.runtime.specs.Ending.{IsOver};
 ghost use Rattle.world.specs.WholeView.{world_of};
 ghost use Rattle.world.specs.WorldView.{rooms};
 
 use crate::driving::Bounds;
-use crate::hub::Hub;
+use crate::ending::{Ended, RunEnd, end_of};
+use crate::hub::{Hub, HubParts};
 use crate::job_watch::JobWatch;
 use crate::seat::NodeSeat;
-use crate::threads::{DriverSeats, NodeSeats, SharedRun, run_threads};
+use crate::threads::{DriverSeats, Joined, NodeSeats, SharedRun, run_threads};
 use gate_cell::SlotCell;
+use kahn_net::Channel;
 use marks::{MarksName, Opened, Seat};
-use net_check::Net;
 use outlet::Outlet;
 use replay::ScriptedEvent;
-use run_log::{History, HubFault, Run, RunLedgers, UnusedLedgers};
+use run_log::{HubFault, Run, RunLedgers, UnusedLedgers};
 use std::alloc::Global;
 use std::marker::Brand;
-use std::sync::Wait;
+use std::sync::{Arc, Wait};
 use std::thread::Threads;
 use world::World;
 
@@ -52,15 +55,16 @@ fn play<
 >(
     rt: &R,
     alloc: Global,
-    net: &Net,
+    channels: &[Channel],
     world: World<C, O>,
     script: Vec<ScriptedEvent>,
-    nodes: u8,
     ledgers: UnusedLedgers,
     opened: Opened,
     watch: &W,
     bounds: Bounds,
-) -> Result<(World<C, O>, History), HubFault>
+    nodes: u8,
+) -> Ended<C, O>
+    requires few { length channels.now ≤ MAX_CHANNELS }
     requires opening { world_of world ≡ ThisRun.opening }
     requires rooms { rooms world.stations.items ≡ ThisRun.rooms }
     requires script { script.items ≡ ThisRun.script }
@@ -68,44 +72,60 @@ fn play<
     requires parts { HaveParts ledgers ThisRun.seats }
     requires seats { ThisRun.seats ≡ nodes + 1 }
     requires table { table_of opened ≡ ItsMarks.table }
-    ensures leads { IfOk result (λ run. LeadsTo ThisRun.rooms ThisRun.script ThisRun.opening
-        (happenings run.1.lines.items) (world_of run.0)) }
+    ensures leads { LeadsTo ThisRun.rooms ThisRun.script ThisRun.opening
+        (happenings result.history.lines.items) (world_of result.world) }
+    ensures over { IsOver channels.now bounds (world_of result.world) result.end }
 {
-    let Ok((hub, seats, driver)) = Hub::<C, O, ThisRun>::new(alloc, world, script, nodes, ledgers)
-    else {
-        return Err(HubFault::NoMemory);
+    let Ok(parts) = HubParts::new(alloc, world.stations.len(), nodes) else {
+        return Ended::unbegun(alloc, world, HubFault::NoMemory);
     };
     let Ok((marks, mut marks_seats)) = opened.named::<ItsMarks>(alloc) else {
-        return Err(HubFault::NoMemory);
+        return Ended::unbegun(alloc, world, HubFault::NoMemory);
     };
     let Some(driver_marks) = marks_seats.pop() else {
-        return Err(HubFault::NoMemory);
+        return Ended::unbegun(alloc, world, HubFault::NoMemory);
     };
-    let node_seats = list_seats(alloc, seats, marks_seats)?;
+    let (hub, seats, driver) = Hub::<C, O, ThisRun>::open(
+        alloc, world, script, nodes, ledgers, parts,
+    );
     let shared = SharedRun { hub, marks };
     let mut driver_seats = DriverSeats {
         seat: driver,
         marks: driver_marks,
     };
-    let channels = net.program.channels.as_slice();
-    let back = run_threads(
-        rt,
-        alloc,
-        &shared,
-        node_seats,
-        &mut driver_seats,
-        channels,
-        watch,
-        bounds,
-    )?;
+    let Joined { seats, end } = match list_seats(alloc, seats, marks_seats) {
+        Ok(node_seats) => run_threads(
+            rt,
+            alloc,
+            &shared,
+            node_seats,
+            &mut driver_seats,
+            channels,
+            watch,
+            bounds,
+        ),
+        Err(fault) => Joined {
+            seats: Vec::new(alloc),
+            end: Err(fault),
+        },
+    };
     let SharedRun { hub, .. } = shared;
     let DriverSeats { seat, .. } = driver_seats;
-    Ok(hub.close(back, seat))
+    let (world, history) = hub.close(seats, seat);
+    let end = match end {
+        Ok(()) => end_of(channels, &world, bounds),
+        Err(fault) => RunEnd::Refused(fault),
+    };
+    Ended {
+        world,
+        history,
+        end,
+    }
 }
 
-/// Runs a world of this network and so many nodes with a thread for each node, and one, which calls, for the script, until nothing
-/// is left to do or it comes to its bounds. The history leads from this world to the one that is given back. Refuses for want of
-/// memory (1), also where a thread can't be made, and where a count would pass 2^63 - 1 (44).
+/// Runs a world with a thread for each node, and one, which calls, for the script, until nothing is left to do or it comes to its
+/// bounds. The world comes back in each case, with the history that leads to it from the one that was handed in, and why the run
+/// ended: it is refused for want of memory (1), also where a thread can't be made, and where a count would pass 2^63 - 1 (44).
 pub fn run_world<
     C: SlotCell + Send,
     O: Outlet + Send,
@@ -114,21 +134,27 @@ pub fn run_world<
 >(
     rt: &R,
     alloc: Global,
-    net: &Net,
     world: World<C, O>,
     script: Vec<ScriptedEvent>,
-    nodes: u8,
     watch: &W,
     bounds: Bounds,
-) -> Result<(World<C, O>, History), HubFault>
-    ensures leads { IfOk result (λ run. LeadsTo (rooms world.stations.items) script.items
-        (world_of world) (happenings run.1.lines.items) (world_of run.0)) }
+) -> Ended<C, O>
+    ensures leads { LeadsTo (rooms world.stations.items) script.items (world_of world)
+        (happenings result.history.lines.items) (world_of result.world) }
+    ensures over { IsOver (network_of world.net.value.program).channels bounds (world_of result.world)
+        result.end }
 {
-    let ledgers = UnusedLedgers::new(u64::from(nodes) + 1);
-    let Ok(opened) = Opened::new(alloc, net) else {
-        return Err(HubFault::NoMemory);
+    let Ok(net) = Arc::try_clone(&world.net) else {
+        return Ended::unbegun(alloc, world, HubFault::NoMemory);
     };
+    let Ok(opened) = Opened::new(alloc, &net) else {
+        return Ended::unbegun(alloc, world, HubFault::NoMemory);
+    };
+    // (A network has at most 16 nodes.)
+    let nodes = world.stations.len() as u8;
+    let ledgers = UnusedLedgers::new(u64::from(nodes) + 1);
+    let channels = net.program.channels.as_slice();
     play::<C, O, Brand, Brand, W, R>(
-        rt, alloc, net, world, script, nodes, ledgers, opened, watch, bounds,
+        rt, alloc, channels, world, script, ledgers, opened, watch, bounds, nodes,
     )
 }

@@ -1,5 +1,5 @@
 // A thread for each node.
-ghost use Rattle.std.specs.Prelude.{◌≡◌, vec_len, IfOk};
+ghost use Rattle.std.specs.Prelude.{◌≡◌, vec_len, OnOk};
 ghost use denote.Param.Send.{IsSend};
 
 use crate::driving::{Bounds, begin, drive};
@@ -144,9 +144,16 @@ fn lead<C: SlotCell, O: Outlet, ThisRun: Run, ItsMarks: MarksName, R: Wait>(
     )
 }
 
+/// What came of the threads: the seats that came back, and why they ended, if a call was refused.
+#[derive(Drop)]
+pub struct Joined<ThisRun: RunLedgers> {
+    pub seats: Vec<NodeSeat<ThisRun>>,
+    pub end: Result<(), HubFault>,
+}
+
 /// Lets each node work on a thread of its own, and drives on the thread that calls, once the lines that are due at first are
-/// passed. All seats come back, and the hub is stopped. Refuses for want of memory, also where a thread can't be made, and where a
-/// seat's call was refused.
+/// passed. Where no call is refused all seats come back, and the hub is stopped. Refuses for want of memory, also where a thread
+/// can't be made, and where a seat's call was refused.
 pub fn run_threads<
     C: SlotCell + Send,
     O: Outlet + Send,
@@ -163,18 +170,19 @@ pub fn run_threads<
     channels: &[Channel],
     watch: &W,
     bounds: Bounds,
-) -> Result<Vec<NodeSeat<ThisRun>>, HubFault>
-    ensures seats { IfOk result (λ back. vec_len back ≡ vec_len seats) }
+) -> Joined<ThisRun>
+    ensures seats { OnOk result.end (vec_len result.seats ≡ vec_len seats) }
 {
-    begin(rt, alloc, &shared.hub, &mut driver.seat)?;
     let count = seats.len();
-    let Ok(mut back) = Vec::with_capacity(alloc, count) else {
-        return Err(HubFault::NoMemory);
-    };
-    let Ok(mut running) = Vec::with_capacity(alloc, count) else {
-        return Err(HubFault::NoMemory);
-    };
-    let mut end = Ok(());
+    let mut back = Vec::new(alloc);
+    let mut running = Vec::new(alloc);
+    let mut end = begin(rt, alloc, &shared.hub, &mut driver.seat);
+    if back.reserve(count).is_err() || running.reserve(count).is_err() {
+        end = Err(HubFault::NoMemory);
+    }
+    if end.is_err() {
+        return Joined { seats: back, end };
+    }
     thread::scope(
         thread::scope_env(),
         rt,
@@ -193,10 +201,8 @@ pub fn run_threads<
             }
         },
     );
-    end?;
-    if back.len() == count {
-        Ok(back)
-    } else {
-        Err(HubFault::NoMemory)
+    if end.is_ok() && back.len() != count {
+        end = Err(HubFault::NoMemory);
     }
+    Joined { seats: back, end }
 }

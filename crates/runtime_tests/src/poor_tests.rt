@@ -10,7 +10,7 @@ use crate::runtime_tests::{BOUNDS, NODES, SUM_ON_TWO_NODES, disks, inputs_of, ne
 use gate_cell::SplitCell;
 use net_check::Net;
 use outlet::{ListOutlet, Outlet, OutletFault};
-use runtime::{HubFault, NoWatch, run_world};
+use runtime::{HubFault, NoWatch, RunEnd, run_world};
 use sector_disk::MemDisk;
 use std::alloc::Global;
 use std::sync::Arc;
@@ -94,13 +94,14 @@ fn poor_world(alloc: Global) -> Result<PoorWorld, Fail> {
 #[test]
 fn want_of_memory_at_a_node_ends_the_run(rt: HostRuntime) -> Result<(), Fail> {
     let alloc = rt.alloc();
-    let net = net_of(alloc, SUM_ON_TWO_NODES)?;
     let world = poor_world(alloc)?;
     let script = Vec::new(alloc);
-    let refused = match run_world(&rt, alloc, &net, world, script, NODES, &NoWatch, BOUNDS) {
-        Ok(_) => false,
-        Err(fault) => fault == HubFault::NoMemory,
-    };
-    assert!(rt; refused);
+    let ended = run_world(&rt, alloc, world, script, &NoWatch, BOUNDS);
+    let end = ended.end;
+    // The world comes back all the same.
+    let stations = ended.world.stations.len();
+    drop(ended);
+    assert!(rt; end == RunEnd::Refused(HubFault::NoMemory));
+    assert!(rt; stations == usize::from(NODES));
     Ok(())
 }

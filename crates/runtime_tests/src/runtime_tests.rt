@@ -20,9 +20,9 @@ use protocol::Leaving;
 use replay::{ArmedCrash, KeptReply, Maker, RunEvent, ScriptedEvent, Silence};
 use run_log::{ArmedWorld, keep_reply};
 use runtime::{
-    Bounds, DriverSeat, DriverSeats, Entry, FaultAnswer, History, Hub, JobWatch, KeptEvent, Line,
-    NoWatch, NodeSeat, NodeSeats, Run, SharedRun, TurnAnswer, UnusedLedgers, run_threads,
-    run_world, work,
+    Bounds, DriverSeat, DriverSeats, Entry, FaultAnswer, History, Hub, JobWatch, Joined, KeptEvent,
+    Line, NoWatch, NodeSeat, NodeSeats, Run, RunEnd, SharedRun, TurnAnswer, UnusedLedgers,
+    run_threads, run_world, work,
 };
 use sector_disk::{ArmedFault, Disk, MemDisk, SECTOR_BYTES};
 use std::alloc::{AllocError, Global};
@@ -359,7 +359,7 @@ fn play_by_threads<
     let Some((node_seats, mut driver_seats)) = list_seats(alloc, seats, seat, marks_seats) else {
         return Err(Fail::new("no seats"));
     };
-    let ran = run_threads(
+    let Joined { seats: back, end } = run_threads(
         rt,
         alloc,
         &shared,
@@ -369,9 +369,9 @@ fn play_by_threads<
         &NoWatch,
         BOUNDS,
     );
-    let Ok(back) = ran else {
+    if end.is_err() {
         return Err(Fail::new("refused"));
-    };
+    }
     let DriverSeats { seat, .. } = driver_seats;
     let SharedRun { hub, .. } = shared;
     let made = made_by_seats(back.as_slice(), &seat);
@@ -714,17 +714,15 @@ fn run_sum<W: JobWatch + Sync, R: Threads + Wait + Sync>(
     script: Vec<ScriptedEvent>,
     watch: &W,
 ) -> Result<Went, Fail> {
-    let net = net_of(alloc, SUM_ON_TWO_NODES)?;
     let world = sum_world(alloc)?;
-    match run_world(rt, alloc, &net, world, script, NODES, watch, BOUNDS) {
-        Ok((world, history)) => Ok(Went {
-            whole: world.complete() && world.released(OUTPUT) == [1, 3, 6].as_slice(),
-            led: led_by_driver(&history),
-            crashed: answered(&history, KeptReply::Crashed),
-            down: answered(&history, KeptReply::Down),
-        }),
-        Err(_) => Err(Fail::new("refused")),
-    }
+    let ended = run_world(rt, alloc, world, script, watch, BOUNDS);
+    let is_complete = ended.end == RunEnd::Complete;
+    Ok(Went {
+        whole: is_complete && ended.world.released(OUTPUT) == [1, 3, 6].as_slice(),
+        led: led_by_driver(&ended.history),
+        crashed: answered(&ended.history, KeptReply::Crashed),
+        down: answered(&ended.history, KeptReply::Down),
+    })
 }
 
 // A line of round 0.
@@ -803,15 +801,15 @@ const FOUR_ITEMS: Bounds = Bounds {
 
 // The round in which Kahn's example had four items, if they were right.
 fn round_of_four<R: Threads + Wait + Sync>(rt: &R, alloc: Global) -> Result<Option<u64>, Fail> {
-    let net = net_of(alloc, KAHN)?;
     let world = open_world(alloc, KAHN, "")?;
     let script = Vec::new(alloc);
-    match run_world(rt, alloc, &net, world, script, NODES, &NoWatch, FOUR_ITEMS) {
-        Ok((world, _)) => Ok(match world.released(OUTPUT_OF_KAHN) {
-            [0, 1, 0, 1, ..] => Some(world.round()),
-            _ => None,
-        }),
-        Err(_) => Err(Fail::new("refused")),
+    let ended = run_world(rt, alloc, world, script, &NoWatch, FOUR_ITEMS);
+    if ended.end != RunEnd::Items {
+        return Ok(None);
+    }
+    match ended.world.released(OUTPUT_OF_KAHN) {
+        [0, 1, 0, 1, ..] => Ok(Some(ended.world.round())),
+        _ => Ok(None),
     }
 }
 

@@ -2,8 +2,8 @@ use Rattle.std.proofs.Common.{ℕ, ℤ, List, length}
 use Rattle.std.specs.Prelude.{nat_le}
 use Rattle.protocol.specs.World.Common.{released_of}
 use Rattle.world.specs.WholeView.{world_of}
-use Rattle.kahn_program.proofs.Released.{all_next}
-use Rattle.kahn_program.proofs.ending.have_left.Goals as goal
+use Rattle.runtime.proofs.Left.{all_next}
+use Rattle.runtime.proofs.ending.have_left.Goals as goal
 
 pub loop-number-preserved : goal.loop-number-preserved
 loop-number-preserved c =

@@ -3,7 +3,7 @@ use Rattle.std.specs.Prelude.{nat_le}
 use Rattle.std.specs.List.{list_all}
 use Rattle.protocol.specs.World.Common.{output_channels, released_of}
 use Rattle.world.specs.WholeView.{world_of}
-use Rattle.kahn_program.proofs.ending.have_left.Given as goal
+use Rattle.runtime.proofs.ending.have_left.Given as goal
 
 -- as those that weren't looked at yet
 abbrev pub invariant-loop-number : goal.invariant-loop-number

@@ -1,0 +1,13 @@
+-- A history of which nothing is written leads to the world with which it began.
+use Rattle.std.proofs.Common.{◌≡◌, Bool, List, [], refl, sym, subst}
+use Rattle.protocol.specs.Node.Common.{RecordView}
+use Rattle.protocol.specs.World.Common.{WorldView}
+use Rattle.replay.specs.Armed.{armed_at_first}
+use Rattle.replay.specs.Replay.{Happening, LeadsTo, at_first}
+use Rattle.replay.specs.declared.kept.ScriptedEvent.{ScriptedEvent}
+
+pub leads_nowhere : (fits : List (RecordView → Bool)) (script : List ScriptedEvent) (opening : WorldView)
+    (happened : List Happening) → happened ≡ [] → LeadsTo fits script opening happened opening
+leads_nowhere fits script opening happened none =
+    subst (λ (all : List Happening). LeadsTo fits script opening all opening) (sym none)
+    ∣ (0, armed_at_first opening, at_first (armed_at_first opening) refl, refl) ∣₁

@@ -1,0 +1,121 @@
+// What a run came to, and why it ended.
+ghost use Rattle.std.specs.Prelude.{◌≡◌, ◌≤◌, [], if◌then◌else◌, true, nat_le, length, map};
+ghost use Rattle.std.specs.List.{list_all};
+ghost use Rattle.protocol.specs.Node.Common.{MAX_CHANNELS};
+ghost use Rattle.protocol.specs.World.Common.{released_of, goes_outside, output_channels};
+ghost use Rattle.run_log.specs.Lines.{happenings};
+ghost use Rattle.runtime.specs.Ending.{IsOver};
+ghost use Rattle.runtime.specs.declared.ending.RunEnd.TheVariants.{Refused};
+ghost use Rattle.world.specs.WholeView.{world_of};
+
+use crate::driving::Bounds;
+use gate_cell::SlotCell;
+use kahn_net::{Channel, Port};
+use outlet::Outlet;
+use run_log::{History, HubFault};
+use std::alloc::Global;
+use world::World;
+
+/// Why a run ended.
+#[derive(Clone, Copy, Debug, PartialEq, Eq)]
+pub enum RunEnd {
+    /// Nothing is left to do.
+    Complete,
+    /// The rounds are over.
+    Rounds,
+    /// Each output has the items that are asked for.
+    Items,
+    /// A call was refused.
+    Refused(HubFault),
+    /// The hub was stopped before any of these.
+    Stopped,
+}
+
+/// What a run came to: its world, the history that leads to it, and why it ended.
+#[derive(Drop)]
+pub struct Ended<C: SlotCell, O: Outlet> {
+    pub world: World<C, O>,
+    pub history: History,
+    pub end: RunEnd,
+}
+
+impl<C: SlotCell, O: Outlet> Ended<C, O> {
+    /// A run that didn't begin.
+    pub(crate) fn unbegun(alloc: Global, world: World<C, O>, fault: HubFault) -> Ended<C, O>
+        ensures same { result.world ≡ world }
+        ensures none { happenings result.history.lines.items ≡ [] }
+        ensures refused { result.end ≡ Refused fault }
+    {
+        Ended {
+            world,
+            history: History {
+                lines: Vec::new(alloc),
+                stops: 0,
+            },
+            end: RunEnd::Refused(fault),
+        }
+    }
+}
+
+// Whether so many items have left by a channel, if its items go outside.
+fn has_left<C: SlotCell, O: Outlet>(
+    number: u8,
+    channel: &Channel,
+    world: &World<C, O>,
+    items: u64,
+) -> bool
+    ensures { result ≡ (if goes_outside channel.now.consumer
+        then nat_le items (length (released_of number (world_of world.now).stations))
+        else true) }
+{
+    match channel.consumer {
+        Port::Outside => items <= world.released(number).len() as u64,
+        Port::Process(_) => true,
+    }
+}
+
+/// Whether so many items have left by each output.
+pub fn have_left<C: SlotCell, O: Outlet>(
+    channels: &[Channel],
+    world: &World<C, O>,
+    items: u64,
+) -> bool
+    requires { length channels.now ≤ MAX_CHANNELS }
+    ensures { result ≡ list_all (λ stream. nat_le items (length stream))
+        (map (λ channel. released_of channel (world_of world.now).stations)
+        (output_channels 0 channels.now)) }
+{
+    for (number, channel) in channels.iter().enumerate() {
+        if !has_left(number as u8, channel, world, items) {
+            return false;
+        }
+    }
+    true
+}
+
+/// Why a run ended of which no call was refused.
+pub(crate) fn end_of<C: SlotCell, O: Outlet>(
+    channels: &[Channel],
+    world: &World<C, O>,
+    bounds: Bounds,
+) -> RunEnd
+    requires { length channels.now ≤ MAX_CHANNELS }
+    ensures { IsOver channels.now bounds (world_of world.now) result }
+{
+    if world.complete() {
+        return RunEnd::Complete;
+    }
+    if bounds.rounds <= world.round() {
+        return RunEnd::Rounds;
+    }
+    match bounds.items {
+        Some(items) => {
+            if have_left(channels, world, items) {
+                RunEnd::Items
+            } else {
+                RunEnd::Stopped
+            }
+        }
+        None => RunEnd::Stopped,
+    }
+}
