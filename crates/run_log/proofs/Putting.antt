@@ -1,6 +1,6 @@
 -- An event put behind the lines of a history.
 use Rattle.std.proofs.Common.{◌≡◌, ◌∙◌, ◌+◌, ◌++◌, ◌∷◌, [], List, refl, sym, ap, sum_by, arith}
-use Rattle.std.proofs.Common.{append_assoc}
+use Rattle.std.proofs.Common.{append_assoc, append-nil}
 use Rattle.std.proofs.lemmas.List.Concat.{flat_map-append}
 use Rattle.std.proofs.lemmas.List.Sums.{sum_by-append}
 use Rattle.replay.specs.Replay.{Happening}
@@ -11,14 +11,14 @@ use Rattle.run_log.specs.declared.history.Entry.{Entry}
 use Rattle.run_log.specs.declared.history.Line.{Line}
 use Rattle.run_log.proofs.Raising.{same_numbers}
 
-one_more : (front : List Line) (line : Line) → happenings (front ++ line ∷ []) ≡ happenings front ++ happenings_of line ++ []
+one_more : (front : List Line) (line : Line) → happenings (front ++ line ∷ []) ≡ happenings front ++ (happenings_of line ++ [])
 one_more front line = flat_map-append happenings_of front (line ∷ [])
 
 -- in a line of its own
 pub put_once : (lines : List Line) (line : Line) (entry : Entry) → IsOnce entry line → IsPut entry lines (lines ++ line ∷ [])
 put_once lines line entry once =
     record {
-      happened = one_more lines line ∙ ap (λ (xs : List Happening). happenings lines ++ xs ++ []) once.happened;
+      happened = one_more lines line ∙ ap (λ (xs : List Happening). happenings lines ++ (xs ++ [])) once.happened;
       counts = λ stops.
           let one = line ∷ [] in
           same_numbers _ _ _ _ _ _ _ _ _ _ (omega (arith, once.events, sum_by-append events_in lines one))
@@ -33,9 +33,10 @@ pub put_in : (front : List Line) (before now : Line) (entry : Entry) → IsCount
 put_in front before now entry counted =
     record {
       happened = one_more front now
-          ∙ (ap (λ (xs : List Happening). happenings front ++ xs ++ []) counted.happened
+          ∙ (ap (λ (xs : List Happening). happenings front ++ (xs ++ [])) counted.happened
           ∙ (ap (λ (xs : List Happening). happenings front ++ xs)
-          (append_assoc (happenings_of before) (made_of entry ∷ []) [] ∙ sym (append_assoc (happenings_of before) [] (made_of entry ∷ [])))
+          (append-nil (happenings_of before ++ made_of entry ∷ [])
+          ∙ ap (λ (xs : List Happening). xs ++ made_of entry ∷ []) (sym (append-nil (happenings_of before))))
           ∙ (sym (append_assoc (happenings front) (happenings_of before ++ []) (made_of entry ∷ []))
           ∙ ap (λ (xs : List Happening). xs ++ made_of entry ∷ []) (sym (one_more front before)))));
       counts = λ stops.

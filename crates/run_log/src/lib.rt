@@ -5,8 +5,8 @@
 //! world. There is no thread here: several may share a log under a lock.
 #![tactic(auto)]
 
-mod adding;
 mod answer;
+mod appending;
 mod armed;
 mod counting;
 mod history;

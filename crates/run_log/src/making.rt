@@ -10,7 +10,7 @@ ghost use Rattle.station.specs.EventView.{event_view};
 ghost use Rattle.station.specs.ReplyView.{reply_view};
 ghost use Rattle.world.specs.WorldView.{rooms};
 
-use crate::adding::put_entry;
+use crate::appending::put_entry;
 use crate::armed::ArmedWorld;
 use crate::history::{Entry, KeptEvent, Line};
 use crate::keeping::{keep, keep_reply};

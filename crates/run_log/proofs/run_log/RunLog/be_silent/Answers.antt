@@ -9,7 +9,7 @@ use Rattle.run_log.proofs.run_log.RunLog.be_silent.Goals as goal
 pub invariant_of-self-2-clause-replays : goal.invariant_of-self-2-clause-replays
 invariant_of-self-2-clause-replays g c =
     let old = c.args.self.now in
-    stays_silent _ _ _ old.lines.items _ old.passed _ c.args.reason old.replays c.requires.own
+    stays_silent _ _ _ old.lines.items c.add_silence.new.lines.items old.passed _ c.args.reason old.replays c.requires.own
     c.in_ok-add_silence.ensures.lines
 
 pub invariant_of-self-2-clause-numbers : goal.invariant_of-self-2-clause-numbers

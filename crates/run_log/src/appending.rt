@@ -1,5 +1,5 @@
 // Events put behind the lines of a history.
-ghost use Rattle.std.specs.Prelude.{◌≡◌, ◌+◌, ◌<◌, vec_len, IsTrue};
+ghost use Rattle.std.specs.Prelude.{◌≡◌, ◌<◌, true, false, vec_len, IsTrue};
 ghost use Rattle.std.specs.Vec.{vec_capacity};
 ghost use Rattle.run_log.specs.Added.{IsCountedIn, IsOnce, IsPut};
 ghost use Rattle.run_log.specs.Lines.{kept_view, nth_answer};
