@@ -131,7 +131,7 @@ impl Sleepers {
     pub fn new(alloc: Global, nodes: u8) -> Result<Sleepers, AllocError> {
         let mut places = Vec::with_capacity(alloc, usize::from(nodes))?;
         for _ in 0..nodes {
-            places.push_reserved(Condvar::new());
+            places.push(Condvar::new())?;
         }
         Ok(Sleepers {
             nodes: places,

@@ -8,6 +8,7 @@ use crate::entered::Entered;
 use crate::hub::Hub;
 use crate::job_watch::JobWatch;
 use crate::seat::NodeSeat;
+use crate::waking::Seen;
 use gate_cell::SlotCell;
 use marks::{Marks, MarksName, Seat};
 use outlet::Outlet;
@@ -83,6 +84,30 @@ fn take_turns<C: SlotCell, O: Outlet, ThisRun: Run, ItsMarks: MarksName>(
     Ok(TurnAnswer::Widened)
 }
 
+// A stay under the lock, once there may be something to do for the seat's node, to which there was nothing when the hub stood so.
+// It notes how the hub stands where there is nothing once more.
+fn stay<C: SlotCell, O: Outlet, ThisRun: Run, ItsMarks: MarksName, R: Wait>(
+    rt: &R,
+    alloc: Global,
+    hub: &Hub<C, O, ThisRun>,
+    seat: &mut NodeSeat<ThisRun>,
+    marks: &Marks<ItsMarks>,
+    marks_seat: &mut Seat<ItsMarks>,
+    nothing_at: &mut Option<Seen>,
+) -> Result<TurnAnswer, HubFault>
+    ensures node { seat.new.node ≡ seat.old.node }
+    ensures home { IfOk result (IsGrantedIn seat.old.node) }
+{
+    let mut entered = hub.enter_node(rt, seat, *nothing_at);
+    let answer = take_turns(alloc, &mut entered, seat, marks, marks_seat)?;
+    let seen = entered.leave();
+    *nothing_at = match &answer {
+        TurnAnswer::Nothing => Some(seen),
+        _ => None,
+    };
+    Ok(answer)
+}
+
 // Takes turns until the hub is stopped, or a call is refused.
 fn work_on<C: SlotCell, O: Outlet, ThisRun: Run, ItsMarks: MarksName, W: JobWatch, R: Wait>(
     rt: &R,
@@ -98,18 +123,13 @@ fn work_on<C: SlotCell, O: Outlet, ThisRun: Run, ItsMarks: MarksName, W: JobWatc
     let mut nth: u64 = 0;
     let mut nothing_at = None;
     for _ in rt.forever() {
-        let mut entered = hub.enter_node(rt, seat, nothing_at);
-        let answer = take_turns(alloc, &mut entered, seat, marks, marks_seat)?;
-        let seen = entered.leave();
-        nothing_at = None;
-        match answer {
+        match stay(rt, alloc, hub, seat, marks, marks_seat, &mut nothing_at)? {
             TurnAnswer::Stopped => return Ok(()),
             TurnAnswer::Reply(Reply::Granted(job)) => {
                 run_job(rt, alloc, hub, seat, watch, nth, job)?;
                 nth = nth.wrapping_add(1);
             }
-            TurnAnswer::Reply(_) | TurnAnswer::Widened => {}
-            TurnAnswer::Nothing => nothing_at = Some(seen),
+            TurnAnswer::Reply(_) | TurnAnswer::Widened | TurnAnswer::Nothing => {}
         }
     }
     unreachable!()

@@ -6,7 +6,7 @@ use Rattle.runtime.proofs.Left.{all_next}
 use Rattle.runtime.proofs.ending.have_left.Goals as goal
 
 pub loop-number-preserved : goal.loop-number-preserved
-loop-number-preserved c =
+loop-number-preserved g c =
     all_next (λ (channel : ℕ). released_of channel (world_of c.args.world.now).stations)
     (λ (stream : List ℤ). nat_le c.args.items (length stream))
     c.args.channels.now c.loop-number.number _ c.has_left.result _ c.loop-number-test.true c.loop-number.invariant

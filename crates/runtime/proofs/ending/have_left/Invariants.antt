@@ -7,7 +7,7 @@ use Rattle.runtime.proofs.ending.have_left.Given as goal
 
 -- as those that weren't looked at yet
 abbrev pub invariant-loop-number : goal.invariant-loop-number
-invariant-loop-number l =
+invariant-loop-number g l =
     list_all (λ (stream : List ℤ). nat_le l.items (length stream))
     (map (λ (channel : ℕ). released_of channel (world_of l.world).stations)
     (output_channels l.number (drop l.number l.channels)))
