@@ -6,8 +6,8 @@ use Rattle.replay.specs.Armed.{armed_at_first}
 use Rattle.replay.specs.Replay.{Happening, LeadsTo, at_first}
 use Rattle.replay.specs.declared.kept.ScriptedEvent.{ScriptedEvent}
 
-pub leads_nowhere : (fits : List (RecordView → Bool)) (script : List ScriptedEvent) (opening : WorldView)
-    (happened : List Happening) → happened ≡ [] → LeadsTo fits script opening happened opening
-leads_nowhere fits script opening happened none =
-    subst (λ (all : List Happening). LeadsTo fits script opening all opening) (sym none)
-    ∣ (0, armed_at_first opening, at_first (armed_at_first opening) refl, refl) ∣₁
+pub leads_nowhere : (fits : List (RecordView → Bool)) (script : List ScriptedEvent) (opening here : WorldView)
+    (happened : List Happening) → happened ≡ [] → here ≡ opening → LeadsTo fits script opening happened here
+leads_nowhere fits script opening here happened none same =
+    subst (λ (all : List Happening). LeadsTo fits script opening all here) (sym none)
+    ∣ (0, armed_at_first opening, at_first (armed_at_first opening) refl, sym same) ∣₁

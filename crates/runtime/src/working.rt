@@ -129,7 +129,8 @@ fn work_on<C: SlotCell, O: Outlet, ThisRun: Run, ItsMarks: MarksName, W: JobWatc
                 run_job(rt, alloc, hub, seat, watch, nth, job)?;
                 nth = nth.wrapping_add(1);
             }
-            TurnAnswer::Reply(_) | TurnAnswer::Widened | TurnAnswer::Nothing => {}
+            TurnAnswer::Reply(_other) => {}
+            TurnAnswer::Widened | TurnAnswer::Nothing => {}
         }
     }
     unreachable!()
