@@ -200,7 +200,10 @@ impl Run {
         brought: &Brought,
     ) -> anyhow::Result<bool> {
         match brought {
-            Brought::Last => self.take_own(alloc, self.outcomes.len()),
+            Brought::Last => {
+                let last = self.outcomes.len();
+                self.take_own(alloc, last)
+            }
             Brought::Earlier(number) => self.take_own(alloc, *number),
             Brought::Foreign(inputs) => {
                 let done = self.foreign(alloc, settings, inputs)?;
