@@ -20,23 +20,33 @@ impl Came {
         }
     }
 
-    /// Of an event that was planned so, and came out so.
-    pub fn of(alloc: Global, prospect: Prospect, outcome: Outcome) -> Came {
-        let Prospect::Planned(plan) = prospect else {
-            return Came {
-                outcome,
-                said: Vec::new(alloc),
-            };
-        };
-        let Plan { said, .. } = plan;
-        let Said { made, declined } = said;
-        let said = match outcome {
-            Outcome::Made => made,
-            Outcome::Refused(Refusal::TooLarge) => declined,
-            Outcome::Refused(Refusal::Spent) | Outcome::NotDue | Outcome::Failed => Vec::new(alloc),
+    /// Of an event that came out so, in which this was to be said if it was planned.
+    pub fn of(alloc: Global, said: Option<Said>, outcome: Outcome) -> Came {
+        let said = match said {
+            Some(said) => said_in(alloc, said, outcome),
+            None => Vec::new(alloc),
         };
         Came { outcome, said }
     }
+}
+
+/// What was sent of what was to be said.
+fn said_in(alloc: Global, said: Said, outcome: Outcome) -> Vec<Packet> {
+    let Said { made, declined } = said;
+    match outcome {
+        Outcome::Made => made,
+        Outcome::Refused(Refusal::TooLarge) => declined,
+        Outcome::Refused(Refusal::Spent) | Outcome::NotDue | Outcome::Failed => Vec::new(alloc),
+    }
+}
+
+/// What is said in an event that is planned so.
+pub fn said_by(prospect: Prospect) -> Option<Said> {
+    let Prospect::Planned(plan) = prospect else {
+        return None;
+    };
+    let Plan { said, .. } = plan;
+    Some(said)
 }
 
 /// What came of bytes that a node took for a packet.

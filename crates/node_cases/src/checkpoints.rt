@@ -7,7 +7,7 @@ ghost use Rattle.protocol.specs.World.Common.{has_node};
 ghost use Rattle.node.specs.NodeOf.{view_of};
 ghost use Rattle.node.specs.Said.{MayBeDecided};
 
-use crate::answer::Came;
+use crate::answer::{Came, said_by};
 use crate::bounds::is_bounded;
 use crate::opening::CaseNode;
 use ckpt_store::is_like;
@@ -39,10 +39,10 @@ pub fn start(alloc: Global, node: &mut CaseNode, net: &Net, round: u64) -> anyho
         "what it has now is no image beside its permanent one"
     );
     // Carrying a plan out takes it, so what is said is that of another.
-    let planned = node.plan_start(alloc, net)?;
+    let said = said_by(node.plan_start(alloc, net)?);
     let prospect = node.plan_start(alloc, net)?;
     let outcome = node.carry_out(alloc, prospect, round)?;
-    Ok(Came::of(alloc, planned, outcome))
+    Ok(Came::of(alloc, said, outcome))
 }
 
 fn has_node(node: u8, nodes: &[u8]) -> bool
@@ -112,8 +112,8 @@ pub fn decide(alloc: Global, node: &mut CaseNode, round: u64) -> anyhow::Result<
         may_be_decided(alloc, node)?,
         "its decision would be too long"
     );
-    let planned = node.plan_decide(alloc)?;
+    let said = said_by(node.plan_decide(alloc)?);
     let prospect = node.plan_decide(alloc)?;
     let outcome = node.carry_out(alloc, prospect, round)?;
-    Ok(Came::of(alloc, planned, outcome))
+    Ok(Came::of(alloc, said, outcome))
 }

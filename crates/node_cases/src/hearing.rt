@@ -6,7 +6,7 @@ ghost use Rattle.protocol.specs.Node.Common.{node_count, network_of, is_down};
 ghost use Rattle.protocol.specs.Node.Delivering.{IsHeard};
 ghost use Rattle.node.specs.NodeOf.{view_of};
 
-use crate::answer::Came;
+use crate::answer::{Came, said_by};
 use crate::bounds::is_bounded;
 use crate::checkpoints::is_like_now;
 use crate::opening::CaseNode;
@@ -59,10 +59,10 @@ fn hear(
         is_like_now(node),
         "what it has now is no image beside its permanent one"
     );
-    let planned = node.plan_packet(alloc, net, packet)?;
+    let said = said_by(node.plan_packet(alloc, net, packet)?);
     let prospect = node.plan_packet(alloc, net, packet)?;
     let outcome = node.carry_out(alloc, prospect, round)?;
-    Ok(Came::of(alloc, planned, outcome))
+    Ok(Came::of(alloc, said, outcome))
 }
 
 /// Bytes come to a node, in this round. `None` where it drops them.

@@ -1,14 +1,19 @@
-//! Runs nodes by the table `cases`: a case says of what its node is made, what happens to it, and what has to be answered. Prints
-//! each case that comes out otherwise, and how many came out as written. The cases of `wrong_cases` are wrong on purpose: each has to come
-//! out otherwise. The status is 1 where a case of `cases` comes out otherwise, where one of `wrong_cases` doesn't, and where a table has a
-//! line that isn't understood.
+//! Runs storage by the table `storage_cases`, and nodes by the table `cases`: what happens to a disk, a cell, a store, a log, an outlet, or
+//! to one node, and what has to be answered. Prints each case that comes out otherwise, and of each table how many came out as written.
+//! The cases of `wrong_storage_cases` and of `wrong_cases` are wrong on purpose: each has to come out otherwise. The status is 1 where a
+//! case comes out otherwise than written, where one of those that are wrong doesn't, and where a table has a line that isn't understood.
 //!
 //! A line `== TITLE` begins a case. Empty lines, and those that begin with `#`, say nothing. Numbers are decimal; channels and places
 //! are counted from 0. Bytes stand in hexadecimal, in groups with spaces between them as one likes; `00*16` is a group so many times.
-//! Before the first case a line `bytes NAME 01 00 ..` gives bytes a name, which then stands for them in every spelling; a further
-//! line of the same name goes on.
+//! Before the first case a line `bytes NAME 01 00 ..` gives bytes a name, which then stands for them in the spellings of a node's case, and
+//! in a line `spelling` of storage; a further line of the same name goes on. `for CALL 1..12 FILL 0 255` runs the case for each choice of
+//! these numbers, the ends of a range included. The names, in capital letters, stand for them in all its lines, alone or in a sum as
+//! `CALL+1`; among bytes they have no place, since their digits are decimal. Behind an arrow stands what has to be answered; an answer
+//! that ends in `..` may go on.
 //!
-//! First comes of what the node is made. It runs from the permanent image of its record, over a disk in memory whose calls are
+//! What a case of storage may ask stands at the head of `storage.rt`. Of a node:
+//!
+//! First comes of what it is made. It runs from the permanent image of its record, over a disk in memory whose calls are
 //! counted from there:
 //!
 //! | Line | Meaning |
@@ -20,7 +25,6 @@
 //! | `room 64` | the room of a channel; 4096 where it isn't said |
 //! | `record fresh opening 00` | the bytes of the record on its disk; a further line goes on |
 //! | `fault call 7 fill 0` | a failure that is prepared on its disk, of a call that is counted from 1 |
-//! | `for CALL 1..12 FILL 0 255` | the case is run for each choice of these numbers, the ends of a range included. The names, in capital letters, stand for them in all its lines, alone or in a sum as `CALL+1`; among bytes they have no place, since their digits are decimal |
 //!
 //! Then comes what happens, line by line, and behind an arrow what has to be answered:
 //!
@@ -55,12 +59,13 @@
 //! where what the node has now isn't an image beside its permanent one; and nothing is heard where its record lists more nodes than the
 //! network has, or fewer.
 //!
-//! A node that doesn't run answers `none` to `processes`, `now`, `log` and `inbox`. Items that aren't there are `nothing`. An answer that ends in `..` may go on.
+//! A node that doesn't run answers `none` to `processes`, `now`, `log` and `inbox`. Items that aren't there are `nothing`.
 #![tactic(auto)]
 
 mod answer;
 mod bounds;
 mod checkpoints;
+mod devices;
 mod hearing;
 mod judging;
 mod opening;
@@ -69,49 +74,76 @@ mod run;
 mod settings;
 mod showing;
 mod step;
+mod storage;
 mod taking;
 
 use crate::judging::judged;
 use crate::plan::plan_of;
 use anyhow::Context;
 use case_table::{
-    Case, Difference, NamedBytes, Table, Trial, named_in, read, run_cases, run_wrong_cases,
-    table_of,
+    Case, Difference, NamedBytes, Trial, named_in, read, run_cases, run_wrong_cases, table_of,
 };
-use std::alloc::Global;
 
-/// Each case is of a node, and may use these bytes by their names.
+/// What the cases of a table are of.
+#[derive(Clone, Copy)]
+enum Kind {
+    Storage,
+    Nodes,
+}
+
+/// The cases of a table, which may use these bytes by their names.
 #[derive(Drop)]
-struct Nodes<'a> {
+struct Cases<'a> {
+    kind: Kind,
     named: Vec<NamedBytes<'a>>,
 }
 
-impl<'a> Trial for Nodes<'a> {
+/// What is otherwise than a case of a node says, if anything is.
+fn found_of_node(
+    rt: &HostRuntime,
+    named: &[NamedBytes],
+    case: &Case,
+    choice: &[u64],
+) -> anyhow::Result<Option<Difference>> {
+    let plan = plan_of(rt.alloc(), named, case, choice)?;
+    let net = read(rt, &plan.settings.net).context("its network")?;
+    judged(rt.alloc(), &net, &plan)
+}
+
+impl<'a> Trial for Cases<'a> {
     fn found(
         &self,
         rt: &HostRuntime,
         case: &Case,
         choice: &[u64],
     ) -> anyhow::Result<Option<Difference>> {
-        let plan = plan_of(rt.alloc(), self.named.as_slice(), case, choice)?;
-        let net = read(rt, &plan.settings.net).context("its network")?;
-        judged(rt.alloc(), &net, plan)
+        let named = self.named.as_slice();
+        match self.kind {
+            Kind::Storage => storage::found(rt.alloc(), named, case, choice),
+            Kind::Nodes => found_of_node(rt, named, case, choice),
+        }
     }
 }
 
-/// The nodes of a table.
-fn nodes_of<'a>(alloc: Global, table: &Table<'a>) -> anyhow::Result<Nodes<'a>> {
-    Ok(Nodes {
-        named: named_in(alloc, &table.head)?,
-    })
+/// Runs the cases of a table.
+fn run_table(rt: &HostRuntime, kind: Kind, name: &str) -> anyhow::Result<()> {
+    let text = read(rt, name)?;
+    let table = table_of(rt.alloc(), &text)?;
+    let named = named_in(rt.alloc(), &table.head)?;
+    run_cases(rt, &table.cases, &Cases { kind, named })
+}
+
+/// The same of a table in which each case is wrong on purpose.
+fn run_wrong_table(rt: &HostRuntime, kind: Kind, name: &str) -> anyhow::Result<()> {
+    let text = read(rt, name)?;
+    let table = table_of(rt.alloc(), &text)?;
+    let named = named_in(rt.alloc(), &table.head)?;
+    run_wrong_cases(rt, &table.cases, &Cases { kind, named })
 }
 
 fn main(rt: HostRuntime) -> anyhow::Result<()> {
-    let alloc = rt.alloc();
-    let text = read(&rt, "cases")?;
-    let wrong = read(&rt, "wrong_cases")?;
-    let table = table_of(alloc, &text)?;
-    run_cases(&rt, &table.cases, &nodes_of(alloc, &table)?)?;
-    let table = table_of(alloc, &wrong)?;
-    run_wrong_cases(&rt, &table.cases, &nodes_of(alloc, &table)?)
+    run_table(&rt, Kind::Storage, "storage_cases")?;
+    run_wrong_table(&rt, Kind::Storage, "wrong_storage_cases")?;
+    run_table(&rt, Kind::Nodes, "cases")?;
+    run_wrong_table(&rt, Kind::Nodes, "wrong_cases")
 }

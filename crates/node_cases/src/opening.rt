@@ -1,8 +1,8 @@
 //! How a case's node is made.
 
-ghost use Rattle.std.specs.Prelude.{◌*◌, ◌^◌, ◌<◌, ◌≤◌};
-ghost use Rattle.protocol.specs.Node.Common.{SECTOR_BYTES};
+ghost use Rattle.std.specs.Prelude.{◌≤◌};
 
+use crate::devices::{CaseStore, disk_of};
 use crate::settings::Settings;
 use ckpt_codec::{is_image, read_record, write_header, write_image};
 use ckpt_store::Store;
@@ -15,21 +15,8 @@ use sector_disk::{ArmedFault, MemDisk};
 use std::alloc::{AllocError, Global};
 use std::sync::Arc;
 
-/// A case's store.
-pub type CaseStore = Store<SplitCell<MemDisk>>;
-
 /// A case's node.
 pub type CaseNode = Node<SplitCell<MemDisk>>;
-
-/// The most sectors of a disk.
-const MAX_SECTORS: usize = 5_000;
-
-/// A disk of so many sectors.
-fn empty_disk(alloc: Global, sectors: usize) -> Result<MemDisk, AllocError>
-    requires { SECTOR_BYTES * sectors < 2 ^ 64 }
-{
-    MemDisk::new(alloc, sectors)
-}
 
 /// The network of this text.
 pub fn net_of(alloc: Global, text: &str) -> anyhow::Result<Arc<Net>> {
@@ -59,10 +46,9 @@ fn fill(
 
 /// A cell that holds the record of these bytes: its header, its permanent image in slot 0, and a tentative one in slot 1.
 fn cell_of(alloc: Global, sectors: usize, record: &[u8]) -> anyhow::Result<SplitCell<MemDisk>> {
-    anyhow::ensure!(sectors <= MAX_SECTORS, "{sectors} sectors are too many");
     let kept = read_record(alloc, record)?;
     let header = write_header(alloc, &kept, 0)?;
-    let mut cell = match SplitCell::format(alloc, empty_disk(alloc, sectors)?, header.as_slice()) {
+    let mut cell = match SplitCell::format(alloc, disk_of(alloc, sectors)?, header.as_slice()) {
         Ok(cell) => cell,
         Err(_) => anyhow::bail!("the disk isn't formatted"),
     };

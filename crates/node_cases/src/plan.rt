@@ -22,16 +22,37 @@ pub struct Plan {
     pub steps: Vec<Planned>,
 }
 
+/// Adds the bytes of a spelling behind others.
+fn add_shown(
+    alloc: Global,
+    named: &[NamedBytes],
+    shown: &mut String,
+    spelling: &str,
+) -> anyhow::Result<()> {
+    if !shown.is_empty() {
+        shown.push_str(", ")?;
+    }
+    let bytes = spelled(alloc, named, spelling)?;
+    shown.push_str(hex::encode(alloc, bytes.as_slice())?.as_str())?;
+    Ok(())
+}
+
+fn add_all_shown(
+    alloc: Global,
+    named: &[NamedBytes],
+    shown: &mut String,
+    text: &str,
+) -> anyhow::Result<()> {
+    for spelling in text.split(',') {
+        add_shown(alloc, named, shown, spelling)?;
+    }
+    Ok(())
+}
+
 /// Spellings with a comma between them, as they are shown.
 fn shown_spellings(alloc: Global, named: &[NamedBytes], text: &str) -> anyhow::Result<String> {
     let mut shown = String::new(alloc);
-    for spelling in text.split(',') {
-        if !shown.is_empty() {
-            shown.push_str(", ")?;
-        }
-        let bytes = spelled(alloc, named, spelling)?;
-        shown.push_str(hex::encode(alloc, bytes.as_slice())?.as_str())?;
-    }
+    add_all_shown(alloc, named, &mut shown, text)?;
     Ok(shown)
 }
 
@@ -60,12 +81,14 @@ impl Plan {
     ) -> anyhow::Result<()> {
         let (asked, wanted) = parts_of(text);
         anyhow::ensure!(!wanted.is_empty(), "{asked} wants an answer behind ->");
+        let text = String::from_str(alloc, asked)?;
         let step = step_of(alloc, named, asked)?;
+        let wanted = wanted_by(alloc, named, &step, wanted)?;
         self.steps.push(Planned {
             line,
-            text: String::from_str(alloc, asked)?,
-            wanted: wanted_by(alloc, named, &step, wanted)?,
+            text,
             step,
+            wanted,
         })?;
         Ok(())
     }
@@ -103,6 +126,25 @@ fn add_line(
         .context(format_args!("line {}", line.number))
 }
 
+/// All lines of a case, for this choice.
+fn add_lines(
+    alloc: Global,
+    named: &[NamedBytes],
+    plan: &mut Plan,
+    case: &Case,
+    choice: &[u64],
+) -> anyhow::Result<()> {
+    for line in &case.lines {
+        add_line(alloc, named, plan, line, &case.names, choice)?;
+    }
+    anyhow::ensure!(
+        plan.is_whole(),
+        "line {}: no network, no record, or nothing to compare",
+        case.line
+    );
+    Ok(())
+}
+
 /// The plan of a case for this choice.
 pub fn plan_of(
     alloc: Global,
@@ -114,13 +156,6 @@ pub fn plan_of(
         settings: Settings::new(alloc),
         steps: Vec::new(alloc),
     };
-    for line in &case.lines {
-        add_line(alloc, named, &mut plan, line, &case.names, choice)?;
-    }
-    anyhow::ensure!(
-        plan.is_whole(),
-        "line {}: no network, no record, or nothing to compare",
-        case.line
-    );
+    add_lines(alloc, named, &mut plan, case, choice)?;
     Ok(plan)
 }

@@ -16,7 +16,8 @@ use datagram::Packet;
 use net_check::{Inputs, Net};
 use node::Outcome;
 use proc_step::{Done, Job};
-use std::alloc::Global;
+use sector_disk::ArmedFault;
+use std::alloc::{AllocError, Global};
 use std::sync::Arc;
 
 /// The most packets of a row.
@@ -68,11 +69,16 @@ fn first_done(
     }
 }
 
+/// Adds a number twice.
+fn add_twice(bytes: &mut Vec<u8>, number: u64) -> Result<(), AllocError> {
+    bytes.extend_from_slice(&number.to_be_bytes())?;
+    bytes.extend_from_slice(&number.to_be_bytes())
+}
+
 /// The bytes of one packet of a row.
-fn packet_of(alloc: Global, head: &[u8], number: u64) -> anyhow::Result<Vec<u8>> {
+fn packet_of(alloc: Global, head: &[u8], number: u64) -> Result<Vec<u8>, AllocError> {
     let mut bytes = Vec::from_slice(alloc, head)?;
-    bytes.extend_from_slice(&number.to_be_bytes())?;
-    bytes.extend_from_slice(&number.to_be_bytes())?;
+    add_twice(&mut bytes, number)?;
     Ok(bytes)
 }
 
@@ -110,31 +116,44 @@ impl Run {
         Ok(outcome_text(alloc, outcome, "stored")?)
     }
 
-    fn event(&mut self, alloc: Global, event: Event) -> anyhow::Result<String> {
+    /// Begins a checkpoint.
+    fn start(&mut self, alloc: Global, round: u64) -> anyhow::Result<String> {
+        let came = start(alloc, &mut self.node, &self.net, round)?;
+        self.sent(alloc, came)
+    }
+
+    /// Decides one.
+    fn decide(&mut self, alloc: Global, round: u64) -> anyhow::Result<String> {
+        let came = decide(alloc, &mut self.node, round)?;
+        self.sent(alloc, came)
+    }
+
+    fn crash(&mut self, alloc: Global, fill: Option<u8>, restart: u64) -> anyhow::Result<String> {
         let node = &mut self.node;
-        let text = match event {
-            Event::Grant => return self.grant(alloc),
-            Event::Start(round) => {
-                let came = start(alloc, node, &self.net, round)?;
-                return self.sent(alloc, came);
-            }
-            Event::Decide(round) => {
-                let came = decide(alloc, node, round)?;
-                return self.sent(alloc, came);
-            }
-            Event::Crash { fill, restart } => {
-                String::from_str(alloc, yes_or_no(node.crash(fill, restart)))?
-            }
-            Event::Recover(round) => {
-                let outcome = node.recover(alloc, &self.net, round)?;
-                outcome_text(alloc, outcome, back_word(&node.state.mode))?
-            }
-            Event::Arm { fault, rounds } => {
-                node.arm(fault, rounds)?;
-                String::from_str(alloc, "done")?
-            }
-        };
-        Ok(text)
+        Ok(String::from_str(alloc, yes_or_no(node.crash(fill, restart)))?)
+    }
+
+    fn recover(&mut self, alloc: Global, round: u64) -> anyhow::Result<String> {
+        let node = &mut self.node;
+        let outcome = node.recover(alloc, &self.net, round)?;
+        Ok(outcome_text(alloc, outcome, back_word(&node.state.mode))?)
+    }
+
+    fn arm(&mut self, alloc: Global, fault: ArmedFault, rounds: u64) -> anyhow::Result<String> {
+        let node = &mut self.node;
+        node.arm(fault, rounds)?;
+        Ok(String::from_str(alloc, "done")?)
+    }
+
+    fn event(&mut self, alloc: Global, event: Event) -> anyhow::Result<String> {
+        match event {
+            Event::Grant => self.grant(alloc),
+            Event::Start(round) => self.start(alloc, round),
+            Event::Decide(round) => self.decide(alloc, round),
+            Event::Crash { fill, restart } => self.crash(alloc, fill, restart),
+            Event::Recover(round) => self.recover(alloc, round),
+            Event::Arm { fault, rounds } => self.arm(alloc, fault, rounds),
+        }
     }
 
     /// What came of the job that was granted as the one of this number, from 1.
@@ -173,24 +192,37 @@ impl Run {
         }
     }
 
+    /// Takes in what came of a job; says whether it was taken in.
+    fn take(
+        &mut self,
+        alloc: Global,
+        settings: &Settings,
+        brought: &Brought,
+    ) -> anyhow::Result<bool> {
+        match brought {
+            Brought::Last => {
+                let last = self.outcomes.len();
+                self.take_own(alloc, last)
+            }
+            Brought::Earlier(number) => self.take_own(alloc, *number),
+            Brought::Foreign(inputs) => {
+                let done = self.foreign(alloc, settings, inputs)?;
+                take_in(alloc, &mut self.node, &self.net.program.channels, &done)
+            }
+        }
+    }
+
     fn install(
         &mut self,
         alloc: Global,
         settings: &Settings,
         brought: &Brought,
     ) -> anyhow::Result<String> {
-        let taken = match brought {
-            Brought::Last => {
-                let last = self.outcomes.len();
-                self.take_own(alloc, last)?
-            }
-            Brought::Earlier(number) => self.take_own(alloc, *number)?,
-            Brought::Foreign(inputs) => {
-                let done = self.foreign(alloc, settings, inputs)?;
-                take_in(alloc, &mut self.node, &self.net.program.channels, &done)?
-            }
+        let word = if self.take(alloc, settings, brought)? {
+            "taken"
+        } else {
+            "left"
         };
-        let word = if taken { "taken" } else { "left" };
         Ok(String::from_str(alloc, word)?)
     }
 
@@ -213,13 +245,23 @@ impl Run {
         }
     }
 
+    /// Delivers one packet of a row.
+    fn deliver_one(
+        &mut self,
+        alloc: Global,
+        head: &[u8],
+        number: u64,
+    ) -> anyhow::Result<Option<Outcome>> {
+        let bytes = packet_of(alloc, head, number)?;
+        self.deliver(alloc, &bytes, 0)
+    }
+
     /// Delivers each packet of a row, up to the first that isn't taken as one.
     fn deliver_each(&mut self, alloc: Global, row: &Row) -> anyhow::Result<Option<Outcome>> {
         anyhow::ensure!(row.first <= row.last, "it goes from high to low");
         anyhow::ensure!(row.last - row.first < MAX_ROW, "too many packets");
         for number in row.first..=row.last {
-            let bytes = packet_of(alloc, &row.head, number)?;
-            let heard = self.deliver(alloc, &bytes, 0)?;
+            let heard = self.deliver_one(alloc, &row.head, number)?;
             if heard != Some(Outcome::Made) {
                 return Ok(heard);
             }
@@ -227,16 +269,30 @@ impl Run {
         Ok(Some(Outcome::Made))
     }
 
-    /// Adds to a text what is to be seen of a channel.
-    fn add_channel(&self, alloc: Global, text: &mut String, channel: u8) -> anyhow::Result<()> {
-        let questions = [
-            Question::Now(channel),
-            Question::Log(channel),
-            Question::Inbox(channel),
-        ];
+    /// Adds to a text what these questions answer.
+    fn add_shown(
+        &self,
+        alloc: Global,
+        text: &mut String,
+        questions: &[Question],
+    ) -> anyhow::Result<()> {
         for question in questions {
-            text.push_str(&self.shown(alloc, question)?)?;
+            text.push_str(&self.shown(alloc, *question)?)?;
             text.push_str("; ")?;
+        }
+        Ok(())
+    }
+
+    /// Adds to a text what is to be seen of each channel.
+    fn add_channels(&self, alloc: Global, text: &mut String) -> anyhow::Result<()> {
+        for (place, _) in self.net.program.channels.iter().enumerate() {
+            let channel = u8::try_from(place)?;
+            let questions = [
+                Question::Now(channel),
+                Question::Log(channel),
+                Question::Inbox(channel),
+            ];
+            self.add_shown(alloc, text, &questions)?;
         }
         Ok(())
     }
@@ -251,14 +307,15 @@ impl Run {
             Question::Packets,
         ];
         let mut text = String::new(alloc);
-        for question in questions {
-            text.push_str(&self.shown(alloc, question)?)?;
-            text.push_str("; ")?;
-        }
-        for (channel, _) in self.net.program.channels.iter().enumerate() {
-            self.add_channel(alloc, &mut text, u8::try_from(channel)?)?;
-        }
+        self.add_shown(alloc, &mut text, &questions)?;
+        self.add_channels(alloc, &mut text)?;
         Ok(text)
+    }
+
+    /// Whether something is otherwise than it was seen before.
+    fn has_changed(&self, alloc: Global, before: &str) -> anyhow::Result<bool> {
+        let now = self.seen(alloc)?;
+        Ok(now.as_str() != before)
     }
 
     /// Delivers bytes that are to be dropped, and says what came of that: also where something is otherwise than it was seen before.
@@ -269,18 +326,22 @@ impl Run {
         before: &str,
     ) -> anyhow::Result<&'static str> {
         let heard = self.deliver(alloc, bytes, 0)?;
-        if heard.is_none() && self.seen(alloc)?.as_str() != before {
+        if heard.is_none() && self.has_changed(alloc, before)? {
             return Ok("changed");
         }
         Ok(delivery_word(heard))
     }
 
     /// Delivers each beginning of these bytes, until one isn't dropped. Says what came of the last.
-    fn deliver_beginnings(&mut self, alloc: Global, bytes: &[u8]) -> anyhow::Result<&'static str> {
-        let before = self.seen(alloc)?;
+    fn deliver_each_beginning(
+        &mut self,
+        alloc: Global,
+        bytes: &[u8],
+        before: &str,
+    ) -> anyhow::Result<&'static str> {
         for length in 0..bytes.len() {
             let beginning = bytes.get(..length).unwrap_or(bytes);
-            let came = self.deliver_damaged(alloc, beginning, &before)?;
+            let came = self.deliver_damaged(alloc, beginning, before)?;
             if came != "dropped" {
                 return Ok(came);
             }
@@ -288,19 +349,34 @@ impl Run {
         Ok("dropped")
     }
 
-    /// Delivers these bytes with each byte behind them, until that isn't dropped. Says what came of the last.
-    fn deliver_longer(&mut self, alloc: Global, bytes: &[u8]) -> anyhow::Result<&'static str> {
+    fn deliver_beginnings(&mut self, alloc: Global, bytes: &[u8]) -> anyhow::Result<&'static str> {
         let before = self.seen(alloc)?;
-        let mut longer = Vec::from_slice(alloc, bytes)?;
+        self.deliver_each_beginning(alloc, bytes, &before)
+    }
+
+    /// Delivers these bytes with each byte behind them, until that isn't dropped. Says what came of the last.
+    fn deliver_each_longer(
+        &mut self,
+        alloc: Global,
+        bytes: &mut Vec<u8>,
+        before: &str,
+    ) -> anyhow::Result<&'static str> {
+        let length = bytes.len();
         for byte in 0..=u8::MAX {
-            longer.push(byte)?;
-            let came = self.deliver_damaged(alloc, &longer, &before)?;
+            bytes.push(byte)?;
+            let came = self.deliver_damaged(alloc, bytes, before)?;
             if came != "dropped" {
                 return Ok(came);
             }
-            longer.truncate(bytes.len());
+            bytes.truncate(length);
         }
         Ok("dropped")
+    }
+
+    fn deliver_longer(&mut self, alloc: Global, bytes: &[u8]) -> anyhow::Result<&'static str> {
+        let before = self.seen(alloc)?;
+        let mut longer = Vec::from_slice(alloc, bytes)?;
+        self.deliver_each_longer(alloc, &mut longer, &before)
     }
 
     fn shown(&self, alloc: Global, question: Question) -> anyhow::Result<String> {
@@ -322,6 +398,19 @@ impl Run {
         Ok(text)
     }
 
+    /// What came of bytes that a step delivers. (Each other step is a question, an event or an install.)
+    fn delivered(&mut self, alloc: Global, step: &Step) -> anyhow::Result<&'static str> {
+        match step {
+            Step::Deliver { round, bytes } => {
+                Ok(delivery_word(self.deliver(alloc, bytes, *round)?))
+            }
+            Step::DeliverEach(row) => Ok(delivery_word(self.deliver_each(alloc, row)?)),
+            Step::DeliverBeginnings(bytes) => self.deliver_beginnings(alloc, bytes),
+            Step::DeliverLonger(bytes) => self.deliver_longer(alloc, bytes),
+            Step::Event(_) | Step::Install(_) | Step::Ask(_) => Ok("none"),
+        }
+    }
+
     /// What a step answers.
     pub fn step(
         &mut self,
@@ -332,23 +421,8 @@ impl Run {
         match step {
             Step::Event(event) => self.event(alloc, *event),
             Step::Install(brought) => self.install(alloc, settings, brought),
-            Step::Deliver { round, bytes } => {
-                let heard = self.deliver(alloc, bytes, *round)?;
-                Ok(String::from_str(alloc, delivery_word(heard))?)
-            }
-            Step::DeliverEach(row) => {
-                let heard = self.deliver_each(alloc, row)?;
-                Ok(String::from_str(alloc, delivery_word(heard))?)
-            }
-            Step::DeliverBeginnings(bytes) => {
-                let came = self.deliver_beginnings(alloc, bytes)?;
-                Ok(String::from_str(alloc, came)?)
-            }
-            Step::DeliverLonger(bytes) => {
-                let came = self.deliver_longer(alloc, bytes)?;
-                Ok(String::from_str(alloc, came)?)
-            }
             Step::Ask(question) => self.shown(alloc, *question),
+            _ => Ok(String::from_str(alloc, self.delivered(alloc, step)?)?),
         }
     }
 }

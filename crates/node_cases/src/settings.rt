@@ -27,16 +27,15 @@ pub struct Settings {
 }
 
 /// A call that fails, and how.
-fn fault_of(alloc: Global, text: &str) -> anyhow::Result<ArmedFault> {
-    let words: Vec<&str> = text.split_whitespace().collect(alloc)?;
-    match words.as_slice() {
+fn fault_of(words: &[&str]) -> anyhow::Result<ArmedFault> {
+    match words {
         ["call", call, "fill", fill] => {
             Ok(ArmedFault {
                 call: number(call)?,
                 fill: byte(fill)?,
             })
         }
-        _ => anyhow::bail!("fault {text} isn't whole"),
+        _ => anyhow::bail!("a fault that isn't whole"),
     }
 }
 
@@ -59,26 +58,41 @@ impl Settings {
         Ok(())
     }
 
+    fn set_net(&mut self, alloc: Global, name: &str) -> anyhow::Result<()> {
+        anyhow::ensure!(self.net.is_empty(), "a second network");
+        self.net = String::from_str(alloc, name)?;
+        Ok(())
+    }
+
+    fn add_record(
+        &mut self,
+        alloc: Global,
+        named: &[NamedBytes],
+        spelling: &str,
+    ) -> anyhow::Result<()> {
+        let bytes = spelled(alloc, named, spelling)?;
+        self.record.extend_from_slice(&bytes)?;
+        Ok(())
+    }
+
+    fn add_fault(&mut self, alloc: Global, text: &str) -> anyhow::Result<()> {
+        let words: Vec<&str> = text.split_whitespace().collect(alloc)?;
+        self.faults.push(fault_of(&words)?)?;
+        Ok(())
+    }
+
     /// Takes a line that says of what the node is made.
     pub fn take(&mut self, alloc: Global, named: &[NamedBytes], text: &str) -> anyhow::Result<()> {
-        if let Some(name) = text.strip_prefix("net ") {
-            anyhow::ensure!(self.net.is_empty(), "a second network");
-            self.net = String::from_str(alloc, name)?;
-        } else if let Some(line) = text.strip_prefix("inputs ") {
-            self.add_inputs(line)?;
-        } else if let Some(node) = text.strip_prefix("node ") {
-            self.node = byte(node)?;
-        } else if let Some(sectors) = text.strip_prefix("sectors ") {
-            self.sectors = size(sectors)?;
-        } else if let Some(room) = text.strip_prefix("room ") {
-            self.room = size(room)?;
-        } else if let Some(spelling) = text.strip_prefix("record ") {
-            let bytes = spelled(alloc, named, spelling)?;
-            self.record.extend_from_slice(&bytes)?;
-        } else if let Some(fault) = text.strip_prefix("fault ") {
-            self.faults.push(fault_of(alloc, fault)?)?;
-        } else {
-            anyhow::bail!("{text} says nothing of a node, and has no answer behind ->");
+        let (word, rest) = text.split_once(" ").unwrap_or((text, ""));
+        match word {
+            "net" => self.set_net(alloc, rest)?,
+            "inputs" => self.add_inputs(rest)?,
+            "node" => self.node = byte(rest)?,
+            "sectors" => self.sectors = size(rest)?,
+            "room" => self.room = size(rest)?,
+            "record" => self.add_record(alloc, named, rest)?,
+            "fault" => self.add_fault(alloc, rest)?,
+            _ => anyhow::bail!("{text} says nothing of a node, and has no answer behind ->"),
         }
         Ok(())
     }

@@ -1,6 +1,7 @@
 //! What a node shows of itself, in words.
 
-use crate::opening::{CaseNode, CaseStore};
+use crate::devices::CaseStore;
+use crate::opening::CaseNode;
 use case_table::{listed, yes_or_no};
 use ckpt_codec::write_record;
 use datagram::{Packet, is_packet, write_packet};

@@ -118,11 +118,10 @@ fn row_of(alloc: Global, named: &[NamedBytes], text: &str) -> anyhow::Result<Row
     let Some((first, last)) = numbers.split_once(" to ") else {
         anyhow::bail!("{numbers} is no row of numbers");
     };
-    Ok(Row {
-        first: number(first)?,
-        last: number(last)?,
-        head: spelled(alloc, named, head)?,
-    })
+    let first = number(first)?;
+    let last = number(last)?;
+    let head = spelled(alloc, named, head)?;
+    Ok(Row { first, last, head })
 }
 
 /// The bytes that stand behind `deliver`, and in which round they come.
@@ -169,17 +168,30 @@ fn arrival_of(alloc: Global, named: &[NamedBytes], text: &str) -> anyhow::Result
     Ok(Some(step))
 }
 
-/// What these words ask for.
-pub fn step_of(alloc: Global, named: &[NamedBytes], text: &str) -> anyhow::Result<Step> {
-    if let Some(step) = arrival_of(alloc, named, text)? {
-        return Ok(step);
+/// What these words ask for, `None` where that isn't known.
+fn step_by(words: &[&str]) -> anyhow::Result<Option<Step>> {
+    if let Some(event) = event_of(words)? {
+        return Ok(Some(Step::Event(event)));
     }
+    match question_of(words)? {
+        Some(question) => Ok(Some(Step::Ask(question))),
+        None => Ok(None),
+    }
+}
+
+/// What a line of these words asks for, of those that bring nothing.
+fn plain_step(alloc: Global, text: &str) -> anyhow::Result<Step> {
     let words: Vec<&str> = text.split_whitespace().collect(alloc)?;
-    if let Some(event) = event_of(&words)? {
-        return Ok(Step::Event(event));
-    }
-    match question_of(&words)? {
-        Some(question) => Ok(Step::Ask(question)),
+    match step_by(&words)? {
+        Some(step) => Ok(step),
         None => anyhow::bail!("{text} asks for nothing that is known"),
+    }
+}
+
+/// What a line asks for.
+pub fn step_of(alloc: Global, named: &[NamedBytes], text: &str) -> anyhow::Result<Step> {
+    match arrival_of(alloc, named, text)? {
+        Some(step) => Ok(step),
+        None => plain_step(alloc, text),
     }
 }

@@ -172,7 +172,57 @@ fn reads<ItsMarks: MarksName>(
     }
 }
 
+// Asserts of each seat which outputs fit it.
+fn each_fits<ItsMarks: MarksName>(
+    rt: &impl Abort,
+    alloc: Global,
+    marks: &Marks<ItsMarks>,
+    seats: &Four<ItsMarks>,
+) -> Result<(), Fail> {
+    fits_alone(rt, alloc, marks, &seats.zero, Some(OUTPUT_OF_0))?;
+    fits_alone(rt, alloc, marks, &seats.one, None)?;
+    fits_alone(rt, alloc, marks, &seats.two, Some(OUTPUT_OF_2))?;
+    fits_alone(rt, alloc, marks, &seats.driver, None)
+}
+
+// Raises the mark of an output to the first number of items and then to the second, on a thread of its own. Whether it may.
+fn raise_twice<ItsMarks: MarksName + Send + Sync, R: Threads + Sync>(
+    rt: &R,
+    marks: &Marks<ItsMarks>,
+    seat: &mut Seat<ItsMarks>,
+    first: Freed,
+    second: Freed,
+) -> bool {
+    let (raised, ()) = thread::join(
+        rt,
+        || raise(marks, seat, first) && raise(marks, seat, second),
+        || (),
+    );
+    raised
+}
+
 // One thread raises both outputs, and then each seat reads the same. A lower number leaves a mark as it is.
+fn raised_and_read<ItsMarks: MarksName + Send + Sync, R: Threads + Sync + Abort>(
+    rt: &R,
+    alloc: Global,
+    marks: &Marks<ItsMarks>,
+    seats: &mut Four<ItsMarks>,
+) -> Result<(), Fail> {
+    nodes(rt, seats);
+    each_fits(rt, alloc, marks, seats)?;
+    reads(rt, marks, &mut seats.driver, 0, 0);
+    let four_items = freed(alloc, OUTPUT_OF_2, 4)?;
+    let two_items = freed(alloc, OUTPUT_OF_2, 2)?;
+    assert!(rt; raise_twice(rt, marks, &mut seats.two, four_items, two_items));
+    reads(rt, marks, &mut seats.driver, 0, 4);
+    reads(rt, marks, &mut seats.two, 0, 4);
+    assert!(rt; raise(marks, &mut seats.zero, freed(alloc, OUTPUT_OF_0, 5)?));
+    reads(rt, marks, &mut seats.driver, 5, 4);
+    reads(rt, marks, &mut seats.one, 5, 4);
+    Ok(())
+}
+
+// The marks of a network, and what is asserted of them.
 fn raised_from_another_thread<ItsMarks: MarksName + Send + Sync, R: Threads + Sync + Abort>(
     rt: &R,
     alloc: Global,
@@ -181,30 +231,10 @@ fn raised_from_another_thread<ItsMarks: MarksName + Send + Sync, R: Threads + Sy
     requires { table_of opened ≡ ItsMarks.table }
 {
     let (marks, seats) = opened.named::<ItsMarks>(alloc)?;
-    let Some(mut seats) = four_of(seats) else {
-        return Err(Fail::new("not four seats"));
-    };
-    nodes(rt, &seats);
-    fits_alone(rt, alloc, &marks, &seats.zero, Some(OUTPUT_OF_0))?;
-    fits_alone(rt, alloc, &marks, &seats.one, None)?;
-    fits_alone(rt, alloc, &marks, &seats.two, Some(OUTPUT_OF_2))?;
-    fits_alone(rt, alloc, &marks, &seats.driver, None)?;
-    reads(rt, &marks, &mut seats.driver, 0, 0);
-    let four_items = freed(alloc, OUTPUT_OF_2, 4)?;
-    let two_items = freed(alloc, OUTPUT_OF_2, 2)?;
-    let two = &mut seats.two;
-    let (raised, ()) = thread::join(
-        rt,
-        || raise(&marks, two, four_items) && raise(&marks, two, two_items),
-        || (),
-    );
-    assert!(rt; raised);
-    reads(rt, &marks, &mut seats.driver, 0, 4);
-    reads(rt, &marks, &mut seats.two, 0, 4);
-    assert!(rt; raise(&marks, &mut seats.zero, freed(alloc, OUTPUT_OF_0, 5)?));
-    reads(rt, &marks, &mut seats.driver, 5, 4);
-    reads(rt, &marks, &mut seats.one, 5, 4);
-    Ok(())
+    match four_of(seats) {
+        Some(mut seats) => raised_and_read(rt, alloc, &marks, &mut seats),
+        None => Err(Fail::new("not four seats")),
+    }
 }
 
 #[test]

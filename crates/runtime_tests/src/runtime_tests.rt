@@ -31,8 +31,8 @@ use std::sync::atomic::AtomicBool;
 use std::sync::atomic::Ordering::SeqCst;
 use std::sync::{Arc, Wait};
 use std::test::Fail;
+use std::thread;
 use std::thread::Threads;
-use std::{mem, thread};
 use wire::{Change, Rule};
 use world::{Deed, Event, PlainEvent, Reply, SECTORS, World, list_outputs, node_count};
 
@@ -164,9 +164,9 @@ fn go<C: SlotCell, O: Outlet, ThisRun: Run, R: Wait>(
 }
 
 /// What a test asks of a run that has ended.
-#[derive(Clone, Copy, Debug, PartialEq, Eq)]
+#[derive(Clone, Copy)]
 struct Came {
-    // Whether the whole stream left, and nothing is left to do.
+    // Whether all went as it should, the whole stream left, and nothing is left to do.
     whole: bool,
     // How many events each seat made, the driver's last, as the seats tell it, and as the history does.
     made: [u64; 3],
@@ -217,17 +217,24 @@ fn is_whole(came: &Came) -> bool {
 /// A world at the end of its run, and how it came there.
 #[derive(Drop)]
 struct Ended {
+    // Whether no call was refused, and all that was to be seen on the way came.
+    went: bool,
     world: SumWorld,
     history: History,
     made: [u64; 3],
     all: u64,
 }
 
+// Whether the whole stream left, and nothing is left to do.
+fn has_all(world: &SumWorld) -> bool {
+    world.complete() && world.released(OUTPUT) == [1, 3, 6].as_slice()
+}
+
 impl Ended {
     fn came(&self) -> Came {
         let history = &self.history;
         Came {
-            whole: self.world.released(OUTPUT) == [1, 3, 6].as_slice() && self.world.complete(),
+            whole: self.went && has_all(&self.world),
             made: self.made,
             listed: [
                 listed_by(history, Maker::Node(0)),
@@ -297,13 +304,13 @@ fn play_in_turns<ThisRun: Run, R: Wait>(
     let (hub, mut seats, mut driver) = SumHub::<ThisRun>::new(
         alloc, world, script, NODES, ledgers,
     )?;
-    if !take_rounds(rt, alloc, &hub, seats.as_mut_slice(), &mut driver) {
-        return Err(Fail::new("refused"));
-    }
+    // No way out lies before the end: at each a hub and its seats would be let go.
+    let went = take_rounds(rt, alloc, &hub, seats.as_mut_slice(), &mut driver);
     let made = made_by_seats(seats.as_slice(), &driver);
     let all = hub.entries(rt);
     let (world, history) = hub.close(seats, driver);
     Ok(Ended {
+        went,
         world,
         history,
         made,
@@ -369,15 +376,14 @@ fn play_by_threads<
         &NoWatch,
         BOUNDS,
     );
-    if end.is_err() {
-        return Err(Fail::new("refused"));
-    }
+    let went = end.is_ok();
     let DriverSeats { seat, .. } = driver_seats;
     let SharedRun { hub, .. } = shared;
     let made = made_by_seats(back.as_slice(), &seat);
     let all = hub.entries(rt);
     let (world, history) = hub.close(back, seat);
     Ok(Ended {
+        went,
         world,
         history,
         made,
@@ -456,8 +462,8 @@ fn a_run_on_one_thread(rt: HostRuntime) -> Result<(), Fail> {
     assert!(rt; is_whole(&came));
     assert!(rt; no_more);
     // The driver had nothing to do, and each seat was told once that all is over.
-    assert_eq!(rt; came.made[2], 0);
-    assert_eq!(rt; came.stops, 3);
+    assert!(rt; came.made[2] == 0);
+    assert!(rt; came.stops == 3);
     Ok(())
 }
 
@@ -474,8 +480,8 @@ fn a_script_on_one_thread(rt: HostRuntime) -> Result<(), Fail> {
     assert!(rt; crashed);
     assert!(rt; not_yet);
     assert!(rt; installed);
-    assert_eq!(rt; came.made[2], 2);
-    assert_eq!(rt; came.stops, 3);
+    assert!(rt; came.made[2] == 2);
+    assert!(rt; came.stops == 3);
     Ok(())
 }
 
@@ -574,23 +580,18 @@ fn have_same_disks(alloc: Global, one: SumWorld, other: SumWorld) -> bool {
     ones.len() == others.len()
 }
 
+// Whether two worlds look alike, and nothing is left to do in the first.
+fn are_alike(one: &SumWorld, other: &SumWorld) -> bool {
+    one.released(OUTPUT) == other.released(OUTPUT) && one.round() == other.round() && one.complete()
+}
+
 // Whether the history leads a new world, by the same answers, to one that is like the run's.
 fn is_replayed(alloc: Global, ended: Ended) -> Result<bool, Fail> {
-    let Ended {
-        world,
-        history,
-        made: _,
-        all,
-    } = ended;
     let mut armed = SumArmed::new(alloc, sum_world(alloc)?)?;
-    let fresh = sum_world(alloc)?;
-    let made = replay(alloc, &mut armed, &history);
-    let is_like = made == Some(all)
-        && armed.world.released(OUTPUT) == world.released(OUTPUT)
-        && armed.world.round() == world.round()
-        && armed.world.complete();
-    let again = mem::replace(&mut armed.world, fresh);
-    Ok(is_like && have_same_disks(alloc, again, world))
+    let made = replay(alloc, &mut armed, &ended.history);
+    let again = armed.world;
+    let is_like = made == Some(ended.all) && are_alike(&again, &ended.world);
+    Ok(is_like && have_same_disks(alloc, again, ended.world))
 }
 
 #[test]
@@ -718,7 +719,7 @@ fn run_sum<W: JobWatch + Sync, R: Threads + Wait + Sync>(
     let ended = run_world(rt, alloc, world, script, watch, BOUNDS);
     let is_complete = ended.end == RunEnd::Complete;
     Ok(Went {
-        whole: is_complete && ended.world.released(OUTPUT) == [1, 3, 6].as_slice(),
+        whole: is_complete && has_all(&ended.world),
         led: led_by_driver(&ended.history),
         crashed: answered(&ended.history, KeptReply::Crashed),
         down: answered(&ended.history, KeptReply::Down),
@@ -863,7 +864,8 @@ fn strike<C: SlotCell, O: Outlet, ThisRun: Run, R: Wait>(
     struck && ended
 }
 
-// Node 0 works on a thread of its own, held up by a watch; the thread that calls is the driver's and node 1's.
+// Node 0 works on a thread of its own, held up by a watch; the thread that calls is the driver's and node 1's. Whether node 0 crashed
+// between the grant of its first job and the job's end, and all came to its end.
 fn crash_while_held<
     C: SlotCell + Send,
     O: Outlet + Send,
@@ -876,11 +878,16 @@ fn crash_while_held<
     hub: &Hub<C, O, ThisRun>,
     marks: &Marks<ItsMarks>,
     watch: &HoldingWatch,
-    zero: &mut NodeSeat<ThisRun>,
-    marks_seat: &mut Seat<ItsMarks>,
-    one: &mut NodeSeat<ThisRun>,
+    seats: &mut [NodeSeat<ThisRun>],
+    marks_seats: &mut [Seat<ItsMarks>],
     driver: &mut DriverSeat<ThisRun>,
 ) -> bool {
+    let [zero, one] = seats else {
+        return false;
+    };
+    let [marks_seat, ..] = marks_seats else {
+        return false;
+    };
     let (worked, struck) = thread::join(
         rt,
         || work(rt, alloc, hub, zero, marks, marks_seat, watch).is_ok(),
@@ -911,36 +918,25 @@ fn play_with_crash<
     requires seats { ThisRun.seats ≡ NODES + 1 }
     requires table { table_of opened ≡ ItsMarks.table }
 {
-    let (marks, marks_seats) = opened.named::<ItsMarks>(alloc)?;
+    let (marks, mut marks_seats) = opened.named::<ItsMarks>(alloc)?;
     let (hub, mut seats, mut driver) = SumHub::<ThisRun>::new(
         alloc, world, script, NODES, ledgers,
     )?;
-    let (Some(mut one), Some(mut zero)) = (seats.pop(), seats.pop()) else {
-        return Err(Fail::new("no seats"));
-    };
-    let Some(mut marks_seat) = marks_seats.into_iter().next() else {
-        return Err(Fail::new("no seat of marks"));
-    };
-    let crashed = crash_while_held(
+    let went = crash_while_held(
         rt,
         alloc,
         &hub,
         &marks,
         watch,
-        &mut zero,
-        &mut marks_seat,
-        &mut one,
+        seats.as_mut_slice(),
+        marks_seats.as_mut_slice(),
         &mut driver,
     );
-    if !crashed {
-        return Err(Fail::new("no crash between a grant and its turn's end"));
-    }
-    seats.push(zero)?;
-    seats.push(one)?;
     let made = made_by_seats(seats.as_slice(), &driver);
     let all = hub.entries(rt);
     let (world, history) = hub.close(seats, driver);
     Ok(Ended {
+        went,
         world,
         history,
         made,

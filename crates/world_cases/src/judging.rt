@@ -1,14 +1,13 @@
 //! Whether a case comes out as written.
 
-ghost use Rattle.std.specs.Prelude.{IfOk, IsNone, string_bytes};
+ghost use Rattle.std.specs.Prelude.{IfOk, IsNone};
 ghost use Rattle.world_cases.specs.Judging.{Passes};
 
 use crate::closing::Closed;
 use crate::opening::open_world;
-use crate::plan::{Plan, Planned, PlannedClosing, Settings};
+use crate::plan::{Plan, Planned, PlannedClosing};
 use crate::run::{Came, Run};
 use crate::step::Step;
-use crate::stream::Stream;
 use anyhow::Context;
 use case_table::{Difference, is_wanted};
 use ckpt_store::StoreFault;
@@ -18,17 +17,17 @@ use std::alloc::{AllocError, Global};
 fn compared(
     alloc: Global,
     line: usize,
-    asked: String,
-    wanted: String,
+    asked: &str,
+    wanted: &str,
     came: Came,
 ) -> Result<Option<Difference>, AllocError>
     // Nothing passes but a step that answers nothing, and an answer that is wanted.
-    ensures { IfOk result (λ found. IsNone found → Passes (string_bytes wanted) came) }
+    ensures { IfOk result (λ found. IsNone found → Passes wanted.now came) }
 {
     let (wanted, came) = match came {
         Came::Nothing => return Ok(None),
-        Came::Answer(came) if is_wanted(&wanted, &came) => return Ok(None),
-        Came::Answer(came) => (wanted, came),
+        Came::Answer(came) if is_wanted(wanted, &came) => return Ok(None),
+        Came::Answer(came) => (String::from_str(alloc, wanted)?, came),
         Came::Stray { line, left } => {
             (
                 format!(in alloc; "that a beginning of line {line} has left")?,
@@ -38,7 +37,7 @@ fn compared(
     };
     Ok(Some(Difference {
         line,
-        asked,
+        asked: String::from_str(alloc, asked)?,
         wanted,
         came,
     }))
@@ -48,28 +47,25 @@ fn compared(
 fn without_world(
     alloc: Global,
     fault: StoreFault,
-    steps: Vec<Planned>,
+    steps: &[Planned],
 ) -> anyhow::Result<Option<Difference>> {
-    let count = steps.len();
-    let Some(first) = steps.into_iter().next() else {
+    let Some(first) = steps.first() else {
         anyhow::bail!("nothing is asked");
     };
-    let Planned {
-        line,
-        text,
-        step,
-        wanted,
-    } = first;
+    let line = first.line;
     let came = format!(in alloc; "refused {}", fault.number())?;
-    if !matches!(step, Step::Open) || !is_wanted(&wanted, &came) {
+    if !matches!(first.step, Step::Open) || !is_wanted(&first.wanted, &came) {
         return Ok(Some(Difference {
             line,
-            asked: text,
-            wanted,
+            asked: String::from_str(alloc, &first.text)?,
+            wanted: String::from_str(alloc, &first.wanted)?,
             came,
         }));
     }
-    anyhow::ensure!(count == 1, "line {line}: no world is made for what follows");
+    anyhow::ensure!(
+        steps.len() == 1,
+        "line {line}: no world is made for what follows"
+    );
     Ok(None)
 }
 
@@ -78,52 +74,25 @@ fn judged_step(
     alloc: Global,
     run: &mut Run,
     net: &str,
-    settings: &Settings,
-    streams: &[Stream],
-    planned: Planned,
+    plan: &Plan,
+    planned: &Planned,
 ) -> anyhow::Result<Option<Difference>> {
-    let Planned {
-        line,
-        text,
-        step,
-        wanted,
-    } = planned;
+    let line = planned.line;
     let came = run
-        .step(alloc, net, settings, streams, line, step)
+        .step(alloc, net, plan, line, &planned.step)
         .context(format_args!("line {line}"))?;
-    Ok(compared(alloc, line, text, wanted, came)?)
+    Ok(compared(alloc, line, &planned.text, &planned.wanted, came)?)
 }
 
-/// The same of a question to a closed world.
-fn judged_answer(
+/// The first that is otherwise than a step says, if anything is.
+fn judged_steps(
     alloc: Global,
-    closed: &mut Closed,
-    planned: PlannedClosing,
+    run: &mut Run,
+    net: &str,
+    plan: &Plan,
 ) -> anyhow::Result<Option<Difference>> {
-    let PlannedClosing {
-        line,
-        text,
-        question,
-        wanted,
-    } = planned;
-    let came = closed
-        .shown(alloc, question)
-        .context(format_args!("line {line}"))?;
-    Ok(compared(alloc, line, text, wanted, Came::Answer(came))?)
-}
-
-/// What is otherwise once the world is closed.
-fn judged_closed(
-    alloc: Global,
-    run: Run,
-    closing: Vec<PlannedClosing>,
-) -> anyhow::Result<Option<Difference>> {
-    if closing.is_empty() {
-        return Ok(None);
-    }
-    let mut closed = run.close(alloc)?;
-    for planned in closing {
-        let found = judged_answer(alloc, &mut closed, planned)?;
+    for planned in &plan.steps {
+        let found = judged_step(alloc, run, net, plan, planned)?;
         if found.is_some() {
             return Ok(found);
         }
@@ -131,23 +100,63 @@ fn judged_closed(
     Ok(None)
 }
 
-/// What is otherwise than a plan says, if anything is.
-pub fn judged(alloc: Global, net: &str, plan: Plan) -> anyhow::Result<Option<Difference>> {
-    let Plan {
-        settings,
-        steps,
-        closing,
-        streams,
-    } = plan;
-    let mut run = match open_world(alloc, net, &settings.inputs, &settings)? {
-        Ok(world) => Run::new(alloc, world),
-        Err(fault) => return without_world(alloc, fault, steps),
-    };
-    for planned in steps {
-        let found = judged_step(alloc, &mut run, net, &settings, &streams, planned)?;
+/// What is otherwise than a question to a closed world says, if anything is.
+fn judged_answer(
+    alloc: Global,
+    closed: &mut Closed,
+    planned: &PlannedClosing,
+) -> anyhow::Result<Option<Difference>> {
+    let line = planned.line;
+    let came = closed
+        .shown(alloc, planned.question)
+        .context(format_args!("line {line}"))?;
+    let came = Came::Answer(came);
+    Ok(compared(alloc, line, &planned.text, &planned.wanted, came)?)
+}
+
+/// The first that is otherwise than these questions say, if anything is.
+fn judged_answers(
+    alloc: Global,
+    closed: &mut Closed,
+    closing: &[PlannedClosing],
+) -> anyhow::Result<Option<Difference>> {
+    for planned in closing {
+        let found = judged_answer(alloc, closed, planned)?;
         if found.is_some() {
             return Ok(found);
         }
     }
-    judged_closed(alloc, run, closing)
+    Ok(None)
+}
+
+/// What is otherwise once the world is closed.
+fn judged_closed(
+    alloc: Global,
+    run: Run,
+    closing: &[PlannedClosing],
+) -> anyhow::Result<Option<Difference>> {
+    let mut closed = run.close(alloc)?;
+    judged_answers(alloc, &mut closed, closing)
+}
+
+/// What is otherwise with this world, if anything is.
+fn judged_run(
+    alloc: Global,
+    mut run: Run,
+    net: &str,
+    plan: &Plan,
+) -> anyhow::Result<Option<Difference>> {
+    let found = judged_steps(alloc, &mut run, net, plan)?;
+    if found.is_some() || plan.closing.is_empty() {
+        return Ok(found);
+    }
+    judged_closed(alloc, run, &plan.closing)
+}
+
+/// What is otherwise than a plan says, if anything is.
+pub fn judged(alloc: Global, net: &str, plan: &Plan) -> anyhow::Result<Option<Difference>> {
+    match open_world(alloc, net, &plan.settings.inputs, &plan.settings)? {
+        Ok(world) => judged_run(alloc, Run::new(alloc, world), net, plan),
+        Err(fault) => without_world(alloc, fault, &plan.steps),
+    }
 }

@@ -90,7 +90,7 @@ impl Trial for Worlds {
     ) -> anyhow::Result<Option<Difference>> {
         let plan = plan_of(rt.alloc(), case, choice)?;
         let net = read(rt, &plan.settings.net).context("its network")?;
-        judged(rt.alloc(), &net, plan)
+        judged(rt.alloc(), &net, &plan)
     }
 }
 
@@ -103,10 +103,21 @@ fn cases_of<'a>(alloc: Global, text: &'a str) -> anyhow::Result<Table<'a>> {
     Ok(table)
 }
 
+/// Runs the cases of a table.
+fn run_table(rt: &HostRuntime, name: &str) -> anyhow::Result<()> {
+    let text = read(rt, name)?;
+    let table = cases_of(rt.alloc(), &text)?;
+    run_cases(rt, &table.cases, &Worlds)
+}
+
+/// The same of a table in which each case is wrong on purpose.
+fn run_wrong_table(rt: &HostRuntime, name: &str) -> anyhow::Result<()> {
+    let text = read(rt, name)?;
+    let table = cases_of(rt.alloc(), &text)?;
+    run_wrong_cases(rt, &table.cases, &Worlds)
+}
+
 fn main(rt: HostRuntime) -> anyhow::Result<()> {
-    let alloc = rt.alloc();
-    let text = read(&rt, "cases")?;
-    let wrong = read(&rt, "wrong_cases")?;
-    run_cases(&rt, &cases_of(alloc, &text)?.cases, &Worlds)?;
-    run_wrong_cases(&rt, &cases_of(alloc, &wrong)?.cases, &Worlds)
+    run_table(&rt, "cases")?;
+    run_wrong_table(&rt, "wrong_cases")
 }

@@ -1,12 +1,12 @@
 //! How a case's world is made.
 
-ghost use Rattle.std.specs.Prelude.{◌*◌, ◌^◌, ◌<◌};
-ghost use Rattle.protocol.specs.Node.Common.{SECTOR_BYTES};
+ghost use Rattle.std.specs.Prelude.{◌≡◌, ◌*◌, ◌^◌, ◌<◌, IfOk, length};
+ghost use Rattle.protocol.specs.Node.Common.{Fits, network_of, node_count, SECTOR_BYTES};
 
 use crate::plan::{EarlyFault, Settings};
 use ckpt_store::StoreFault;
 use gate_cell::SplitCell;
-use net_check::{bind, check};
+use net_check::{Inputs, Net, bind, check};
 use net_text::{parse, parse_inputs};
 use outlet::ListOutlet;
 use sector_disk::{Disk, MemDisk};
@@ -52,7 +52,21 @@ fn disk_of(alloc: Global, settings: &Settings, node: usize) -> anyhow::Result<Me
     Ok(disk)
 }
 
-fn disks_of(alloc: Global, settings: &Settings, nodes: usize) -> anyhow::Result<Vec<MemDisk>> {
+/// Adds the disk of each node.
+fn add_disks(
+    alloc: Global,
+    disks: &mut Vec<MemDisk>,
+    settings: &Settings,
+    nodes: usize,
+) -> anyhow::Result<()> {
+    for node in 0..nodes {
+        disks.push(disk_of(alloc, settings, node)?)?;
+    }
+    Ok(())
+}
+
+/// Refuses settings of disks that these nodes don't have.
+fn check_settings(settings: &Settings, nodes: usize) -> anyhow::Result<()> {
     let given = settings.sectors.len();
     anyhow::ensure!(
         given <= 1 || given == nodes,
@@ -61,11 +75,29 @@ fn disks_of(alloc: Global, settings: &Settings, nodes: usize) -> anyhow::Result<
     for early in &settings.faults {
         anyhow::ensure!(early.node < nodes, "no disk {} to fail", early.node);
     }
+    Ok(())
+}
+
+/// A disk for each node of a network.
+fn disks_of(alloc: Global, settings: &Settings, net: &Net) -> anyhow::Result<Vec<MemDisk>>
+    ensures { IfOk result (λ disks. length disks.items ≡ node_count (network_of net.now.program)) }
+{
+    let nodes = node_count(net);
+    check_settings(settings, nodes)?;
     let mut disks = Vec::new(alloc);
-    for node in 0..nodes {
-        disks.push(disk_of(alloc, settings, node)?)?;
-    }
+    add_disks(alloc, &mut disks, settings, nodes)?;
+    anyhow::ensure!(disks.len() == nodes, "a disk for each node");
     Ok(disks)
+}
+
+fn net_of(alloc: Global, text: &str) -> anyhow::Result<Net> {
+    Ok(check(alloc, parse(alloc, text)?)?)
+}
+
+fn inputs_of(alloc: Global, net: &Net, text: &str) -> anyhow::Result<Inputs>
+    ensures { IfOk result (λ inputs. Fits (network_of net.now.program) inputs) }
+{
+    Ok(bind(alloc, net, parse_inputs(alloc, text)?)?)
 }
 
 /// The world of this network's text on these inputs, before its first event, or why there is none.
@@ -75,11 +107,10 @@ pub fn open_world(
     inputs: &str,
     settings: &Settings,
 ) -> anyhow::Result<Result<CaseWorld, StoreFault>> {
-    let net = check(alloc, parse(alloc, net)?)?;
-    let inputs = bind(alloc, &net, parse_inputs(alloc, inputs)?)?;
+    let net = net_of(alloc, net)?;
+    let inputs = inputs_of(alloc, &net, inputs)?;
     let outputs = list_outputs(alloc, &net)?;
-    let disks = disks_of(alloc, settings, node_count(&net))?;
-    anyhow::ensure!(disks.len() == node_count(&net), "a disk for each node");
+    let disks = disks_of(alloc, settings, &net)?;
     let net = Arc::new(alloc, net)?;
     let inputs = Arc::new(alloc, inputs)?;
     let opened = match &settings.versions {

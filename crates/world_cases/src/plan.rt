@@ -103,23 +103,23 @@ impl Settings {
         }
     }
 
+    fn set_net(&mut self, alloc: Global, name: &str) -> anyhow::Result<()> {
+        anyhow::ensure!(self.net.is_empty(), "a second network");
+        self.net = String::from_str(alloc, name)?;
+        Ok(())
+    }
+
     /// Takes a line that says of what the world is made. Says whether it is one.
     fn take(&mut self, alloc: Global, text: &str) -> anyhow::Result<bool> {
-        if let Some(name) = text.strip_prefix("net ") {
-            anyhow::ensure!(self.net.is_empty(), "a second network");
-            self.net = String::from_str(alloc, name)?;
-        } else if let Some(line) = text.strip_prefix("inputs ") {
-            self.add_inputs(line)?;
-        } else if let Some(items) = text.strip_prefix("items ") {
-            self.add_items(alloc, items)?;
-        } else if let Some(numbers) = text.strip_prefix("sectors ") {
-            self.add_sectors(numbers)?;
-        } else if let Some(numbers) = text.strip_prefix("versions ") {
-            self.set_versions(alloc, numbers)?;
-        } else if let Some(fault) = text.strip_prefix("fault ") {
-            self.add_fault(alloc, fault)?;
-        } else {
-            return Ok(false);
+        let (word, rest) = text.split_once(" ").unwrap_or((text, ""));
+        match word {
+            "net" => self.set_net(alloc, rest)?,
+            "inputs" => self.add_inputs(rest)?,
+            "items" => self.add_items(alloc, rest)?,
+            "sectors" => self.add_sectors(rest)?,
+            "versions" => self.set_versions(alloc, rest)?,
+            "fault" => self.add_fault(alloc, rest)?,
+            _ => return Ok(false),
         }
         Ok(true)
     }
@@ -182,39 +182,66 @@ fn joined(alloc: Global, wanted: &str) -> Result<String, AllocError> {
     Ok(bytes)
 }
 
+/// What is asked once the world is closed.
+fn question_in(alloc: Global, asked: &str) -> anyhow::Result<ClosedQuestion> {
+    let words: Vec<&str> = asked.split_whitespace().collect(alloc)?;
+    closed_question(&words)
+}
+
 impl Plan {
-    fn add_step(&mut self, alloc: Global, line: usize, text: &str) -> anyhow::Result<()> {
-        let (asked, wanted) = parts_of(text);
-        let step = step_of(alloc, asked)?;
+    /// Refuses a step without its answer, or with one that it doesn't have, and a world that is made a second time.
+    fn check_step(&self, step: &Step, asked: &str, wanted: &str) -> anyhow::Result<()> {
         anyhow::ensure!(
             step.has_answer() != wanted.is_empty(),
             "{asked} wants an answer behind ->, or may have none"
         );
-        if let Step::Open = &step {
+        if let Step::Open = step {
             anyhow::ensure!(self.steps.is_empty(), "the world is made before");
         }
-        if let Step::Ask(Question::Released(channel)) = &step {
+        Ok(())
+    }
+
+    /// What has left has to be a beginning of what such a question wants.
+    fn add_stream(
+        &mut self,
+        alloc: Global,
+        line: usize,
+        step: &Step,
+        wanted: &str,
+    ) -> anyhow::Result<()> {
+        if let Step::Ask(Question::Released(channel)) = step {
             self.streams
                 .push(Stream::new(alloc, line, *channel, wanted)?)?;
         }
+        Ok(())
+    }
+
+    fn add_step(&mut self, alloc: Global, line: usize, text: &str) -> anyhow::Result<()> {
+        let (asked, wanted) = parts_of(text);
+        let step = step_of(alloc, asked)?;
+        self.check_step(&step, asked, wanted)?;
+        self.add_stream(alloc, line, &step, wanted)?;
+        let text = String::from_str(alloc, asked)?;
+        let wanted = wanted_by(alloc, &step, wanted)?;
         self.steps.push(Planned {
             line,
-            text: String::from_str(alloc, asked)?,
-            wanted: wanted_by(alloc, &step, wanted)?,
+            text,
             step,
+            wanted,
         })?;
         Ok(())
     }
 
     fn add_closing(&mut self, alloc: Global, line: usize, text: &str) -> anyhow::Result<()> {
         let (asked, wanted) = parts_of(text);
-        let words: Vec<&str> = asked.split_whitespace().collect(alloc)?;
-        let question = closed_question(&words)?;
+        let question = question_in(alloc, asked)?;
+        let text = String::from_str(alloc, asked)?;
+        let wanted = wanted_closed(alloc, question, wanted)?;
         self.closing.push(PlannedClosing {
             line,
-            text: String::from_str(alloc, asked)?,
+            text,
             question,
-            wanted: wanted_closed(alloc, question, wanted)?,
+            wanted,
         })?;
         Ok(())
     }
@@ -255,6 +282,19 @@ fn add_line(
         .context(format_args!("line {}", line.number))
 }
 
+/// All lines of a case, for this choice.
+fn add_lines(alloc: Global, plan: &mut Plan, case: &Case, choice: &[u64]) -> anyhow::Result<()> {
+    for line in &case.lines {
+        add_line(alloc, plan, line, &case.names, choice)?;
+    }
+    anyhow::ensure!(
+        plan.is_whole(),
+        "line {}: no network, or nothing to compare at its end",
+        case.line
+    );
+    Ok(())
+}
+
 /// The plan of a case for this choice.
 pub fn plan_of(alloc: Global, case: &Case, choice: &[u64]) -> anyhow::Result<Plan> {
     let mut plan = Plan {
@@ -263,13 +303,6 @@ pub fn plan_of(alloc: Global, case: &Case, choice: &[u64]) -> anyhow::Result<Pla
         closing: Vec::new(alloc),
         streams: Vec::new(alloc),
     };
-    for line in &case.lines {
-        add_line(alloc, &mut plan, line, &case.names, choice)?;
-    }
-    anyhow::ensure!(
-        plan.is_whole(),
-        "line {}: no network, or nothing to compare at its end",
-        case.line
-    );
+    add_lines(alloc, &mut plan, case, choice)?;
     Ok(plan)
 }

@@ -3,7 +3,7 @@
 use crate::answer::{reply_text, set_word};
 use crate::closing::Closed;
 use crate::opening::{CaseWorld, open_world};
-use crate::plan::Settings;
+use crate::plan::{Plan, Settings};
 use crate::showing::shown;
 use crate::step::{Brought, Question, Step};
 use crate::stream::Stream;
@@ -160,23 +160,19 @@ impl Run {
         }
     }
 
-    /// What has left, where it can't become what a line behind this one says.
-    fn stray(
-        &self,
-        alloc: Global,
-        streams: &[Stream],
-        line: usize,
-    ) -> Result<Option<Came>, AllocError> {
+    /// The first line behind this one of which what has left is no beginning.
+    fn strayed<'a>(&self, streams: &'a [Stream], line: usize) -> Option<&'a Stream> {
         for stream in streams {
-            let left = self.world.released(stream.channel);
-            if stream.line > line && !stream.may_follow(left) {
-                return Ok(Some(Came::Stray {
-                    line: stream.line,
-                    left: listed(alloc, left)?,
-                }));
+            if stream.line > line && !stream.may_follow(self.world.released(stream.channel)) {
+                return Some(stream);
             }
         }
-        Ok(None)
+        None
+    }
+
+    /// Whether there is one.
+    fn has_strayed(&self, streams: &[Stream], line: usize) -> bool {
+        self.strayed(streams, line).is_some()
     }
 
     /// What it stands on, once it is closed.
@@ -196,45 +192,45 @@ impl Run {
         self.world.complete() || self.world.round() >= end
     }
 
+    /// Goes on until the world is complete, for so many rounds at most.
     fn run(
         &mut self,
         alloc: Global,
         rounds: u64,
         streams: &[Stream],
         line: usize,
-    ) -> anyhow::Result<Came> {
+    ) -> anyhow::Result<()> {
         let end = self.world.round().saturating_add(rounds);
         for _turn in 0..MAX_TURNS {
             for node in 0..self.nodes() {
-                if self.is_over(end) {
-                    return Ok(Came::Nothing);
+                if self.is_over(end) || self.has_strayed(streams, line) {
+                    return Ok(());
                 }
                 take_turn(alloc, &mut self.world, node)?;
-                if let Some(stray) = self.stray(alloc, streams, line)? {
-                    return Ok(stray);
-                }
             }
         }
         anyhow::bail!("it goes on for more than {MAX_TURNS} turns of a node")
     }
 
+    /// Goes on for so many events, of the nodes in turn.
     fn in_turn(
         &mut self,
         alloc: Global,
         events: u64,
         streams: &[Stream],
         line: usize,
-    ) -> anyhow::Result<Came> {
+    ) -> anyhow::Result<()> {
         for event in 0..events {
+            if self.has_strayed(streams, line) {
+                break;
+            }
             let node = (event % u64::from(self.nodes().max(1))) as u8;
             take_turn(alloc, &mut self.world, node)?;
-            if let Some(stray) = self.stray(alloc, streams, line)? {
-                return Ok(stray);
-            }
         }
-        Ok(Came::Nothing)
+        Ok(())
     }
 
+    /// One node goes on, so many times.
     fn turns(
         &mut self,
         alloc: Global,
@@ -242,16 +238,17 @@ impl Run {
         count: u64,
         streams: &[Stream],
         line: usize,
-    ) -> anyhow::Result<Came> {
+    ) -> anyhow::Result<()> {
         for _turn in 0..count {
-            take_turn(alloc, &mut self.world, node)?;
-            if let Some(stray) = self.stray(alloc, streams, line)? {
-                return Ok(stray);
+            if self.has_strayed(streams, line) {
+                break;
             }
+            take_turn(alloc, &mut self.world, node)?;
         }
-        Ok(Came::Nothing)
+        Ok(())
     }
 
+    /// A node gets so many jobs.
     fn jobs(
         &mut self,
         alloc: Global,
@@ -259,14 +256,14 @@ impl Run {
         count: u64,
         streams: &[Stream],
         line: usize,
-    ) -> anyhow::Result<Came> {
+    ) -> anyhow::Result<()> {
         for _job in 0..count {
-            take_job(alloc, &mut self.world, node)?;
-            if let Some(stray) = self.stray(alloc, streams, line)? {
-                return Ok(stray);
+            if self.has_strayed(streams, line) {
+                break;
             }
+            take_job(alloc, &mut self.world, node)?;
         }
-        Ok(Came::Nothing)
+        Ok(())
     }
 
     /// An event that this number chooses: an act of the network, or the one that is next for a node.
@@ -281,6 +278,7 @@ impl Run {
         }
     }
 
+    /// So many events that numbers choose, of which this is the first.
     fn chance(
         &mut self,
         alloc: Global,
@@ -288,67 +286,109 @@ impl Run {
         events: u64,
         streams: &[Stream],
         line: usize,
-    ) -> anyhow::Result<Came> {
+    ) -> anyhow::Result<()> {
         let mut number = seed;
         for _event in 0..events {
+            if self.has_strayed(streams, line) {
+                break;
+            }
             number = next_number(number);
             self.happen(alloc, number)?;
-            if let Some(stray) = self.stray(alloc, streams, line)? {
-                return Ok(stray);
-            }
         }
-        Ok(Came::Nothing)
+        Ok(())
     }
 
-    /// What an event came to.
-    fn came(
-        &self,
+    /// Goes on by itself, as such a step says.
+    fn go_on(
+        &mut self,
         alloc: Global,
-        answer: String,
         streams: &[Stream],
         line: usize,
-    ) -> anyhow::Result<Came> {
-        match self.stray(alloc, streams, line)? {
-            Some(stray) => Ok(stray),
-            None => Ok(Came::Answer(answer)),
+        step: &Step,
+    ) -> anyhow::Result<()> {
+        match step {
+            Step::Run(rounds) => self.run(alloc, *rounds, streams, line),
+            Step::InTurn(events) => self.in_turn(alloc, *events, streams, line),
+            Step::Turns { node, count } => self.turns(alloc, *node, *count, streams, line),
+            Step::Jobs { node, count } => self.jobs(alloc, *node, *count, streams, line),
+            Step::Chance { seed, events } => self.chance(alloc, *seed, *events, streams, line),
+            _ => Ok(()),
         }
     }
 
-    /// What comes of a step on this line.
-    pub fn step(
+    /// Brings back what came of a job.
+    fn install(
         &mut self,
         alloc: Global,
         net: &str,
         settings: &Settings,
-        streams: &[Stream],
-        line: usize,
-        step: Step,
-    ) -> anyhow::Result<Came> {
+        brought: &Brought,
+    ) -> anyhow::Result<String> {
+        let done = self.brought(alloc, net, settings, brought)?;
+        self.answer(alloc, Event::Install(done))
+    }
+
+    /// Sets the room of a channel.
+    fn set_room(&mut self, alloc: Global, items: usize) -> Result<String, AllocError> {
+        String::from_str(alloc, set_word(self.world.set_room(items)))
+    }
+
+    /// Channels get more room.
+    fn widen(&mut self, alloc: Global) -> Result<String, AllocError> {
+        self.world.widen();
+        shown(alloc, &self.world, Question::Room)
+    }
+
+    /// What a step answers, of those that answer something.
+    fn answer_to(
+        &mut self,
+        alloc: Global,
+        net: &str,
+        settings: &Settings,
+        step: &Step,
+    ) -> anyhow::Result<String> {
         match step {
-            Step::Open => Ok(Came::Answer(String::from_str(alloc, "done")?)),
-            Step::Event(event) => {
-                let answer = self.answer(alloc, event)?;
-                self.came(alloc, answer, streams, line)
-            }
-            Step::Install(brought) => {
-                let done = self.brought(alloc, net, settings, &brought)?;
-                let answer = self.answer(alloc, Event::Install(done))?;
-                self.came(alloc, answer, streams, line)
-            }
-            Step::SetRoom(items) => {
-                let word = set_word(self.world.set_room(items));
-                Ok(Came::Answer(String::from_str(alloc, word)?))
-            }
-            Step::Widen => {
-                self.world.widen();
-                Ok(Came::Answer(shown(alloc, &self.world, Question::Room)?))
-            }
-            Step::Ask(question) => Ok(Came::Answer(shown(alloc, &self.world, question)?)),
-            Step::Run(rounds) => self.run(alloc, rounds, streams, line),
-            Step::InTurn(events) => self.in_turn(alloc, events, streams, line),
-            Step::Turns { node, count } => self.turns(alloc, node, count, streams, line),
-            Step::Jobs { node, count } => self.jobs(alloc, node, count, streams, line),
-            Step::Chance { seed, events } => self.chance(alloc, seed, events, streams, line),
+            Step::Event(event) => self.answer(alloc, Event::Plain(*event)),
+            Step::Install(brought) => self.install(alloc, net, settings, brought),
+            Step::SetRoom(items) => Ok(self.set_room(alloc, *items)?),
+            Step::Widen => Ok(self.widen(alloc)?),
+            Step::Ask(question) => Ok(shown(alloc, &self.world, *question)?),
+            _ => Ok(String::from_str(alloc, "done")?),
+        }
+    }
+
+    /// What a step answers, or nothing.
+    fn came(
+        &mut self,
+        alloc: Global,
+        net: &str,
+        plan: &Plan,
+        line: usize,
+        step: &Step,
+    ) -> anyhow::Result<Came> {
+        if step.has_answer() {
+            return Ok(Came::Answer(self.answer_to(alloc, net, &plan.settings, step)?));
+        }
+        self.go_on(alloc, &plan.streams, line, step)?;
+        Ok(Came::Nothing)
+    }
+
+    /// What comes of a step on this line of a plan.
+    pub fn step(
+        &mut self,
+        alloc: Global,
+        net: &str,
+        plan: &Plan,
+        line: usize,
+        step: &Step,
+    ) -> anyhow::Result<Came> {
+        let came = self.came(alloc, net, plan, line, step)?;
+        match self.strayed(&plan.streams, line) {
+            None => Ok(came),
+            Some(stream) => Ok(Came::Stray {
+                line: stream.line,
+                left: listed(alloc, self.world.released(stream.channel))?,
+            }),
         }
     }
 }

@@ -4,7 +4,7 @@ use case_table::{byte, number, size};
 use sector_disk::ArmedFault;
 use std::alloc::Global;
 use wire::{Change, Rule};
-use world::{Deed, Event, NetworkAct, PlainEvent};
+use world::{Deed, NetworkAct, PlainEvent};
 
 /// Which job's outcome is brought back.
 #[derive(Drop)]
@@ -39,7 +39,7 @@ pub enum Question {
 pub enum Step {
     /// The world is made.
     Open,
-    Event(Event),
+    Event(PlainEvent),
     Install(Brought),
     /// The room of a channel is set.
     SetRoom(usize),
@@ -109,18 +109,18 @@ fn deed_of(words: &[&str]) -> anyhow::Result<Option<(u8, Deed)>> {
 }
 
 /// An event of a node.
-fn node_event(words: &[&str]) -> anyhow::Result<Option<Event>> {
+fn node_event(words: &[&str]) -> anyhow::Result<Option<PlainEvent>> {
     if let ["release", node] = words {
-        return Ok(Some(Event::release(byte(node)?)));
+        return Ok(Some(PlainEvent::Release(byte(node)?)));
     }
     match deed_of(words)? {
-        Some((node, deed)) => Ok(Some(Event::by_node(node, deed))),
+        Some((node, deed)) => Ok(Some(PlainEvent::ByNode { node, deed })),
         None => Ok(None),
     }
 }
 
 /// An event of a packet in flight.
-fn packet_event(words: &[&str]) -> anyhow::Result<Option<Event>> {
+fn packet_event(words: &[&str]) -> anyhow::Result<Option<PlainEvent>> {
     let (node, place, act) = match words {
         ["lose", node, place] => (node, place, NetworkAct::Lose),
         ["repeat", node, place] => (node, place, NetworkAct::Repeat),
@@ -130,42 +130,47 @@ fn packet_event(words: &[&str]) -> anyhow::Result<Option<Event>> {
         }
         _ => return Ok(None),
     };
-    Ok(Some(Event::by_network(byte(node)?, size(place)?, act)))
+    Ok(Some(PlainEvent::ByNetwork {
+        node: byte(node)?,
+        place: size(place)?,
+        act,
+    }))
 }
 
-/// A rule for a packet that is still to be sent.
-fn rule_of(nth: &str, from: &str, to: &str, change: Change) -> anyhow::Result<Rule> {
-    Ok(Rule {
-        from: byte(from)?,
-        to: byte(to)?,
-        nth: number(nth)?,
-        change,
-    })
+/// What becomes of a packet that is still to be sent.
+fn change_of(words: &[&str]) -> anyhow::Result<Change> {
+    match words {
+        ["lose"] => Ok(Change::Lose),
+        ["repeat"] => Ok(Change::Repeat),
+        ["delay", rounds] => Ok(Change::Delay(number(rounds)?)),
+        _ => anyhow::bail!("nothing that becomes of a packet"),
+    }
 }
 
-/// An event that arms such a rule.
-fn rule_event(words: &[&str]) -> anyhow::Result<Option<Event>> {
-    let rule = match words {
-        ["arm", "packet", nth, "from", from, "to", to, "lose"] => {
-            rule_of(nth, from, to, Change::Lose)?
+/// An event that arms a rule for a packet that is still to be sent.
+fn rule_event(words: &[&str]) -> anyhow::Result<Option<PlainEvent>> {
+    match words {
+        ["arm", "packet", nth, "from", from, "to", to, change @ ..] => {
+            Ok(Some(PlainEvent::arm_packet(Rule {
+                from: byte(from)?,
+                to: byte(to)?,
+                nth: number(nth)?,
+                change: change_of(change)?,
+            })))
         }
-        ["arm", "packet", nth, "from", from, "to", to, "repeat"] => {
-            rule_of(nth, from, to, Change::Repeat)?
-        }
-        [
-            "arm",
-            "packet",
-            nth,
-            "from",
-            from,
-            "to",
-            to,
-            "delay",
-            rounds,
-        ] => { rule_of(nth, from, to, Change::Delay(number(rounds)?))? }
-        _ => return Ok(None),
-    };
-    Ok(Some(Event::Plain(PlainEvent::arm_packet(rule))))
+        _ => Ok(None),
+    }
+}
+
+/// An event.
+fn event_of(words: &[&str]) -> anyhow::Result<Option<PlainEvent>> {
+    if let Some(event) = node_event(words)? {
+        return Ok(Some(event));
+    }
+    match packet_event(words)? {
+        Some(event) => Ok(Some(event)),
+        None => rule_event(words),
+    }
 }
 
 /// A question.
@@ -224,25 +229,24 @@ fn other_step(words: &[&str]) -> anyhow::Result<Option<Step>> {
     Ok(Some(step))
 }
 
-/// What these words ask for.
+/// What these words ask for, `None` where that isn't known.
+fn step_by(words: &[&str]) -> anyhow::Result<Option<Step>> {
+    if let Some(event) = event_of(words)? {
+        return Ok(Some(Step::Event(event)));
+    }
+    match question_of(words)? {
+        Some(question) => Ok(Some(Step::Ask(question))),
+        None => other_step(words),
+    }
+}
+
+/// What a line asks for.
 pub fn step_of(alloc: Global, text: &str) -> anyhow::Result<Step> {
     if let Some(inputs) = text.strip_prefix("install of ") {
         return Ok(Step::Install(Brought::Foreign(String::from_str(alloc, inputs)?)));
     }
     let words: Vec<&str> = text.split_whitespace().collect(alloc)?;
-    if let Some(event) = node_event(&words)? {
-        return Ok(Step::Event(event));
-    }
-    if let Some(event) = packet_event(&words)? {
-        return Ok(Step::Event(event));
-    }
-    if let Some(event) = rule_event(&words)? {
-        return Ok(Step::Event(event));
-    }
-    if let Some(question) = question_of(&words)? {
-        return Ok(Step::Ask(question));
-    }
-    match other_step(&words)? {
+    match step_by(&words)? {
         Some(step) => Ok(step),
         None => anyhow::bail!("{text} asks for nothing that is known"),
     }

@@ -1,14 +1,8 @@
 //! Worlds over a disk and outlets of one's own: a network with two outputs, event by event, once with a crash in the middle, twice
 //! with an outlet that fails, and once with one that lacks memory. An event that is refused for want of memory is applied once more;
-//! and one world is closed where that happens, to look at its disk. `embedded` is the same with the disk and the outlet that are there.
-#![tactic(auto)]
+//! and one world is closed where that happens, to look at its disk.
 
-mod closing;
-mod counting;
-mod ledger;
-mod retrying;
-
-ghost use Rattle.std.specs.Prelude.{◌≡◌, ◌*◌, ◌^◌, ◌<◌, IfOk, map};
+ghost use Rattle.std.specs.Prelude.{◌≡◌, ◌*◌, ◌^◌, ◌<◌, IfOk, length, map};
 ghost use Rattle.std.specs.List.{AllByRecursion};
 ghost use Rattle.protocol.specs.Node.Common.{network_of, SECTOR_BYTES};
 ghost use Rattle.protocol.specs.World.Common.{output_channels};
@@ -45,6 +39,15 @@ fn empty_disk(alloc: Global, sectors: usize) -> Result<OwnDisk, AllocError>
     requires { SECTOR_BYTES * sectors < 2 ^ 64 }
 {
     Ok(CountingDisk::new(MemDisk::new(alloc, sectors)?))
+}
+
+/// A disk for the one node.
+fn one_disk(alloc: Global) -> Result<Vec<OwnDisk>, AllocError>
+    ensures { IfOk result (λ disks. length disks.items ≡ 1) }
+{
+    let mut disks = Vec::with_capacity(alloc, 1)?;
+    disks.push(empty_disk(alloc, SECTORS)?)?;
+    Ok(disks)
 }
 
 /// An output that has a ledger of its own.
@@ -85,10 +88,9 @@ pub fn open(alloc: Global, weakness: Weakness) -> anyhow::Result<OwnWorld> {
     anyhow::ensure!(node_count(&net) == 1, "several nodes");
     let inputs = bind(alloc, &net, parse_inputs(alloc, "i: 1 2 3")?)?;
     let outputs = own_outputs(alloc, &net, weakness)?;
+    let disks = one_disk(alloc)?;
     let net = Arc::new(alloc, net)?;
     let inputs = Arc::new(alloc, inputs)?;
-    let mut disks = Vec::with_capacity(alloc, 1)?;
-    disks.push(empty_disk(alloc, SECTORS)?)?;
     match World::new(alloc, net, inputs, disks, outputs) {
         Ok(world) => Ok(world),
         Err(refused) => Err(refused.fault.into()),
@@ -142,11 +144,27 @@ fn run(rt: &HostRuntime, world: &mut OwnWorld, crashes: bool) -> anyhow::Result<
     Ok(())
 }
 
-/// Prints what has left, and what the devices say of it.
-fn report(rt: &HostRuntime, world: OwnWorld) -> anyhow::Result<()> {
+/// Prints items on a line of their own.
+fn print_items(rt: &HostRuntime, name: &str, items: &[i64]) -> anyhow::Result<()> {
+    print!(rt; "{name}:")?;
+    for item in items {
+        print!(rt; " {item}")?;
+    }
+    println!(rt; "")?;
+    Ok(())
+}
+
+/// Prints what has left.
+fn print_world(rt: &HostRuntime, world: &OwnWorld) -> anyhow::Result<()> {
+    print_items(rt, "total", world.released(1))?;
+    print_items(rt, "same", world.released(2))?;
     println!(rt; "complete: {}", world.complete())?;
-    let (disks, outputs) = world.close(rt.alloc())?;
-    for output in &outputs {
+    Ok(())
+}
+
+/// Prints what the outlets say of it.
+fn print_outputs(rt: &HostRuntime, outputs: &[Output<Ledger>]) -> anyhow::Result<()> {
+    for output in outputs {
         let ledger = &output.outlet;
         println!(rt;
             "channel {}: {} items, sum {}",
@@ -158,22 +176,17 @@ fn report(rt: &HostRuntime, world: OwnWorld) -> anyhow::Result<()> {
             println!(rt; "it lacked memory, and the event was applied again")?;
         }
     }
-    for disk in &disks {
+    Ok(())
+}
+
+/// Prints what the disks count.
+fn print_disks(rt: &HostRuntime, disks: &[OwnDisk]) -> anyhow::Result<()> {
+    for disk in disks {
         println!(rt;
             "disk: {} reads, {} writes, {} syncs",
             disk.reads, disk.writes, disk.syncs
         )?;
     }
-    Ok(())
-}
-
-/// Prints items on a line of their own.
-fn print_items(rt: &HostRuntime, name: &str, items: &[i64]) -> anyhow::Result<()> {
-    print!(rt; "{name}:")?;
-    for item in items {
-        print!(rt; " {item}")?;
-    }
-    println!(rt; "")?;
     Ok(())
 }
 
@@ -187,9 +200,10 @@ fn run_whole(
     println!(rt; "{name}")?;
     let mut world = open(rt.alloc(), weakness)?;
     run(rt, &mut world, crashes)?;
-    print_items(rt, "total", world.released(1))?;
-    print_items(rt, "same", world.released(2))?;
-    report(rt, world)
+    print_world(rt, &world)?;
+    let (disks, outputs) = world.close(rt.alloc())?;
+    print_outputs(rt, &outputs)?;
+    print_disks(rt, &disks)
 }
 
 /// A world that is closed where an event is refused, since its outlet lacks memory, and two that are closed behind as many events, unless one
@@ -207,25 +221,26 @@ fn run_closed(rt: &HostRuntime) -> anyhow::Result<()> {
     Ok(())
 }
 
-fn main(rt: HostRuntime) -> anyhow::Result<()> {
-    run_whole(&rt, "a crash", Weakness::None, true)?;
+/// All runs.
+pub fn run_all(rt: &HostRuntime) -> anyhow::Result<()> {
+    run_whole(rt, "a crash", Weakness::None, true)?;
     run_whole(
-        &rt,
+        rt,
         "an outlet that fails before an item",
         Weakness::Before(1),
         false,
     )?;
     run_whole(
-        &rt,
+        rt,
         "an outlet that fails behind an item",
         Weakness::Behind(1),
         false,
     )?;
     run_whole(
-        &rt,
+        rt,
         "an outlet that lacks memory for an item",
         Weakness::Lacks(1),
         false,
     )?;
-    run_closed(&rt)
+    run_closed(rt)
 }

@@ -1,11 +1,9 @@
-//! Runs disks, cells, stores, logs, outlets and records as bytes by the table `cases`: what happens to them, and what has to be
-//! answered. Prints each case that comes out otherwise, and how many came out as written. The cases of `wrong_cases` are wrong on
-//! purpose: each has to come out otherwise. The status is 1 where a case of `cases` comes out otherwise, where one of `wrong_cases`
-//! doesn't, and where a line isn't understood.
+//! Disks, cells, stores, logs, outlets and records as bytes, by the table `storage_cases`: what happens to them, and what has to be
+//! answered.
 //!
-//! A line `== TITLE` begins a case. Empty lines, and those that begin with `#`, say nothing. Numbers are decimal; bytes stand in
-//! hexadecimal, in groups with spaces between them as one likes; `00*16` is a group so many times. `for CALL 1..4 FILL 0 255` runs the
-//! case for each choice of these numbers. Behind an arrow stands what has to be answered: `done`, `refused NUMBER`, or what is asked for.
+//! Bytes stand in hexadecimal, in groups with spaces between them as one likes; `00*16` is a group so many times. `for CALL 1..4 FILL 0 255`
+//! runs the case for each choice of these numbers. Behind an arrow stands what has to be answered: `done`, `refused NUMBER`, or what is
+//! asked for.
 //!
 //! A case begins with nothing but a log without items and an outlet that took none. A line `bytes NAME 00*16 ..` before the first case
 //! gives bytes a name, by which a line `spelling` may call them.
@@ -40,7 +38,6 @@
 //! | `spells header -> yes`, `spells header first 12`, `spells image`, `spells image first 12` | whether they, or the first twelve, are read as a header, or as an image, by itself |
 //! | `stands turned 9 128 -> yes` | whether, with these bits of byte 9 turned, they spell a record or are refused by 30 to 32 |
 //! | `image counts 5 -> 0 5 2`, `image retained 5 4 -> 15`, `-> none`, `image copy -> 00` | of the permanent image of their record: of a channel how many items were received, put, and put before those retained; the item at a position; the bytes of a copy |
-#![tactic(auto)]
 
 mod answer;
 mod case_outlet;
@@ -53,22 +50,14 @@ mod store;
 mod stream;
 mod words;
 
-use crate::medium::{Medium, step};
-use crate::spelling::Spelling;
-use crate::stream::Streams;
-use crate::words::numbers_of_no_memory;
+use crate::storage::answer::Answer;
+use crate::storage::medium::{Medium, step};
+use crate::storage::spelling::Spelling;
+use crate::storage::stream::Streams;
+use crate::storage::words::numbers_of_no_memory;
 use anyhow::Context;
-use case_table::{
-    Case, Difference, Line, NamedBytes, Table, Trial, filled, is_wanted, listed, named_in,
-    parts_of, read, run_cases, run_wrong_cases, table_of,
-};
+use case_table::{Case, Difference, Line, NamedBytes, filled, is_wanted, listed, parts_of};
 use std::alloc::{AllocError, Global};
-
-/// Each case is of storage, and may use these bytes by their names.
-#[derive(Drop)]
-struct Storage<'a> {
-    named: Vec<NamedBytes<'a>>,
-}
 
 /// What a case stores on, its log and outlet, and bytes that may spell a record. They stand together, and are lent to all that works on
 /// them: each way out of a function that owns them would be one more place at which they are let go, and that is proved for each.
@@ -77,6 +66,34 @@ struct Stage {
     medium: Medium,
     streams: Streams,
     spelling: Spelling,
+}
+
+/// What is answered by a log, an outlet or bytes.
+fn ask_beside(
+    alloc: Global,
+    named: &[NamedBytes],
+    stage: &mut Stage,
+    text: &str,
+    words: &[&str],
+) -> anyhow::Result<Answer> {
+    match stage.streams.ask(alloc, words)? {
+        Answer::Unknown => stage.spelling.ask(alloc, named, text, words),
+        answer => Ok(answer),
+    }
+}
+
+/// What is answered to a line, of which these are the words.
+fn ask(
+    alloc: Global,
+    named: &[NamedBytes],
+    stage: &mut Stage,
+    text: &str,
+    words: &[&str],
+) -> anyhow::Result<Answer> {
+    match step(alloc, &mut stage.medium, text, words)? {
+        Answer::Unknown => ask_beside(alloc, named, stage, text, words),
+        answer => Ok(answer),
+    }
 }
 
 /// What a line answers.
@@ -89,16 +106,8 @@ fn answered(
     if text == "numbers of no memory" {
         return Ok(listed(alloc, numbers_of_no_memory().as_slice())?);
     }
-    if let Some(answer) = step(alloc, &mut stage.medium, text)? {
-        return Ok(answer.into_text(alloc)?);
-    }
-    if let Some(answer) = stage.streams.ask(alloc, text)? {
-        return Ok(answer.into_text(alloc)?);
-    }
-    match stage.spelling.ask(alloc, named, text)? {
-        Some(answer) => Ok(answer.into_text(alloc)?),
-        None => anyhow::bail!("{text} asks for nothing that is known"),
-    }
+    let words: Vec<&str> = text.split_whitespace().collect(alloc)?;
+    ask(alloc, named, stage, text, &words)?.into_text(alloc)
 }
 
 /// What a line asks and wants, and what came in its place.
@@ -151,36 +160,17 @@ fn first_difference(
     Ok(None)
 }
 
-impl<'a> Trial for Storage<'a> {
-    fn found(
-        &self,
-        rt: &HostRuntime,
-        case: &Case,
-        choice: &[u64],
-    ) -> anyhow::Result<Option<Difference>> {
-        let alloc = rt.alloc();
-        let mut stage = Stage {
-            medium: Medium::Nothing,
-            streams: Streams::new(alloc),
-            spelling: Spelling::new(alloc),
-        };
-        first_difference(alloc, self.named.as_slice(), &mut stage, case, choice)
-    }
-}
-
-/// What the cases of a table may use.
-fn storage_of<'a>(alloc: Global, table: &Table<'a>) -> anyhow::Result<Storage<'a>> {
-    Ok(Storage {
-        named: named_in(alloc, &table.head)?,
-    })
-}
-
-fn main(rt: HostRuntime) -> anyhow::Result<()> {
-    let alloc = rt.alloc();
-    let text = read(&rt, "cases")?;
-    let wrong = read(&rt, "wrong_cases")?;
-    let table = table_of(alloc, &text)?;
-    run_cases(&rt, &table.cases, &storage_of(alloc, &table)?)?;
-    let table = table_of(alloc, &wrong)?;
-    run_wrong_cases(&rt, &table.cases, &storage_of(alloc, &table)?)
+/// What comes out otherwise than a case says, for one choice of its numbers.
+pub fn found(
+    alloc: Global,
+    named: &[NamedBytes],
+    case: &Case,
+    choice: &[u64],
+) -> anyhow::Result<Option<Difference>> {
+    let mut stage = Stage {
+        medium: Medium::Nothing,
+        streams: Streams::new(alloc),
+        spelling: Spelling::new(alloc),
+    };
+    first_difference(alloc, named, &mut stage, case, choice)
 }

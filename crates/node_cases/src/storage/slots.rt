@@ -2,8 +2,8 @@
 
 ghost use Rattle.std.specs.Prelude.{◌≤◌, IfOk};
 
-use crate::answer::Answer;
-use crate::cell::{self, answer_of, shown};
+use crate::storage::answer::Answer;
+use crate::storage::cell::{self, answer_of, shown};
 use case_table::size;
 use gate_cell::SlotCell;
 use std::alloc::Global;
@@ -17,6 +17,12 @@ fn slot_of(word: &str) -> anyhow::Result<usize>
     Ok(slot)
 }
 
+/// What stands in a slot.
+fn show<C: SlotCell>(alloc: Global, cell: &mut C, slot: &str) -> anyhow::Result<Answer> {
+    let slot = slot_of(slot)?;
+    shown(alloc, cell.slot(slot))
+}
+
 /// Fills a slot, as `0 41` says.
 fn fill<C: SlotCell>(alloc: Global, cell: &mut C, text: &str) -> anyhow::Result<Answer> {
     let (slot, spelling) = text.split_once(" ").unwrap_or((text, ""));
@@ -25,17 +31,19 @@ fn fill<C: SlotCell>(alloc: Global, cell: &mut C, text: &str) -> anyhow::Result<
     Ok(answer_of(cell.fill(slot, &bytes)))
 }
 
-/// What a cell with slots answers, where it is asked for something that it knows.
-pub fn ask<C: SlotCell>(alloc: Global, cell: &mut C, text: &str) -> anyhow::Result<Option<Answer>> {
-    if text == "slot room" {
-        return Ok(Some(Answer::Number(cell.slot_room() as u64)));
-    }
-    if let Some(slot) = text.strip_prefix("slot ") {
-        let slot = slot_of(slot)?;
-        return Ok(Some(shown(alloc, cell.slot(slot))?));
-    }
+/// What a cell with slots answers.
+pub fn ask<C: SlotCell>(
+    alloc: Global,
+    cell: &mut C,
+    text: &str,
+    words: &[&str],
+) -> anyhow::Result<Answer> {
     if let Some(rest) = text.strip_prefix("fill ") {
-        return Ok(Some(fill(alloc, cell, rest)?));
+        return fill(alloc, cell, rest);
     }
-    cell::ask(alloc, cell, text)
+    match words {
+        ["slot", "room"] => Ok(Answer::Number(cell.slot_room() as u64)),
+        ["slot", slot] => show(alloc, cell, slot),
+        _ => cell::ask(alloc, cell, text, words),
+    }
 }

@@ -1,8 +1,8 @@
 //! What is asked of bytes that may spell a record: whether they do, alone or with one of them changed, and what the permanent image has
 //! that they spell. A header or an image may be spelled by itself.
 
-use crate::answer::Answer;
-use crate::stream::item_at;
+use crate::storage::answer::Answer;
+use crate::storage::stream::item_at;
 use case_table::{NamedBytes, byte, listed, number, size, spelled};
 use ckpt_codec::{is_image, read_header, read_image, read_record, write_image, write_record};
 use record::Image;
@@ -25,20 +25,32 @@ fn spells(alloc: Global, bytes: &[u8], wanted: &[u8]) -> Result<Answer, AllocErr
     }
 }
 
-/// These bytes with another one at a place.
-fn changed(alloc: Global, bytes: &[u8], place: usize, value: u8) -> anyhow::Result<Vec<u8>> {
-    let mut changed = Vec::from_slice(alloc, bytes)?;
-    match changed.get_mut(place) {
+/// Puts another byte at a place.
+fn change(bytes: &mut [u8], place: usize, value: u8) -> anyhow::Result<()> {
+    match bytes.get_mut(place) {
         Some(byte) => *byte = value,
         None => anyhow::bail!("there is no byte {place}"),
     }
+    Ok(())
+}
+
+/// These bytes with another one at a place.
+fn changed(alloc: Global, bytes: &[u8], place: usize, value: u8) -> anyhow::Result<Vec<u8>> {
+    let mut changed = Vec::from_slice(alloc, bytes)?;
+    change(&mut changed, place, value)?;
     Ok(changed)
 }
 
 /// Whether they spell a record with another one at a place.
-fn spells_with(alloc: Global, bytes: &[u8], place: usize, value: u8) -> anyhow::Result<Answer> {
+fn spells_changed(alloc: Global, bytes: &[u8], place: usize, value: u8) -> anyhow::Result<Answer> {
     let changed = changed(alloc, bytes, place, value)?;
     Ok(spells(alloc, &changed, &changed)?)
+}
+
+/// The same, of a place and a byte in words.
+fn spells_with(alloc: Global, bytes: &[u8], place: &str, value: &str) -> anyhow::Result<Answer> {
+    let place = size(place)?;
+    spells_changed(alloc, bytes, place, byte(value)?)
 }
 
 /// The first of them, so many.
@@ -47,6 +59,12 @@ fn first_of<'a>(bytes: &'a [u8], count: &str) -> anyhow::Result<&'a [u8]> {
         Some(first) => Ok(first),
         None => anyhow::bail!("there are fewer than {count} bytes"),
     }
+}
+
+/// Whether the first of them, so many, spell a record.
+fn spells_first(alloc: Global, bytes: &[u8], count: &str) -> anyhow::Result<Answer> {
+    let first = first_of(bytes, count)?;
+    Ok(spells(alloc, first, first)?)
 }
 
 /// Whether they spell a header.
@@ -66,9 +84,11 @@ fn spells_image(alloc: Global, bytes: &[u8]) -> Answer {
 }
 
 /// Whether they spell a record, or are refused as bytes are that spell none, where these bits of one are turned.
-fn stands_turned(alloc: Global, bytes: &[u8], place: usize, bits: u8) -> anyhow::Result<Answer> {
+fn stands_turned(alloc: Global, bytes: &[u8], place: &str, bits: &str) -> anyhow::Result<Answer> {
+    let place = size(place)?;
+    let bits = byte(bits)?;
     let value = bytes.get(place).copied().unwrap_or(0);
-    let stands = match spells_with(alloc, bytes, place, value ^ bits)? {
+    let stands = match spells_changed(alloc, bytes, place, value ^ bits)? {
         Answer::Yes(again) => again,
         Answer::Refused(number) => 30 <= number && number <= 32,
         _ => false,
@@ -88,7 +108,8 @@ fn image_of(alloc: Global, bytes: &[u8]) -> anyhow::Result<Image> {
 }
 
 /// How many items were received, put, and put before those retained.
-fn counts(alloc: Global, image: &Image, channel: u8) -> Result<Answer, AllocError> {
+fn counts(alloc: Global, image: &Image, channel: &str) -> anyhow::Result<Answer> {
+    let channel = byte(channel)?;
     let counts = [
         image.received(channel),
         image.sent(channel),
@@ -98,69 +119,59 @@ fn counts(alloc: Global, image: &Image, channel: u8) -> Result<Answer, AllocErro
 }
 
 /// The item at a position of the log of a channel.
-fn retained(
-    alloc: Global,
-    image: &Image,
-    channel: u8,
-    position: u64,
-) -> Result<Answer, AllocError> {
+fn retained(alloc: Global, image: &Image, channel: &str, position: &str) -> anyhow::Result<Answer> {
+    let channel = byte(channel)?;
+    let position = number(position)?;
     match image.log(channel) {
-        Some(log) => item_at(alloc, log, position),
+        Some(log) => Ok(item_at(alloc, log, position)?),
         None => Ok(Answer::Nothing),
     }
+}
+
+/// The bytes of an image.
+fn image_text(alloc: Global, image: &Image) -> anyhow::Result<String> {
+    anyhow::ensure!(is_image(None, image), "the copy is no image");
+    let bytes = write_image(alloc, image)?;
+    Ok(hex::encode(alloc, bytes.as_slice())?)
 }
 
 /// The bytes of a copy of an image.
 fn copied(alloc: Global, image: &Image) -> anyhow::Result<Answer> {
     let copy = image.copy(alloc)?;
-    if !is_image(None, &copy) {
-        anyhow::bail!("the copy is no image");
-    }
-    let bytes = write_image(alloc, &copy)?;
-    Ok(Answer::Text(hex::encode(alloc, bytes.as_slice())?))
+    Ok(Answer::Text(image_text(alloc, &copy)?))
 }
 
 /// What is asked of an image.
-fn ask_image(alloc: Global, image: &Image, words: &[&str]) -> anyhow::Result<Option<Answer>> {
-    let answer = match words {
-        ["counts", channel] => counts(alloc, image, byte(channel)?)?,
-        ["retained", channel, position] => {
-            retained(alloc, image, byte(channel)?, number(position)?)?
-        }
-        ["copy"] => copied(alloc, image)?,
-        _ => return Ok(None),
-    };
-    Ok(Some(answer))
+fn ask_image(alloc: Global, image: &Image, words: &[&str]) -> anyhow::Result<Answer> {
+    match words {
+        ["counts", channel] => counts(alloc, image, channel),
+        ["retained", channel, position] => retained(alloc, image, channel, position),
+        ["copy"] => copied(alloc, image),
+        _ => Ok(Answer::Unknown),
+    }
 }
 
-/// What is asked of bytes that may spell a header or an image alone.
-fn ask_part(alloc: Global, bytes: &[u8], words: &[&str]) -> anyhow::Result<Option<Answer>> {
-    let answer = match words {
-        ["spells", "header"] => spells_header(alloc, bytes),
-        ["spells", "header", "first", count] => spells_header(alloc, first_of(bytes, count)?),
-        ["spells", "image"] => spells_image(alloc, bytes),
-        ["spells", "image", "first", count] => spells_image(alloc, first_of(bytes, count)?),
-        _ => return Ok(None),
-    };
-    Ok(Some(answer))
+/// What is asked of the image that bytes spell as that of their record.
+fn ask_image_of(alloc: Global, bytes: &[u8], words: &[&str]) -> anyhow::Result<Answer> {
+    let image = image_of(alloc, bytes)?;
+    ask_image(alloc, &image, words)
 }
 
 /// What is asked of bytes.
-fn ask_bytes(alloc: Global, bytes: &[u8], words: &[&str]) -> anyhow::Result<Option<Answer>> {
-    let answer = match words {
-        ["spells"] => spells(alloc, bytes, bytes)?,
-        ["spells", "with", place, value] => spells_with(alloc, bytes, size(place)?, byte(value)?)?,
-        ["spells", "first", count] => {
-            let first = first_of(bytes, count)?;
-            spells(alloc, first, first)?
-        }
-        ["stands", "turned", place, bits] => {
-            stands_turned(alloc, bytes, size(place)?, byte(bits)?)?
-        }
-        ["spells", "from", "before"] => spells_from_before(alloc, bytes)?,
-        _ => return ask_part(alloc, bytes, words),
-    };
-    Ok(Some(answer))
+fn ask_bytes(alloc: Global, bytes: &[u8], words: &[&str]) -> anyhow::Result<Answer> {
+    match words {
+        ["image", asked @ ..] => ask_image_of(alloc, bytes, asked),
+        ["spells"] => Ok(spells(alloc, bytes, bytes)?),
+        ["spells", "with", place, value] => spells_with(alloc, bytes, place, value),
+        ["spells", "first", count] => spells_first(alloc, bytes, count),
+        ["spells", "from", "before"] => spells_from_before(alloc, bytes),
+        ["stands", "turned", place, bits] => stands_turned(alloc, bytes, place, bits),
+        ["spells", "header"] => Ok(spells_header(alloc, bytes)),
+        ["spells", "header", "first", count] => Ok(spells_header(alloc, first_of(bytes, count)?)),
+        ["spells", "image"] => Ok(spells_image(alloc, bytes)),
+        ["spells", "image", "first", count] => Ok(spells_image(alloc, first_of(bytes, count)?)),
+        _ => Ok(Answer::Unknown),
+    }
 }
 
 impl Spelling {
@@ -177,18 +188,12 @@ impl Spelling {
         alloc: Global,
         named: &[NamedBytes],
         text: &str,
-    ) -> anyhow::Result<Option<Answer>> {
+        words: &[&str],
+    ) -> anyhow::Result<Answer> {
         if let Some(spelling) = text.strip_prefix("spelling ") {
             self.bytes = spelled(alloc, named, spelling)?;
-            return Ok(Some(Answer::Done));
+            return Ok(Answer::Done);
         }
-        let words: Vec<&str> = text.split_whitespace().collect(alloc)?;
-        match words.as_slice() {
-            ["image", asked @ ..] => {
-                let image = image_of(alloc, self.bytes.as_slice())?;
-                ask_image(alloc, &image, asked)
-            }
-            _ => ask_bytes(alloc, self.bytes.as_slice(), &words),
-        }
+        ask_bytes(alloc, self.bytes.as_slice(), words)
     }
 }

@@ -1,6 +1,6 @@
 //! Events and jobs that are refused for want of memory, and made once more.
 
-use crate::OwnWorld;
+use crate::own::OwnWorld;
 use anyhow::bail;
 use proc_step::{Done, Job};
 use std::alloc::Global;

@@ -1,21 +1,15 @@
 //! What a case stores on: a disk, a cell on it, with slots or without, and a store in one with slots.
 
-ghost use Rattle.std.specs.Prelude.{◌*◌, ◌^◌, ◌<◌};
-ghost use Rattle.sector_disk.specs.declared.TheConstants.{SECTOR_BYTES};
-
-use crate::answer::Answer;
-use crate::store::CaseStore;
-use crate::words::sends;
-use crate::{cell, disk, slots, store};
+use crate::devices::{CaseStore, disk_of};
+use crate::storage::answer::Answer;
+use crate::storage::words::{Disturbance, disturbance_of, sends};
+use crate::storage::{cell, disk, slots, store};
 use case_table::size;
 use ckpt_store::Store;
 use gate_cell::{GateCell, SplitCell};
 use sector_disk::MemDisk;
-use std::alloc::{AllocError, Global};
+use std::alloc::Global;
 use std::mem;
-
-/// The most sectors of a disk.
-const MAX_SECTORS: usize = 5_000;
 
 /// What a case stores on.
 #[derive(Drop)]
@@ -27,16 +21,8 @@ pub enum Medium {
     Store(CaseStore),
 }
 
-/// A disk of so many sectors.
-fn empty_disk(alloc: Global, sectors: usize) -> Result<MemDisk, AllocError>
-    requires { SECTOR_BYTES * sectors < 2 ^ 64 }
-{
-    MemDisk::new(alloc, sectors)
-}
-
-fn new_disk(alloc: Global, sectors: usize) -> anyhow::Result<Medium> {
-    anyhow::ensure!(sectors <= MAX_SECTORS, "{sectors} sectors are too many");
-    let disk = empty_disk(alloc, sectors)?;
+fn new_disk(alloc: Global, sectors: &str) -> anyhow::Result<Medium> {
+    let disk = disk_of(alloc, size(sectors)?)?;
     sends(&disk);
     Ok(Medium::Disk(disk))
 }
@@ -89,52 +75,43 @@ fn open_store(alloc: Global, cell: SplitCell<MemDisk>) -> (Medium, Answer) {
 }
 
 /// What becomes of a disk that is asked to be something else.
-fn disk_becomes(
-    alloc: Global,
-    disk: MemDisk,
-    word: &str,
-    value: &[u8],
-) -> (Medium, Option<Answer>) {
-    let (medium, answer) = match word {
+fn disk_becomes(alloc: Global, disk: MemDisk, word: &str, value: &[u8]) -> (Medium, Answer) {
+    match word {
         "format" => format(alloc, disk, value),
         "open" => open_cell(alloc, disk),
         "split format" => format_split(alloc, disk, value),
         "split open" => open_split(alloc, disk),
-        _ => return (Medium::Disk(disk), None),
-    };
-    (medium, Some(answer))
-}
-
-fn cell_becomes(cell: GateCell<MemDisk>, word: &str) -> (Medium, Option<Answer>) {
-    match word {
-        "close" => (Medium::Disk(cell.close()), Some(Answer::Done)),
-        _ => (Medium::Cell(cell), None),
+        _ => (Medium::Disk(disk), Answer::Unknown),
     }
 }
 
-fn split_becomes(alloc: Global, cell: SplitCell<MemDisk>, word: &str) -> (Medium, Option<Answer>) {
+fn cell_becomes(cell: GateCell<MemDisk>, word: &str) -> (Medium, Answer) {
     match word {
-        "close" => (Medium::Disk(cell.close()), Some(Answer::Done)),
-        "store" => {
-            let (medium, answer) = open_store(alloc, cell);
-            (medium, Some(answer))
-        }
-        _ => (Medium::Split(cell), None),
+        "close" => (Medium::Disk(cell.close()), Answer::Done),
+        _ => (Medium::Cell(cell), Answer::Unknown),
     }
 }
 
-fn store_becomes(store: CaseStore, word: &str) -> (Medium, Option<Answer>) {
+fn split_becomes(alloc: Global, cell: SplitCell<MemDisk>, word: &str) -> (Medium, Answer) {
     match word {
-        "close" => (Medium::Split(store.close()), Some(Answer::Done)),
-        _ => (Medium::Store(store), None),
+        "close" => (Medium::Disk(cell.close()), Answer::Done),
+        "store" => open_store(alloc, cell),
+        _ => (Medium::Split(cell), Answer::Unknown),
+    }
+}
+
+fn store_becomes(store: CaseStore, word: &str) -> (Medium, Answer) {
+    match word {
+        "close" => (Medium::Split(store.close()), Answer::Done),
+        _ => (Medium::Store(store), Answer::Unknown),
     }
 }
 
 impl Medium {
     /// What it becomes, and what is answered to that.
-    fn turned(self, alloc: Global, word: &str, value: &[u8]) -> (Medium, Option<Answer>) {
+    fn turned(self, alloc: Global, word: &str, value: &[u8]) -> (Medium, Answer) {
         match self {
-            Medium::Nothing => (Medium::Nothing, None),
+            Medium::Nothing => (Medium::Nothing, Answer::Unknown),
             Medium::Disk(disk) => disk_becomes(alloc, disk, word, value),
             Medium::Cell(cell) => cell_becomes(cell, word),
             Medium::Split(cell) => split_becomes(alloc, cell, word),
@@ -143,20 +120,36 @@ impl Medium {
     }
 
     /// Makes it that, and answers so.
-    fn turn(&mut self, alloc: Global, word: &str, value: &[u8]) -> Option<Answer> {
-        let (medium, answer) = mem::replace(self, Medium::Nothing).turned(alloc, word, value);
+    fn turn(&mut self, alloc: Global, text: &str) -> anyhow::Result<Answer> {
+        let (word, spelling) = turn_of(text);
+        let value = case_table::spelled(alloc, &[], spelling)?;
+        let (medium, answer) = mem::replace(self, Medium::Nothing).turned(alloc, word, &value);
         *self = medium;
-        answer
+        Ok(answer)
+    }
+
+    /// What becomes of it from without.
+    fn disturb(&mut self, disturbance: Disturbance) -> anyhow::Result<Answer> {
+        match self {
+            Medium::Nothing => Ok(Answer::Unknown),
+            Medium::Disk(it) => disk::disturb(it, disturbance),
+            Medium::Cell(it) => cell::disturb(it, disturbance),
+            Medium::Split(it) => cell::disturb(it, disturbance),
+            Medium::Store(it) => store::disturb(it, disturbance),
+        }
     }
 
     /// What is answered to something that leaves it what it is.
-    fn ask(&mut self, alloc: Global, text: &str) -> anyhow::Result<Option<Answer>> {
+    fn ask(&mut self, alloc: Global, text: &str, words: &[&str]) -> anyhow::Result<Answer> {
+        if let Some(disturbance) = disturbance_of(words)? {
+            return self.disturb(disturbance);
+        }
         match self {
-            Medium::Nothing => Ok(None),
-            Medium::Disk(it) => disk::ask(alloc, it, text),
-            Medium::Cell(it) => cell::ask(alloc, it, text),
-            Medium::Split(it) => slots::ask(alloc, it, text),
-            Medium::Store(it) => store::ask(alloc, it, text),
+            Medium::Nothing => Ok(Answer::Unknown),
+            Medium::Disk(it) => disk::ask(alloc, it, text, words),
+            Medium::Cell(it) => cell::ask(alloc, it, text, words),
+            Medium::Split(it) => slots::ask(alloc, it, text, words),
+            Medium::Store(it) => store::ask(alloc, it, words),
         }
     }
 }
@@ -172,17 +165,19 @@ fn turn_of(text: &str) -> (&str, &str) {
     (text, "")
 }
 
-/// What a line asks of a medium, and what that answers, where it is asked for something that it knows.
-pub fn step(alloc: Global, medium: &mut Medium, text: &str) -> anyhow::Result<Option<Answer>> {
-    if let Some(sectors) = text.strip_prefix("disk ") {
-        *medium = new_disk(alloc, size(sectors)?)?;
-        return Ok(Some(Answer::Done));
+/// What a line asks of a medium, and what that answers.
+pub fn step(
+    alloc: Global,
+    medium: &mut Medium,
+    text: &str,
+    words: &[&str],
+) -> anyhow::Result<Answer> {
+    if let ["disk", sectors] = words {
+        *medium = new_disk(alloc, sectors)?;
+        return Ok(Answer::Done);
     }
-    let (word, spelling) = turn_of(text);
-    let value = case_table::spelled(alloc, &[], spelling)?;
-    let turned = medium.turn(alloc, word, &value);
-    if turned.is_some() {
-        return Ok(turned);
+    match medium.turn(alloc, text)? {
+        Answer::Unknown => medium.ask(alloc, text, words),
+        answer => Ok(answer),
     }
-    medium.ask(alloc, text)
 }

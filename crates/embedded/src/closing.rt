@@ -1,8 +1,8 @@
 //! A world that is closed, and the bytes of its disk.
 
 use crate::ledger::Weakness;
+use crate::own::{OwnDisk, OwnWorld, open};
 use crate::retrying::run_job;
-use crate::{OwnDisk, OwnWorld, open};
 use anyhow::bail;
 use proc_step::Done;
 use sector_disk::{Disk, SECTOR_BYTES};
@@ -33,26 +33,34 @@ fn outcome_of(alloc: Global, reply: Reply) -> anyhow::Result<Option<Done>> {
     }
 }
 
-/// Goes on until the world is complete, an event is refused, or there were so many. Gives how many there were, and whether one was refused.
-fn go_on(alloc: Global, world: &mut OwnWorld, most: usize) -> anyhow::Result<(usize, bool)> {
-    let mut done = None;
+/// Goes on until the world is complete, an event is refused, or there were so many; what came of a job that is still to come back is kept
+/// beside. Gives how many events there were, and whether one was refused.
+fn go_on(
+    alloc: Global,
+    world: &mut OwnWorld,
+    done: &mut Option<Done>,
+    most: usize,
+) -> anyhow::Result<(usize, bool)> {
     for count in 0..most {
         if world.complete() {
             return Ok((count, false));
         }
         let event = next(world, done.take());
         match world.apply(alloc, event) {
-            Ok(reply) => done = outcome_of(alloc, reply)?,
+            Ok(reply) => *done = outcome_of(alloc, reply)?,
             Err(_refused) => return Ok((count, true)),
         }
     }
     Ok((most, false))
 }
 
-/// All that a disk holds.
-fn bytes_of(alloc: Global, disk: &mut OwnDisk, sectors: usize) -> anyhow::Result<Vec<u8>> {
+/// All that the first disk holds.
+fn bytes_of(alloc: Global, disks: &mut [OwnDisk], sectors: usize) -> anyhow::Result<Vec<u8>> {
     let mut bytes = Vec::from_elem(alloc, 0u8, SECTOR_BYTES.saturating_mul(sectors))?;
-    disk.read(0, &mut bytes)?;
+    match disks.first_mut() {
+        Some(disk) => disk.read(0, &mut bytes)?,
+        None => bail!("no disk"),
+    }
     Ok(bytes)
 }
 
@@ -64,16 +72,14 @@ pub fn closed_after(
     most: usize,
 ) -> anyhow::Result<Closed> {
     let mut world = open(alloc, weakness)?;
-    let (events, is_refused) = go_on(alloc, &mut world, most)?;
+    let (events, is_refused) = go_on(alloc, &mut world, &mut None, most)?;
     let (mut disks, _outputs) = world.close(alloc)?;
-    match disks.first_mut() {
-        Some(disk) => Ok(Closed {
-            events,
-            is_refused,
-            bytes: bytes_of(alloc, disk, sectors)?,
-        }),
-        None => bail!("no disk"),
-    }
+    let bytes = bytes_of(alloc, &mut disks, sectors)?;
+    Ok(Closed {
+        events,
+        is_refused,
+        bytes,
+    })
 }
 
 /// Whether two disks hold the same, or their worlds had not as many events.
