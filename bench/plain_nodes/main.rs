@@ -1,7 +1,8 @@
 // The networks of `bench/nodes` as a plain program: a thread for each process, and a bounded channel between two of them. Written for the
 // comparison alone.
 //
-// usage: plain_nodes chain COUNT INPUTS | fan COUNT INPUTS | ring COUNT ITEMS
+// usage: plain_nodes chain COUNT INPUTS | pass COUNT INPUTS | fan COUNT INPUTS | ring COUNT ITEMS | apart COUNT INPUTS | line COUNT INPUTS
+//        (the last two compute long for each item: side by side, each on an input of its own, and one behind the other)
 
 use std::io::Write;
 use std::sync::mpsc::{Receiver, SyncSender, sync_channel};
@@ -9,10 +10,18 @@ use std::thread;
 
 const BOUND: usize = 64;
 
-fn items_of(file: &str) -> Vec<i64> {
+// The items of each line, whatever its input is called.
+fn lines_of(file: &str) -> Vec<Vec<i64>> {
     let text = std::fs::read_to_string(file).expect("the inputs");
-    let line = text.strip_prefix("i:").expect("one input");
-    line.split_whitespace().map(|word| word.parse().expect("an item")).collect()
+    let items = |line: &str| {
+        let (_, items) = line.split_once(':').expect("an input's line");
+        items.split_whitespace().map(|word| word.parse().expect("an item")).collect()
+    };
+    text.lines().map(items).collect()
+}
+
+fn items_of(file: &str) -> Vec<i64> {
+    lines_of(file).pop().expect("one input")
 }
 
 fn feed(items: Vec<i64>) -> Receiver<i64> {
@@ -37,6 +46,25 @@ fn sums(from: Receiver<i64>, to: SyncSender<i64>) {
     }
 }
 
+// What a process that computes makes of an item.
+fn computed(item: i64) -> i64 {
+    let mut sum: i64 = 0;
+    for _ in 0..1000 {
+        for _ in 0..100 {
+            sum = std::hint::black_box(sum.wrapping_add(item.wrapping_mul(item)).wrapping_add(1));
+        }
+    }
+    sum
+}
+
+fn computes(from: Receiver<i64>, to: SyncSender<i64>) {
+    for item in from {
+        if to.send(computed(item)).is_err() {
+            return;
+        }
+    }
+}
+
 fn write_stream(name: &str, stream: &[i64]) {
     let mut out = std::io::BufWriter::new(std::io::stdout().lock());
     write!(out, "{name}:").expect("output");
@@ -53,6 +81,21 @@ fn chain(count: usize, items: Vec<i64>) {
         let (to, next) = sync_channel(BOUND);
         let before = std::mem::replace(&mut from, next);
         thread::spawn(move || sums(before, to));
+    }
+    write_stream("o", &from.into_iter().collect::<Vec<i64>>());
+}
+
+// So many processes in a row: the last one puts the running sum of what it gets, and the others pass on what comes.
+fn pass(count: usize, items: Vec<i64>) {
+    let mut from = feed(items);
+    for place in 0..count {
+        let (to, next) = sync_channel(BOUND);
+        let before = std::mem::replace(&mut from, next);
+        if place + 1 == count {
+            thread::spawn(move || sums(before, to));
+        } else {
+            thread::spawn(move || before.into_iter().all(|item| to.send(item).is_ok()));
+        }
     }
     write_stream("o", &from.into_iter().collect::<Vec<i64>>());
 }
@@ -106,12 +149,40 @@ fn ring(count: usize, items: usize) {
     write_stream("o", &stream);
 }
 
+// So many processes that compute, each on an input of its own.
+fn apart(count: usize, inputs: Vec<Vec<i64>>) {
+    let work = |items: Vec<i64>| {
+        let (to, end) = sync_channel(BOUND);
+        let from = feed(items);
+        thread::spawn(move || computes(from, to));
+        thread::spawn(move || end.into_iter().collect::<Vec<i64>>())
+    };
+    let ends: Vec<_> = inputs.into_iter().take(count).map(work).collect();
+    for (place, end) in ends.into_iter().enumerate() {
+        write_stream(&format!("o{place}"), &end.join().expect("a thread"));
+    }
+}
+
+// So many processes that compute, each on what the one before it puts.
+fn line(count: usize, items: Vec<i64>) {
+    let mut from = feed(items);
+    for _ in 0..count {
+        let (to, next) = sync_channel(BOUND);
+        let before = std::mem::replace(&mut from, next);
+        thread::spawn(move || computes(before, to));
+    }
+    write_stream("o", &from.into_iter().collect::<Vec<i64>>());
+}
+
 fn main() {
     let words: Vec<String> = std::env::args().collect();
     let count: usize = words[2].parse().expect("a count");
     match words[1].as_str() {
         "chain" => chain(count, items_of(&words[3])),
+        "pass" => pass(count, items_of(&words[3])),
         "fan" => fan(count, items_of(&words[3])),
+        "apart" => apart(count, lines_of(&words[3])),
+        "line" => line(count, items_of(&words[3])),
         _ => ring(count, words[3].parse().expect("a count of items")),
     }
 }

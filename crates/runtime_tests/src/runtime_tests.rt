@@ -864,8 +864,7 @@ fn strike<C: SlotCell, O: Outlet, ThisRun: Run, R: Wait>(
     struck && ended
 }
 
-// Node 0 works on a thread of its own, held up by a watch; the thread that calls is the driver's and node 1's. Whether node 0 crashed
-// between the grant of its first job and the job's end, and all came to its end.
+// Node 0 works on a thread of its own, held up by a watch; the thread that calls is the driver's and node 1's.
 fn crash_while_held<
     C: SlotCell + Send,
     O: Outlet + Send,
@@ -878,16 +877,11 @@ fn crash_while_held<
     hub: &Hub<C, O, ThisRun>,
     marks: &Marks<ItsMarks>,
     watch: &HoldingWatch,
-    seats: &mut [NodeSeat<ThisRun>],
-    marks_seats: &mut [Seat<ItsMarks>],
+    zero: &mut NodeSeat<ThisRun>,
+    marks_seat: &mut Seat<ItsMarks>,
+    one: &mut NodeSeat<ThisRun>,
     driver: &mut DriverSeat<ThisRun>,
 ) -> bool {
-    let [zero, one] = seats else {
-        return false;
-    };
-    let [marks_seat, ..] = marks_seats else {
-        return false;
-    };
     let (worked, struck) = thread::join(
         rt,
         || work(rt, alloc, hub, zero, marks, marks_seat, watch).is_ok(),
@@ -918,25 +912,34 @@ fn play_with_crash<
     requires seats { ThisRun.seats ≡ NODES + 1 }
     requires table { table_of opened ≡ ItsMarks.table }
 {
-    let (marks, mut marks_seats) = opened.named::<ItsMarks>(alloc)?;
+    let (marks, marks_seats) = opened.named::<ItsMarks>(alloc)?;
     let (hub, mut seats, mut driver) = SumHub::<ThisRun>::new(
         alloc, world, script, NODES, ledgers,
     )?;
-    let went = crash_while_held(
+    let (Some(mut one), Some(mut zero)) = (seats.pop(), seats.pop()) else {
+        return Err(Fail::new("no seats"));
+    };
+    let Some(mut marks_seat) = marks_seats.into_iter().next() else {
+        return Err(Fail::new("no seat of marks"));
+    };
+    let crashed = crash_while_held(
         rt,
         alloc,
         &hub,
         &marks,
         watch,
-        seats.as_mut_slice(),
-        marks_seats.as_mut_slice(),
+        &mut zero,
+        &mut marks_seat,
+        &mut one,
         &mut driver,
     );
+    seats.push(zero)?;
+    seats.push(one)?;
     let made = made_by_seats(seats.as_slice(), &driver);
     let all = hub.entries(rt);
     let (world, history) = hub.close(seats, driver);
     Ok(Ended {
-        went,
+        went: crashed,
         world,
         history,
         made,
