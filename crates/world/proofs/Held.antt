@@ -9,7 +9,7 @@ use Rattle.sector_disk.specs.Clock.{LeavesOnly}
 use Rattle.gate_cell.specs.declared.cell.StableCell.{Ghosts as CellWords}
 use Rattle.gate_cell.specs.declared.slot_cell.SlotCell.{Ghosts as SlotWords}
 use Rattle.node.specs.StoredView.{LeavesAsBefore}
-use Rattle.protocol.specs.World.Common.{ByNetwork, ByNode, EventView, Install, Release}
+use Rattle.protocol.specs.World.Common.{ByNode, EventView}
 use Rattle.protocol.specs.declared.event.Deed.TheVariants as event
 use Rattle.protocol.specs.World.Replies.{LeavesCells, TakesMemory}
 use Rattle.world.specs.WorldView.{HoldsAsBefore, HoldsAsBeforeAt, LeavesWhatItFoundAt}

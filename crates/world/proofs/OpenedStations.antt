@@ -1,7 +1,7 @@
 -- The stations of a world that opens: what is true of each, as it is said of all.
 use Rattle.std.proofs.Common.{◌≡◌, ◌≢◌, ◌⊎◌, inl, inr, ℕ, zero, suc, ◌+◌, ◌<◌, ◌≤◌, Bool, true, false, cond, List, ℤ}
 use Rattle.std.proofs.Common.{[], ◌∷◌, ◌++◌, map, length, refl, sym, ap, subst, ◌∙◌, arith}
-use Rattle.std.specs.Prelude.{◌↔◌, not, filter, Result, Ok, Err, IfErr, OnOk}
+use Rattle.std.specs.Prelude.{not, filter, Result, Ok, Err, IfErr}
 use Rattle.std.specs.List.{AllByRecursion, AllZip}
 use Rattle.std.proofs.lemmas.List.{length-map, map-append}
 use Rattle.std.proofs.lemmas.List.Filters.{length-filter_both}
@@ -27,8 +27,10 @@ use Rattle.world.specs.OpeningWorld.{armed_on, calls_on, own_outputs, opening_le
 use Rattle.station.specs.OutputView.{fresh}
 use Rattle.world.specs.OpeningWorld.{IsOpened, IsOpenedNode, IsOpeningRefusal, IsUnused, IsWorldRefusal}
 use Rattle.world.specs.OpeningWorld.{LeaveOnlyRecords}
-use Rattle.world.specs.OpeningWorld.{version_for, AreFormatted, StandsInVersion, IsVersion, AreVersions}
+use Rattle.world.specs.OpeningWorld.{version_for, AreFormatted, StandsInVersion, IsVersion, AreVersions, AreVersionsFor}
 use Rattle.world.specs.OpeningWorld.{IsNotOpened, IsDiskBack, SomeFailed, AreHandedBack}
+use Rattle.world.specs.NewWorld.{IsNotNew, IsNotNewFrom}
+use Rattle.world.specs.declared.opening.OpeningRefused.{OpeningRefused}
 use Rattle.station.specs.StationView.{outlet_view, outlet_views}
 use Rattle.station.specs.StationView.{station_view}
 use Rattle.world.proofs.Openings.{fresh_views, opened_listed, opened_nothing, opened_station}
@@ -399,43 +401,28 @@ no_version net number [] same = absurd (cc)
 no_version net number (s ∷ sectors) (inl refused) = refused
 no_version net number (s ∷ sectors) (inr refused) = no_version net (suc number) sectors refused
 
-pub not_for_version : (net : Network) (sectors : List ℕ) (fault : StoreFault) → IsWorldRefusal net 0 sectors fault
+not_for_version : (net : Network) (sectors : List ℕ) (fault : StoreFault) → IsWorldRefusal net 0 sectors fault
     → ¬ (fault ≡ Version)
 not_for_version net sectors fault refused same =
     no_version net 0 sectors (subst (IsWorldRefusal net 0 sectors) same refused)
 
-module _ {W E : Type 0} (fault : E → StoreFault) (net : Network) (sectors : List ℕ) (r : Result W E)
-    (refused : IfErr r (λ e. IsWorldRefusal net 0 sectors (fault e))) where
-  -- so where the versions are right, none is
-  pub never_versions : {Are : Type 0} → Are → IfErr r (λ e. (fault e ≡ Version) ↔ (¬ Are))
-  never_versions {Are} are = at r refused
-    where
-      at : (r : Result W E) → IfErr r (λ e. IsWorldRefusal net 0 sectors (fault e))
-          → IfErr r (λ e. (fault e ≡ Version) ↔ (¬ Are))
-      at (Ok w) refused = tt
-      at (Err e) refused =
-          (λ same. absurd (not_for_version net sectors (fault e) refused same), λ none. absurd (none are))
-
-  pub never_untouched : (P : E → Type 0) → IfErr r (λ e. fault e ≡ Version → P e)
-  never_untouched P = at r refused
-    where
-      at : (r : Result W E) → IfErr r (λ e. IsWorldRefusal net 0 sectors (fault e))
-          → IfErr r (λ e. fault e ≡ Version → P e)
-      at (Ok w) refused = tt
-      at (Err e) refused = λ same. absurd (not_for_version net sectors (fault e) refused same)
-
-  pub otherwise_refused : IfErr r (λ e. (fault e ≡ Version) ⊎ IsWorldRefusal net 0 sectors (fault e))
-  otherwise_refused = at r refused
-    where
-      at : (r : Result W E) → IfErr r (λ e. IsWorldRefusal net 0 sectors (fault e))
-          → IfErr r (λ e. (fault e ≡ Version) ⊎ IsWorldRefusal net 0 sectors (fault e))
-      at (Ok w) refused = tt
-      at (Err e) refused = inr refused
-
--- versions that were found right
-pub for_all_versions : {W E : Type 0} {Are : Type 0} (r : Result W E) → Are → OnOk r Are
-for_all_versions (Ok w) are = are
-for_all_versions (Err e) are = tt
+module _ {W D O : Type 0} (sectors failures : D → ℕ) (net : Network) (versions : List ℕ) (disks : List D)
+    (outputs : List (Output O)) where
+  -- so where the versions are right, it has the other reasons
+  pub not_new_from : (r : Result W (OpeningRefused D O)) → AreVersionsFor (length disks) versions
+      → IfErr r (IsNotNew sectors failures net disks outputs)
+      → IfErr r (IsNotNewFrom sectors failures net versions disks outputs)
+  not_new_from (Ok w) are back = tt
+  not_new_from (Err e) are back =
+      let none : ¬ (e.fault ≡ Version) =
+      not_for_version net (map (λ (d : D). sectors d) disks) e.fault back.why in
+      record {
+        version = (λ same. absurd (none same), λ wrong. absurd (wrong are));
+        untouched = λ same. absurd (none same);
+        why = inr back.why;
+        handed_back = back.handed_back;
+        same_outputs = back.same_outputs;
+      }
 
 -- want of memory
 pub world_refused : (net : Network) (number : ℕ) (sectors : List ℕ) → IsWorldRefusal net number sectors NoMemory

@@ -3,4 +3,5 @@ pub mod WholeView
 pub mod Acting
 pub mod RecoveryLine
 pub mod OpeningWorld
+pub mod NewWorld
 pub mod Closing

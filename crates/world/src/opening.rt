@@ -1,5 +1,5 @@
 // A world before its first event.
-ghost use Rattle.std.specs.Prelude.{◌≡◌, ◌+◌, ◌++◌, ◌<◌, ◌≤◌, ◌↔◌, ◌⊎◌, ℕ, [], IsTrue, None, not, filter, length, map, IfErr, IfOk, IsSome, OnErr, OnOk, vec_capacity, vec_len};
+ghost use Rattle.std.specs.Prelude.{◌≡◌, ◌+◌, ◌++◌, ◌<◌, ◌≤◌, ◌↔◌, ℕ, [], IsTrue, None, not, filter, length, map, IfErr, IfOk, IsSome, OnErr, OnOk, vec_capacity, vec_len};
 ghost use Rattle.std.specs.List.{AllByRecursion};
 ghost use Rattle.kahn_net.specs.Nodes.{node_count};
 ghost use Rattle.kahn_net.specs.Fits.{Fits};
@@ -12,19 +12,14 @@ ghost use Rattle.ckpt_codec.specs.RecordText.{IsRecord};
 ghost use Rattle.ckpt_codec.specs.SizeLaws.{IsRecordWithin};
 ghost use Rattle.ckpt_codec.specs.declared.lengths.TheConstants.{MAX_RETAINED_ITEMS};
 ghost use Rattle.ckpt_store.specs.StoreView.{cell_in, known_in, record_in, Holds};
-ghost use Rattle.ckpt_store.specs.declared.fault.StoreFault.TheVariants.{Version};
 ghost use Rattle.protocol.specs.Node.Opening.{opening_record};
-ghost use Rattle.protocol.specs.World.Headline.{AreApproximated};
-ghost use Rattle.protocol.specs.World.OpeningWorld.{opening_world};
 ghost use Rattle.protocol.specs.World.Sound.{is_output, output_channels};
-ghost use Rattle.world.specs.OpeningWorld.{armed_on, calls_on, own_outputs, AllNumbered, HasRoom, HaveRoom, HaveOutlets};
+ghost use Rattle.world.specs.OpeningWorld.{own_outputs, AllNumbered, HasRoom};
 ghost use Rattle.station.specs.OutputView.{fresh};
-ghost use Rattle.world.specs.OpeningWorld.{IsOpened, IsOpenedNode, IsUnused, LeaveOnlyRecords};
+ghost use Rattle.world.specs.NewWorld.{IsNew, IsNotNew, IsNotNewFrom};
+ghost use Rattle.world.specs.OpeningWorld.{IsOpened, IsOpenedNode, IsUnused};
 ghost use Rattle.world.specs.OpeningWorld.{AreHandedBack, IsNotOpened, IsOpeningRefusal, IsWorldRefusal};
-ghost use Rattle.world.specs.OpeningWorld.{version_for, AreFormatted, AreVersions, AreVersionsFor, IsVersion, StandsInVersion};
-ghost use Rattle.station.specs.StationView.{outlet_views};
-ghost use Rattle.world.specs.WholeView.{world_of};
-ghost use Rattle.world.specs.WorldView.{capacities};
+ghost use Rattle.world.specs.OpeningWorld.{version_for, AreVersions, AreVersionsFor, IsVersion, StandsInVersion};
 ghost use Rattle.kahn_net.specs.declared.limits.TheConstants.{MAX_NODES};
 
 use crate::world::World;
@@ -335,34 +330,9 @@ fn open_world<D: Disk, O: Outlet>(
         ≡ output_channels 0 (network_of net.value.program).channels }
     requires empty { AllByRecursion (IsUnused O.taken) outputs.items }
     requires versions { AreVersions versions.now }
-    ensures opening { IfOk result
-        (λ world. world_of world
-        ≡ opening_world (network_of net.value.program) inputs.value
-        (map (λ disk. D.failure_count disk) disks.items)
-        (outlet_views O.taken O.failures outputs.items)) }
-    ensures same { IfOk result
-        (λ world. (world.net ≡ net) × (world.inputs ≡ inputs)) }
-    ensures outlets { IfOk result
-        (λ world. HaveOutlets (network_of net.value.program) 0 outputs.items
-        world.stations.items) }
-    ensures prefix { IfOk result (λ world. AreApproximated (world_of world)) }
-    ensures left { IfOk result
-        (λ world. LeaveOnlyRecords (network_of net.value.program) 0 world.stations.items) }
-    ensures formatted { IfOk result
-        (λ world. AreFormatted (network_of net.value.program) 0 versions.now world.stations.items) }
-    ensures room { IfOk result
-        (λ world. capacities world.stations.items
-        ≡ map (λ disk. slot_room_on (D.sector_count disk)) disks.items) }
-    ensures armed { IfOk result (λ world. armed_on world.stations.items
-        ≡ map (λ disk. D.armed disk) disks.items) }
-    ensures counted { IfOk result (λ world. calls_on world.stations.items ≡ map (λ disk. 0) disks.items) }
-    ensures fits { OnOk result (HaveRoom (network_of net.value.program) 0
-        (map (λ disk. D.sector_count disk) disks.items)) }
-    ensures refused { IfErr result (λ refused. IsWorldRefusal (network_of net.value.program) 0
-        (map (λ disk. D.sector_count disk) disks.items) refused.fault) }
-    ensures handed_back { IfErr result (λ refused. AreHandedBack D.sector_count D.failure_count
-        disks.items refused.disks.items refused.fault) }
-    ensures same_outputs { IfErr result (λ refused. refused.outputs.items ≡ outputs.items) }
+    ensures made { IfOk result (IsNew net inputs versions.now disks.items outputs.items) }
+    ensures refused { IfErr result (IsNotNew D.sector_count D.failure_count
+        (network_of net.value.program) disks.items outputs.items) }
 {
     let mut disks = disks;
     let mut outputs = outputs;
@@ -419,42 +389,12 @@ impl<D: Disk, O: Outlet> World<SplitCell<D>, O> {
         requires listed { map (λ output. output.channel) outputs.items
             ≡ output_channels 0 (network_of net.value.program).channels }
         requires empty { AllByRecursion (IsUnused O.taken) outputs.items }
-        // It is the opening world of the network and the inputs, with the outlets that were given.
-        ensures opening { IfOk result
-            (λ world. world_of world
-            ≡ opening_world (network_of net.value.program) inputs.value
-            (map (λ disk. D.failure_count disk) disks.items)
-            (outlet_views O.taken O.failures outputs.items)) }
-        ensures same { IfOk result
-            (λ world. (world.net ≡ net) × (world.inputs ≡ inputs)) }
-        ensures outlets { IfOk result
-            (λ world. HaveOutlets (network_of net.value.program) 0 outputs.items
-            world.stations.items) }
-        // What has left is a prefix of each channel's history.
-        ensures prefix { IfOk result (λ world. AreApproximated (world_of world)) }
-        // A crash leaves the opening records, and each cell has the room that its disk gives.
-        ensures left { IfOk result
-            (λ world. LeaveOnlyRecords (network_of net.value.program) 0 world.stations.items) }
-        // Each header stands in the version in which records are written.
-        ensures formatted { IfOk result
-            (λ world. AreFormatted (network_of net.value.program) 0 [] world.stations.items) }
-        ensures room { IfOk result
-            (λ world. capacities world.stations.items
-            ≡ map (λ disk. slot_room_on (D.sector_count disk)) disks.items) }
-        // No fault is armed on a disk, nor disarmed, and each disk counts its calls from now on.
-        ensures armed { IfOk result (λ world. armed_on world.stations.items
-            ≡ map (λ disk. D.armed disk) disks.items) }
-        ensures counted { IfOk result (λ world. calls_on world.stations.items ≡ map (λ disk. 0) disks.items) }
-        // It is made only on disks with room for those records, and refused for no other reasons than those above.
-        ensures fits { OnOk result (HaveRoom (network_of net.value.program) 0
-            (map (λ disk. D.sector_count disk) disks.items)) }
-        ensures refused { IfErr result (λ refused. IsWorldRefusal (network_of net.value.program) 0
-            (map (λ disk. D.sector_count disk) disks.items) refused.fault) }
-        // Refused, all that was given is back in its place: the outputs are the same; each disk has the room that it had;
-        // and a device failed in the call exactly where 20 is the reason.
-        ensures handed_back { IfErr result (λ refused. AreHandedBack D.sector_count D.failure_count
-            disks.items refused.disks.items refused.fault) }
-        ensures same_outputs { IfErr result (λ refused. refused.outputs.items ≡ outputs.items) }
+        // It is the opening world of the network and the inputs, on these disks, each in the version in which records are
+        // written.
+        ensures made { IfOk result (IsNew net inputs [] disks.items outputs.items) }
+        // Refused for no other reasons than those above, and then all that was given is back in its place.
+        ensures refused { IfErr result (IsNotNew D.sector_count D.failure_count
+            (network_of net.value.program) disks.items outputs.items) }
     {
         open_world(alloc, net, inputs, disks, outputs, &[])
     }
@@ -477,49 +417,12 @@ impl<D: Disk, O: Outlet> World<SplitCell<D>, O> {
         requires listed { map (λ output. output.channel) outputs.items
             ≡ output_channels 0 (network_of net.value.program).channels }
         requires empty { AllByRecursion (IsUnused O.taken) outputs.items }
-        // It is the opening world of the network and the inputs, with the outlets that were given.
-        ensures opening { IfOk result
-            (λ world. world_of world
-            ≡ opening_world (network_of net.value.program) inputs.value
-            (map (λ disk. D.failure_count disk) disks.items)
-            (outlet_views O.taken O.failures outputs.items)) }
-        ensures same { IfOk result
-            (λ world. (world.net ≡ net) × (world.inputs ≡ inputs)) }
-        ensures outlets { IfOk result
-            (λ world. HaveOutlets (network_of net.value.program) 0 outputs.items
-            world.stations.items) }
-        // What has left is a prefix of each channel's history.
-        ensures prefix { IfOk result (λ world. AreApproximated (world_of world)) }
-        // A crash leaves the opening records, and each cell has the room that its disk gives.
-        ensures left { IfOk result
-            (λ world. LeaveOnlyRecords (network_of net.value.program) 0 world.stations.items) }
-        // Each header stands in the version that was given for its disk.
-        ensures formatted { IfOk result
-            (λ world. AreFormatted (network_of net.value.program) 0 versions.now world.stations.items) }
-        ensures room { IfOk result
-            (λ world. capacities world.stations.items
-            ≡ map (λ disk. slot_room_on (D.sector_count disk)) disks.items) }
-        // No fault is armed on a disk, nor disarmed, and each disk counts its calls from now on.
-        ensures armed { IfOk result (λ world. armed_on world.stations.items
-            ≡ map (λ disk. D.armed disk) disks.items) }
-        ensures counted { IfOk result (λ world. calls_on world.stations.items ≡ map (λ disk. 0) disks.items) }
-        // It is made only on disks with room for those records, in versions of which there is one for each disk.
-        ensures fits { OnOk result (HaveRoom (network_of net.value.program) 0
-            (map (λ disk. D.sector_count disk) disks.items)) }
+        // It is that world, each of its disks in the version that was given for it; and there is a version for each.
+        ensures made { IfOk result (IsNew net inputs versions.now disks.items outputs.items) }
         ensures versions { OnOk result (AreVersionsFor (length disks.items) versions.now) }
-        // 31 where there isn't, before anything is done with a disk; and no other reasons than those of `new`.
-        ensures version { IfErr result
-            (λ refused. (refused.fault ≡ Version) ↔ (¬ (AreVersionsFor (length disks.items) versions.now))) }
-        ensures untouched { IfErr result
-            (λ refused. refused.fault ≡ Version → refused.disks.items ≡ disks.items) }
-        ensures refused { IfErr result (λ refused. (refused.fault ≡ Version)
-            ⊎ IsWorldRefusal (network_of net.value.program) 0
-            (map (λ disk. D.sector_count disk) disks.items) refused.fault) }
-        // Refused, all that was given is back in its place: the outputs are the same; each disk has the room that it had;
-        // and a device failed in the call exactly where 20 is the reason.
-        ensures handed_back { IfErr result (λ refused. AreHandedBack D.sector_count D.failure_count
-            disks.items refused.disks.items refused.fault) }
-        ensures same_outputs { IfErr result (λ refused. refused.outputs.items ≡ outputs.items) }
+        // Refused for no other reasons than those of `new`, and with 31; and then all that was given is back in its place.
+        ensures refused { IfErr result (IsNotNewFrom D.sector_count D.failure_count
+            (network_of net.value.program) versions.now disks.items outputs.items) }
     {
         if !are_versions_for(disks.len(), versions) {
             return Err(OpeningRefused {

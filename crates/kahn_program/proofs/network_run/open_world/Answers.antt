@@ -14,12 +14,12 @@ returns-in-Err-clause-err c = λ plain.
     let disks = c.in-Ok-empty_disks.disks.items in
     subst (IsStoreFailure plain) (sym c.store_failure.ensures)
     (run_refused plain sectors_of (network_of share.value.program) 0 disks c.in-Err.refused.fault share.value.valid
-    c.in-Ok-empty_disks.ensures.sectors c.in-Err.ensures.refused
+    c.in-Ok-empty_disks.ensures.sectors c.in-Err.ensures.refused.why
     (λ is. record {
       disks = disks;
       backs = c.in-Err.refused.disks.items;
       sectors = c.in-Ok-empty_disks.ensures.sectors;
-      failed = c.in-Err.ensures.handed_back.failed is;
+      failed = c.in-Err.ensures.refused.handed_back.failed is;
     }))
 
 pub returns-clause-first : goal.returns-clause-first
@@ -31,12 +31,12 @@ returns-clause-first c =
     c.in-Ok-new.ensures.ok _
     (c.in-Ok-empty_disks.ensures.unfailed ∙ ap (λ (n : ℕ). replicate n 0) c.requires.nodes)
     (c.in-Ok-set_room.ensures.set ∙ ap (λ (n : ℕ). with_room n opened) c.nearest_room.ensures)
-    c.in-Ok-new-2.ensures.opening
+    c.in-Ok-new-2.ensures.made.opening
     (c.in-Ok.ensures.listed ∙ ap (λ (n : Net). output_channels 0 n.program.channels.items) c.deref.ensures)
     c.in-Ok.ensures.empty
 
 pub returns-clause-room : goal.returns-clause-room
 returns-clause-room c =
     rooms_given sectors_of c.in-Ok-empty_disks.disks.items _
-    (ap (λ stations. capacities stations.items) c.set_room.ensures.same.2 ∙ c.in-Ok-new-2.ensures.room)
+    (ap (λ stations. capacities stations.items) c.set_room.ensures.same.2 ∙ c.in-Ok-new-2.ensures.made.room)
     c.in-Ok-empty_disks.ensures.sectors
