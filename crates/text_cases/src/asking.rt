@@ -51,13 +51,18 @@ fn run_by<R: Threads + Wait + Sync>(
     }
 }
 
-/// What a command line asks for.
-fn options_of(alloc: Global, words: &str) -> anyhow::Result<Options> {
-    let words: Vec<&str> = words.split_whitespace().collect(alloc)?;
-    match options(alloc, words.as_slice()) {
+/// What a command line of these words asks for.
+fn options_by(alloc: Global, words: &[&str]) -> anyhow::Result<Options> {
+    match options(alloc, words) {
         Ok(options) => Ok(options),
         Err(error) => anyhow::bail!("{:?}", error.kind()),
     }
+}
+
+/// What a command line asks for.
+fn options_of(alloc: Global, words: &str) -> anyhow::Result<Options> {
+    let words: Vec<&str> = words.split_whitespace().collect(alloc)?;
+    options_by(alloc, words.as_slice())
 }
 
 /// Why a command line is refused; where it asks for help, what that says.
@@ -68,19 +73,27 @@ fn refused_text(alloc: Global, error: &Error) -> Result<String, AllocError> {
     }
 }
 
-/// What a command line asks for as a text, or why it is refused.
-fn options_text(alloc: Global, words: &str) -> anyhow::Result<String> {
-    let words: Vec<&str> = words.split_whitespace().collect(alloc)?;
-    let text = match options(alloc, words.as_slice()) {
-        Ok(options) => format!(in alloc; "{options:?}\n")?,
-        Err(error) => refused_text(alloc, &error)?,
-    };
-    Ok(text)
+/// What a command line of these words asks for as a text, or why it is refused.
+fn asked_text(alloc: Global, words: &[&str]) -> Result<String, AllocError> {
+    match options(alloc, words) {
+        Ok(options) => format!(in alloc; "{options:?}\n"),
+        Err(error) => refused_text(alloc, &error),
+    }
 }
 
-/// A line for each token: its kind, its text, the byte at which it begins, and its line.
-fn token_lines(alloc: Global, tokens: &[Token<'_>]) -> Result<String, AllocError> {
-    let mut text = String::new(alloc);
+/// The same of a command line.
+fn options_text(alloc: Global, words: &str) -> anyhow::Result<String> {
+    let words: Vec<&str> = words.split_whitespace().collect(alloc)?;
+    Ok(asked_text(alloc, words.as_slice())?)
+}
+
+/// Why a text has no tokens, or no lines of a script.
+fn refused_line(alloc: Global, number: u8, line: Option<usize>) -> Result<String, AllocError> {
+    format!(in alloc; "refused {number} {}\n", line.unwrap_or(0))
+}
+
+/// Adds a line for each token: its kind, its text, the byte at which it begins, and its line.
+fn add_tokens(text: &mut String, tokens: &[Token<'_>]) -> Result<(), AllocError> {
     for token in tokens {
         write!(
             text,
@@ -88,46 +101,43 @@ fn token_lines(alloc: Global, tokens: &[Token<'_>]) -> Result<String, AllocError
             token.kind, token.text, token.start, token.line
         )?;
     }
+    Ok(())
+}
+
+fn token_lines(alloc: Global, tokens: &[Token<'_>]) -> Result<String, AllocError> {
+    let mut text = String::new(alloc);
+    add_tokens(&mut text, tokens)?;
     Ok(text)
 }
 
 /// The tokens of a text, or why it has none.
-fn tokens_text(alloc: Global, bytes: &[u8]) -> anyhow::Result<String> {
-    let lines = match tokens(alloc, text_of(bytes)?) {
-        Ok(found) => token_lines(alloc, found.as_slice())?,
-        Err(fault) => {
-            format!(in alloc;
-                "refused {} {}\n",
-                fault.number(),
-                fault.line().unwrap_or(0)
-            )?
-        }
-    };
-    Ok(lines)
+fn tokens_in(alloc: Global, text: &str) -> Result<String, AllocError> {
+    match tokens(alloc, text) {
+        Ok(found) => token_lines(alloc, found.as_slice()),
+        Err(fault) => refused_line(alloc, fault.number(), fault.line()),
+    }
 }
 
-/// A line for each line of a script: its round, and what it does.
-fn script_lines(alloc: Global, script: &Script) -> Result<String, AllocError> {
-    let mut text = String::new(alloc);
+/// Adds a line for each line of a script: its round, and what it does.
+fn add_script(text: &mut String, script: &Script) -> Result<(), AllocError> {
     for line in &script.lines {
         write!(text, "{} {:?}\n", line.round, line.act)?;
     }
+    Ok(())
+}
+
+fn script_lines(alloc: Global, script: &Script) -> Result<String, AllocError> {
+    let mut text = String::new(alloc);
+    add_script(&mut text, script)?;
     Ok(text)
 }
 
 /// The lines of a failure script for so many nodes, or why it has none.
-fn script_text(alloc: Global, bytes: &[u8], nodes: u8) -> anyhow::Result<String> {
-    let lines = match parse_script(alloc, text_of(bytes)?, nodes) {
-        Ok(script) => script_lines(alloc, &script)?,
-        Err(fault) => {
-            format!(in alloc;
-                "refused {} {}\n",
-                fault.number(),
-                fault.line().unwrap_or(0)
-            )?
-        }
-    };
-    Ok(lines)
+fn script_in(alloc: Global, text: &str, nodes: u8) -> Result<String, AllocError> {
+    match parse_script(alloc, text, nodes) {
+        Ok(script) => script_lines(alloc, &script),
+        Err(fault) => refused_line(alloc, fault.number(), fault.line()),
+    }
 }
 
 /// What is printed of a refusal that is no text's.
@@ -152,10 +162,10 @@ fn not_text_line(alloc: Global) -> anyhow::Result<String> {
 fn answer(alloc: Global, plan: &Plan) -> anyhow::Result<String> {
     match &plan.asked {
         Asked::Options(words) => options_text(alloc, words),
-        Asked::Tokens => tokens_text(alloc, &plan.net.bytes),
+        Asked::Tokens => Ok(tokens_in(alloc, text_of(&plan.net.bytes)?)?),
         Asked::Beginnings => Ok(beginnings_text(alloc, &plan.net.bytes)?),
         Asked::Faults => Ok(faults_text(alloc)?),
-        Asked::Script(nodes) => script_text(alloc, &plan.net.bytes, *nodes),
+        Asked::Script(nodes) => Ok(script_in(alloc, text_of(&plan.net.bytes)?, *nodes)?),
         Asked::Lines(question) => answers(
             alloc,
             *question,
@@ -188,7 +198,20 @@ pub struct Came {
     pub outcome: Outcome,
 }
 
-/// What comes of a run with each of these lines for its script. They stand in the table behind this line.
+/// Adds what comes of a case, which is told of this line.
+fn add_outcome<R: Threads + Wait + Sync>(
+    rt: &R,
+    alloc: Global,
+    line: usize,
+    plan: &Plan,
+    came: &mut Vec<Came>,
+) -> anyhow::Result<()> {
+    let outcome = outcome(rt, alloc, plan)?;
+    came.push(Came { line, outcome })?;
+    Ok(())
+}
+
+/// Adds what comes of a run with each of these lines for its script. They stand in the table behind this line.
 fn run_scripts<R: Threads + Wait + Sync>(
     rt: &R,
     alloc: Global,
@@ -200,10 +223,27 @@ fn run_scripts<R: Threads + Wait + Sync>(
     for (place, script) in scripts.lines().enumerate() {
         plan.script.bytes = Vec::from_slice(alloc, script.as_bytes())?;
         let line = behind.saturating_add(place).saturating_add(1);
-        let outcome = outcome(rt, alloc, plan)?;
-        came.push(Came { line, outcome })?;
+        add_outcome(rt, alloc, line, plan, came)?;
     }
+    anyhow::ensure!(!came.is_empty(), "no script stands there");
     Ok(())
+}
+
+/// Adds what comes of the case of this line: once, or with each of its scripts.
+fn add_outcomes<R: Threads + Wait + Sync>(
+    rt: &R,
+    alloc: Global,
+    line: usize,
+    plan: &mut Plan,
+    came: &mut Vec<Came>,
+) -> anyhow::Result<()> {
+    match plan.scripts_behind {
+        None => add_outcome(rt, alloc, line, plan, came),
+        Some(behind) => {
+            let scripts = mem::replace(&mut plan.script.bytes, Vec::new(alloc));
+            run_scripts(rt, alloc, behind, text_of(&scripts)?, plan, came)
+        }
+    }
 }
 
 /// What comes of the case of this line: once, or with each of its scripts.
@@ -214,16 +254,6 @@ pub fn outcomes<R: Threads + Wait + Sync>(
     plan: &mut Plan,
 ) -> anyhow::Result<Vec<Came>> {
     let mut came = Vec::new(alloc);
-    match plan.scripts_behind {
-        None => {
-            let outcome = outcome(rt, alloc, plan)?;
-            came.push(Came { line, outcome })?;
-        }
-        Some(behind) => {
-            let scripts = mem::replace(&mut plan.script.bytes, Vec::new(alloc));
-            run_scripts(rt, alloc, behind, text_of(&scripts)?, plan, &mut came)?;
-        }
-    }
-    anyhow::ensure!(!came.is_empty(), "no script stands there");
+    add_outcomes(rt, alloc, line, plan, &mut came)?;
     Ok(came)
 }

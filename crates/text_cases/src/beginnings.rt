@@ -39,19 +39,31 @@ fn add_run(
     text.push_str(format!(in alloc; "{first} to {last} {came}\n")?.as_str())
 }
 
-/// A line for each row of beginnings of which the same comes: from no byte on, up to the whole text.
-pub fn beginnings_text(alloc: Global, bytes: &[u8]) -> Result<String, AllocError> {
-    let mut text = String::new(alloc);
+/// Adds a line for each row of beginnings of which the same comes, but for the last. This came of the empty one; then what came of the
+/// last stands there. Gives the length with which the last row begins.
+fn add_runs(
+    alloc: Global,
+    text: &mut String,
+    came: &mut String,
+    bytes: &[u8],
+) -> Result<usize, AllocError> {
     let mut first: usize = 0;
-    let mut came = answer(alloc, b"")?;
     for length in 1..=bytes.len() {
         let next = answer(alloc, bytes.get(..length).unwrap_or(bytes))?;
         if next.as_str() != came.as_str() {
-            add_run(alloc, &mut text, first, length.saturating_sub(1), &came)?;
+            add_run(alloc, text, first, length.saturating_sub(1), came)?;
             first = length;
-            came = next;
+            *came = next;
         }
     }
+    Ok(first)
+}
+
+/// A line for each row of beginnings of which the same comes: from no byte on, up to the whole text.
+pub fn beginnings_text(alloc: Global, bytes: &[u8]) -> Result<String, AllocError> {
+    let mut text = String::new(alloc);
+    let mut came = answer(alloc, b"")?;
+    let first = add_runs(alloc, &mut text, &mut came, bytes)?;
     add_run(alloc, &mut text, first, bytes.len(), &came)?;
     Ok(text)
 }

@@ -33,8 +33,8 @@ fn add_of_texts(alloc: Global, text: &mut String) -> Result<(), AllocError> {
         TextFault::NumberRange { line: LINE },
         TextFault::TooLong { line: LINE },
     ];
-    for fault in faults {
-        add(alloc, text, fault.number(), &fault)?;
+    for fault in &faults {
+        add(alloc, text, fault.number(), fault)?;
     }
     Ok(())
 }
@@ -52,8 +52,8 @@ fn add_of_networks(alloc: Global, text: &mut String) -> Result<(), AllocError> {
         NetFault::NoConsumer { line: LINE },
         NetFault::MissingInput,
     ];
-    for fault in faults {
-        add(alloc, text, fault.number(), &fault)?;
+    for fault in &faults {
+        add(alloc, text, fault.number(), fault)?;
     }
     Ok(())
 }
@@ -64,23 +64,23 @@ fn add_of_scripts(alloc: Global, text: &mut String) -> Result<(), AllocError> {
         ScriptFault::BadLine { line: LINE },
         ScriptFault::UnknownNode { line: LINE },
     ];
-    for fault in faults {
-        add(alloc, text, fault.number(), &fault)?;
+    for fault in &faults {
+        add(alloc, text, fault.number(), fault)?;
     }
     Ok(())
 }
 
 fn add_of_histories(alloc: Global, text: &mut String) -> Result<(), AllocError> {
-    for fault in [stream_eq::Fault::NoMemory, stream_eq::Fault::Long] {
-        add(alloc, text, fault.number(), &fault)?;
+    for fault in &[stream_eq::Fault::NoMemory, stream_eq::Fault::Long] {
+        add(alloc, text, fault.number(), fault)?;
     }
     let fault = proc_code::Fault::NoMemory;
     add(alloc, text, fault.number(), &fault)
 }
 
 fn add_of_devices(alloc: Global, text: &mut String) -> Result<(), AllocError> {
-    for fault in [DiskFault::Device, DiskFault::Range] {
-        add(alloc, text, fault.number(), &fault)?;
+    for fault in &[DiskFault::Device, DiskFault::Range] {
+        add(alloc, text, fault.number(), fault)?;
     }
     let faults = [
         CellFault::NoMemory,
@@ -88,8 +88,8 @@ fn add_of_devices(alloc: Global, text: &mut String) -> Result<(), AllocError> {
         CellFault::TooLarge,
         CellFault::Reopen,
     ];
-    for fault in faults {
-        add(alloc, text, fault.number(), &fault)?;
+    for fault in &faults {
+        add(alloc, text, fault.number(), fault)?;
     }
     Ok(())
 }
@@ -101,8 +101,8 @@ fn add_of_records(alloc: Global, text: &mut String) -> Result<(), AllocError> {
         CodecFault::Version,
         CodecFault::Malformed,
     ];
-    for fault in faults {
-        add(alloc, text, fault.number(), &fault)?;
+    for fault in &faults {
+        add(alloc, text, fault.number(), fault)?;
     }
     Ok(())
 }
@@ -122,36 +122,41 @@ fn add_of_stores(alloc: Global, text: &mut String) -> Result<(), AllocError> {
         StoreFault::Unsettled,
         StoreFault::Spent,
     ];
-    for fault in faults {
-        add(alloc, text, fault.number(), &fault)?;
+    for fault in &faults {
+        add(alloc, text, fault.number(), fault)?;
     }
     Ok(())
 }
 
 fn add_of_streams(alloc: Global, text: &mut String) -> Result<(), AllocError> {
-    for fault in [PacketFault::NoMemory, PacketFault::BadPacket] {
-        add(alloc, text, fault.number(), &fault)?;
+    for fault in &[PacketFault::NoMemory, PacketFault::BadPacket] {
+        add(alloc, text, fault.number(), fault)?;
     }
-    for fault in [LogFault::NoMemory, LogFault::Full] {
-        add(alloc, text, fault.number(), &fault)?;
+    for fault in &[LogFault::NoMemory, LogFault::Full] {
+        add(alloc, text, fault.number(), fault)?;
     }
-    for fault in [OutletFault::NoMemory, OutletFault::Failed] {
-        add(alloc, text, fault.number(), &fault)?;
+    for fault in &[OutletFault::NoMemory, OutletFault::Failed] {
+        add(alloc, text, fault.number(), fault)?;
     }
     Ok(())
 }
 
-/// A line for each fault: of texts, networks, scripts, histories and code; of disks, cells, records and stores; of packets, logs and
+/// Adds a line for each fault: of texts, networks, scripts, histories and code; of disks, cells, records and stores; of packets, logs and
 /// outlets.
+fn add_all(alloc: Global, text: &mut String) -> Result<(), AllocError> {
+    add_of_texts(alloc, text)?;
+    add_of_networks(alloc, text)?;
+    add_of_scripts(alloc, text)?;
+    add_of_histories(alloc, text)?;
+    add_of_devices(alloc, text)?;
+    add_of_records(alloc, text)?;
+    add_of_stores(alloc, text)?;
+    add_of_streams(alloc, text)
+}
+
+/// A line for each fault.
 pub fn faults_text(alloc: Global) -> Result<String, AllocError> {
     let mut text = String::new(alloc);
-    add_of_texts(alloc, &mut text)?;
-    add_of_networks(alloc, &mut text)?;
-    add_of_scripts(alloc, &mut text)?;
-    add_of_histories(alloc, &mut text)?;
-    add_of_devices(alloc, &mut text)?;
-    add_of_records(alloc, &mut text)?;
-    add_of_stores(alloc, &mut text)?;
-    add_of_streams(alloc, &mut text)?;
+    add_all(alloc, &mut text)?;
     Ok(text)
 }

@@ -15,15 +15,20 @@ const TURNS: usize = 100;
 /// Takes what may go to another thread: each job does, and what it comes to.
 fn sends<T: Send>(_: &T) {}
 
-/// The passes that remain, the outermost repetition's first.
-fn passes_of(alloc: Global, text: &str) -> anyhow::Result<Vec<u16>> {
-    let mut passes = Vec::new(alloc);
+/// Adds the passes that remain, the outermost repetition's first.
+fn add_passes(passes: &mut Vec<u16>, text: &str) -> anyhow::Result<()> {
     for word in text.split_whitespace() {
         let left = word
             .parse::<u16>()
             .context(format_args!("{word} is no number of passes"))?;
         passes.push(left)?;
     }
+    Ok(())
+}
+
+fn passes_of(alloc: Global, text: &str) -> anyhow::Result<Vec<u16>> {
+    let mut passes = Vec::new(alloc);
+    add_passes(&mut passes, text)?;
     Ok(passes)
 }
 

@@ -1,6 +1,6 @@
 //! Whether processes are the same, inputs those of a network, and histories its solution.
 
-use crate::words::{items_of, parts};
+use crate::words::items_of;
 use kahn_net::{History, is_same_process};
 use net_check::{Inputs, Net, bind, check, fits};
 use net_text::{parse, parse_inputs};
@@ -36,19 +36,29 @@ fn fits_in(alloc: Global, inputs: &Inputs, other: &str) -> anyhow::Result<bool> 
 
 /// Whether a network's inputs are those of the network of another text.
 pub fn fits_other(alloc: Global, net: &Net, inputs: &str, other: &str) -> anyhow::Result<bool> {
-    let inputs = bind(alloc, net, parse_inputs(alloc, inputs)?)?;
+    let inputs = bound(alloc, net, inputs)?;
     fits_in(alloc, &inputs, other)
+}
+
+/// Adds the history of each of these parts.
+fn add_histories(alloc: Global, lists: &mut Vec<History>, line: &str) -> anyhow::Result<()> {
+    for part in line.split(';') {
+        lists.push(History::from_vec(items_of(alloc, part)?))?;
+    }
+    Ok(())
 }
 
 /// The histories of a line's parts, one for each channel.
 fn histories_of(alloc: Global, line: &str) -> anyhow::Result<Histories> {
     let mut lists = Vec::new(alloc);
     if line != "no channel" {
-        for part in parts(alloc, line)? {
-            lists.push(History::from_vec(items_of(alloc, part)?))?;
-        }
+        add_histories(alloc, &mut lists, line)?;
     }
     Ok(Histories::from_vec(lists))
+}
+
+fn bound(alloc: Global, net: &Net, inputs: &str) -> anyhow::Result<Inputs> {
+    Ok(bind(alloc, net, parse_inputs(alloc, inputs)?)?)
 }
 
 /// Whether these histories solve the network on its inputs.

@@ -103,6 +103,31 @@ struct TextCases {
     ran: Vec<Ran>,
 }
 
+/// Runs a case, and keeps what came of it.
+fn add_ran<R: Threads + Wait + Sync>(
+    threads: &R,
+    rt: &HostRuntime,
+    ran: &mut Vec<Ran>,
+    case: &Case,
+) -> anyhow::Result<()> {
+    let plan = plan_of(rt, case)?;
+    ran.push(ran_by(threads, rt.alloc(), case.line, plan)?)?;
+    Ok(())
+}
+
+/// Runs these cases, and keeps what came of each.
+fn add_all_ran<R: Threads + Wait + Sync>(
+    threads: &R,
+    rt: &HostRuntime,
+    ran: &mut Vec<Ran>,
+    cases: &[Case],
+) -> anyhow::Result<()> {
+    for case in cases {
+        add_ran(threads, rt, ran, case)?;
+    }
+    Ok(())
+}
+
 impl TextCases {
     /// Runs these cases.
     fn run<R: Threads + Wait + Sync>(
@@ -110,11 +135,8 @@ impl TextCases {
         rt: &HostRuntime,
         cases: &[Case],
     ) -> anyhow::Result<TextCases> {
-        let alloc = rt.alloc();
-        let mut ran = Vec::new(alloc);
-        for case in cases {
-            ran.push(ran_by(threads, alloc, case.line, plan_of(rt, case)?)?)?;
-        }
+        let mut ran = Vec::new(rt.alloc());
+        add_all_ran(threads, rt, &mut ran, cases)?;
         Ok(TextCases { ran })
     }
 }
@@ -144,12 +166,37 @@ fn cases_of<'a>(alloc: Global, text: &'a str) -> anyhow::Result<Table<'a>> {
     Ok(table)
 }
 
+/// Runs the cases of a table.
+fn run_table<R: Threads + Wait + Sync>(
+    threads: &R,
+    rt: &HostRuntime,
+    name: &str,
+) -> anyhow::Result<()> {
+    let text = read(rt, name)?;
+    let table = cases_of(rt.alloc(), &text)?;
+    run_cases(
+        rt,
+        &table.cases,
+        &TextCases::run(threads, rt, &table.cases)?,
+    )
+}
+
+/// The same of a table in which each case is wrong on purpose.
+fn run_wrong_table<R: Threads + Wait + Sync>(
+    threads: &R,
+    rt: &HostRuntime,
+    name: &str,
+) -> anyhow::Result<()> {
+    let text = read(rt, name)?;
+    let table = cases_of(rt.alloc(), &text)?;
+    run_wrong_cases(
+        rt,
+        &table.cases,
+        &TextCases::run(threads, rt, &table.cases)?,
+    )
+}
+
 fn main(rt: HostRuntime) -> anyhow::Result<()> {
-    let alloc = rt.alloc();
-    let text = read(&rt, "cases")?;
-    let wrong = read(&rt, "wrong_cases")?;
-    let cases = cases_of(alloc, &text)?.cases;
-    let wrong = cases_of(alloc, &wrong)?.cases;
-    run_cases(&rt, &cases, &TextCases::run(&rt, &rt, &cases)?)?;
-    run_wrong_cases(&rt, &wrong, &TextCases::run(&rt, &rt, &wrong)?)
+    run_table(&rt, &rt, "cases")?;
+    run_wrong_table(&rt, &rt, "wrong_cases")
 }

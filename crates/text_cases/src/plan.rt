@@ -285,13 +285,18 @@ fn check_options(plan: &Plan) -> anyhow::Result<()> {
     Ok(())
 }
 
-/// What a case says.
-pub fn plan_of(rt: &HostRuntime, case: &Case) -> anyhow::Result<Plan> {
-    let mut plan = Plan::new(rt.alloc());
+/// Takes the lines of a case.
+fn add_lines(rt: &HostRuntime, plan: &mut Plan, case: &Case) -> anyhow::Result<()> {
     for Line { number, text } in &case.lines {
         plan.add(rt, *number, text)
             .context(format_args!("line {number}"))?;
     }
-    check_options(&plan).context(format_args!("line {}", case.line))?;
+    check_options(plan).context(format_args!("line {}", case.line))
+}
+
+/// What a case says.
+pub fn plan_of(rt: &HostRuntime, case: &Case) -> anyhow::Result<Plan> {
+    let mut plan = Plan::new(rt.alloc());
+    add_lines(rt, &mut plan, case)?;
     Ok(plan)
 }

@@ -12,11 +12,17 @@ pub fn parts<'a>(alloc: Global, line: &'a str) -> Result<Vec<&'a str>, AllocErro
     Ok(parts)
 }
 
-/// The items of a part.
-pub fn items_of(alloc: Global, part: &str) -> anyhow::Result<Vec<i64>> {
-    let mut items = Vec::new(alloc);
+/// Adds the items of a part.
+fn add_items(items: &mut Vec<i64>, part: &str) -> anyhow::Result<()> {
     for word in part.split_whitespace() {
         items.push(item(word)?)?;
     }
+    Ok(())
+}
+
+/// The items of a part.
+pub fn items_of(alloc: Global, part: &str) -> anyhow::Result<Vec<i64>> {
+    let mut items = Vec::new(alloc);
+    add_items(&mut items, part)?;
     Ok(items)
 }
