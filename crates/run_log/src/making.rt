@@ -13,9 +13,9 @@ ghost use Rattle.world.specs.WorldView.{rooms};
 use crate::armed::ArmedWorld;
 use crate::history::{Entry, KeptEvent, Line};
 use crate::keeping::{keep, keep_reply};
-use gate_cell::SlotCell;
 use outlet::Outlet;
 use replay::{Maker, RunEvent};
+use slot_cell::SlotCell;
 use std::alloc::{AllocError, Global};
 use world::{Event, Refused, Reply};
 

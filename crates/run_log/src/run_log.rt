@@ -27,11 +27,11 @@ use crate::counting::{add_silence, add_widened, find_silence};
 use crate::history::{History, Line};
 use crate::making::{make_event, make_scripted};
 use crate::seat_count::{Counted, Run, RunCount, SeatCount};
-use gate_cell::SlotCell;
 use kahn_net::MAX_COUNT;
 use outlet::Outlet;
 use proc_step::Done;
 use replay::{RunEvent, ScriptedEvent, Silence};
+use slot_cell::SlotCell;
 use std::alloc::Global;
 use world::{Deed, Event, PlainEvent, Refused, Reply, World};
 

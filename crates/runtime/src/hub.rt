@@ -18,7 +18,6 @@ ghost use Rattle.world.specs.WorldView.{rooms};
 ghost use Rattle.station.specs.declared.event.Event.TheVariants as event;
 
 use crate::seat::{DriverSeat, NodeSeat, driver_seat, node_seat};
-use gate_cell::SlotCell;
 use kahn_net::MAX_COUNT;
 use outlet::Outlet;
 use proc_step::Done;
@@ -27,6 +26,7 @@ use run_log::{
     ArmedWorld, FaultAnswer, HeldBack, History, HubFault, Run, RunLog, Status, TurnAnswer,
     UnusedLedgers,
 };
+use slot_cell::SlotCell;
 use std::alloc::{AllocError, Global};
 use std::sync::{Mutex, Wait};
 use world::{Event, Reply, World};

@@ -9,8 +9,9 @@ use crate::words::sends;
 use crate::{cell, disk, slots, store};
 use case_table::size;
 use ckpt_store::Store;
-use gate_cell::{GateCell, SplitCell};
+use gate_cell::GateCell;
 use sector_disk::MemDisk;
+use slot_cell::SplitCell;
 use std::alloc::{AllocError, Global};
 use std::mem;
 

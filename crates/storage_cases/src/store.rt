@@ -5,9 +5,9 @@ use crate::answer::Answer;
 use crate::words::{fault_of, fill_of};
 use case_table::{byte, listed, number};
 use ckpt_store::{Store, StoreFault};
-use gate_cell::SplitCell;
 use record::{Decision, Image, Record};
 use sector_disk::MemDisk;
+use slot_cell::SplitCell;
 use std::alloc::{AllocError, Global};
 
 /// A case's store.

@@ -5,11 +5,11 @@ ghost use Rattle.protocol.specs.Node.Common.{SECTOR_BYTES};
 
 use crate::plan::{EarlyFault, Settings};
 use ckpt_store::StoreFault;
-use gate_cell::SplitCell;
 use net_check::{bind, check};
 use net_text::{parse, parse_inputs};
 use outlet::ListOutlet;
 use sector_disk::{Disk, MemDisk};
+use slot_cell::SplitCell;
 use std::alloc::{AllocError, Global};
 use std::sync::Arc;
 use world::{World, list_outputs, node_count};
