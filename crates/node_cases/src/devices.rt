@@ -4,7 +4,7 @@ ghost use Rattle.std.specs.Prelude.{◌*◌, ◌^◌, ◌<◌};
 ghost use Rattle.sector_disk.specs.declared.TheConstants.{SECTOR_BYTES};
 
 use ckpt_store::Store;
-use gate_cell::SplitCell;
+use slot_cell::SplitCell;
 use sector_disk::MemDisk;
 use std::alloc::{AllocError, Global};
 

@@ -9,7 +9,7 @@ ghost use Rattle.runtime.specs.declared.ending.RunEnd.TheVariants.{Refused};
 ghost use Rattle.world.specs.WholeView.{world_of};
 
 use crate::driving::Bounds;
-use gate_cell::SlotCell;
+use slot_cell::SlotCell;
 use kahn_net::{Channel, Port};
 use outlet::Outlet;
 use run_log::{History, HubFault};

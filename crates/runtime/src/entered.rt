@@ -12,7 +12,7 @@ ghost use Rattle.station.specs.declared.event.Event.TheVariants as event;
 
 use crate::seat::{DriverSeat, NodeSeat};
 use crate::waking::{Locked, Seen, Sleepers};
-use gate_cell::SlotCell;
+use slot_cell::SlotCell;
 use kahn_net::MAX_COUNT;
 use outlet::Outlet;
 use proc_step::Done;

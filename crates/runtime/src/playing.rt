@@ -15,7 +15,7 @@ use crate::hub::{Hub, HubParts};
 use crate::job_watch::JobWatch;
 use crate::seat::NodeSeat;
 use crate::threads::{DriverSeats, Joined, NodeSeats, SharedRun, run_threads};
-use gate_cell::SlotCell;
+use slot_cell::SlotCell;
 use kahn_net::Channel;
 use marks::{MarksName, Opened, Seat};
 use outlet::Outlet;

@@ -1,6 +1,6 @@
 // What threads wait for, and who is woken.
 
-use gate_cell::SlotCell;
+use slot_cell::SlotCell;
 use outlet::Outlet;
 use run_log::{Moment, Run, RunLog};
 use std::alloc::{AllocError, Global};

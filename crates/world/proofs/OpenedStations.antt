@@ -10,8 +10,8 @@ use Rattle.protocol.specs.Node.Common.{cell_in, opening_record, StoreFault}
 use Rattle.sector_disk.specs.declared.disk.ArmedFault.{ArmedFault}
 use Rattle.sector_disk.specs.declared.disk.Disk.{Ghosts as DiskWords}
 use Rattle.gate_cell.specs.declared.cell.StableCell.{Ghosts as CellWords}
-use Rattle.gate_cell.specs.declared.slot_cell.SlotCell.{Ghosts as SlotWords}
-use Rattle.gate_cell.specs.declared.split.SplitCell.{SplitCell}
+use Rattle.slot_cell.specs.declared.slot_cell.SlotCell.{Ghosts as SlotWords}
+use Rattle.slot_cell.specs.declared.split.SplitCell.{SplitCell}
 use Rattle.node.specs.NodeOf.{view_of}
 use Rattle.node.specs.declared.node.Node.{Node}
 use Rattle.protocol.specs.World.Common.{Traffic, opening_traffic, opening_world, WorldInvariant, is_output}

@@ -7,14 +7,14 @@ use Rattle.std.proofs.lemmas.Option.{none-some}
 use Rattle.gate_cell.specs.CellFault.{HasCause}
 use Rattle.protocol.specs.Node.Common.{slot_room_on, Whole, RecordView, ImageView, IsRecord, MAX_RETAINED_ITEMS}
 use Rattle.protocol.specs.Node.Common.{Spells, cell_in, known_in, record_in, StoreFault, Store}
-use Rattle.gate_cell.specs.SplitLayout.{HasNoHeaderRoom}
-use Rattle.gate_cell.specs.SplitStands.{header_room}
-use Rattle.gate_cell.specs.Whole.{with_header, with_slot}
-use Rattle.gate_cell.specs.declared.TheConstants.{LEAST_SPLIT_SECTORS}
 use Rattle.gate_cell.specs.declared.cell.StableCell.{Ghosts as CellWords}
-use Rattle.gate_cell.specs.declared.slot_cell.SlotCell.{Ghosts as SlotWords}
 use Rattle.gate_cell.specs.declared.fault.CellFault.{CellFault}
 use Rattle.gate_cell.specs.declared.fault.CellFault.TheVariants as cell
+use Rattle.slot_cell.specs.SplitLayout.{HasNoHeaderRoom}
+use Rattle.slot_cell.specs.SplitStands.{header_room}
+use Rattle.slot_cell.specs.Whole.{with_header, with_slot}
+use Rattle.slot_cell.specs.declared.TheConstants.{LEAST_SPLIT_SECTORS}
+use Rattle.slot_cell.specs.declared.slot_cell.SlotCell.{Ghosts as SlotWords}
 use Rattle.ckpt_codec.specs.Common.{AreAllowed, header_of, IsHeaderText, IsImageText, image_fields, spelled_length}
 use Rattle.ckpt_codec.specs.HeaderText.{header_text, IsHeaderTextIn}
 use Rattle.ckpt_codec.specs.SizeLaws.{IsRecordWithin}

@@ -5,10 +5,10 @@ use Rattle.protocol.specs.Node.Common.{node_count, Network, slot_room_on, Whole,
 use Rattle.protocol.specs.Node.Common.{cell_in, Store, StoreFault, opening_record}
 use Rattle.sector_disk.specs.declared.disk.ArmedFault.{ArmedFault}
 use Rattle.sector_disk.specs.declared.disk.Disk.{Ghosts as DiskWords}
-use Rattle.gate_cell.specs.declared.split.SplitCell.{SplitCell}
-use Rattle.gate_cell.specs.declared.TheConstants.{LEAST_SPLIT_SECTORS}
 use Rattle.gate_cell.specs.declared.cell.StableCell.{Ghosts as CellWords}
-use Rattle.gate_cell.specs.declared.slot_cell.SlotCell.{Ghosts as SlotWords}
+use Rattle.slot_cell.specs.declared.split.SplitCell.{SplitCell}
+use Rattle.slot_cell.specs.declared.TheConstants.{LEAST_SPLIT_SECTORS}
+use Rattle.slot_cell.specs.declared.slot_cell.SlotCell.{Ghosts as SlotWords}
 use Rattle.ckpt_codec.specs.Common.{header_of}
 use Rattle.ckpt_codec.specs.HeaderText.{header_text}
 use Rattle.ckpt_codec.specs.declared.version.TheConstants.{FIRST_VERSION, VERSION}

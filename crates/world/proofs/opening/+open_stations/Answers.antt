@@ -1,6 +1,6 @@
 use Rattle.std.proofs.Common.{rules, ◌≡◌, ◌++◌, vec_len, ◌≤◌, length, map, sym, ap, subst, ◌∙◌, arith}
 use Rattle.protocol.specs.Node.Common.{node_count, network_of, MAX_NODES, slot_room_on}
-use Rattle.gate_cell.specs.SplitCell.{disk_in}
+use Rattle.slot_cell.specs.SplitCell.{disk_in}
 use Rattle.protocol.specs.World.Common.{is_output}
 use Rattle.protocol_laws.specs.Node.PlaceLaws.{nodes_few}
 use Rattle.world.proofs.OpenedStations.{none_opened, last_back, before_back, world_refused, last_refused}

@@ -1,8 +1,8 @@
 use Rattle.std.proofs.Common.{ℕ, ◌≡◌, ◌≤◌, List, length, sym, ap, subst, ◌∙◌, rules, arith}
 use Rattle.std.specs.Prelude.{IsTrue}
-use Rattle.gate_cell.specs.SplitCell.{slot_capacity_of, is_ready_of}
+use Rattle.slot_cell.specs.SplitCell.{slot_capacity_of, is_ready_of}
 use Rattle.protocol.specs.Node.Common.{slot_room_on, DecisionView, RecordView, image_length}
-use Rattle.gate_cell.specs.SplitLayout.{whole_on}
+use Rattle.slot_cell.specs.SplitLayout.{whole_on}
 use Rattle.ckpt_codec.specs.Common.{IsImageSpelled}
 use Rattle.ckpt_codec.specs.RecordText.{most_decisions}
 use Rattle.ckpt_store.proofs.Puts.{permanent_spelled}
