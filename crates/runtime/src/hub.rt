@@ -21,7 +21,6 @@ ghost use Rattle.station.specs.declared.event.Event.TheVariants as event;
 use crate::entered::Entered;
 use crate::seat::{DriverSeat, NodeSeat, driver_seat, node_seat};
 use crate::waking::{Locked, Seen, Sleepers, Until, Woken};
-use slot_cell::SlotCell;
 use outlet::Outlet;
 use proc_step::Done;
 use replay::ScriptedEvent;
@@ -29,7 +28,7 @@ use run_log::{
     ArmedWorld, FaultAnswer, HeldBack, History, HubFault, Run, RunLog, Status, TurnAnswer,
     UnusedLedgers, no_deliveries,
 };
-use slot_cell::SlotCell;
+use slot_cell::{SlotCell, SlotCell};
 use std::alloc::{AllocError, Global};
 use std::sync::{Mutex, Wait};
 use world::{Reply, World};
