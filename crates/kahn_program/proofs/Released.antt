@@ -14,7 +14,6 @@ use Rattle.protocol_laws.specs.World.OutputLaws.{channel_there, map_at}
 use Rattle.protocol_laws.specs.World.ShownLaws.{output_shown}
 use Rattle.protocol_laws.specs.World.PrefixLaws.{released_prefix}
 use Rattle.protocol.specs.World.Quiet.{AreWhole}
-
 use Rattle.kahn_program.specs.Report.{one_if_output, output_count, report_text}
 use Rattle.kahn_program.specs.Readings.{IsNetOf, AreInputsOf}
 use Rattle.kahn_program.specs.Statuses.{status_of_run}
