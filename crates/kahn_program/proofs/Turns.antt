@@ -3,7 +3,7 @@ use Rattle.std.proofs.Common.{◌≡◌, ◌++◌, Ok, Err, inl, inr, ◌∙◌,
 use Rattle.std.proofs.Common.{Bool, false, List, map, Option, Some, None, refl, sym, ap, subst, arith}
 use Rattle.std.specs.List.{AllByRecursion}
 use Rattle.std.specs.Prelude.{replicate, IfOk, IsSome, Result}
-use Rattle.std.proofs.Math.Logic.{∥∥₁_map}
+use Rattle.std.proofs.Math.Logic.{∥∥₁_elim, ∥∥₁_map, ∥∥₁_prop}
 use Rattle.replay.proofs.Replays.{replays_stay}
 use Rattle.protocol.specs.Node.Common.{node_count, Network, IsValid, slot_room_on, StoreFault, opening_record}
 use Rattle.protocol.specs.Node.Common.{RecordView, fits_in, Job, SECTORS}
@@ -25,7 +25,7 @@ use Rattle.world.specs.OpeningWorld.{IsUnused}
 use Rattle.station.specs.StationView.{outlet_view, outlet_views}
 use Rattle.protocol.specs.declared.limits.TheConstants.{DEFAULT_ROOM}
 use Rattle.replay.specs.Armed.{ArmedEvent, ArmedView, IsArmedStep}
-use Rattle.replay.specs.Replay.{Happening, LeadsTo}
+use Rattle.run_log.specs.Happened.{HasRun}
 use Rattle.replay.specs.declared.kept.ScriptedEvent.{ScriptedEvent}
 use Rattle.replay.specs.declared.kept.RunEvent.{RunEvent}
 use Rattle.station.specs.ReplyView.{reply_view}
@@ -246,14 +246,11 @@ pub replayed_world : {C O : Type 0} {cell : CellWords C} {slots : SlotWords C} (
     (stations : List (Station C O slots cell)) (options : Options) (net : Network) (inputs : List (List ℤ))
     (script : List ScriptedEvent) (first now : WorldView) → AllByRecursion IsRunRoom (capacities stations)
     → first.stations ≡ map (station_view taken failures) stations → first ≡ first_world net inputs options.room
-    → (happened : List Happening) × LeadsTo (rooms stations) script first happened now
-    → IsReplayed options net inputs script now
-replayed_world taken failures stations options net inputs script first now room same opened run = (
-  run.0,
-  subst (λ (w : WorldView). LeadsTo (run_rooms w.stations) script w run.0 now) opened
-      (subst (λ (fits : List (RecordView → Bool)). LeadsTo fits script first run.0 now)
-      (rooms_are taken failures stations room ∙ ap run_rooms (sym same)) run.1),
-)
+    → HasRun (rooms stations) script first now → IsReplayed options net inputs script now
+replayed_world taken failures stations options net inputs script first now room same opened run =
+    subst (λ (w : WorldView). HasRun (run_rooms w.stations) script w now) opened
+    (subst (λ (fits : List (RecordView → Bool)). HasRun fits script first now)
+    (rooms_are taken failures stations room ∙ ap run_rooms (sym same)) run)
 
 -- the end of a run by threads
 pub by_threads_ends : {T E : Type 0} (view : T → WorldView) (plain : Bool) (options : Options) (net : Network)
@@ -271,8 +268,9 @@ if_ok_then P Q (Ok value) go holds = go value holds
 
 pub by_threads_stays : {T E : Type 0} (view : T → WorldView) (fits : List (RecordView → Bool))
     (script : List ScriptedEvent) (first : WorldView) (result : Result T E)
-    → IfOk result (λ now. (happened : List Happening) × LeadsTo fits script first happened (view now))
+    → IfOk result (λ now. HasRun fits script first (view now))
     → IfOk result (λ now. ∥ ((view now).net ≡ first.net) × ((view now).inputs ≡ first.inputs) ∥₁)
 by_threads_stays view fits script first (Err e) leads = tt
 by_threads_stays view fits script first (Ok now) leads =
-    ∥∥₁_map (replays_stay fits script first leads.0 (view now) leads.1) (λ s. (s.0, s.1))
+    ∥∥₁_elim leads ∥∥₁_prop
+    (λ run. ∥∥₁_map (replays_stay fits script first run.0 (view now) run.1) (λ s. (s.0, s.1)))

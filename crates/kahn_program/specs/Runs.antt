@@ -9,7 +9,7 @@ use Rattle.protocol.specs.World.Common.{output_channels, are_quiet, released_of,
 use Rattle.kahn_program.specs.Readings.{IsNetOf, AreInputsOf}
 use Rattle.kahn_program.specs.Report.{report_text}
 use Rattle.fail_script.specs.declared.act.ScriptLine.{ScriptLine}
-use Rattle.replay.specs.Replay.{Happening, LeadsTo}
+use Rattle.run_log.specs.Happened.{HasRun}
 use Rattle.replay.specs.declared.kept.ScriptedEvent.{ScriptedEvent}
 use Rattle.kahn_program.specs.Scripts.{AreLinesOf, scripted_of}
 use Rattle.kahn_program.specs.Turning.{IsRunByTurns, cut_at, first_world, is_over, run_rooms}
@@ -62,12 +62,11 @@ IsLast options net inputs script now =
     IsRunByTurns (is_over (output_channels 0 net.channels) options.rounds options.items) (node_count net) script
     (first_world net inputs options.room) now
 
--- The world at the end of a run by threads: a history leads to it, each event of which is one that was next for its node, a
+-- The world at the end of a run by threads: a history, which isn't kept, leads to it, each event of which is one that was next for its node, a
 -- turn that came back to its node, or the event of the script's next line.
 abbrev pub IsReplayed : Options → Network → List (List ℤ) → List ScriptedEvent → WorldView → Type 0
 IsReplayed options net inputs script now =
-    (happened : List Happening) × LeadsTo (run_rooms (first_world net inputs options.room).stations) script
-    (first_world net inputs options.room) happened now
+    HasRun (run_rooms (first_world net inputs options.room).stations) script (first_world net inputs options.room) now
 
 -- by turns where they are asked for
 abbrev pub IsEnd : Bool → Options → Network → List (List ℤ) → List ScriptedEvent → WorldView → Type 0

@@ -7,7 +7,7 @@ ghost use Rattle.std.specs.List.{AllByRecursion};
 ghost use Rattle.sector_disk.specs.MemDisk.{failures_of};
 ghost use Rattle.protocol.specs.World.Common.{are_quiet, released_of, goes_outside, output_channels};
 ghost use Rattle.protocol.specs.World.Quiet.{AreWhole};
-ghost use Rattle.replay.specs.Replay.{Happening, LeadsTo};
+ghost use Rattle.run_log.specs.Happened.{HasRun};
 ghost use Rattle.world.specs.WholeView.{world_of};
 ghost use Rattle.world.specs.WorldView.{capacities, rooms};
 ghost use Rattle.kahn_program.specs.Turning.{IsRunRoom, first_world, nearest_room};
@@ -134,12 +134,11 @@ fn run_by_threads<R: Threads + Wait + Sync>(
     script: Vec<ScriptedEvent>,
     bounds: Bounds,
 ) -> Result<RunWorld, Failure>
-    ensures run { IfOk result (λ now. (happened : List Happening)
-        × LeadsTo (rooms world.stations.items) script.items (world_of world) happened
+    ensures run { IfOk result (λ now. HasRun (rooms world.stations.items) script.items (world_of world)
         (world_of now)) }
     ensures err { IfErr result (IsStoreFailure false) }
 {
-    let Ended { world, end, .. } = run_world(rt, alloc, world, script, &NoWatch, bounds);
+    let Ended { world, end, .. } = run_world(rt, alloc, world, script, &NoWatch, bounds, false);
     match end {
         RunEnd::Refused(fault) => Err(hub_failure(fault)),
         RunEnd::Complete | RunEnd::Rounds | RunEnd::Items | RunEnd::Stopped => Ok(world),

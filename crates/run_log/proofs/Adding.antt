@@ -1,5 +1,5 @@
 -- A history that goes on.
-use Rattle.std.proofs.Common.{◌≡◌, ◌∙◌, ◌⊎◌, ◌++◌, ◌∷◌, [], ℕ, ◌+◌, ◌≤◌, Bool, true, List, drop, take, slice_get, Option, Some, None, refl, sym, ap, subst}
+use Rattle.std.proofs.Common.{◌≡◌, ◌∙◌, ◌⊎◌, ◌++◌, ◌∷◌, [], ℕ, ◌+◌, ◌≤◌, Bool, true, false, List, drop, take, slice_get, Option, Some, None, refl, sym, ap, subst}
 use Rattle.std.proofs.Common.{arith, inl, inr}
 use Rattle.std.proofs.Math.Logic.{∥∥₁_map, ∥∥₁_map₂}
 use Rattle.std.specs.Prelude.{is_some, IfSome, IsTrue}
@@ -18,7 +18,8 @@ use Rattle.replay.specs.declared.kept.Maker.{Maker}
 use Rattle.replay.specs.declared.kept.ScriptedEvent.{ScriptedEvent}
 use Rattle.replay.specs.declared.kept.Silence.{Silence}
 use Rattle.run_log.specs.Answers.{IsReplyIn, IsSilentIn, IsStillIn}
-use Rattle.run_log.specs.Counts.{numbers_in, events_in, nothings_in, not_yets_in, no_mores_in}
+use Rattle.run_log.specs.Counts.{numbers_in, events_in, nothings_in, not_yets_in, no_mores_in, IsCounted}
+use Rattle.run_log.specs.Happened.{HasHappened, HasRun}
 use Rattle.run_log.specs.Added.{IsAdded}
 use Rattle.run_log.specs.Lines.{IsSaidAt, IsWidened, happenings, happenings_of}
 use Rattle.run_log.specs.Numbers.{counted}
@@ -27,24 +28,24 @@ use Rattle.run_log.specs.declared.history.Line.TheVariants as line
 use Rattle.run_log.specs.declared.seat_count.Counted.TheVariants as kind
 use Rattle.run_log.proofs.Raising.{from_here, same_numbers}
 
-abbrev Replays : List (RecordView → Bool) → List ScriptedEvent → WorldView → List Happening → ℕ → ArmedView → Type 0
-Replays fits script opening happened passed armed = ∥ IsReplay fits script opening happened passed armed ∥₁
+abbrev Replays : List (RecordView → Bool) → List ScriptedEvent → WorldView → Bool → List Line → ℕ → ArmedView → Type 0
+Replays fits script opening keeps lines passed armed = ∥ HasHappened fits script opening keeps lines passed armed ∥₁
 
 -- nothing is written yet
-pub begins : (fits : List (RecordView → Bool)) (script : List ScriptedEvent) (opening : WorldView) (armed : ArmedView)
-    (lines : List Line) → lines ≡ [] → armed ≡ armed_at_first opening
-    → Replays fits script opening (happenings lines) 0 armed
-begins fits script opening armed lines none same =
-    subst (λ (ls : List Line). Replays fits script opening (happenings ls) 0 armed) (sym none) ∣ at_first armed same ∣₁
+pub begins : (fits : List (RecordView → Bool)) (script : List ScriptedEvent) (opening : WorldView) (keeps : Bool)
+    (armed : ArmedView) (lines : List Line) → lines ≡ [] → armed ≡ armed_at_first opening
+    → Replays fits script opening keeps lines 0 armed
+begins fits script opening keeps armed lines none same =
+    ∣ record { happened = []; run = at_first armed same; written = λ yes. ap happenings none } ∣₁
 
 -- an event
-pub makes : (fits here : List (RecordView → Bool)) (script : List ScriptedEvent) (opening : WorldView)
+pub makes : (fits here : List (RecordView → Bool)) (script : List ScriptedEvent) (opening : WorldView) (keeps writes : Bool)
     (before now : List Line) (passed after : ℕ) (old new : ArmedView) (maker : Maker) (event : ArmedEvent)
-    (answer : ReplyView) → Replays fits script opening (happenings before) passed old
-    → IsEventOf script maker passed old.world event → IsAdded maker event answer before now
+    (answer : ReplyView) → Replays fits script opening keeps before passed old → writes ≡ keeps
+    → IsEventOf script maker passed old.world event → IsAdded writes maker event answer before now
     → IsArmedStep here event old answer new
-    → after ≡ passed_by maker passed → here ≡ fits → Replays fits script opening (happenings now) after new
-makes fits here script opening before now passed after old new maker event answer run own added step count same =
+    → after ≡ passed_by maker passed → here ≡ fits → Replays fits script opening keeps now after new
+makes fits here script opening keeps writes before now passed after old new maker event answer run writing own added step count same =
     let next = Made maker added.kept (kept_reply answer) in
     let made : Happens fits script next passed old new =
     record {
@@ -55,23 +56,28 @@ makes fits here script opening before now passed after old new maker event answe
       is_said = refl;
       step = subst (λ (rooms : List (RecordView → Bool)). IsArmedStep rooms event old answer new) same step;
     } in
-    ∥∥₁_map run (λ r. and_then (happenings before) (happenings now) next passed after old new r made added.happened count)
+    ∥∥₁_map run (λ r. record {
+      happened = r.happened ++ next ∷ [];
+      run = and_then r.happened (r.happened ++ next ∷ []) next passed after old new r.run made refl count;
+      written = λ yes. added.happened (writing ∙ yes)
+          ∙ ap (λ (happened : List Happening). happened ++ next ∷ []) (r.written yes);
+    })
 
 -- so whoever is told the answer is told of a run
-pub tells : (fits here : List (RecordView → Bool)) (script : List ScriptedEvent) (opening : WorldView) (before now : List Line)
-    (passed : ℕ) (old new : ArmedView) (maker : Maker) (event : ArmedEvent) (answer : ReplyView)
-    → Replays fits script opening (happenings before) passed old
-    → IsEventOf script maker passed old.world event → IsAdded maker event answer before now
+pub tells : (fits here : List (RecordView → Bool)) (script : List ScriptedEvent) (opening : WorldView) (keeps writes : Bool)
+    (before now : List Line) (passed : ℕ) (old new : ArmedView) (maker : Maker) (event : ArmedEvent) (answer : ReplyView)
+    → Replays fits script opening keeps before passed old
+    → IsEventOf script maker passed old.world event → IsAdded writes maker event answer before now
     → IsArmedStep here event old answer new → here ≡ fits → ∥ IsReplyIn fits script opening maker answer ∥₁
-tells fits here script opening before now passed old new maker event answer run own added step same =
+tells fits here script opening keeps writes before now passed old new maker event answer run own added step same =
     ∥∥₁_map run (λ r. record {
-      before = happenings before;
+      before = r.happened;
       passed = passed;
       old = old;
       new = new;
       kept = added.kept;
       said = kept_reply answer;
-      run = r;
+      run = r.run;
       made = record {
         event = event;
         answer = answer;
@@ -83,29 +89,32 @@ tells fits here script opening before now passed old new maker event answer run 
       answered = refl;
     })
 
-pub tells_silence : (fits : List (RecordView → Bool)) (script : List ScriptedEvent) (opening : WorldView) (happened : List Happening)
-    (passed : ℕ) (armed : ArmedView) (reason : Silence) → Replays fits script opening happened passed armed
+pub tells_silence : (fits : List (RecordView → Bool)) (script : List ScriptedEvent) (opening : WorldView) (keeps : Bool)
+    (lines : List Line) (passed : ℕ) (armed : ArmedView) (reason : Silence) → Replays fits script opening keeps lines passed armed
     → ∥ IsSilence script reason passed armed.world ∥₁ → ∥ IsSilentIn fits script opening reason ∥₁
-tells_silence fits script opening happened passed armed reason run silent =
+tells_silence fits script opening keeps lines passed armed reason run silent =
     ∥∥₁_map₂ run silent (λ r said.
-    record { before = happened; passed = passed; old = armed; run = r; silence = said })
+    record { before = r.happened; passed = passed; old = armed; run = r.run; silence = said })
 
-pub tells_still : (fits : List (RecordView → Bool)) (script : List ScriptedEvent) (opening : WorldView) (happened : List Happening)
-    (passed : ℕ) (armed : ArmedView) → Replays fits script opening happened passed armed → stands_still armed.world ≡ true
-    → ∥ IsStillIn fits script opening ∥₁
-tells_still fits script opening happened passed armed run still =
-    ∥∥₁_map run (λ r. record { before = happened; passed = passed; old = armed; run = r; still = still })
+pub tells_still : (fits : List (RecordView → Bool)) (script : List ScriptedEvent) (opening : WorldView) (keeps : Bool)
+    (lines : List Line) (passed : ℕ) (armed : ArmedView) → Replays fits script opening keeps lines passed armed
+    → stands_still armed.world ≡ true → ∥ IsStillIn fits script opening ∥₁
+tells_still fits script opening keeps lines passed armed run still =
+    ∥∥₁_map run (λ r. record { before = r.happened; passed = passed; old = armed; run = r.run; still = still })
 
 -- more room for channels
-pub widens : (fits : List (RecordView → Bool)) (script : List ScriptedEvent) (opening : WorldView)
+pub widens : (fits : List (RecordView → Bool)) (script : List ScriptedEvent) (opening : WorldView) (keeps writes : Bool)
     (before now : List Line) (passed : ℕ) (old new : ArmedView)
-    → Replays fits script opening (happenings before) passed old → stands_still old.world ≡ true
-    → IsWidened before now → new ≡ armed_widened old → Replays fits script opening (happenings now) passed new
-widens fits script opening before now passed old new run still added wider =
-    let longer : happenings now ≡ happenings before ++ Widened ∷ [] =
-    ap happenings added ∙ flat_map-append happenings_of before (line.Widened ∷ []) in
-    ∥∥₁_map run (λ r.
-    and_then (happenings before) (happenings now) Widened passed passed old new r (still, wider) longer refl)
+    → Replays fits script opening keeps before passed old → writes ≡ keeps → stands_still old.world ≡ true
+    → (writes ≡ true → IsWidened before now) → new ≡ armed_widened old → Replays fits script opening keeps now passed new
+widens fits script opening keeps writes before now passed old new run writing still added wider =
+    ∥∥₁_map run (λ r. record {
+      happened = r.happened ++ Widened ∷ [];
+      run = and_then r.happened (r.happened ++ Widened ∷ []) Widened passed passed old new r.run (still, wider) refl refl;
+      written = λ yes. ap happenings (added (writing ∙ yes))
+          ∙ (flat_map-append happenings_of before (line.Widened ∷ [])
+          ∙ ap (λ (happened : List Happening). happened ++ Widened ∷ []) (r.written yes));
+    })
 
 pub numbers_widened : (before now : List Line) (stops : ℕ) → IsWidened before now
     → numbers_in now stops ≡ counted kind.Entry (numbers_in before stops)
@@ -117,26 +126,51 @@ numbers_widened before now stops added =
     (omega (arith, sum_by-append no_mores_in before one)) refl
 
 -- an answer without one
-pub stays_silent : (fits : List (RecordView → Bool)) (script : List ScriptedEvent) (opening : WorldView)
-    (before now : List Line) (passed : ℕ) (world : ArmedView) (reason : Silence)
-    → Replays fits script opening (happenings before) passed world → ∥ IsSilence script reason passed world.world ∥₁
-    → ((happenings now ≡ happenings before) ⊎ (happenings now ≡ happenings before ++ Silent reason ∷ []))
-    → Replays fits script opening (happenings now) passed world
-stays_silent fits script opening before now passed world reason run silent (inl same) =
-    subst (λ (happened : List Happening). Replays fits script opening happened passed world) (sym same) run
-stays_silent fits script opening before now passed world reason run silent (inr longer) =
-    ∥∥₁_map₂ run silent (λ r said.
-    and_then (happenings before) (happenings now) (Silent reason) passed passed world world r (said, refl) longer refl)
+pub stays_silent : (fits : List (RecordView → Bool)) (script : List ScriptedEvent) (opening : WorldView) (keeps writes : Bool)
+    (before now : List Line) (passed : ℕ) (armed : ArmedView) (reason : Silence)
+    → Replays fits script opening keeps before passed armed → writes ≡ keeps → ∥ IsSilence script reason passed armed.world ∥₁
+    → (writes ≡ true → IsCounted reason before now)
+    → Replays fits script opening keeps now passed armed
+stays_silent fits script opening false writes before now passed armed reason run writing silent counted =
+    ∥∥₁_map run (λ r. record { happened = r.happened; run = r.run; written = λ never. absurd (cc) })
+stays_silent fits script opening true writes before now passed armed reason run writing silent counted =
+    by (counted writing).lines
+  where
+    by : ((happenings now ≡ happenings before) ⊎ (happenings now ≡ happenings before ++ Silent reason ∷ []))
+        → Replays fits script opening true now passed armed
+    by (inl same) = ∥∥₁_map run (λ r. record { happened = r.happened; run = r.run; written = λ yes. same ∙ r.written yes })
+    by (inr longer) =
+        ∥∥₁_map₂ run silent (λ r said. record {
+          happened = r.happened ++ Silent reason ∷ [];
+          run = and_then r.happened (r.happened ++ Silent reason ∷ []) (Silent reason) passed passed armed armed r.run (said, refl)
+              refl refl;
+          written = λ yes. longer ∙ ap (λ (happened : List Happening). happened ++ Silent reason ∷ []) (r.written yes);
+        })
 
-pub leads : (fits : List (RecordView → Bool)) (script : List ScriptedEvent) (opening : WorldView) (armed : ArmedView)
-    (happened : List Happening) (passed : ℕ) → Replays fits script opening happened passed armed
-    → LeadsTo fits script opening happened armed.world
-leads fits script opening armed happened passed run = ∥∥₁_map run (λ r. (passed, armed, r, refl))
+pub runs : (fits : List (RecordView → Bool)) (script : List ScriptedEvent) (opening : WorldView) (keeps : Bool) (armed : ArmedView)
+    (lines : List Line) (passed : ℕ) → Replays fits script opening keeps lines passed armed
+    → HasRun fits script opening armed.world
+runs fits script opening keeps armed lines passed run =
+    ∥∥₁_map run (λ r. (r.happened, ∣ (passed, armed, r.run, refl) ∣₁))
+
+-- where it is written it is what the lines say
+as_written : (fits : List (RecordView → Bool)) (script : List ScriptedEvent) (opening : WorldView) (keeps : Bool) (armed : ArmedView)
+    (lines : List Line) (passed : ℕ) → keeps ≡ true → Replays fits script opening keeps lines passed armed
+    → ∥ IsReplay fits script opening (happenings lines) passed armed ∥₁
+as_written fits script opening keeps armed lines passed writes run =
+    ∥∥₁_map run (λ r. subst (λ (happened : List Happening). IsReplay fits script opening happened passed armed)
+    (sym (r.written writes)) r.run)
+
+pub leads : (fits : List (RecordView → Bool)) (script : List ScriptedEvent) (opening : WorldView) (keeps : Bool) (armed : ArmedView)
+    (lines : List Line) (passed : ℕ) → Replays fits script opening keeps lines passed armed → keeps ≡ true
+    → LeadsTo fits script opening (happenings lines) armed.world
+leads fits script opening keeps armed lines passed run writes =
+    ∥∥₁_map (as_written fits script opening keeps armed lines passed writes run) (λ r. (passed, armed, r, refl))
 
 -- what was said since the last event holds
 said_at : (fits : List (RecordView → Bool)) (script : List ScriptedEvent) (opening : WorldView) (lines : List Line)
     (passed : ℕ) (world : ArmedView) (reason : Silence) (place : ℕ) → IsSaidAt lines place reason
-    → Replays fits script opening (happenings lines) passed world → ∥ IsSilence script reason passed world.world ∥₁
+    → ∥ IsReplay fits script opening (happenings lines) passed world ∥₁ → ∥ IsSilence script reason passed world.world ∥₁
 said_at fits script opening lines passed world reason place said run =
     let before = happenings (take place lines) in
     let rest = happenings (drop (place + 1) lines) in
@@ -147,13 +181,13 @@ said_at fits script opening lines passed world reason place said run =
     ∥∥₁_map run (λ r.
     silences_stay fits script opening (happenings lines) passed world r before rest reason split said.2)
 
-pub said_still : (fits : List (RecordView → Bool)) (script : List ScriptedEvent) (opening : WorldView)
-    (lines : List Line) (passed : ℕ) (world : ArmedView) (reason : Silence) (place : Option ℕ)
+pub said_still : (fits : List (RecordView → Bool)) (script : List ScriptedEvent) (opening : WorldView) (keeps : Bool)
+    (lines : List Line) (passed : ℕ) (world : ArmedView) (reason : Silence) (place : Option ℕ) → keeps ≡ true
     → IfSome place (λ p. IsSaidAt lines p reason) → IsTrue (is_some place)
-    → Replays fits script opening (happenings lines) passed world → ∥ IsSilence script reason passed world.world ∥₁
-said_still fits script opening lines passed world reason None said found run = absurd (cc)
-said_still fits script opening lines passed world reason (Some place) said found run =
-    said_at fits script opening lines passed world reason place said run
+    → Replays fits script opening keeps lines passed world → ∥ IsSilence script reason passed world.world ∥₁
+said_still fits script opening keeps lines passed world reason None writes said found run = absurd (cc)
+said_still fits script opening keeps lines passed world reason (Some place) writes said found run =
+    said_at fits script opening lines passed world reason place said (as_written fits script opening keeps world lines passed writes run)
 
 -- a line of the script that is due
 pub due_line : (script : List ScriptedEvent) (passed round : ℕ) (line : ScriptedEvent) (event : ArmedEvent)

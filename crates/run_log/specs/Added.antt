@@ -1,5 +1,5 @@
 -- A history to which an event is put.
-use Rattle.std.specs.Prelude.{◌≡◌, ◌+◌, ℕ, List, [], ◌∷◌, ◌++◌}
+use Rattle.std.specs.Prelude.{◌≡◌, ◌+◌, ℕ, Bool, true, List, [], ◌∷◌, ◌++◌}
 use Rattle.protocol.specs.World.Common.{ReplyView}
 use Rattle.replay.specs.Armed.{ArmedEvent}
 use Rattle.replay.specs.Replay.{Happening, IsKeptOf, KeptEventView, Made}
@@ -37,9 +37,9 @@ pub record IsPut (entry : Entry) (before now : List Line) : Type 0 where
   pub happened : happenings now ≡ happenings before ++ made_of entry ∷ []
   pub counts : (stops : ℕ) → numbers_in now stops ≡ counted AnEvent (numbers_in before stops)
 
--- an event of this maker was, with this answer
-pub record IsAdded (maker : Maker) (event : ArmedEvent) (answer : ReplyView) (before now : List Line) : Type 0 where
+-- an event of this maker was, with this answer, where what happens is written
+pub record IsAdded (keeps : Bool) (maker : Maker) (event : ArmedEvent) (answer : ReplyView) (before now : List Line) : Type 0 where
   pub kept : KeptEventView
-  pub happened : happenings now ≡ happenings before ++ Made maker kept (kept_reply answer) ∷ []
-  pub counts : (stops : ℕ) → numbers_in now stops ≡ counted AnEvent (numbers_in before stops)
   pub is_kept : IsKeptOf kept event
+  pub happened : keeps ≡ true → happenings now ≡ happenings before ++ Made maker kept (kept_reply answer) ∷ []
+  pub counts : keeps ≡ true → (stops : ℕ) → numbers_in now stops ≡ counted AnEvent (numbers_in before stops)

@@ -44,19 +44,21 @@ IsGrantedIn node other = Unit {0}
 
 -- ---- what is written of it
 
--- The event of an answer stands behind all other lines, with its maker and with this very answer; so does it that channels got more
--- room; and an answer without an event is counted, and makes no other.
-abbrev pub IsTurnWritten : ℕ → List Line → List Line → TurnAnswer → Type 0
-IsTurnWritten node before now (turn.Reply reply) = (event : ArmedEvent) × IsAdded (Node node) event (reply_view reply) before now
-IsTurnWritten node before now turn.Nothing = IsCounted (Nothing node) before now
-IsTurnWritten node before now turn.Widened = IsWidened before now
-IsTurnWritten node before now turn.Stopped = now ≡ before
+-- Where what happens is written, the event of an answer stands behind all others, with its maker and with this very answer; so does it
+-- that channels got more room; and an answer without an event is counted, and makes no other.
+abbrev pub IsTurnWritten : Bool → ℕ → List Line → List Line → TurnAnswer → Type 0
+IsTurnWritten keeps node before now (turn.Reply reply) =
+    (event : ArmedEvent) × IsAdded keeps (Node node) event (reply_view reply) before now
+IsTurnWritten keeps node before now turn.Nothing = keeps ≡ true → IsCounted (Nothing node) before now
+IsTurnWritten keeps node before now turn.Widened = keeps ≡ true → IsWidened before now
+IsTurnWritten keeps node before now turn.Stopped = now ≡ before
 
-abbrev pub IsFaultWritten : List Line → List Line → FaultAnswer → Type 0
-IsFaultWritten before now (fault.Reply reply) = (event : ArmedEvent) × IsAdded Driver event (reply_view reply) before now
-IsFaultWritten before now fault.NotYet = IsCounted NotYet before now
-IsFaultWritten before now fault.NoMore = IsCounted NoMore before now
-IsFaultWritten before now fault.Stopped = now ≡ before
+abbrev pub IsFaultWritten : Bool → List Line → List Line → FaultAnswer → Type 0
+IsFaultWritten keeps before now (fault.Reply reply) =
+    (event : ArmedEvent) × IsAdded keeps Driver event (reply_view reply) before now
+IsFaultWritten keeps before now fault.NotYet = keeps ≡ true → IsCounted NotYet before now
+IsFaultWritten keeps before now fault.NoMore = keeps ≡ true → IsCounted NoMore before now
+IsFaultWritten keeps before now fault.Stopped = now ≡ before
 
 -- ---- what it says of the run, to whoever can't see what is written
 

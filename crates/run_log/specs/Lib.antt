@@ -5,6 +5,7 @@ pub mod LedgerNames
 pub mod Lines
 pub mod Counts
 pub mod Added
+pub mod Happened
 pub mod Answers
 pub mod ArmedWorlds
 pub mod RunLogs

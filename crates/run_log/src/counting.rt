@@ -1,7 +1,7 @@
 // Answers without an event, counted between the events.
-ghost use Rattle.std.specs.Prelude.{◌≡◌, ◌⊎◌, ◌++◌, ◌∷◌, [], ◌<◌, ◌+◌, ◌-◌, ℕ, IfSome, OnErr, OnOk};
+ghost use Rattle.std.specs.Prelude.{◌≡◌, ◌⊎◌, ◌++◌, ◌∷◌, [], ◌<◌, ◌+◌, ◌-◌, ℕ, true, IfSome, OnErr, OnOk};
 ghost use Rattle.replay.specs.Replay as happening;
-ghost use Rattle.run_log.specs.Counts.{kind_of, numbers_in};
+ghost use Rattle.run_log.specs.Counts.{kind_of, numbers_in, IsCounted};
 ghost use Rattle.run_log.specs.Lines.{IsSaidAt, IsWidened, happenings};
 ghost use Rattle.run_log.specs.Numbers.{counted};
 
@@ -49,8 +49,8 @@ fn raise(lines: &mut Vec<Line>, place: usize, reason: Silence) -> Result<(), Hub
     }
 }
 
-/// Counts an answer without an event: where it was given since the last event, and else in a line of its own.
-pub(crate) fn add_silence(lines: &mut Vec<Line>, reason: Silence) -> Result<(), HubFault>
+// Counts an answer without an event: where it was given since the last event, and else in a line of its own.
+fn add_silence(lines: &mut Vec<Line>, reason: Silence) -> Result<(), HubFault>
     ensures lines { OnOk result ((happenings lines.new.items ≡ happenings lines.old.items)
         ⊎ (happenings lines.new.items
         ≡ happenings lines.old.items ++ happening.Silent reason ∷ [])) }
@@ -67,13 +67,39 @@ pub(crate) fn add_silence(lines: &mut Vec<Line>, reason: Silence) -> Result<(), 
     Ok(())
 }
 
-/// Notes that channels got more room.
-pub(crate) fn add_widened(lines: &mut Vec<Line>) -> Result<(), HubFault>
+// Notes that channels got more room.
+fn add_widened(lines: &mut Vec<Line>) -> Result<(), HubFault>
     ensures added { OnOk result (IsWidened lines.old.items lines.new.items) }
     ensures refused { OnErr result (lines.new.items ≡ lines.old.items) }
 {
     if lines.push(Line::Widened).is_err() {
         return Err(HubFault::NoMemory);
+    }
+    Ok(())
+}
+
+/// The same, where what happens is written.
+pub(crate) fn write_silence(
+    lines: &mut Vec<Line>,
+    keeps: bool,
+    reason: Silence,
+) -> Result<(), HubFault>
+    ensures counted { OnOk result (keeps ≡ true → IsCounted reason lines.old.items lines.new.items) }
+    ensures refused { OnErr result (lines.new.items ≡ lines.old.items) }
+{
+    if keeps {
+        add_silence(lines, reason)?;
+    }
+    Ok(())
+}
+
+/// Notes that channels got more room, where what happens is written.
+pub(crate) fn write_widened(lines: &mut Vec<Line>, keeps: bool) -> Result<(), HubFault>
+    ensures added { OnOk result (keeps ≡ true → IsWidened lines.old.items lines.new.items) }
+    ensures refused { OnErr result (lines.new.items ≡ lines.old.items) }
+{
+    if keeps {
+        add_widened(lines)?;
     }
     Ok(())
 }

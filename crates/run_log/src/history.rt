@@ -39,7 +39,7 @@ pub enum Line {
     Widened,
 }
 
-/// All that happened in a run, and how often a seat was answered `Stopped`.
+/// All that happened in a run, where it was kept, and how often a seat was answered `Stopped`.
 #[derive(Drop)]
 pub struct History {
     pub lines: Vec<Line>,

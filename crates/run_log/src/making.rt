@@ -10,7 +10,7 @@ ghost use Rattle.station.specs.EventView.{event_view};
 ghost use Rattle.station.specs.ReplyView.{reply_view};
 ghost use Rattle.world.specs.WorldView.{rooms};
 
-use crate::appending::put_entry;
+use crate::appending::write_entry;
 use crate::armed::ArmedWorld;
 use crate::history::{Entry, KeptEvent, Line};
 use crate::keeping::{keep, keep_reply};
@@ -20,15 +20,16 @@ use slot_cell::SlotCell;
 use std::alloc::{AllocError, Global};
 use world::{Event, Refused, Reply};
 
-/// Makes an event of a node, and keeps it with its answer. The room of its line is made first, and a refusal leaves all as it was.
+/// Makes an event of a node, and writes it with its answer, where what happens is written. The room of its line is made first, and a refusal leaves all as it was.
 pub(crate) fn make_event<C: SlotCell, O: Outlet>(
     alloc: Global,
     world: &mut ArmedWorld<C, O>,
     lines: &mut Vec<Line>,
+    keeps: bool,
     node: u8,
     event: Event,
 ) -> Result<Reply, Refused>
-    ensures added { IfOk result (λ reply. IsAdded (who.Node node) (OfWorld (event_view event))
+    ensures added { IfOk result (λ reply. IsAdded keeps (who.Node node) (OfWorld (event_view event))
         (reply_view reply) lines.old.items lines.new.items) }
     ensures step { IfOk result (λ reply. IsArmedStep (rooms world.old.world.stations.items)
         (OfWorld (event_view event)) (armed_view world.old) (reply_view reply)
@@ -53,19 +54,20 @@ pub(crate) fn make_event<C: SlotCell, O: Outlet>(
         event: kept,
         reply: said,
     };
-    put_entry(lines, entry);
+    write_entry(lines, keeps, entry);
     Ok(reply)
 }
 
-/// Makes the event of a line of the script, and keeps it with its answer. The room of its line is made first, and a refusal leaves
+/// Makes the event of a line of the script, and writes it with its answer, where what happens is written. The room of its line is made first, and a refusal leaves
 /// all as it was.
 pub(crate) fn make_scripted<C: SlotCell, O: Outlet>(
     alloc: Global,
     world: &mut ArmedWorld<C, O>,
     lines: &mut Vec<Line>,
+    keeps: bool,
     event: RunEvent,
 ) -> Result<Reply, AllocError>
-    ensures added { IfOk result (λ reply. IsAdded who.Driver (run_view event) (reply_view reply)
+    ensures added { IfOk result (λ reply. IsAdded keeps who.Driver (run_view event) (reply_view reply)
         lines.old.items lines.new.items) }
     ensures step { IfOk result (λ reply. IsArmedStep (rooms world.old.world.stations.items)
         (run_view event) (armed_view world.old) (reply_view reply) (armed_view world.new)) }
@@ -81,6 +83,6 @@ pub(crate) fn make_scripted<C: SlotCell, O: Outlet>(
         event: KeptEvent::Plain(event),
         reply: said,
     };
-    put_entry(lines, entry);
+    write_entry(lines, keeps, entry);
     Ok(reply)
 }

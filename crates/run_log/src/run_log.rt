@@ -3,7 +3,8 @@ ghost use Rattle.std.specs.Prelude.{◌≡◌, ◌||◌, ◌<◌, true, false, l
 ghost use Rattle.protocol.specs.World.Common.{event_node, Install, are_quiet, stands_still, IsGrantedAt};
 ghost use Rattle.replay.specs.Armed.{OfWorld, armed_at_first};
 ghost use Rattle.replay.specs.Plain.{run_view};
-ghost use Rattle.replay.specs.Replay.{IsEventOf, IsIdle, IsReplay, IsSilence, LeadsTo, has_idled};
+ghost use Rattle.replay.specs.Replay.{IsEventOf, IsIdle, IsSilence, LeadsTo, has_idled};
+ghost use Rattle.run_log.specs.Happened.{HasHappened, HasRun};
 ghost use Rattle.replay.specs.declared.kept.Maker.TheVariants as who;
 ghost use Rattle.run_log.specs.ArmedWorlds.{armed_view};
 ghost use Rattle.run_log.specs.Answers.{fault_kind, turn_kind, IsGrantedIn, IsReplyIn, IsSilentIn, IsStillIn, IsFaultWritten, IsTurnWritten, TellsFault, TellsTurn};
@@ -24,7 +25,7 @@ ghost use Rattle.station.specs.declared.event.Event.TheVariants as event;
 
 use crate::answer::{FaultAnswer, HeldBack, HubFault, Status, TurnAnswer};
 use crate::armed::ArmedWorld;
-use crate::counting::{add_silence, add_widened, find_silence};
+use crate::counting::{find_silence, write_silence, write_widened};
 use crate::history::{History, Line};
 use crate::making::{make_event, make_scripted};
 use crate::seat_count::{Counted, Run, RunCount, SeatCount};
@@ -54,16 +55,19 @@ pub struct RunLog<C: SlotCell, O: Outlet, ThisRun: Run> {
     // How many lines of the script are passed.
     passed: usize,
     lines: Vec<Line>,
+    // Whether what happens is written.
+    keeps: bool,
     stopped: bool,
     stops: u64,
     // Whether the world was found incomplete, and no event came since.
     incomplete: bool,
     totals: RunCount<ThisRun>,
-    pub ghost replays: { ∥ IsReplay ThisRun.rooms ThisRun.script ThisRun.opening (happenings lines.items) passed
+    pub ghost replays: { ∥ HasHappened ThisRun.rooms ThisRun.script ThisRun.opening ThisRun.keeps lines.items passed
         (armed_view armed) ∥₁ },
+    pub ghost same_keeps: { keeps ≡ ThisRun.keeps },
     pub ghost same_rooms: { rooms armed.world.stations.items ≡ ThisRun.rooms },
     pub ghost same_script: { script.items ≡ ThisRun.script },
-    pub ghost numbers: { numbers_in lines.items stops ≡ run_numbers totals },
+    pub ghost numbers: { ThisRun.keeps ≡ true → numbers_in lines.items stops ≡ run_numbers totals },
     pub ghost running: { stopped ≡ false → stops ≡ 0 },
     pub ghost still: { incomplete ≡ true → are_quiet (world_of armed.world) ≡ false },
 }
@@ -106,23 +110,26 @@ fn has_idled<C: SlotCell, O: Outlet>(world: &World<C, O>, node: u8) -> bool
 impl<C: SlotCell, O: Outlet, ThisRun: Run> RunLog<C, O, ThisRun> {
     ghost use Rattle.run_log.specs.RunLogs.{IsSameLog};
 
-    /// A log in which nothing is written yet.
+    /// A log in which nothing is written yet, and later only where it keeps what happens.
     pub fn new(
         alloc: Global,
         armed: ArmedWorld<C, O>,
         script: Vec<ScriptedEvent>,
         totals: RunCount<ThisRun>,
+        keeps: bool,
     ) -> RunLog<C, O, ThisRun>
         requires opening { armed_view armed ≡ armed_at_first ThisRun.opening }
         requires rooms { rooms armed.world.stations.items ≡ ThisRun.rooms }
         requires script { script.items ≡ ThisRun.script }
         requires totals { run_numbers totals ≡ no_numbers }
+        requires keeps { keeps ≡ ThisRun.keeps }
     {
         RunLog {
             armed,
             script,
             passed: 0,
             lines: Vec::new(alloc),
+            keeps,
             stopped: false,
             stops: 0,
             incomplete: false,
@@ -146,7 +153,7 @@ impl<C: SlotCell, O: Outlet, ThisRun: Run> RunLog<C, O, ThisRun> {
             (seat_numbers count.new ≡ counted kind.Entry (seat_numbers count.old)) }
         ensures home { IfOk result
             (λ reply. IsGrantedAt (event_node (event_view event)) (reply_view reply)) }
-        ensures added { IfOk result (λ reply. IsAdded (who.Node node) (OfWorld (event_view event))
+        ensures added { IfOk result (λ reply. IsAdded self.old.keeps (who.Node node) (OfWorld (event_view event))
             (reply_view reply) self.old.lines.items self.new.lines.items) }
         ensures told { IfOk result (λ reply. ∥ IsReplyIn ThisRun.rooms ThisRun.script ThisRun.opening (who.Node node)
             (reply_view reply) ∥₁) }
@@ -163,11 +170,12 @@ impl<C: SlotCell, O: Outlet, ThisRun: Run> RunLog<C, O, ThisRun> {
         let RunLog {
             armed,
             lines,
+            keeps,
             incomplete,
             totals,
             ..
         } = self;
-        let reply = match make_event(alloc, armed, lines, node, event) {
+        let reply = match make_event(alloc, armed, lines, *keeps, node, event) {
             Ok(reply) => reply,
             Err(Refused { event }) => {
                 return Err(HeldBack {
@@ -195,7 +203,7 @@ impl<C: SlotCell, O: Outlet, ThisRun: Run> RunLog<C, O, ThisRun> {
         ensures parts { seat_parts count.new ≡ seat_parts count.old }
         ensures counted { OnOk result
             (seat_numbers count.new ≡ counted kind.Entry (seat_numbers count.old)) }
-        ensures added { IfOk result (λ reply. IsAdded who.Driver (run_view event)
+        ensures added { IfOk result (λ reply. IsAdded self.old.keeps who.Driver (run_view event)
             (reply_view reply) self.old.lines.items self.new.lines.items) }
         ensures told { IfOk result (λ reply. ∥ IsReplyIn ThisRun.rooms ThisRun.script ThisRun.opening who.Driver
             (reply_view reply) ∥₁) }
@@ -208,12 +216,13 @@ impl<C: SlotCell, O: Outlet, ThisRun: Run> RunLog<C, O, ThisRun> {
         let RunLog {
             armed,
             lines,
+            keeps,
             passed,
             incomplete,
             totals,
             ..
         } = self;
-        let Ok(reply) = make_scripted(alloc, armed, lines, event) else {
+        let Ok(reply) = make_scripted(alloc, armed, lines, *keeps, event) else {
             return Err(HubFault::NoMemory);
         };
         *passed += 1;
@@ -229,7 +238,7 @@ impl<C: SlotCell, O: Outlet, ThisRun: Run> RunLog<C, O, ThisRun> {
         ensures parts { seat_parts count.new ≡ seat_parts count.old }
         ensures counted { OnOk result
             (seat_numbers count.new ≡ counted kind.Entry (seat_numbers count.old)) }
-        ensures added { OnOk result (IsWidened self.old.lines.items self.new.lines.items) }
+        ensures added { OnOk result (self.old.keeps ≡ true → IsWidened self.old.lines.items self.new.lines.items) }
         ensures told { OnOk result (∥ IsStillIn ThisRun.rooms ThisRun.script ThisRun.opening ∥₁) }
         ensures refused { OnErr result (seat_numbers count.new ≡ seat_numbers count.old) }
         ensures unchanged { OnErr result (IsSameLog self.old self.new) }
@@ -240,11 +249,12 @@ impl<C: SlotCell, O: Outlet, ThisRun: Run> RunLog<C, O, ThisRun> {
         let RunLog {
             armed,
             lines,
+            keeps,
             incomplete,
             totals,
             ..
         } = self;
-        add_widened(lines)?;
+        write_widened(lines, *keeps)?;
         armed.world.widen();
         *incomplete = false;
         totals.add(count, Counted::Entry);
@@ -259,13 +269,18 @@ impl<C: SlotCell, O: Outlet, ThisRun: Run> RunLog<C, O, ThisRun> {
         ensures parts { seat_parts count.new ≡ seat_parts count.old }
         ensures counted { OnOk result
             (seat_numbers count.new ≡ counted (kind_of reason) (seat_numbers count.old)) }
-        ensures added { OnOk result (IsCounted reason self.old.lines.items self.new.lines.items) }
+        ensures added { OnOk result (self.old.keeps ≡ true → IsCounted reason self.old.lines.items self.new.lines.items) }
         ensures told { OnOk result (∥ IsSilentIn ThisRun.rooms ThisRun.script ThisRun.opening reason ∥₁) }
         ensures refused { OnErr result (seat_numbers count.new ≡ seat_numbers count.old) }
         ensures unchanged { OnErr result (IsSameLog self.old self.new) }
     {
-        let RunLog { lines, totals, .. } = self;
-        add_silence(lines, reason)?;
+        let RunLog {
+            lines,
+            keeps,
+            totals,
+            ..
+        } = self;
+        write_silence(lines, *keeps, reason)?;
         totals.add(count, counted_as(reason));
         Ok(())
     }
@@ -295,6 +310,9 @@ impl<C: SlotCell, O: Outlet, ThisRun: Run> RunLog<C, O, ThisRun> {
         ensures { IsTrue result
             → ∥ IsSilence ThisRun.script reason self.now.passed (world_of self.now.armed.world) ∥₁ }
     {
+        if !self.keeps {
+            return false;
+        }
         find_silence(&self.lines, reason).is_some()
     }
 
@@ -312,7 +330,7 @@ impl<C: SlotCell, O: Outlet, ThisRun: Run> RunLog<C, O, ThisRun> {
             ≡ counted (turn_kind answer) (seat_numbers count.old)) }
         ensures home { IfOk result (IsGrantedIn node) }
         ensures written { IfOk result
-            (IsTurnWritten node self.old.lines.items self.new.lines.items) }
+            (IsTurnWritten self.old.keeps node self.old.lines.items self.new.lines.items) }
         ensures told { IfOk result (TellsTurn ThisRun.rooms ThisRun.script ThisRun.opening node) }
         ensures stopped { self.old.stopped ≡ true
             → IfOk result (λ answer. answer ≡ turns.Stopped) }
@@ -353,7 +371,7 @@ impl<C: SlotCell, O: Outlet, ThisRun: Run> RunLog<C, O, ThisRun> {
         requires part { 0 < seat_parts count.old }
         requires home { event_node (Install (done_view done)) ≡ node }
         ensures parts { seat_parts count.new ≡ seat_parts count.old }
-        ensures added { IfOk result (λ reply. IsAdded (who.Node node)
+        ensures added { IfOk result (λ reply. IsAdded self.old.keeps (who.Node node)
             (OfWorld (Install (done_view done))) (reply_view reply) self.old.lines.items self.new.lines.items) }
         ensures told { IfOk result (λ reply. ∥ IsReplyIn ThisRun.rooms ThisRun.script ThisRun.opening (who.Node node)
             (reply_view reply) ∥₁) }
@@ -377,7 +395,7 @@ impl<C: SlotCell, O: Outlet, ThisRun: Run> RunLog<C, O, ThisRun> {
         ensures counted { IfOk result (λ answer. seat_numbers count.new
             ≡ counted (fault_kind answer) (seat_numbers count.old)) }
         ensures written { IfOk result
-            (IsFaultWritten self.old.lines.items self.new.lines.items) }
+            (IsFaultWritten self.old.keeps self.old.lines.items self.new.lines.items) }
         ensures told { IfOk result (TellsFault ThisRun.rooms ThisRun.script ThisRun.opening) }
         ensures stopped { self.old.stopped ≡ true
             → IfOk result (λ answer. answer ≡ faults.Stopped) }
@@ -477,11 +495,13 @@ impl<C: SlotCell, O: Outlet, ThisRun: Run> RunLog<C, O, ThisRun> {
         }
     }
 
-    /// The world, and the history that leads to it. Whoever has the parts of all seats learns its numbers.
+    /// The world, and the history that leads to it, if one was kept. Whoever has the parts of all seats learns its numbers.
     pub fn close(mut self, all: &mut SeatCount<ThisRun>) -> (World<C, O>, History)
-        ensures leads { LeadsTo ThisRun.rooms ThisRun.script ThisRun.opening (happenings result.1.lines.items)
-            (world_of result.0) }
-        ensures numbers { seat_parts all.old ≡ ThisRun.seats
+        // Kept or not, a history leads there.
+        ensures run { HasRun ThisRun.rooms ThisRun.script ThisRun.opening (world_of result.0) }
+        ensures leads { ThisRun.keeps ≡ true → LeadsTo ThisRun.rooms ThisRun.script ThisRun.opening
+            (happenings result.1.lines.items) (world_of result.0) }
+        ensures numbers { seat_parts all.old ≡ ThisRun.seats → ThisRun.keeps ≡ true
             → numbers_in result.1.lines.items result.1.stops ≡ seat_numbers all.old }
     {
         self.totals.audit(all);

@@ -1,5 +1,5 @@
 // How often each seat was answered, in tokens that can't be made up.
-ghost use Rattle.std.specs.Prelude.{◌≡◌, ◌+◌, ◌<◌, ℕ, Bool, List, []};
+ghost use Rattle.std.specs.Prelude.{◌≡◌, ◌+◌, ◌<◌, ℕ, Bool, true, List, []};
 ghost use Rattle.protocol.specs.Node.Common.{MAX_COUNT};
 ghost use Rattle.run_log.specs.declared.seat_count.Counted.TheVariants as kind;
 ghost use Rattle.run_log.specs.Numbers.{Names, added, counted, no_names, no_numbers};
@@ -20,7 +20,8 @@ impl RunLedgers for Brand {
     ghost seats = { 0 };
 }
 
-/// Which run it is: the world that it begins with, which records its nodes' cells have room for, and its script.
+/// Which run it is: the world that it begins with, which records its nodes' cells have room for, its script, and whether a history of
+/// it is kept.
 pub trait Run: RunLedgers {
     ghost use Rattle.protocol.specs.World.Common.{WorldView};
     ghost use Rattle.protocol.specs.Node.Common.{RecordView};
@@ -31,6 +32,8 @@ pub trait Run: RunLedgers {
     ghost rooms: { List (RecordView → Bool) };
 
     ghost script: { List ScriptedEvent };
+
+    ghost keeps: { Bool };
 }
 
 impl Run for Brand {
@@ -41,6 +44,8 @@ impl Run for Brand {
     ghost rooms = { [] };
 
     ghost script = { [] };
+
+    ghost keeps = { true };
 }
 
 /// Counts the events.

@@ -1,5 +1,5 @@
 // A world that threads share.
-ghost use Rattle.std.specs.Prelude.{◌≡◌, ◌+◌, ◌≤◌, [], replicate, vec_len, IfErr, IfOk, OnErr, OnOk};
+ghost use Rattle.std.specs.Prelude.{◌≡◌, ◌+◌, ◌≤◌, true, [], replicate, vec_len, IfErr, IfOk, OnErr, OnOk};
 ghost use Rattle.std.specs.Vec.{vec_capacity};
 ghost use Rattle.protocol.specs.World.Common.{event_node, Install};
 ghost use Rattle.replay.specs.Replay.{LeadsTo};
@@ -7,6 +7,7 @@ ghost use Rattle.replay.specs.declared.kept.Maker.TheVariants as who;
 ghost use Rattle.run_log.specs.Answers.{fault_kind, turn_kind, IsGrantedIn, IsReplyIn, TellsFault, TellsTurn};
 ghost use Rattle.run_log.specs.LedgerNames.{HaveParts, names_of};
 ghost use Rattle.run_log.specs.Counts.{numbers_in};
+ghost use Rattle.run_log.specs.Happened.{HasRun};
 ghost use Rattle.run_log.specs.Lines.{happenings};
 ghost use Rattle.run_log.specs.Numbers.{added, counted};
 ghost use Rattle.runtime.specs.Seats.{AreOfNodes, numbers_of_seats};
@@ -68,8 +69,8 @@ impl<ThisRun: Run> HubParts<ThisRun> {
 }
 
 impl<C: SlotCell, O: Outlet, ThisRun: Run> Hub<C, O, ThisRun> {
-    /// A hub over the world with which its run begins, with a seat for each of so many nodes, by number, and the driver's.
-    /// Refuses for want of memory alone.
+    /// A hub over the world with which its run begins, with a seat for each of so many nodes, by number, and the driver's. It keeps
+    /// a history of the run. Refuses for want of memory alone.
     pub fn new(
         alloc: Global,
         world: World<C, O>,
@@ -90,14 +91,15 @@ impl<C: SlotCell, O: Outlet, ThisRun: Run> Hub<C, O, ThisRun> {
         requires names { names_of ledgers ≡ ThisRun.names }
         requires parts { HaveParts ledgers ThisRun.seats }
         requires seats { ThisRun.seats ≡ nodes + 1 }
+        requires keeps { ThisRun.keeps ≡ true }
         ensures seats { IfOk result (λ hub. vec_len hub.1 ≡ nodes) }
         ensures numbered { IfOk result (λ hub. AreOfNodes nodes hub.1.items) }
     {
         let parts = HubParts::new(alloc, world.stations.len(), nodes)?;
-        Ok(Hub::open(alloc, world, script, nodes, ledgers, parts))
+        Ok(Hub::open(alloc, world, script, nodes, ledgers, parts, true))
     }
 
-    /// The same with what it asks memory for, which was made before: so a world isn't lost for want of memory.
+    /// The same with what it asks memory for, which was made before: so a world isn't lost for want of memory. It may keep no history.
     pub(crate) fn open(
         alloc: Global,
         world: World<C, O>,
@@ -105,6 +107,7 @@ impl<C: SlotCell, O: Outlet, ThisRun: Run> Hub<C, O, ThisRun> {
         nodes: u8,
         ledgers: UnusedLedgers,
         parts: HubParts<ThisRun>,
+        keeps: bool,
     ) -> (
         Hub<C, O, ThisRun>,
         Vec<NodeSeat<ThisRun>>,
@@ -119,6 +122,7 @@ impl<C: SlotCell, O: Outlet, ThisRun: Run> Hub<C, O, ThisRun> {
         requires deliveries { parts.deliveries.items ≡ replicate (vec_len world.stations) 0 }
         requires none { parts.seats.items ≡ [] }
         requires room { nodes ≤ vec_capacity parts.seats }
+        requires keeps { keeps ≡ ThisRun.keeps }
         ensures seats { vec_len result.1 ≡ nodes }
         ensures numbered { AreOfNodes nodes result.1.items }
     {
@@ -134,7 +138,7 @@ impl<C: SlotCell, O: Outlet, ThisRun: Run> Hub<C, O, ThisRun> {
         }
         let hub = Hub {
             locked: Mutex::new(Locked {
-                log: RunLog::<C, O, ThisRun>::new(alloc, armed, script, totals),
+                log: RunLog::<C, O, ThisRun>::new(alloc, armed, script, totals, keeps),
                 left: 0,
                 until: Until {
                     round: 0,
@@ -273,16 +277,18 @@ impl<C: SlotCell, O: Outlet, ThisRun: Run> Hub<C, O, ThisRun> {
         self.sleepers.wake(Woken::all());
     }
 
-    /// The world, with the history that leads to it from the one with which the run began. Where these are all seats, the history
+    /// The world, with the history that leads to it from the one with which the run began, if one was kept. Where these are all seats, the history
     /// has as many events, and as many answers of each kind, as they got.
     pub fn close(
         self,
         seats: Vec<NodeSeat<ThisRun>>,
         driver: DriverSeat<ThisRun>,
     ) -> (World<C, O>, History)
-        ensures leads { LeadsTo ThisRun.rooms ThisRun.script ThisRun.opening (happenings result.1.lines.items)
-            (world_of result.0) }
-        ensures numbers { vec_len seats + 1 ≡ ThisRun.seats
+        // Kept or not, a history leads there.
+        ensures run { HasRun ThisRun.rooms ThisRun.script ThisRun.opening (world_of result.0) }
+        ensures leads { ThisRun.keeps ≡ true → LeadsTo ThisRun.rooms ThisRun.script ThisRun.opening
+            (happenings result.1.lines.items) (world_of result.0) }
+        ensures numbers { vec_len seats + 1 ≡ ThisRun.seats → ThisRun.keeps ≡ true
             → numbers_in result.1.lines.items result.1.stops
             ≡ added (numbers_of_seats seats.items) (seat_numbers driver.count) }
     {

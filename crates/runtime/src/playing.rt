@@ -1,9 +1,10 @@
 // A run by threads, from its world to its history.
-ghost use Rattle.std.specs.Prelude.{◌≡◌, ◌+◌, ◌≤◌, length};
+ghost use Rattle.std.specs.Prelude.{◌≡◌, ◌+◌, ◌≤◌, true, length};
 ghost use Rattle.marks.specs.Seats.{table_of};
 ghost use Rattle.protocol.specs.Node.Common.{MAX_CHANNELS, network_of};
 ghost use Rattle.replay.specs.Replay.{LeadsTo};
 ghost use Rattle.run_log.specs.LedgerNames.{HaveParts, names_of};
+ghost use Rattle.run_log.specs.Happened.{HasRun};
 ghost use Rattle.run_log.specs.Lines.{happenings};
 ghost use Rattle.runtime.specs.Ending.{IsOver};
 ghost use Rattle.world.specs.WholeView.{world_of};
@@ -63,6 +64,7 @@ fn play<
     watch: &W,
     bounds: Bounds,
     nodes: u8,
+    keeps: bool,
 ) -> Ended<C, O>
     requires few { length channels.now ≤ MAX_CHANNELS }
     requires opening { world_of world ≡ ThisRun.opening }
@@ -72,7 +74,9 @@ fn play<
     requires parts { HaveParts ledgers ThisRun.seats }
     requires seats { ThisRun.seats ≡ nodes + 1 }
     requires table { table_of opened ≡ ItsMarks.table }
-    ensures leads { LeadsTo ThisRun.rooms ThisRun.script ThisRun.opening
+    requires keeps { keeps ≡ ThisRun.keeps }
+    ensures run { HasRun ThisRun.rooms ThisRun.script ThisRun.opening (world_of result.world) }
+    ensures leads { ThisRun.keeps ≡ true → LeadsTo ThisRun.rooms ThisRun.script ThisRun.opening
         (happenings result.history.lines.items) (world_of result.world) }
     ensures over { IsOver channels.now bounds (world_of result.world) result.end }
 {
@@ -86,7 +90,7 @@ fn play<
         return Ended::unbegun(alloc, world, HubFault::NoMemory);
     };
     let (hub, seats, driver) = Hub::<C, O, ThisRun>::open(
-        alloc, world, script, nodes, ledgers, parts,
+        alloc, world, script, nodes, ledgers, parts, keeps,
     );
     let shared = SharedRun { hub, marks };
     let mut driver_seats = DriverSeats {
@@ -125,7 +129,8 @@ fn play<
 
 /// Runs a world with a thread for each node, and one, which calls, for the script, until nothing is left to do or it comes to its
 /// bounds. The world comes back in each case, with the history that leads to it from the one that was handed in, and why the run
-/// ended: it is refused for want of memory (1), also where a thread can't be made, and where a count would pass 2^63 - 1 (44).
+/// ended. Where no history is to be kept there is none in memory, and it comes back empty. The run is refused for want of memory
+/// (1), also where a thread can't be made, and where a count would pass 2^63 - 1 (44).
 pub fn run_world<
     C: SlotCell + Send,
     O: Outlet + Send,
@@ -138,8 +143,11 @@ pub fn run_world<
     script: Vec<ScriptedEvent>,
     watch: &W,
     bounds: Bounds,
+    keeps_history: bool,
 ) -> Ended<C, O>
-    ensures leads { LeadsTo (rooms world.stations.items) script.items (world_of world)
+    // Kept or not, a history leads there.
+    ensures run { HasRun (rooms world.stations.items) script.items (world_of world) (world_of result.world) }
+    ensures leads { keeps_history ≡ true → LeadsTo (rooms world.stations.items) script.items (world_of world)
         (happenings result.history.lines.items) (world_of result.world) }
     ensures over { IsOver (network_of world.net.value.program).channels bounds (world_of result.world)
         result.end }
@@ -155,6 +163,16 @@ pub fn run_world<
     let ledgers = UnusedLedgers::new(u64::from(nodes) + 1);
     let channels = net.program.channels.as_slice();
     play::<C, O, Brand, Brand, W, R>(
-        rt, alloc, channels, world, script, ledgers, opened, watch, bounds, nodes,
+        rt,
+        alloc,
+        channels,
+        world,
+        script,
+        ledgers,
+        opened,
+        watch,
+        bounds,
+        nodes,
+        keeps_history,
     )
 }

@@ -96,7 +96,7 @@ fn want_of_memory_at_a_node_ends_the_run(rt: HostRuntime) -> Result<(), Fail> {
     let alloc = rt.alloc();
     let world = poor_world(alloc)?;
     let script = Vec::new(alloc);
-    let ended = run_world(&rt, alloc, world, script, &NoWatch, BOUNDS);
+    let ended = run_world(&rt, alloc, world, script, &NoWatch, BOUNDS, false);
     let end = ended.end;
     // The world comes back all the same.
     let stations = ended.world.stations.len();

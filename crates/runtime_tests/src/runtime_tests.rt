@@ -1,6 +1,6 @@
 //! A running sum on two nodes, over a hub: on one thread, and with a thread for each node.
 
-ghost use Rattle.std.specs.Prelude.{◌≡◌, ◌+◌, ◌*◌, ◌^◌, ◌<◌, vec_len, IfOk};
+ghost use Rattle.std.specs.Prelude.{◌≡◌, ◌+◌, ◌*◌, ◌^◌, ◌<◌, true, vec_len, IfOk};
 ghost use Rattle.protocol.specs.Node.Common.{Fits, network_of, SECTOR_BYTES};
 ghost use Rattle.marks.specs.Seats.{table_of};
 ghost use Rattle.node_memory.specs.JobView.{shared_view};
@@ -300,6 +300,7 @@ fn play_in_turns<ThisRun: Run, R: Wait>(
     requires names { names_of ledgers ≡ ThisRun.names }
     requires parts { HaveParts ledgers ThisRun.seats }
     requires seats { ThisRun.seats ≡ NODES + 1 }
+    requires keeps { ThisRun.keeps ≡ true }
 {
     let (hub, mut seats, mut driver) = SumHub::<ThisRun>::new(
         alloc, world, script, NODES, ledgers,
@@ -358,6 +359,7 @@ fn play_by_threads<
     requires names { names_of ledgers ≡ ThisRun.names }
     requires parts { HaveParts ledgers ThisRun.seats }
     requires seats { ThisRun.seats ≡ NODES + 1 }
+    requires keeps { ThisRun.keeps ≡ true }
     requires table { table_of opened ≡ ItsMarks.table }
 {
     let (marks, marks_seats) = opened.named::<ItsMarks>(alloc)?;
@@ -716,7 +718,7 @@ fn run_sum<W: JobWatch + Sync, R: Threads + Wait + Sync>(
     watch: &W,
 ) -> Result<Went, Fail> {
     let world = sum_world(alloc)?;
-    let ended = run_world(rt, alloc, world, script, watch, BOUNDS);
+    let ended = run_world(rt, alloc, world, script, watch, BOUNDS, true);
     let is_complete = ended.end == RunEnd::Complete;
     Ok(Went {
         whole: is_complete && has_all(&ended.world),
@@ -804,7 +806,7 @@ const FOUR_ITEMS: Bounds = Bounds {
 fn round_of_four<R: Threads + Wait + Sync>(rt: &R, alloc: Global) -> Result<Option<u64>, Fail> {
     let world = open_world(alloc, KAHN, "")?;
     let script = Vec::new(alloc);
-    let ended = run_world(rt, alloc, world, script, &NoWatch, FOUR_ITEMS);
+    let ended = run_world(rt, alloc, world, script, &NoWatch, FOUR_ITEMS, false);
     if ended.end != RunEnd::Items {
         return Ok(None);
     }
@@ -910,6 +912,7 @@ fn play_with_crash<
     requires names { names_of ledgers ≡ ThisRun.names }
     requires parts { HaveParts ledgers ThisRun.seats }
     requires seats { ThisRun.seats ≡ NODES + 1 }
+    requires keeps { ThisRun.keeps ≡ true }
     requires table { table_of opened ≡ ItsMarks.table }
 {
     let (marks, marks_seats) = opened.named::<ItsMarks>(alloc)?;

@@ -15,10 +15,10 @@ returns-clause-added g c =
     let said = c.keep_reply-said in
     record {
       kept = kept;
-      happened = c.put_entry.ensures.happened
+      happened = λ yes. (c.write_entry.ensures yes).happened
           ∙ (ap (λ (lines : List Line). happenings lines ++ Made Driver kept said.result ∷ []) c.reserve.ensures.items
           ∙ ap (λ (answer : KeptReply). happenings c.args.lines.now.items ++ Made Driver kept answer ∷ []) said.ensures);
-      counts = λ stops. c.put_entry.ensures.counts stops
+      counts = λ yes stops. (c.write_entry.ensures yes).counts stops
           ∙ ap (λ (lines : List Line). counted kind.Entry (numbers_in lines stops)) c.reserve.ensures.items;
       is_kept = refl;
     }

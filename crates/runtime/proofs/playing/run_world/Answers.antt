@@ -2,16 +2,21 @@ use Rattle.std.proofs.Common.{rules, ◌≡◌, List, refl, subst}
 use Rattle.protocol.specs.Node.Common.{Channel}
 use Rattle.runtime.specs.Ending.{IsOver}
 use Rattle.world.specs.WholeView.{world_of}
-use Rattle.runtime.proofs.Nowhere.{leads_nowhere}
+use Rattle.runtime.proofs.Nowhere.{leads_nowhere, runs_nowhere}
 use Rattle.runtime.proofs.playing.run_world.Goals as goal
 
 -- where the run didn't begin nothing is written, and the world is the one that was handed in
 pub returns-in_default-clause-leads : goal.returns-in_default-clause-leads
-returns-in_default-clause-leads g c = leads_nowhere _ _ _ _ _ c.unbegun.ensures.none (rw c.unbegun.ensures.same refl)
+returns-in_default-clause-leads g c = λ kept. leads_nowhere _ _ _ _ _ c.unbegun.ensures.none (rw c.unbegun.ensures.same refl)
+
+pub returns-in_default-clause-run : goal.returns-in_default-clause-run
+returns-in_default-clause-run g c = runs_nowhere _ _ _ _ (rw c.unbegun.ensures.same refl)
 
 pub returns-in_default-new-clause-leads : goal.returns-in_default-new-clause-leads
-returns-in_default-new-clause-leads g c =
-    leads_nowhere _ _ _ _ _ c.unbegun-in_default-new.ensures.none (rw c.unbegun-in_default-new.ensures.same refl)
+returns-in_default-new-clause-leads g c = λ kept. leads_nowhere _ _ _ _ _ c.unbegun-in_default-new.ensures.none (rw c.unbegun-in_default-new.ensures.same refl)
+
+pub returns-in_default-new-clause-run : goal.returns-in_default-new-clause-run
+returns-in_default-new-clause-run g c = runs_nowhere _ _ _ _ (rw c.unbegun-in_default-new.ensures.same refl)
 
 -- the share that was taken is of the world's own network
 pub returns-clause-over : goal.returns-clause-over

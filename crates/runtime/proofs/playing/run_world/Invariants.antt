@@ -10,6 +10,7 @@ ghosts-play-ThisRun-Run g a = record {
   opening = world_of a.world;
   rooms = rooms a.world.stations.items;
   script = a.script.items;
+  keeps = a.keeps;
 }
 
 abbrev pub ghosts-play-ThisRun-RunLedgers : goal.ghosts-play-ThisRun-RunLedgers

@@ -1,3 +1,4 @@
+use Rattle.std.proofs.Common.{true}
 use Rattle.run_log.specs.LedgerNames.{names_of}
 use Rattle.world.specs.WholeView.{world_of}
 use Rattle.world.specs.WorldView.{rooms}
@@ -9,6 +10,7 @@ ghosts-play_in_turns-ThisRun-Run g a = record {
   opening = world_of a.world;
   rooms = rooms a.world.stations.items;
   script = a.script.items;
+  keeps = true;
 }
 
 abbrev pub ghosts-play_in_turns-ThisRun-RunLedgers : goal.ghosts-play_in_turns-ThisRun-RunLedgers

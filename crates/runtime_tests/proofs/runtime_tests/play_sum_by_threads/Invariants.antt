@@ -1,3 +1,4 @@
+use Rattle.std.proofs.Common.{true}
 use Rattle.marks.specs.Seats.{table_of}
 use Rattle.run_log.specs.LedgerNames.{names_of}
 use Rattle.world.specs.WholeView.{world_of}
@@ -10,6 +11,7 @@ ghosts-play_by_threads-ThisRun-Run g a = record {
   opening = world_of a.world;
   rooms = rooms a.world.stations.items;
   script = a.script.items;
+  keeps = true;
 }
 
 abbrev pub ghosts-play_by_threads-ThisRun-RunLedgers : goal.ghosts-play_by_threads-ThisRun-RunLedgers

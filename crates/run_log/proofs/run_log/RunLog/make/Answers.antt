@@ -8,17 +8,17 @@ use Rattle.run_log.proofs.run_log.RunLog.make.Goals as goal
 pub invariant_of-self-2-clause-replays : goal.invariant_of-self-2-clause-replays
 invariant_of-self-2-clause-replays g c =
     let old = c.args.self.now in
-    makes _ _ _ _ old.lines.items _ old.passed _ _ _ (Node c.args.node) _ _ old.replays c.requires.own
+    makes _ _ _ _ _ old.keeps old.lines.items _ old.passed _ _ _ (Node c.args.node) _ _ old.replays old.same_keeps c.requires.own
     c.in-Ok.ensures.added c.in-Ok.ensures.step refl old.same_rooms
 
 pub invariant_of-self-2-clause-numbers : goal.invariant_of-self-2-clause-numbers
-invariant_of-self-2-clause-numbers g c =
+invariant_of-self-2-clause-numbers g c = λ yes.
     let old = c.args.self.now in
-    c.in-Ok.ensures.added.counts old.stops
-    ∙ (ap (λ (n : Numbers). counted kind.Entry n) old.numbers ∙ sym c.add.ensures.total)
+    c.in-Ok.ensures.added.counts (old.same_keeps ∙ yes) old.stops
+    ∙ (ap (λ (n : Numbers). counted kind.Entry n) (old.numbers yes) ∙ sym c.add.ensures.total)
 
 pub returns-clause-told : goal.returns-clause-told
 returns-clause-told g c =
     let old = c.args.self.now in
-    tells _ _ _ _ old.lines.items _ old.passed _ _ (Node c.args.node) _ _ old.replays c.requires.own c.in-Ok.ensures.added
+    tells _ _ _ _ _ old.keeps old.lines.items _ old.passed _ _ (Node c.args.node) _ _ old.replays c.requires.own c.in-Ok.ensures.added
     c.in-Ok.ensures.step old.same_rooms

@@ -10,15 +10,16 @@ use Rattle.run_log.proofs.run_log.RunLog.widen.Goals as goal
 pub invariant_of-self-2-clause-replays : goal.invariant_of-self-2-clause-replays
 invariant_of-self-2-clause-replays g c =
     let old = c.args.self.now in
-    widens _ _ _ old.lines.items _ old.passed (armed_view old.armed) _ old.replays c.requires.still
-    c.in_ok-add_widened.ensures.added
+    widens _ _ _ _ old.keeps old.lines.items c.write_widened.new.lines.items old.passed (armed_view old.armed) _ old.replays
+    old.same_keeps c.requires.still c.in_ok-write_widened.ensures.added
     (ap (λ (world : WorldView). with_world world (armed_view old.armed)) c.widen.ensures.set)
 
 pub invariant_of-self-2-clause-numbers : goal.invariant_of-self-2-clause-numbers
-invariant_of-self-2-clause-numbers g c =
+invariant_of-self-2-clause-numbers g c = λ yes.
     let old = c.args.self.now in
-    numbers_widened old.lines.items _ old.stops c.in_ok-add_widened.ensures.added
-    ∙ (ap (λ (n : Numbers). counted kind.Entry n) old.numbers ∙ sym c.add.ensures.total)
+    numbers_widened old.lines.items c.write_widened.new.lines.items old.stops
+    (c.in_ok-write_widened.ensures.added (old.same_keeps ∙ yes))
+    ∙ (ap (λ (n : Numbers). counted kind.Entry n) (old.numbers yes) ∙ sym c.add.ensures.total)
 
 pub invariant_of-self-2-clause-same_rooms : goal.invariant_of-self-2-clause-same_rooms
 invariant_of-self-2-clause-same_rooms g c = rw c.widen.ensures.same.2 c.args.self.now.same_rooms
@@ -26,4 +27,4 @@ invariant_of-self-2-clause-same_rooms g c = rw c.widen.ensures.same.2 c.args.sel
 pub returns-clause-told : goal.returns-clause-told
 returns-clause-told g c =
     let old = c.args.self.now in
-    tells_still _ _ _ _ old.passed (armed_view old.armed) old.replays c.requires.still
+    tells_still _ _ _ _ old.lines.items old.passed (armed_view old.armed) old.replays c.requires.still
