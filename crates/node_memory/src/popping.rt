@@ -64,11 +64,10 @@ fn take_alone(inbox: &mut Inbox, position: u64, item: i64) -> Result<(), AllocEr
 {
     match inbox.log.push(item) {
         Ok(()) => {
-            inbox.window.take(position, item);
+            let _ = inbox.window.take(position, item);
             Ok(())
         }
-        Err(LogFault::NoMemory) => Err(AllocError),
-        Err(LogFault::Full) => Err(AllocError),
+        Err(_) => Err(AllocError),
     }
 }
 
