@@ -1,5 +1,5 @@
 -- A put of the header, as the header sees it and as all three do.
-use Rattle.std.proofs.Common.{◌≡◌, ◌⊎◌, inl, inr, ⊎_elim, ℕ, List, Some, sym, ◌∙◌, ap, subst, arith, ◌*◌}
+use Rattle.std.proofs.Common.{◌≡◌, ◌⊎◌, inl, inr, ⊎_elim, ℕ, List, Some, sym, ◌∙◌, ap, subst, ◌*◌}
 use Rattle.std.proofs.Common.{drop}
 use Rattle.sector_disk.specs.Clock.{LeavesOnly}
 use Rattle.sector_disk.specs.declared.TheConstants.{SECTOR_BYTES}

@@ -1,5 +1,5 @@
 -- What a fill and a put of a ready cell may leave.
-use Rattle.std.proofs.Common.{◌≡◌, ℕ, ◌≤◌, List, Option, Some, refl, sym, ◌∙◌, ap, subst, arith}
+use Rattle.std.proofs.Common.{◌≡◌, ℕ, ◌≤◌, List, Option, Some, refl, sym, ◌∙◌, ap, subst}
 use Rattle.sector_disk.specs.Clock.{Only, LeavesOnly}
 use Rattle.sector_disk.proofs.Moments.{weakened}
 use Rattle.slot_cell.specs.Whole.{Whole, slot_in, with_slot, with_header, LeftByPut, AsBefore, WithValue, LeftByFill}

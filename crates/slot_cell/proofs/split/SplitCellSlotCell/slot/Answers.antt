@@ -1,3 +1,4 @@
+use Rattle.std.proofs.lemmas.Grind.{elements}
 use Rattle.std.proofs.Common.{refl, ◌∙◌, ap, arith}
 use Rattle.std.proofs.lemmas.List.{with_items_is}
 use Rattle.gate_cell.proofs.Lift.{lifted_quiet}
@@ -144,3 +145,9 @@ returns-in_err-look-2-clause-same_setup g c =
         g.met.D.Disk.is_countable c.args.self.now.disk,
       );
     }
+
+pub look-requires-2 : goal.look-requires-2
+look-requires-2 g c = grind (arith, elements)
+
+pub unframed-requires : goal.unframed-requires
+unframed-requires g c = grind (arith, elements)

@@ -1,4 +1,4 @@
-use Rattle.std.proofs.lemmas.Grind.{pieces}
+use Rattle.std.proofs.lemmas.Grind.{pieces, elements}
 use Rattle.std.proofs.Common.{◌∙◌, ap, arith}
 use Rattle.std.proofs.lemmas.List.{with_items_is}
 use Rattle.gate_cell.proofs.ReadBack.{read_value}
@@ -63,3 +63,6 @@ returns-in_err-frame-clause-any_moment g c = search (pieces, arith) depth 5 fits
 
 pub returns-clause-same_setup : goal.returns-clause-same_setup
 returns-clause-same_setup g c = search (pieces, arith) depth 5 fits 300
+
+pub unframed-requires : goal.unframed-requires
+unframed-requires g c = grind (arith, elements)

@@ -137,3 +137,11 @@ invariant_of-self-2 g c =
       stands = settled_stands _ _ _ _ _ settled;
       settled = λ ok. settled;
     }
+
+pub returns-clause-same_setup : goal.returns-clause-same_setup
+returns-clause-same_setup g c =
+    record {
+      same_room = refl;
+      same_faults = c.put_value.ensures.setup.same_faults;
+      counts_on = omega (arith, c.in_ok-put_value.ensures.calls, g.met.D.Disk.is_countable c.args.self.now.disk);
+    }
