@@ -518,8 +518,9 @@ module _ {D : Type 0} (sectors failures : D → ℕ) where
   none_tried givens = none_done givens givens Version (λ device. cc) refl
 
   -- the last one wasn't opened, and the others weren't tried
-  pub last_back : (disks givens backs : List D) (given back : D) (fault : StoreFault) → givens ≡ disks ++ given ∷ []
-      → backs ≡ disks ++ back ∷ [] → IsNotOpened sectors failures given back fault
+  pub last_back : {image_len : ℕ} (disks givens backs : List D) (given back : D) (fault : StoreFault)
+      → givens ≡ disks ++ given ∷ []
+      → backs ≡ disks ++ back ∷ [] → IsNotOpened sectors failures image_len given back fault
       → AreHandedBack sectors failures givens backs fault
   last_back disks givens backs given back fault split pushed one =
       subst (λ (list : List D). AreHandedBack sectors failures list backs fault) (sym split)
