@@ -2,9 +2,9 @@
 use Rattle.std.proofs.Common.{◌≡◌, ◌⊎◌, inl, ℕ, Bool, true, false, List, length, Option, Some, None, Result, Err, refl, sym, subst}
 use Rattle.std.specs.Prelude.{if◌then◌else◌, nat_le, IsErrOf, option_map}
 use Rattle.gate_cell.specs.declared.cell.StableCell.{Ghosts as CellWords}
-use Rattle.gate_cell.specs.declared.slot_cell.SlotCell.{Ghosts as SlotWords}
 use Rattle.gate_cell.specs.Setup.{setup_stays}
-use Rattle.gate_cell.specs.Whole.{Whole}
+use Rattle.slot_cell.specs.declared.slot_cell.SlotCell.{Ghosts as SlotWords}
+use Rattle.slot_cell.specs.Whole.{Whole}
 use Rattle.ckpt_codec.specs.Common.{RecordView, decided_by, MAX_DECISIONS}
 use Rattle.ckpt_store.specs.declared.fault.StoreFault.{StoreFault}
 use Rattle.ckpt_store.specs.declared.fault.StoreFault.TheVariants.{NoMemory, Device, TooLarge, Reopen, Truncated}

@@ -8,12 +8,12 @@ use Rattle.std.proofs.Math.Logic.{∥∥₁_elim}
 use Rattle.sector_disk.specs.Clock.{Only, LeavesOnly}
 use Rattle.sector_disk.proofs.Moments.{joined}
 use Rattle.gate_cell.specs.declared.cell.StableCell.{Ghosts as CellWords}
-use Rattle.gate_cell.specs.declared.slot_cell.SlotCell.{Ghosts as SlotWords}
 use Rattle.gate_cell.specs.Setup.{LeavesSetup, setup_then}
-use Rattle.gate_cell.specs.Whole.{Whole, slot_in, OnlyLooks}
 use Rattle.gate_cell.specs.declared.fault.CellFault.{CellFault}
 use Rattle.gate_cell.specs.declared.fault.CellFault.TheVariants as cell
 use Rattle.gate_cell.specs.CellFault.{HasCause}
+use Rattle.slot_cell.specs.declared.slot_cell.SlotCell.{Ghosts as SlotWords}
+use Rattle.slot_cell.specs.Whole.{Whole, slot_in, OnlyLooks}
 use Rattle.ckpt_codec.specs.Common.{ImageView, RecordView, Tentative, HeaderView, header_of, spelled_length, IsRecord}
 use Rattle.ckpt_codec.specs.HeaderText.{instance_of, tentative_with, record_with, IsTentativeText, IsHeldText}
 use Rattle.ckpt_codec.specs.Faults.{IsImageFault, IsReadUnlessMemory, IsRefusedUnlessMemory}

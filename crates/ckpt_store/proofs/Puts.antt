@@ -8,16 +8,16 @@ use Rattle.std.proofs.lemmas.Option.{same_Some}
 use Rattle.std.proofs.lemmas.List.Elements.{All-tail}
 use Rattle.sector_disk.specs.Clock.{Only, LeavesOnly}
 use Rattle.sector_disk.proofs.Moments.{joined, weakened}
-use Rattle.gate_cell.specs.declared.TheConstants.{MIN_HEADER_BYTES}
 use Rattle.gate_cell.specs.declared.cell.StableCell.{Ghosts as CellWords}
-use Rattle.gate_cell.specs.declared.slot_cell.SlotCell.{Ghosts as SlotWords}
 use Rattle.gate_cell.specs.Setup.{LeavesSetup, setup_then}
-use Rattle.gate_cell.specs.Whole.{Whole, with_header, LeftByFill, OnlyPuts}
 use Rattle.gate_cell.specs.declared.fault.CellFault.{CellFault}
 use Rattle.gate_cell.specs.declared.fault.CellFault.TheVariants as cell
 use Rattle.gate_cell.specs.CellFault.{HasCause}
-use Rattle.gate_cell.proofs.Slots.{after_fill, after_put}
-use Rattle.gate_cell.proofs.Slots.{put_done as cell_put}
+use Rattle.slot_cell.specs.declared.TheConstants.{MIN_HEADER_BYTES}
+use Rattle.slot_cell.specs.declared.slot_cell.SlotCell.{Ghosts as SlotWords}
+use Rattle.slot_cell.specs.Whole.{Whole, with_header, LeftByFill, OnlyPuts}
+use Rattle.slot_cell.proofs.Slots.{after_fill, after_put}
+use Rattle.slot_cell.proofs.Slots.{put_done as cell_put}
 use Rattle.ckpt_codec.specs.Common.{ImageView, RecordView, Tentative, Field, IsAllowed, AreAllowed, IsRecord}
 use Rattle.ckpt_codec.specs.Common.{image_fields, tentative_fields, IsImageSpelled, spelled_length, image_length}
 use Rattle.ckpt_codec.specs.RecordText.{flag}

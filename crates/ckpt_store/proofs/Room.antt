@@ -3,9 +3,9 @@ use Rattle.std.proofs.Common.{◌≡◌, ⊎_elim, ℕ, ◌-◌, ◌≤◌, Bool
 use Rattle.std.specs.Prelude.{if◌then◌else◌, ◌==◌, nat_le}
 use Rattle.std.proofs.lemmas.Bool.{and_parts, and_from, leb-true, le-leb, cases_Bool, true≢false}
 use Rattle.std.proofs.Math.Logic.{∥∥₁_elim}
-use Rattle.gate_cell.specs.Whole.{Whole, slot_in}
 use Rattle.gate_cell.specs.declared.cell.StableCell.{Ghosts as CellWords}
-use Rattle.gate_cell.specs.declared.slot_cell.SlotCell.{Ghosts as SlotWords}
+use Rattle.slot_cell.specs.Whole.{Whole, slot_in}
+use Rattle.slot_cell.specs.declared.slot_cell.SlotCell.{Ghosts as SlotWords}
 use Rattle.ckpt_codec.specs.Common.{ImageView, RecordView, Tentative, last_image, with_permanent, with_decision}
 use Rattle.ckpt_codec.specs.Common.{with_epoch, without_own, IsImageText, image_length, spelled_length}
 use Rattle.ckpt_codec.specs.HeaderText.{IsTentativeText}

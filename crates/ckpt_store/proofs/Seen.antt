@@ -2,9 +2,9 @@
 use Rattle.std.proofs.Common.{◌≡◌, ℕ, ◌-◌, ◌≤◌, List, length, Option, Some, None, refl, ◌∙◌, ap, subst}
 use Rattle.std.specs.Prelude.{is_some, IsTrue}
 use Rattle.std.proofs.lemmas.Option.{same_Some, none-some}
-use Rattle.gate_cell.specs.Whole.{Whole, slot_in}
 use Rattle.gate_cell.specs.declared.cell.StableCell.{Ghosts as CellWords}
-use Rattle.gate_cell.specs.declared.slot_cell.SlotCell.{Ghosts as SlotWords}
+use Rattle.slot_cell.specs.Whole.{Whole, slot_in}
+use Rattle.slot_cell.specs.declared.slot_cell.SlotCell.{Ghosts as SlotWords}
 use Rattle.ckpt_codec.specs.Common.{ImageView, RecordView, Tentative, MAX_DECISIONS, header_of}
 use Rattle.ckpt_codec.specs.HeaderText.{instance_of, tentative_with, IsTentativeText}
 use Rattle.ckpt_codec.specs.Reading.{whole_image_at}

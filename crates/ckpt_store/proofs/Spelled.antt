@@ -6,7 +6,7 @@ use Rattle.std.specs.Option.{ForSome}
 use Rattle.std.proofs.lemmas.Bool.{leb-true, false≢true}
 use Rattle.std.proofs.lemmas.Option.{same_Some, none-some}
 use Rattle.std.proofs.lemmas.List.Elements.{All-head}
-use Rattle.gate_cell.specs.Whole.{Whole, slot_in, with_slot, with_header}
+use Rattle.slot_cell.specs.Whole.{Whole, slot_in, with_slot, with_header}
 use Rattle.ckpt_codec.specs.Common.{ImageView, RecordView, Tentative, IsAllowed, AreAllowed, count, image_fields}
 use Rattle.ckpt_codec.specs.Common.{IsRecord, HeaderView, header_of, IsHeaderText, IsImageText, spelled_length}
 use Rattle.ckpt_codec.specs.RecordText.{first_fields, decisions_fields, most_decisions, version_of}

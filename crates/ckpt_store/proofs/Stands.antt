@@ -3,7 +3,7 @@ use Rattle.std.proofs.Common.{◌≡◌, ℕ, ◌-◌, Bool, true, false, List, 
 use Rattle.std.specs.Prelude.{if◌then◌else◌, ◌==◌, nat_le, length}
 use Rattle.std.proofs.lemmas.Bool.{false≢true}
 use Rattle.std.proofs.lemmas.Option.{none-some}
-use Rattle.gate_cell.specs.Whole.{Whole, slot_in}
+use Rattle.slot_cell.specs.Whole.{Whole, slot_in}
 use Rattle.ckpt_codec.specs.Common.{ImageView, RecordView, Tentative, decided_by, last_image, with_permanent}
 use Rattle.ckpt_codec.specs.Common.{without_own, MAX_DECISIONS, AreAllowed, image_fields}
 use Rattle.ckpt_store.specs.Refusals.{is_held, refusal_to_decide}

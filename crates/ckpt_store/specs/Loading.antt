@@ -3,9 +3,9 @@ use Rattle.std.specs.Prelude.{◌≡◌, ◌⊎◌, ◌↔◌, ℕ, ◌-◌, ◌
 use Rattle.std.specs.Prelude.{IfOk, IfErr, OnOk, OnErr, IsErrOf}
 use Rattle.sector_disk.specs.Clock.{LeavesOnly}
 use Rattle.gate_cell.specs.declared.cell.StableCell.{Ghosts as CellWords}
-use Rattle.gate_cell.specs.declared.slot_cell.SlotCell.{Ghosts as SlotWords}
 use Rattle.gate_cell.specs.Setup.{LeavesSetup}
-use Rattle.gate_cell.specs.Whole.{Whole, slot_in}
+use Rattle.slot_cell.specs.declared.slot_cell.SlotCell.{Ghosts as SlotWords}
+use Rattle.slot_cell.specs.Whole.{Whole, slot_in}
 use Rattle.ckpt_codec.specs.Common.{ImageView, RecordView, HeaderView, IsHeaderText, IsImageText, spelled_length}
 use Rattle.ckpt_codec.specs.HeaderText.{record_with}
 use Rattle.ckpt_codec.specs.Faults.{IsHeaderFault, IsImageFault}

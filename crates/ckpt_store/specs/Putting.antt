@@ -4,8 +4,8 @@ use Rattle.std.specs.Prelude.{◌≡◌, ◌⊎◌, ℕ, if◌then◌else◌, Li
 use Rattle.std.specs.Prelude.{OnErr, IsErrOf, IsTrue}
 use Rattle.sector_disk.specs.Clock.{LeavesOnly}
 use Rattle.gate_cell.specs.declared.cell.StableCell.{Ghosts as CellWords}
-use Rattle.gate_cell.specs.declared.slot_cell.SlotCell.{Ghosts as SlotWords}
 use Rattle.gate_cell.specs.Setup.{LeavesSetup}
+use Rattle.slot_cell.specs.declared.slot_cell.SlotCell.{Ghosts as SlotWords}
 use Rattle.ckpt_codec.specs.Common.{ImageView, RecordView, Tentative, AreAllowed, image_fields, IsImageText}
 use Rattle.ckpt_codec.specs.Common.{image_length}
 use Rattle.ckpt_store.specs.StoreFault.{IsOfPut, HasFailures, is_failure}

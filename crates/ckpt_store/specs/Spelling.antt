@@ -3,7 +3,7 @@
 use Rattle.std.specs.Prelude.{◌≡◌, ℕ, ◌-◌, ◌≤◌, nat_le, ◌&&◌, Bool, true, false, List, length, Option, Some, None, is_some}
 use Rattle.std.specs.Prelude.{Result, Ok, Err, IsTrue, IsSome}
 use Rattle.std.specs.Option.{ForSome}
-use Rattle.gate_cell.specs.Whole.{Whole, slot_in}
+use Rattle.slot_cell.specs.Whole.{Whole, slot_in}
 use Rattle.ckpt_codec.specs.Common.{RecordView, ImageView, Tentative, AreAllowed, image_fields, header_of}
 use Rattle.ckpt_codec.specs.Common.{IsHeaderText, IsImageText, image_length, spelled_length}
 use Rattle.ckpt_codec.specs.RecordText.{participants}

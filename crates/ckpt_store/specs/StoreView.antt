@@ -2,8 +2,8 @@
 use Rattle.std.specs.Prelude.{◌≡◌, ℕ, ◌-◌, List, [], Option, Some, None, Result, Ok, Err}
 use Rattle.sector_disk.specs.Clock.{LeavesOnly}
 use Rattle.gate_cell.specs.declared.cell.StableCell.{Ghosts as CellWords}
-use Rattle.gate_cell.specs.declared.slot_cell.SlotCell.{Ghosts as SlotWords}
-use Rattle.gate_cell.specs.Whole.{Whole, slot_in}
+use Rattle.slot_cell.specs.declared.slot_cell.SlotCell.{Ghosts as SlotWords}
+use Rattle.slot_cell.specs.Whole.{Whole, slot_in}
 use Rattle.ckpt_codec.specs.Common.{ImageView, RecordView, HeaderView}
 use Rattle.ckpt_codec.specs.HeaderText.{record_with}
 use Rattle.ckpt_codec.specs.Reading.{header_at, whole_image_at}

@@ -19,9 +19,10 @@ use crate::moving::{give_up, promote, raise, settle, take};
 use crate::putting::{has_room, has_room_once_permanent, put_changed, put_taken};
 use crate::refusing::{is_held, is_named, refusal_to_decide, refusal_to_take};
 use ckpt_codec::{spelled_length_once_permanent, spelled_length_with};
-use gate_cell::{SlotCell, StableCell};
+use gate_cell::StableCell;
 use kahn_net::MAX_COUNT;
 use record::{Image, Record};
+use slot_cell::SlotCell;
 use std::alloc::Global;
 
 // A tentative image is taken, under a number that becomes the highest seen of its initiator.

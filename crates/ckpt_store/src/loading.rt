@@ -1,6 +1,6 @@
 // The record that a cell holds.
 ghost use Rattle.std.specs.Prelude.{◌-◌, ◌≤◌, IfOk, IsTrue, Some, None, option_copied};
-ghost use Rattle.gate_cell.specs.Whole.{slot_in};
+ghost use Rattle.slot_cell.specs.Whole.{slot_in};
 ghost use Rattle.ckpt_store.specs.Spelling.{IsKept, kept_in};
 ghost use Rattle.ckpt_store.specs.Loading.{IsHeaderOf, IsHeaderWrong, IsImageOf, IsImageWrong, IsHeldOf, IsHeldWrong, IsRead, IsLook, kept_or, IsLoad, IsReload};
 
@@ -8,8 +8,9 @@ use crate::fault::StoreFault;
 use crate::known::Known;
 use crate::putting::is_short;
 use ckpt_codec::{Header, read_header, read_image, spelled_length};
-use gate_cell::{SlotCell, StableCell};
+use gate_cell::StableCell;
 use record::Image;
+use slot_cell::SlotCell;
 use std::alloc::Global;
 
 // Reads the header.

@@ -15,8 +15,9 @@ use crate::undo::Undo;
 use ckpt_codec::{
     MAX_RECORD_BYTES, spelled_image_length, spelled_length, write_header, write_image,
 };
-use gate_cell::{SlotCell, StableCell};
+use gate_cell::StableCell;
 use record::{Record, Tentative};
+use slot_cell::SlotCell;
 use std::alloc::{AllocError, Global};
 
 /// Whether so many bytes aren't more than a record's spelling may have.

@@ -12,9 +12,9 @@ use crate::changing;
 use crate::fault::StoreFault;
 use crate::known::Known;
 use crate::loading::{load, reload};
-use gate_cell::SlotCell;
 use record::{Image, Record};
 use sector_disk::ArmedFault;
+use slot_cell::SlotCell;
 use std::alloc::{AllocError, Global};
 
 /// A record in a cell, which is changed whole or not at all.

@@ -4,12 +4,12 @@
 ghost use Rattle.std.specs.Prelude.{◌≡◌, ◌*◌, ◌^◌, ◌<◌, IfOk, length};
 ghost use Rattle.protocol.specs.Node.Common.{SECTOR_BYTES};
 
-use gate_cell::SplitCell;
 use net_check::{bind, check};
 use net_text::{parse, parse_inputs};
 use outlet::ListOutlet;
 use proc_step::Job;
 use sector_disk::MemDisk;
+use slot_cell::SplitCell;
 use std::alloc::{AllocError, Global};
 use std::sync::Arc;
 use world::{Deed, Event, Reply, SECTORS, World, list_outputs, node_count};

@@ -3,8 +3,7 @@ use Rattle.std.proofs.Common.{◌≡◌, ◌⊎◌, inl, inr, ⊎_elim, ℕ, Lis
 use Rattle.sector_disk.specs.Clock.{LeavesOnly}
 use Rattle.sector_disk.proofs.Moments.{weakened}
 use Rattle.gate_cell.specs.Layout.{stands_for}
-use Rattle.gate_cell.specs.Stands.{MayStand, StoodSince}
-use Rattle.gate_cell.specs.SplitLayout.{PutLeaves}
+use Rattle.gate_cell.specs.Stands.{MayStand, StoodSince, PutLeaves}
 use Rattle.gate_cell.proofs.Lift.{lifted}
 
 module _ {D : Type 0} (moment : D → ℕ) (left_since : D → ℕ → List ℕ → Type 0) (may_leave : D → List ℕ → Type 0)

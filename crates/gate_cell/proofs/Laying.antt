@@ -7,7 +7,7 @@ use Rattle.sector_disk.specs.declared.TheConstants.{SECTOR_BYTES}
 use Rattle.gate_cell.specs.Layout.{area_sectors, room_on, frame_size, named, value_on, IsGate, IsFrame}
 use Rattle.gate_cell.specs.Layout.{IsSettled}
 use Rattle.gate_cell.proofs.OnePut.{other_at, inside, short_frame, gate_names, done_long, done_value, done_frame}
-use Rattle.gate_cell.proofs.SplitMoves.{behind_same}
+use Rattle.gate_cell.proofs.Areas.{behind_same}
 
 module _ (size : ℕ) (seen mid done value frame bytes : List ℕ) (big : 3 ≤ size)
     (whole : SECTOR_BYTES * size ≤ length seen)

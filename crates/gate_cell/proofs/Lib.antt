@@ -1,15 +1,9 @@
-pub mod Slots
-mod Areas
-mod Lift
-mod Standing
+pub mod Areas
+pub mod Lift
+pub mod Standing
+pub mod ReadBack
 mod OnePut
 mod PutMoves
 mod GatePut
-mod SplitMoves
-mod Filling
-mod Framing
-mod Heading
-mod Slotting
 mod Laying
-mod Found
-mod ReadBack
+mod Finding

@@ -7,9 +7,9 @@ use Rattle.sector_disk.specs.declared.TheConstants.{SECTOR_BYTES}
 use Rattle.sector_disk.proofs.Moments.{joined, weakened}
 use Rattle.sector_disk.proofs.Writes.{overwritten_outside}
 use Rattle.gate_cell.specs.Layout.{area_sectors, room_on, value_in, IsFrame}
-use Rattle.gate_cell.specs.SplitLayout.{PutLeaves}
+use Rattle.gate_cell.specs.Stands.{PutLeaves}
 use Rattle.gate_cell.proofs.OnePut.{Setting, inside, after_first, after_second}
-use Rattle.gate_cell.proofs.SplitMoves.{behind_same}
+use Rattle.gate_cell.proofs.Areas.{behind_same}
 
 pub put_setting : (size active a : ℕ) (seen frame : List ℕ) (sectors : ℕ) → 3 ≤ size → active ≤ 1
     → get_or seen 0 0 % 2 ≡ active → length seen ≡ SECTOR_BYTES * sectors → size ≤ sectors

@@ -4,7 +4,7 @@ use Rattle.sector_disk.specs.declared.disk.ArmedFault.{ArmedFault}
 use Rattle.sector_disk.specs.declared.disk.Disk.{Ghosts as DiskWords}
 use Rattle.sector_disk.specs.Clock.{Only}
 use Rattle.gate_cell.specs.Layout.{stands_for, value_on, room_on, named, frame_size, IsGate, IsFrame}
-use Rattle.gate_cell.specs.Whole.{ValueCall}
+use Rattle.gate_cell.specs.ValueCall.{ValueCall}
 use Rattle.gate_cell.specs.Stands.{MayStand, StoodSince}
 use Rattle.gate_cell.specs.declared.gate.GateCell.{GateCell}
 

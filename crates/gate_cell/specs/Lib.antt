@@ -1,10 +1,7 @@
 pub mod CellFault
 pub mod Calls
 pub mod Setup
+pub mod ValueCall
 pub mod Layout
 pub mod Stands
 pub mod GateCell
-pub mod Whole
-pub mod SplitLayout
-pub mod SplitStands
-pub mod SplitCell

@@ -4,7 +4,7 @@ ghost use Rattle.sector_disk.specs.Clock.{Only, LeavesOnly};
 ghost use Rattle.sector_disk.specs.declared.disk.ArmedFault.{ArmedFault};
 ghost use Rattle.gate_cell.specs.CellFault.{HasCause, HasDeviceCause};
 ghost use Rattle.gate_cell.specs.Setup.{LeavesSetup};
-ghost use Rattle.gate_cell.specs.Whole.{ValueCall};
+ghost use Rattle.gate_cell.specs.ValueCall.{ValueCall};
 ghost use Rattle.gate_cell.specs.declared.TheConstants.{MAX_VALUE_BYTES};
 
 use crate::fault::CellFault;

@@ -7,7 +7,7 @@ ghost use Rattle.gate_cell.specs.CellFault.{HasCause, HasDeviceCause};
 ghost use Rattle.gate_cell.specs.Layout.{other_area, HoldsNoValue, HasNoRoom, IsGate, IsSettled};
 ghost use Rattle.gate_cell.specs.Stands.{AlwaysStands, Looks, only_value, stands_for_content, stands_for_one, stood_fits, room_bound};
 ghost use Rattle.gate_cell.specs.Setup.{LeavesSetup};
-ghost use Rattle.gate_cell.specs.Whole.{ValueCall};
+ghost use Rattle.gate_cell.specs.ValueCall.{ValueCall};
 ghost use Rattle.gate_cell.specs.declared.fault.CellFault.TheVariants.{NoMemory, Device, TooLarge, Reopen};
 
 use crate::access::look;

@@ -6,8 +6,7 @@ ghost use Rattle.sector_disk.specs.Disk.{SameSetup};
 ghost use Rattle.gate_cell.specs.Calls.{HasStopped, count_after_calls};
 ghost use Rattle.gate_cell.specs.CellFault.{HasDeviceCause};
 ghost use Rattle.gate_cell.specs.Layout.{room_on, value_in, value_on, named, length_in, frame_size, IsFrame, IsGate, IsSettled};
-ghost use Rattle.gate_cell.specs.SplitLayout.{PutLeaves};
-ghost use Rattle.gate_cell.specs.Stands.{Looks};
+ghost use Rattle.gate_cell.specs.Stands.{Looks, PutLeaves};
 
 use crate::access::{look, make_sure, write_through};
 use crate::fault::CellFault;

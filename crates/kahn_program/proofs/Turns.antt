@@ -15,7 +15,7 @@ use Rattle.protocol_laws.specs.Node.PlaceLaws.{nodes_few}
 use Rattle.protocol_laws.specs.Node.SizeLaws.{opening_within}
 use Rattle.protocol_laws.specs.World.RoomLaws.{bounded_image}
 use Rattle.gate_cell.specs.declared.cell.StableCell.{Ghosts as CellWords}
-use Rattle.gate_cell.specs.declared.slot_cell.SlotCell.{Ghosts as SlotWords}
+use Rattle.slot_cell.specs.declared.slot_cell.SlotCell.{Ghosts as SlotWords}
 use Rattle.std.specs.declared.alloc.Global.{Global}
 use Rattle.std.specs.declared.sync.Arc.{Arc}
 use Rattle.protocol.specs.World.Common.{opening_traffic, opening_world, output_channels, OutletView, WorldView}

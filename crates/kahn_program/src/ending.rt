@@ -6,11 +6,11 @@ ghost use Rattle.protocol.specs.World.Common.{are_quiet, released_of, output_cha
 ghost use Rattle.world.specs.WholeView.{world_of};
 ghost use Rattle.kahn_program.specs.Turning.{cut_at, is_over};
 
-use gate_cell::SplitCell;
 use kahn_net::Channel;
 use outlet::ListOutlet;
 use runtime::have_left;
 use sector_disk::MemDisk;
+use slot_cell::{SplitCell, SplitCell};
 use world::World;
 
 /// The world of a run: of nodes on disks in memory, with outlets in memory.

@@ -15,13 +15,13 @@ ghost use Rattle.kahn_program.specs.Turning.{Follows, HasBegun, IsDriven, IsNode
 
 use crate::ending::{RunWorld, is_over};
 use crate::resting::{Resting, is_alone, is_idle, note_line, note_none, note_turn, passes_again};
-use gate_cell::SplitCell;
 use kahn_net::{Channel, MAX_NODES};
 use outlet::ListOutlet;
 use proc_step::Job;
 use replay::{RunEvent, ScriptedEvent};
 use run_log::ArmedWorld;
 use sector_disk::MemDisk;
+use slot_cell::SplitCell;
 use std::alloc::{AllocError, Global};
 use world::{Event, Reply};
 

@@ -6,7 +6,7 @@ use Rattle.protocol.specs.Node.Common.{Only, Whole, RecordView, fits_in, cell_in
 use Rattle.protocol.specs.Node.Common.{StoreFault, NodeView, is_down, crashed, restart_after, Plan, Prospect, Planned}
 use Rattle.protocol.specs.Node.Common.{IsCarriedOut, IsMade, IsPut, next_record, room_for}
 use Rattle.gate_cell.specs.declared.cell.StableCell.{Ghosts as CellWords}
-use Rattle.gate_cell.specs.declared.slot_cell.SlotCell.{Ghosts as SlotWords}
+use Rattle.slot_cell.specs.declared.slot_cell.SlotCell.{Ghosts as SlotWords}
 use Rattle.ckpt_store.specs.Spelling.{IsLengthTold}
 use Rattle.ckpt_store.specs.StoreFault.{HasFailures, IsOfPut}
 use Rattle.ckpt_store.specs.declared.fault.StoreFault.TheVariants as fault

@@ -4,7 +4,7 @@ use Rattle.std.specs.Result.{IsErr}
 use Rattle.gate_cell.specs.Setup.{setup_stays}
 use Rattle.protocol.specs.Node.Common.{Whole, RecordView, fits_in, cell_in, Store, NodeView, Plan, Prospect, Planned}
 use Rattle.gate_cell.specs.declared.cell.StableCell.{Ghosts as CellWords}
-use Rattle.gate_cell.specs.declared.slot_cell.SlotCell.{Ghosts as SlotWords}
+use Rattle.slot_cell.specs.declared.slot_cell.SlotCell.{Ghosts as SlotWords}
 use Rattle.protocol.specs.declared.outcome.Outcome.{Outcome}
 use Rattle.protocol.specs.declared.outcome.Outcome.TheVariants.{Made}
 use Rattle.node.specs.Putting.{IsPutEvent}

@@ -4,7 +4,7 @@ use Rattle.std.specs.Prelude.{IsTrue, OnOk, OnErr}
 use Rattle.protocol.specs.Node.Common.{Only, Whole, RecordView, fits_in, cell_in, record_in, Changes, Store}
 use Rattle.protocol.specs.Node.Common.{StoreFault, restart_after, is_down, crashed, NodeView, Plan, Prospect, Planned}
 use Rattle.gate_cell.specs.declared.cell.StableCell.{Ghosts as CellWords}
-use Rattle.gate_cell.specs.declared.slot_cell.SlotCell.{Ghosts as SlotWords}
+use Rattle.slot_cell.specs.declared.slot_cell.SlotCell.{Ghosts as SlotWords}
 use Rattle.protocol.specs.declared.outcome.Outcome.{Outcome}
 use Rattle.node.specs.NodeView.{mode_view, node_view}
 use Rattle.node.specs.Putting.{IsPutEvent}

@@ -7,7 +7,7 @@ use Rattle.protocol.specs.Node.Common.{Only, Whole, Network, restored_mode, Reco
 use Rattle.protocol.specs.Node.Common.{fits_in, cell_in, known_in, record_in, Changes, Store, StoreFault}
 use Rattle.sector_disk.specs.Clock.{LeavesOnly}
 use Rattle.gate_cell.specs.declared.cell.StableCell.{Ghosts as CellWords}
-use Rattle.gate_cell.specs.declared.slot_cell.SlotCell.{Ghosts as SlotWords}
+use Rattle.slot_cell.specs.declared.slot_cell.SlotCell.{Ghosts as SlotWords}
 use Rattle.rollback_core.specs.RestoredView.{recovery_mode}
 use Rattle.rollback_core.specs.declared.restoring.Recovery.{Recovery}
 use Rattle.ckpt_store.specs.Spelling.{IsLengthTold}

@@ -7,7 +7,7 @@ use Rattle.protocol.specs.Node.Common.{Only, Whole, RecordView, Spells, fits_in,
 use Rattle.protocol.specs.Node.Common.{Changes, Store, StoreFault}
 use Rattle.sector_disk.proofs.Moments.{joined, weakened}
 use Rattle.gate_cell.specs.declared.cell.StableCell.{Ghosts as CellWords}
-use Rattle.gate_cell.specs.declared.slot_cell.SlotCell.{Ghosts as SlotWords}
+use Rattle.slot_cell.specs.declared.slot_cell.SlotCell.{Ghosts as SlotWords}
 use Rattle.ckpt_store.specs.Spelling.{SpellsAny, fits_next, IsLengthTold}
 use Rattle.ckpt_store.specs.Refusals.{first_refusal, ComesFirst}
 use Rattle.ckpt_store.specs.StoreFault.{IsOfPut}

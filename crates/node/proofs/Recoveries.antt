@@ -9,7 +9,7 @@ use Rattle.protocol.specs.Node.Common.{Store, NodeView, is_down, crashed, Prospe
 use Rattle.protocol.specs.Node.Common.{putting, unless_spent, restart_after, fits_in, recover_prospect, restored}
 use Rattle.protocol.specs.Node.Common.{StoreFault, Network}
 use Rattle.gate_cell.specs.declared.cell.StableCell.{Ghosts as CellWords}
-use Rattle.gate_cell.specs.declared.slot_cell.SlotCell.{Ghosts as SlotWords}
+use Rattle.slot_cell.specs.declared.slot_cell.SlotCell.{Ghosts as SlotWords}
 use Rattle.ckpt_store.specs.StoreView.{Holds}
 use Rattle.node.specs.NodeView.{node_view, mode_view}
 use Rattle.protocol.specs.Node.Plans.{HasFailedAt}

@@ -6,7 +6,7 @@ use Rattle.ckpt_store.proofs.Seen.{spelled_is}
 use Rattle.ckpt_store.proofs.Spelled.{spelled_is_record}
 use Rattle.protocol.specs.Node.Common.{record_in, Store, MAX_COUNT, IsRestorable, received_of, RecordView, Tentative}
 use Rattle.gate_cell.specs.declared.cell.StableCell.{Ghosts as CellWords}
-use Rattle.gate_cell.specs.declared.slot_cell.SlotCell.{Ghosts as SlotWords}
+use Rattle.slot_cell.specs.declared.slot_cell.SlotCell.{Ghosts as SlotWords}
 use Rattle.rollback_core.specs.StoredCounts.{HasCounts, record_counts}
 
 module _ {C : Type 0} (words : CellWords C) (slots : SlotWords C)

@@ -1,6 +1,6 @@
 -- A node without pointers, and with its record.
 use Rattle.gate_cell.specs.declared.cell.StableCell.{Ghosts as CellWords}
-use Rattle.gate_cell.specs.declared.slot_cell.SlotCell.{Ghosts as SlotWords}
+use Rattle.slot_cell.specs.declared.slot_cell.SlotCell.{Ghosts as SlotWords}
 use Rattle.protocol.specs.Node.Common.{record_in, NodeView}
 use Rattle.node.specs.NodeView.{node_view}
 use Rattle.node.specs.declared.node.Node.{Node}

@@ -1,7 +1,7 @@
 -- An event of a node that puts its record, with its store.
 use Rattle.std.specs.Prelude.{◌≡◌, ℕ, Result, IfOk, OnErr}
 use Rattle.gate_cell.specs.declared.cell.StableCell.{Ghosts as CellWords}
-use Rattle.gate_cell.specs.declared.slot_cell.SlotCell.{Ghosts as SlotWords}
+use Rattle.slot_cell.specs.declared.slot_cell.SlotCell.{Ghosts as SlotWords}
 use Rattle.protocol.specs.Node.Common.{fits_in, cell_in, Store, restart_after, NodeView, Prospect, IsMade, IsPut}
 use Rattle.protocol.specs.Node.Common.{next_record, room_for}
 use Rattle.node.specs.StoredView.{LeavesDevice, LeavesNext}

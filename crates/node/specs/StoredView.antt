@@ -6,8 +6,8 @@ use Rattle.protocol.specs.Node.Common.{cell_in, known_in, record_in, Store, Stor
 use Rattle.protocol.specs.Node.Common.{restored_mode}
 use Rattle.sector_disk.specs.Clock.{LeavesOnly}
 use Rattle.gate_cell.specs.declared.cell.StableCell.{Ghosts as CellWords}
-use Rattle.gate_cell.specs.declared.slot_cell.SlotCell.{Ghosts as SlotWords}
 use Rattle.gate_cell.specs.Setup.{LeavesSetup}
+use Rattle.slot_cell.specs.declared.slot_cell.SlotCell.{Ghosts as SlotWords}
 use Rattle.ckpt_store.specs.StoreFault.{HasFailures}
 use Rattle.ckpt_store.specs.declared.fault.StoreFault.TheVariants as fault
 use Rattle.rollback_core.specs.RestoredView.{recovery_mode}

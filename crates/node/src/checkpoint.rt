@@ -13,13 +13,13 @@ use crate::plan::{Change, Effect, Plan, Prospect, Said};
 use crate::state::{NodeState, next_after};
 use ckpt_store::{Store, StoreFault};
 use decide_core::{Initiator, may_decide};
-use gate_cell::SlotCell;
 use kahn_net::MAX_COUNT;
 use net_check::Net;
 use node_memory::Running;
 use protocol::{Outcome, Refusal};
 use record::{Image, Record};
 use rollback_core::Restored;
+use slot_cell::SlotCell;
 use std::alloc::{AllocError, Global};
 
 // What comes of an event whose put the store did, or refused. (A node's own events give it no cause for any refusal but those of a put.)

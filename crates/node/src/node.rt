@@ -28,7 +28,6 @@ use crate::recover::{come_back, crash};
 use crate::state::NodeState;
 use ckpt_store::Store;
 use datagram::{Packet, PacketFault, read_packet};
-use gate_cell::SlotCell;
 use kahn_net::Channel;
 use layout::names_right;
 use net_check::{Inputs, Net};
@@ -37,6 +36,7 @@ use proc_step::{Done, Job};
 use protocol::Outcome;
 use retained::LogFault;
 use sector_disk::ArmedFault;
+use slot_cell::SlotCell;
 use std::alloc::{AllocError, Global};
 use std::sync::Arc;
 

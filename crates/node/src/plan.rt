@@ -14,9 +14,9 @@ use crate::checkpoint::{Then, carry_on, end_put_then};
 use crate::state::NodeState;
 use ckpt_store::{Store, StoreFault};
 use datagram::{Body, Packet};
-use gate_cell::SlotCell;
 use protocol::{Outcome, Refusal};
 use record::Image;
+use slot_cell::SlotCell;
 use std::alloc::{AllocError, Global};
 
 /// A change of a node's record.

@@ -6,9 +6,9 @@ ghost use Rattle.node.specs.StoredView.{HasRecord, LeavesAsBefore};
 
 use crate::state::NodeState;
 use ckpt_store::Store;
-use gate_cell::SlotCell;
 use protocol::ArmedRestart;
 use sector_disk::ArmedFault;
+use slot_cell::SlotCell;
 use std::alloc::AllocError;
 
 // Arms a fault, and notes for how many rounds it is to keep the node down. The room for the note is taken first, so that the

@@ -11,12 +11,12 @@ use crate::checkpoint::end_put;
 use crate::mode::Mode;
 use crate::state::NodeState;
 use ckpt_store::{Store, StoreFault};
-use gate_cell::SlotCell;
 use kahn_net::MAX_COUNT;
 use net_check::Net;
 use node_memory::Running;
 use protocol::Outcome;
 use rollback_core::{Recovery, recover};
+use slot_cell::SlotCell;
 use std::alloc::{AllocError, Global};
 
 // A node that is up crashes; says whether it was. What its cell holds is settled by this byte, where one is given.

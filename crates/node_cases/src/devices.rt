@@ -4,8 +4,8 @@ ghost use Rattle.std.specs.Prelude.{◌*◌, ◌^◌, ◌<◌};
 ghost use Rattle.sector_disk.specs.declared.TheConstants.{SECTOR_BYTES};
 
 use ckpt_store::Store;
-use gate_cell::SplitCell;
 use sector_disk::MemDisk;
+use slot_cell::SplitCell;
 use std::alloc::{AllocError, Global};
 
 /// A case's store.

@@ -6,12 +6,12 @@ use crate::devices::{CaseStore, disk_of};
 use crate::settings::Settings;
 use ckpt_codec::{is_image, read_record, write_header, write_image};
 use ckpt_store::Store;
-use gate_cell::{SlotCell, SplitCell};
 use net_check::{Inputs, Net, bind, check};
 use net_text::{parse, parse_inputs};
 use node::Node;
 use record::Image;
 use sector_disk::{ArmedFault, MemDisk};
+use slot_cell::{SlotCell, SplitCell};
 use std::alloc::{AllocError, Global};
 use std::sync::Arc;
 

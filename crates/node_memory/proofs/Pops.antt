@@ -186,6 +186,11 @@ taken_is position item inbox items places times log window has next few is count
     with_both : Receiver → LogState → Inbox
     with_both window log = record { channel = inbox.channel; window = window; log = log; undone = inbox.undone }
 
+-- nothing comes out behind an item that is taken where the one right behind it isn't held
+pub nothing_behind : (inbox : Inbox) (places : ℕ) → held_at inbox.window 1 ≡ None
+    → take places (ready_items (drop 1 inbox.window.held)) ≡ []
+nothing_behind inbox places none = ap (take places) (none_ready inbox.window.held 1 none) ∙ take_none places
+
 -- nothing comes out where the next item isn't held
 pub popping_none : (inbox : Inbox) → held_at inbox.window 0 ≡ None → popping inbox ≡ inbox
 popping_none inbox none =

@@ -54,6 +54,23 @@ fn pop_times(window: &mut RecvWindow, times: usize)
     }
 }
 
+// Takes the next item into an inbox that has a place for it, and whose window holds none right behind it.
+fn take_alone(inbox: &mut Inbox, position: u64, item: i64) -> Result<(), AllocError>
+    requires next { arrival_at inbox.old.window position ≡ Arrival.Taken }
+    requires place { has_place inbox.old.log ≡ true }
+    requires alone { held_at inbox.old.window 1 ≡ None }
+    ensures ok { OnOk result (inbox.new ≡ taking position item inbox.old) }
+    ensures err { OnErr result (inbox.new ≡ inbox.old) }
+{
+    match inbox.log.push(item) {
+        Ok(()) => {
+            let _ = inbox.window.take(position, item);
+            Ok(())
+        }
+        Err(_) => Err(AllocError),
+    }
+}
+
 // Takes the next item into an inbox that has a place for it, and those that its window held behind it. Their room is made
 // first.
 pub(crate) fn take_next(inbox: &mut Inbox, position: u64, item: i64) -> Result<(), AllocError>
@@ -62,6 +79,9 @@ pub(crate) fn take_next(inbox: &mut Inbox, position: u64, item: i64) -> Result<(
     ensures ok { OnOk result (inbox.new ≡ taking position item inbox.old) }
     ensures err { OnErr result (inbox.new ≡ inbox.old) }
 {
+    if inbox.window.held_at(1).is_none() {
+        return take_alone(inbox, position, item);
+    }
     let mut items = Batch::new();
     items.push(item);
     let behind = places_left(&inbox.log).saturating_sub(1);

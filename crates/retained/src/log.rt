@@ -215,7 +215,9 @@ impl Log {
         ensures { IfOk result (λ copy. copy ≡ self.now) }
     {
         let (first, last) = self.as_slices();
-        let mut items = Vec::from_slice(alloc, first)?;
+        // room for all is made at once, so that none is asked for twice
+        let mut items = Vec::with_capacity(alloc, self.len())?;
+        items.extend_from_slice(first)?;
         items.extend_from_slice(last)?;
         Ok(Log {
             base: self.base,

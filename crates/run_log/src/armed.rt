@@ -8,10 +8,10 @@ ghost use Rattle.station.specs.ReplyView.{reply_view};
 ghost use Rattle.world.specs.WholeView.{world_of};
 ghost use Rattle.world.specs.WorldView.{capacities, rooms};
 
-use gate_cell::SlotCell;
 use node::next_after;
 use outlet::Outlet;
 use replay::{ArmedCrash, RunEvent};
+use slot_cell::SlotCell;
 use std::alloc::{AllocError, Global};
 use world::{Deed, Event, PlainEvent, Refused, Reply, World};
 

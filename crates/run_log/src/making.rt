@@ -14,9 +14,9 @@ use crate::appending::write_entry;
 use crate::armed::ArmedWorld;
 use crate::history::{Entry, KeptEvent, Line};
 use crate::keeping::{keep, keep_reply};
-use gate_cell::SlotCell;
 use outlet::Outlet;
 use replay::{Maker, RunEvent};
+use slot_cell::SlotCell;
 use std::alloc::{AllocError, Global};
 use world::{Event, Refused, Reply};
 

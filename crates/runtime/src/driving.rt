@@ -3,11 +3,11 @@
 use crate::hub::Hub;
 use crate::seat::DriverSeat;
 use crate::waking::{Seen, Until};
-use gate_cell::SlotCell;
 use kahn_net::{Channel, Port};
 use marks::{Marks, MarksName, Seat};
 use outlet::Outlet;
 use run_log::{FaultAnswer, HubFault, Run};
+use slot_cell::{SlotCell, SlotCell};
 use std::alloc::Global;
 use std::sync::Wait;
 

@@ -9,10 +9,10 @@ ghost use Rattle.runtime.specs.declared.ending.RunEnd.TheVariants.{Refused};
 ghost use Rattle.world.specs.WholeView.{world_of};
 
 use crate::driving::Bounds;
-use gate_cell::SlotCell;
 use kahn_net::{Channel, Port};
 use outlet::Outlet;
 use run_log::{History, HubFault};
+use slot_cell::SlotCell;
 use std::alloc::Global;
 use world::World;
 

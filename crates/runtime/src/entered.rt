@@ -12,11 +12,11 @@ ghost use Rattle.station.specs.declared.event.Event.TheVariants as event;
 
 use crate::seat::{DriverSeat, NodeSeat};
 use crate::waking::{Locked, Seen, Sleepers};
-use gate_cell::SlotCell;
 use kahn_net::MAX_COUNT;
 use outlet::Outlet;
 use proc_step::Done;
 use run_log::{FaultAnswer, HeldBack, HubFault, Run, TurnAnswer};
+use slot_cell::SlotCell;
 use std::alloc::Global;
 use std::sync::MutexGuard;
 use world::{Event, Reply};

@@ -22,7 +22,6 @@ ghost use Rattle.station.specs.declared.event.Event.TheVariants as event;
 use crate::entered::Entered;
 use crate::seat::{DriverSeat, NodeSeat, driver_seat, node_seat};
 use crate::waking::{Locked, Seen, Sleepers, Until, Woken};
-use gate_cell::SlotCell;
 use outlet::Outlet;
 use proc_step::Done;
 use replay::ScriptedEvent;
@@ -30,6 +29,7 @@ use run_log::{
     ArmedWorld, FaultAnswer, HeldBack, History, HubFault, Run, RunLog, Status, TurnAnswer,
     UnusedLedgers, no_deliveries,
 };
+use slot_cell::{SlotCell, SlotCell};
 use std::alloc::{AllocError, Global};
 use std::sync::{Mutex, Wait};
 use world::{Reply, World};

@@ -1,8 +1,8 @@
 // What threads wait for, and who is woken.
 
-use gate_cell::SlotCell;
 use outlet::Outlet;
 use run_log::{Moment, Run, RunLog};
+use slot_cell::SlotCell;
 use std::alloc::{AllocError, Global};
 use std::sync::Condvar;
 use wire::NODES;

@@ -7,11 +7,11 @@ ghost use Rattle.protocol.specs.World.Common.{output_channels};
 ghost use Rattle.world.specs.OpeningWorld.{IsUnused};
 
 use crate::runtime_tests::{BOUNDS, NODES, SUM_ON_TWO_NODES, disks, inputs_of, net_of};
-use gate_cell::SplitCell;
 use net_check::Net;
 use outlet::{ListOutlet, Outlet, OutletFault};
 use runtime::{HubFault, NoWatch, RunEnd, run_world};
 use sector_disk::MemDisk;
+use slot_cell::SplitCell;
 use std::alloc::Global;
 use std::sync::Arc;
 use std::test::Fail;

@@ -9,7 +9,6 @@ ghost use Rattle.run_log.specs.LedgerNames.{HaveParts, names_of};
 ghost use Rattle.world.specs.WholeView.{world_of};
 ghost use Rattle.world.specs.WorldView.{rooms};
 
-use gate_cell::{SlotCell, SplitCell};
 use kahn_net::Channel;
 use marks::{Marks, MarksName, Opened, Seat};
 use net_check::{Inputs, Net, bind, check};
@@ -25,6 +24,7 @@ use runtime::{
     run_threads, run_world, work,
 };
 use sector_disk::{ArmedFault, Disk, MemDisk, SECTOR_BYTES};
+use slot_cell::{SlotCell, SplitCell};
 use std::alloc::{AllocError, Global};
 use std::marker::Brand;
 use std::sync::atomic::AtomicBool;

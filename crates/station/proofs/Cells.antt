@@ -3,7 +3,7 @@ use Rattle.std.proofs.Common.{◌≡◌, inl, inr, ⊎_elim, sym, subst, ap, ◌
 use Rattle.std.proofs.Math.Logic.{∥∥₁_map}
 use Rattle.protocol.specs.Node.Common.{Only, Whole, sent_of, RecordView, Spells, cell_in, record_in, Store}
 use Rattle.gate_cell.specs.declared.cell.StableCell.{Ghosts as CellWords}
-use Rattle.gate_cell.specs.declared.slot_cell.SlotCell.{Ghosts as SlotWords}
+use Rattle.slot_cell.specs.declared.slot_cell.SlotCell.{Ghosts as SlotWords}
 use Rattle.ckpt_store.proofs.Seen.{spelled_is}
 use Rattle.node.specs.StoredView.{LeavesNext, LeavesAsBefore}
 use Rattle.protocol.specs.World.Covered.{LeavesAsMuch, LeavesEither}

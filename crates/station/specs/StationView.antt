@@ -3,7 +3,7 @@ use Rattle.std.specs.Prelude.{ℕ, ℤ, List, map}
 use Rattle.protocol.specs.World.Common.{OutletView, StationView}
 use Rattle.station.specs.declared.output.Output.{Output}
 use Rattle.gate_cell.specs.declared.cell.StableCell.{Ghosts as CellWords}
-use Rattle.gate_cell.specs.declared.slot_cell.SlotCell.{Ghosts as SlotWords}
+use Rattle.slot_cell.specs.declared.slot_cell.SlotCell.{Ghosts as SlotWords}
 use Rattle.protocol.specs.Node.Common.{cell_in}
 use Rattle.node.specs.NodeOf.{view_of}
 use Rattle.station.specs.declared.station.Station.{Station}

@@ -19,9 +19,9 @@ use crate::event::{Event, Reply};
 use crate::lent::Lent;
 use crate::network::{act_by_network, spell_all};
 use crate::station::Station;
-use gate_cell::SlotCell;
 use outlet::Outlet;
 use protocol::{Deed, PlainEvent};
+use slot_cell::SlotCell;
 use std::alloc::AllocError;
 use wire::Wire;
 

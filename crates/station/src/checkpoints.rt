@@ -28,10 +28,10 @@ use crate::event::Reply;
 use crate::lent::Lent;
 use crate::network::{Ready, nothing, prepare, send_by};
 use crate::station::Station;
-use gate_cell::SlotCell;
 use node::{Outcome, Prospect, Refusal};
 use outlet::Outlet;
 use protocol::RoundTurns;
+use slot_cell::SlotCell;
 use std::alloc::AllocError;
 use wire::Wire;
 

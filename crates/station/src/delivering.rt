@@ -25,8 +25,8 @@ use crate::lent::Lent;
 use crate::network::{due_packet, take_by};
 use crate::station::Station;
 use datagram::Packet;
-use gate_cell::SlotCell;
 use outlet::Outlet;
+use slot_cell::SlotCell;
 use std::alloc::AllocError;
 use wire::Wire;
 

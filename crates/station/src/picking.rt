@@ -13,12 +13,12 @@ use crate::event::Event;
 use crate::network::first_due;
 use crate::station::Station;
 use decide_core::may_decide;
-use gate_cell::SlotCell;
 use net_check::{Inputs, Net};
 use node::{Mode, NodeState};
 use outlet::Outlet;
 use protocol::{Deed, MAX_GRANTS};
 use record::{Image, Record};
+use slot_cell::SlotCell;
 use wire::Wire;
 
 // Whether a count of this channel is above what it is in an earlier image.

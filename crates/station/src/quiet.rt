@@ -9,13 +9,13 @@ ghost use Rattle.station.specs.StationView.{station_view};
 
 use crate::output::Output;
 use crate::station::Station;
-use gate_cell::SlotCell;
 use kahn_net::{Channel, History, Port};
 use net_check::Net;
 use node::Mode;
 use outlet::Outlet;
 use proc_step::{NextAct, next_act};
 use record::{Image, SavedProcess};
+use slot_cell::SlotCell;
 
 // How many items an input has; none where there is no such channel.
 fn count_of(inputs: &[History], channel: usize) -> usize

@@ -19,10 +19,10 @@ use crate::checkpoints::answer_by;
 use crate::event::Reply;
 use crate::lent::Lent;
 use crate::station::Station;
-use gate_cell::SlotCell;
 use node::{Mode, Refusal, round_later};
 use outlet::Outlet;
 use sector_disk::ArmedFault;
+use slot_cell::SlotCell;
 use std::alloc::AllocError;
 
 // What is answered to a crash of a node that was up, or wasn't.

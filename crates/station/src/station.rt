@@ -2,10 +2,10 @@
 ghost use Rattle.std.specs.Prelude.{◌≡◌};
 
 use crate::output::Output;
-use gate_cell::SlotCell;
 use node::Node;
 use outlet::Outlet;
 use protocol::RoundTurns;
+use slot_cell::SlotCell;
 
 /// A node and the outputs on which its processes put.
 #[derive(Drop)]

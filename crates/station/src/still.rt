@@ -17,7 +17,6 @@ use crate::picking::has_more;
 use crate::quiet::have_all_left;
 use crate::station::Station;
 use ckpt_codec::MAX_RETAINED_ITEMS;
-use gate_cell::SlotCell;
 use kahn_net::MAX_COUNT;
 use layout::{consumer_node, producer_node};
 use net_check::{Inputs, Net};
@@ -26,6 +25,7 @@ use outlet::Outlet;
 use protocol::{Inbox, MAX_INBOX_ITEMS, Outbox};
 use record::{Image, Record};
 use retained::Log;
+use slot_cell::SlotCell;
 
 // How many items the node of this number has put on a channel by now; none where there is none, or where it doesn't run.
 fn sent_at<C: SlotCell, O: Outlet>(stations: &[Station<C, O>], number: u8, channel: u8) -> u64

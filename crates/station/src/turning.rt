@@ -16,10 +16,10 @@ ghost use Rattle.station.specs.StationView.{station_view};
 use crate::event::Reply;
 use crate::lent::Lent;
 use crate::station::Station;
-use gate_cell::SlotCell;
 use outlet::Outlet;
 use proc_step::{Done, Job};
 use protocol::RoundTurns;
+use slot_cell::SlotCell;
 use std::alloc::AllocError;
 use std::sync::Arc;
 

@@ -5,7 +5,7 @@ use Rattle.std.specs.List.Sorted.{IsNonDecreasingBy}
 use Rattle.std.proofs.lemmas.List.{map-append}
 use Rattle.protocol.specs.Node.Common.{Network}
 use Rattle.gate_cell.specs.declared.cell.StableCell.{Ghosts as CellWords}
-use Rattle.gate_cell.specs.declared.slot_cell.SlotCell.{Ghosts as SlotWords}
+use Rattle.slot_cell.specs.declared.slot_cell.SlotCell.{Ghosts as SlotWords}
 use Rattle.protocol.specs.World.Common.{outputs_of, WorldInvariant, OutputView, output_channels, outputs_on}
 use Rattle.protocol.specs.World.Common.{StationView, WorldView}
 use Rattle.protocol_laws.specs.World.ClosedLaws.{joined, AreOutputsFrom, closed_channels}

@@ -4,7 +4,7 @@ use Rattle.std.specs.List.{AllZip}
 use Rattle.std.proofs.Math.Logic.{∥∥₁_map₂}
 use Rattle.protocol.specs.Node.Common.{Network, Whole, RecordView, Spells, record_in}
 use Rattle.gate_cell.specs.declared.cell.StableCell.{Ghosts as CellWords}
-use Rattle.gate_cell.specs.declared.slot_cell.SlotCell.{Ghosts as SlotWords}
+use Rattle.slot_cell.specs.declared.slot_cell.SlotCell.{Ghosts as SlotWords}
 use Rattle.protocol.specs.World.Common.{Traffic, EventView, event_node, WorldInvariant, AreEither, records_of}
 use Rattle.protocol.specs.World.Common.{ReplyView, IsAct, Setting, WorldView, setting_of}
 use Rattle.protocol.specs.World.RecoveryLine.{next_for}

@@ -10,8 +10,8 @@ use Rattle.protocol.specs.Node.Common.{cell_in, opening_record, StoreFault}
 use Rattle.sector_disk.specs.declared.disk.ArmedFault.{ArmedFault}
 use Rattle.sector_disk.specs.declared.disk.Disk.{Ghosts as DiskWords}
 use Rattle.gate_cell.specs.declared.cell.StableCell.{Ghosts as CellWords}
-use Rattle.gate_cell.specs.declared.slot_cell.SlotCell.{Ghosts as SlotWords}
-use Rattle.gate_cell.specs.declared.split.SplitCell.{SplitCell}
+use Rattle.slot_cell.specs.declared.slot_cell.SlotCell.{Ghosts as SlotWords}
+use Rattle.slot_cell.specs.declared.split.SplitCell.{SplitCell}
 use Rattle.node.specs.NodeOf.{view_of}
 use Rattle.node.specs.declared.node.Node.{Node}
 use Rattle.protocol.specs.World.Common.{Traffic, opening_traffic, opening_world, WorldInvariant, is_output}
@@ -518,8 +518,9 @@ module _ {D : Type 0} (sectors failures : D → ℕ) where
   none_tried givens = none_done givens givens Version (λ device. cc) refl
 
   -- the last one wasn't opened, and the others weren't tried
-  pub last_back : (disks givens backs : List D) (given back : D) (fault : StoreFault) → givens ≡ disks ++ given ∷ []
-      → backs ≡ disks ++ back ∷ [] → IsNotOpened sectors failures given back fault
+  pub last_back : {image_len : ℕ} (disks givens backs : List D) (given back : D) (fault : StoreFault)
+      → givens ≡ disks ++ given ∷ []
+      → backs ≡ disks ++ back ∷ [] → IsNotOpened sectors failures image_len given back fault
       → AreHandedBack sectors failures givens backs fault
   last_back disks givens backs given back fault split pushed one =
       subst (λ (list : List D). AreHandedBack sectors failures list backs fault) (sym split)

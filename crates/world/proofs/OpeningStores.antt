@@ -7,14 +7,14 @@ use Rattle.std.proofs.lemmas.Option.{none-some}
 use Rattle.gate_cell.specs.CellFault.{HasCause}
 use Rattle.protocol.specs.Node.Common.{slot_room_on, Whole, RecordView, ImageView, IsRecord, MAX_RETAINED_ITEMS}
 use Rattle.protocol.specs.Node.Common.{Spells, cell_in, known_in, record_in, StoreFault, Store}
-use Rattle.gate_cell.specs.SplitLayout.{HasNoHeaderRoom}
-use Rattle.gate_cell.specs.SplitStands.{header_room}
-use Rattle.gate_cell.specs.Whole.{with_header, with_slot}
-use Rattle.gate_cell.specs.declared.TheConstants.{LEAST_SPLIT_SECTORS}
 use Rattle.gate_cell.specs.declared.cell.StableCell.{Ghosts as CellWords}
-use Rattle.gate_cell.specs.declared.slot_cell.SlotCell.{Ghosts as SlotWords}
 use Rattle.gate_cell.specs.declared.fault.CellFault.{CellFault}
 use Rattle.gate_cell.specs.declared.fault.CellFault.TheVariants as cell
+use Rattle.slot_cell.specs.SplitLayout.{HasNoHeaderRoom}
+use Rattle.slot_cell.specs.SplitStands.{header_room}
+use Rattle.slot_cell.specs.Whole.{with_header, with_slot}
+use Rattle.slot_cell.specs.declared.TheConstants.{LEAST_SPLIT_SECTORS}
+use Rattle.slot_cell.specs.declared.slot_cell.SlotCell.{Ghosts as SlotWords}
 use Rattle.ckpt_codec.specs.Common.{AreAllowed, header_of, IsHeaderText, IsImageText, image_fields, spelled_length}
 use Rattle.ckpt_codec.specs.HeaderText.{header_text, IsHeaderTextIn}
 use Rattle.ckpt_codec.specs.SizeLaws.{IsRecordWithin}
@@ -219,24 +219,39 @@ of_device cell.NoMemory e = absurd (cc)
 of_device cell.TooLarge e = absurd (cc)
 of_device cell.Reopen e = absurd (cc)
 
+-- of a disk with which nothing was done
+pub not_touched : {D : Type 0} (sectors failures : D → ℕ) (image_len : ℕ) (given : D) (fault : StoreFault)
+    → IsOpeningRefusal (sectors given) image_len fault → ¬ (fault ≡ Device)
+    → IsNotOpened sectors failures image_len given given fault
+not_touched sectors failures image_len given fault why other = record {
+  why = why;
+  room = refl;
+  failed = λ device. absurd (other device);
+  otherwise = λ else. refl;
+}
+
 -- of a disk that wasn't formatted
-pub format_back : {D : Type 0} (sectors failures : D → ℕ) (given back : D) (fault : CellFault) (told : StoreFault)
-    → told ≡ of_cell fault
+pub format_back : {D : Type 0} (sectors failures : D → ℕ) (image_len : ℕ) (given back : D) (fault : CellFault)
+    (told : StoreFault) → IsOpeningRefusal (sectors given) image_len told → told ≡ of_cell fault
     → sectors back ≡ sectors given → (fault ≡ cell.Device → failures given < failures back)
     → (¬ (fault ≡ cell.Device) → back ≡ given)
-    → IsNotOpened sectors failures given back told
-format_back sectors failures given back fault told is same failed unchanged = record {
+    → IsNotOpened sectors failures image_len given back told
+format_back sectors failures image_len given back fault told why is same failed unchanged = record {
+  why = why;
   room = ap slot_room_on same;
   failed = λ device. failed (of_device fault (sym is ∙ device));
   otherwise = λ other. ap failures (unchanged (λ device. other (is ∙ ap of_cell device)));
 }
 
 -- of one whose slot wasn't filled
-pub fill_back : {D : Type 0} (sectors failures : D → ℕ) (given back : D) (before now : ℕ) (ready ready_now : Bool)
-    (fault : CellFault) (told : StoreFault) → told ≡ of_cell fault
+pub fill_back : {D : Type 0} (sectors failures : D → ℕ) (image_len : ℕ) (given back : D) (before now : ℕ)
+    (ready ready_now : Bool) (fault : CellFault) (told : StoreFault) → IsOpeningRefusal (sectors given) image_len told
+    → told ≡ of_cell fault
     → slot_room_on (sectors back) ≡ slot_room_on (sectors given) → before ≡ failures given → now ≡ failures back
-    → HasCause {T = Unit {0}} before now ready ready_now (Err fault) → IsNotOpened sectors failures given back told
-fill_back sectors failures given back before now ready ready_now fault told is room was later cause = record {
+    → HasCause {T = Unit {0}} before now ready ready_now (Err fault)
+    → IsNotOpened sectors failures image_len given back told
+fill_back sectors failures image_len given back before now ready ready_now fault told why is room was later cause = record {
+  why = why;
   room = room;
   failed =
       λ device. (let more = cause.device (ap (λ (f : CellFault). Err f) (of_device fault (sym is ∙ device))) in
@@ -248,12 +263,14 @@ fill_back sectors failures given back before now ready ready_now fault told is r
     same_fault e = cc
 
 -- of one on whose cell no store was opened
-pub load_back : {C D : Type 0} (words : CellWords C) (slots : SlotWords C) (sectors failures : D → ℕ) (given back : D)
-    (old new : C) (fault : StoreFault) → IsLoad words slots old new (Err fault)
+pub load_back : {C D : Type 0} (words : CellWords C) (slots : SlotWords C) (sectors failures : D → ℕ) (image_len : ℕ)
+    (given back : D) (old new : C) (fault : StoreFault) → IsOpeningRefusal (sectors given) image_len fault
+    → IsLoad words slots old new (Err fault)
     → slots.slot_capacity old ≡ slot_room_on (sectors given) → slots.slot_capacity new ≡ slot_room_on (sectors back)
     → words.failure_count old ≡ failures given → words.failure_count new ≡ failures back
-    → IsNotOpened sectors failures given back fault
-load_back words slots sectors failures given back old new fault load room_before room_now before now = record {
+    → IsNotOpened sectors failures image_len given back fault
+load_back words slots sectors failures image_len given back old new fault why load room_before room_now before now = record {
+  why = why;
   room = sym room_now ∙ (load.same_slot_room ∙ room_before);
   failed =
       λ device. (let more = load.failures.device (ap (λ (f : StoreFault). Err f) device) in

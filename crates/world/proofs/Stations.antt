@@ -8,7 +8,7 @@ use Rattle.std.specs.declared.alloc.AllocError.{AllocError}
 use Rattle.protocol.specs.Node.Common.{Network, RecordView, cell_in, record_in, Whole}
 use Rattle.station.proofs.Cells.{leaves_own, own_left}
 use Rattle.gate_cell.specs.declared.cell.StableCell.{Ghosts as CellWords}
-use Rattle.gate_cell.specs.declared.slot_cell.SlotCell.{Ghosts as SlotWords}
+use Rattle.slot_cell.specs.declared.slot_cell.SlotCell.{Ghosts as SlotWords}
 use Rattle.protocol.specs.World.Common.{EventView, event_node, outputs_of, AreSound, StationInvariant, OutputView}
 use Rattle.protocol.specs.World.Common.{HasMoved, next_kept, Traffic, StationView, Setting, IsSoundSetting}
 use Rattle.protocol.specs.World.Common.{IsSoundStation}

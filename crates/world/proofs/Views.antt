@@ -23,7 +23,7 @@ use Rattle.station.specs.Leaving.{IsCellUnchanged}
 use Rattle.station.specs.ReplyView.{reply_view}
 use Rattle.station.specs.declared.station.Station.{Station}
 use Rattle.gate_cell.specs.declared.cell.StableCell.{Ghosts as CellWords}
-use Rattle.gate_cell.specs.declared.slot_cell.SlotCell.{Ghosts as SlotWords}
+use Rattle.slot_cell.specs.declared.slot_cell.SlotCell.{Ghosts as SlotWords}
 use Rattle.station.specs.declared.output.Output.{Output}
 use Rattle.station.specs.ReplyView.{Reply}
 

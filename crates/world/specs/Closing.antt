@@ -2,10 +2,10 @@
 use Rattle.std.specs.Prelude.{List, map}
 use Rattle.std.specs.List.{flat_map}
 use Rattle.sector_disk.specs.declared.disk.Disk.{Ghosts as DiskWords}
-use Rattle.gate_cell.specs.SplitCell.{disk_in}
 use Rattle.gate_cell.specs.declared.cell.StableCell.{Ghosts as CellWords}
-use Rattle.gate_cell.specs.declared.slot_cell.SlotCell.{Ghosts as SlotWords}
-use Rattle.gate_cell.specs.declared.split.SplitCell.{SplitCell}
+use Rattle.slot_cell.specs.SplitCell.{disk_in}
+use Rattle.slot_cell.specs.declared.slot_cell.SlotCell.{Ghosts as SlotWords}
+use Rattle.slot_cell.specs.declared.split.SplitCell.{SplitCell}
 use Rattle.protocol.specs.Node.Common.{cell_in}
 use Rattle.station.specs.declared.output.Output.{Output}
 use Rattle.station.specs.declared.station.Station.{Station}

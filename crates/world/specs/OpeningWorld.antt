@@ -1,14 +1,15 @@
 -- What a world is opened with: outputs, and a disk with room for the opening image; and why it isn't opened.
-use Rattle.std.specs.Prelude.{◌≡◌, ◌⊎◌, ◌<◌, ◌≤◌, ℕ, suc, ℤ, List, [], ◌∷◌, filter, get_or, length, map, Some, None}
+use Rattle.std.specs.Prelude.{◌≡◌, ◌⊎◌, ◌<◌, ◌≤◌, ℕ, suc, ℤ, List, [], ◌∷◌, filter, get_or, length, map, Some, None, IsSome}
 use Rattle.std.specs.List.{AllByRecursion, AllZip}
 use Rattle.protocol.specs.Node.Common.{node_count, Network, slot_room_on, Whole, RecordView, image_length, Spells}
-use Rattle.protocol.specs.Node.Common.{cell_in, Store, StoreFault, opening_record}
+use Rattle.protocol.specs.Node.Common.{cell_in, known_in, record_in, Store, StoreFault, opening_record}
+use Rattle.ckpt_store.specs.StoreView.{Holds}
 use Rattle.sector_disk.specs.declared.disk.ArmedFault.{ArmedFault}
 use Rattle.sector_disk.specs.declared.disk.Disk.{Ghosts as DiskWords}
-use Rattle.gate_cell.specs.declared.split.SplitCell.{SplitCell}
-use Rattle.gate_cell.specs.declared.TheConstants.{LEAST_SPLIT_SECTORS}
 use Rattle.gate_cell.specs.declared.cell.StableCell.{Ghosts as CellWords}
-use Rattle.gate_cell.specs.declared.slot_cell.SlotCell.{Ghosts as SlotWords}
+use Rattle.slot_cell.specs.declared.split.SplitCell.{SplitCell}
+use Rattle.slot_cell.specs.declared.TheConstants.{LEAST_SPLIT_SECTORS}
+use Rattle.slot_cell.specs.declared.slot_cell.SlotCell.{Ghosts as SlotWords}
 use Rattle.ckpt_codec.specs.Common.{header_of}
 use Rattle.ckpt_codec.specs.HeaderText.{header_text}
 use Rattle.ckpt_codec.specs.declared.version.TheConstants.{FIRST_VERSION, VERSION}
@@ -150,6 +151,21 @@ calls_on {C} {O} {cell} {slots} stations =
 
 -- ---- what was opened
 
+-- A store was opened on a disk that was formatted with this record, in this version: it has the record, and holds it, and its
+-- slots have the room of the disk, which the record's image fits. No fault was armed on the disk, and its calls are counted from
+-- now on.
+pub record IsOpenedStore {D : Type 0} {disk : DiskWords D} {cell : CellWords (SplitCell D disk)} {slots : SlotWords (SplitCell D disk)}
+    (kept : RecordView) (version : ℕ) (given : D) (store : Store (SplitCell D disk) slots cell) : Type 0 where
+  pub shows : record_in store ≡ kept
+  pub known : IsSome (known_in store)
+  pub failures : cell.failure_count (cell_in store) ≡ disk.failure_count given
+  pub armed : cell.armed (cell_in store) ≡ disk.armed given
+  pub counted : cell.call_count (cell_in store) ≡ 0
+  pub holds : Holds store kept
+  pub formatted : StandsInVersion version kept store
+  pub room : slots.slot_capacity (cell_in store) ≡ slot_room_on (disk.sector_count given)
+  pub fits : HasRoom (disk.sector_count given) (image_length kept.permanent)
+
 -- The node of this number, of so many, was opened on a disk that was formatted in this version: it runs from the opening
 -- record, which is all that a crash leaves, and its slots have the room of the disk, which its image fits. No fault was armed on
 -- the disk, and its calls are counted from now on.
@@ -187,12 +203,14 @@ pub record IsOpened {D O : Type 0} {disk : DiskWords D} {cell : CellWords (Split
 
 -- ---- what comes back where an opening is refused; `sectors` and `failures` are the disks' words
 
--- a disk came back: slots on it would have the room that they had, and its device failed in the call exactly where that
--- is the reason
-pub record IsNotOpened {D : Type 0} (sectors failures : D → ℕ) (given back : D) (fault : StoreFault) : Type 0 where
-  pub room : slot_room_on (sectors back) ≡ slot_room_on (sectors given)
-  pub failed : fault ≡ Device → failures given < failures back
-  pub otherwise : ¬ (fault ≡ Device) → failures back ≡ failures given
+-- Why a disk wasn't opened with an image of so many bytes; and it came back: slots on it would have the room that they had,
+-- and its device failed in the call exactly where that is the reason.
+pub record IsNotOpened {D : Type 0} (sectors failures : D → ℕ) (image_len : ℕ) (given back : D) (fault : StoreFault) : Type 0
+  where
+    pub why : IsOpeningRefusal (sectors given) image_len fault
+    pub room : slot_room_on (sectors back) ≡ slot_room_on (sectors given)
+    pub failed : fault ≡ Device → failures given < failures back
+    pub otherwise : ¬ (fault ≡ Device) → failures back ≡ failures given
 
 -- a disk came back: slots on it would have the room that they had, and its device hasn't failed less often
 pub record IsDiskBack {D : Type 0} (sectors failures : D → ℕ) (given back : D) : Type 0 where

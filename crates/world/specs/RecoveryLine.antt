@@ -4,7 +4,7 @@ use Rattle.std.specs.Prelude.{◌≡◌, ℕ, ℤ, List, [], ◌∷◌, map}
 use Rattle.std.specs.List.{AllZip}
 use Rattle.protocol.specs.Node.Common.{Network, Whole, RecordView, Spells, cell_in}
 use Rattle.gate_cell.specs.declared.cell.StableCell.{Ghosts as CellWords}
-use Rattle.gate_cell.specs.declared.slot_cell.SlotCell.{Ghosts as SlotWords}
+use Rattle.slot_cell.specs.declared.slot_cell.SlotCell.{Ghosts as SlotWords}
 use Rattle.recovery_line.specs.Line.{NotBehind}
 use Rattle.protocol.specs.World.Covered.{LeavesEither}
 use Rattle.protocol.specs.World.Common.{EventView, AreInLine, records_seen, records_of, Setting}

@@ -1,7 +1,7 @@
 -- A whole world without pointers.
 use Rattle.std.specs.List.{AllZip}
 use Rattle.gate_cell.specs.declared.cell.StableCell.{Ghosts as CellWords}
-use Rattle.gate_cell.specs.declared.slot_cell.SlotCell.{Ghosts as SlotWords}
+use Rattle.slot_cell.specs.declared.slot_cell.SlotCell.{Ghosts as SlotWords}
 use Rattle.outlet.specs.declared.outlet.Outlet.{Ghosts as OutletWords}
 use Rattle.protocol.specs.World.Common.{WorldView, traffic_of}
 use Rattle.world.specs.WorldView.{world_view, IsGrown}

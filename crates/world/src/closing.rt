@@ -6,9 +6,9 @@ ghost use Rattle.protocol.specs.World.Common.{output_channels};
 ghost use Rattle.world.specs.Closing.{all_outputs, disk_of, disks_of};
 
 use crate::world::World;
-use gate_cell::SplitCell;
 use outlet::Outlet;
 use sector_disk::Disk;
+use slot_cell::SplitCell;
 use station::{Output, Station};
 use std::alloc::{AllocError, Global};
 

@@ -1,31 +1,27 @@
 // A world before its first event.
-ghost use Rattle.std.specs.Prelude.{◌≡◌, ◌+◌, ◌++◌, ◌<◌, ◌≤◌, ◌↔◌, ℕ, [], IsTrue, None, not, filter, length, map, IfErr, IfOk, IsSome, OnErr, OnOk, vec_capacity, vec_len};
+ghost use Rattle.std.specs.Prelude.{◌≡◌, ◌+◌, ◌++◌, ◌<◌, ◌≤◌, ◌↔◌, ℕ, [], IsTrue, None, not, filter, length, map, IfErr, IfOk, OnErr, OnOk, vec_capacity, vec_len};
 ghost use Rattle.std.specs.List.{AllByRecursion};
 ghost use Rattle.kahn_net.specs.Nodes.{node_count};
 ghost use Rattle.kahn_net.specs.Fits.{Fits};
 ghost use Rattle.kahn_net.specs.Syntax.{network_of};
-ghost use Rattle.gate_cell.specs.SplitCell.{armed_of, calls_of, failures_of, slot_capacity_of};
-ghost use Rattle.gate_cell.specs.SplitLayout.{slot_room_on};
 ghost use Rattle.ckpt_codec.specs.HeaderText.{IsImageSpelled};
 ghost use Rattle.ckpt_codec.specs.Lengths.{image_length};
 ghost use Rattle.ckpt_codec.specs.RecordText.{IsRecord};
 ghost use Rattle.ckpt_codec.specs.SizeLaws.{IsRecordWithin};
 ghost use Rattle.ckpt_codec.specs.declared.lengths.TheConstants.{MAX_RETAINED_ITEMS};
-ghost use Rattle.ckpt_store.specs.StoreView.{cell_in, known_in, record_in, Holds};
 ghost use Rattle.protocol.specs.Node.Opening.{opening_record};
 ghost use Rattle.protocol.specs.World.Sound.{is_output, output_channels};
 ghost use Rattle.world.specs.OpeningWorld.{own_outputs, AllNumbered, HasRoom};
 ghost use Rattle.station.specs.OutputView.{fresh};
 ghost use Rattle.world.specs.NewWorld.{IsNew, IsNotNew, IsNotNewFrom};
-ghost use Rattle.world.specs.OpeningWorld.{IsOpened, IsOpenedNode, IsUnused};
-ghost use Rattle.world.specs.OpeningWorld.{AreHandedBack, IsNotOpened, IsOpeningRefusal, IsWorldRefusal};
-ghost use Rattle.world.specs.OpeningWorld.{version_for, AreVersions, AreVersionsFor, IsVersion, StandsInVersion};
+ghost use Rattle.world.specs.OpeningWorld.{IsOpened, IsOpenedNode, IsOpenedStore, IsUnused};
+ghost use Rattle.world.specs.OpeningWorld.{AreHandedBack, IsNotOpened, IsWorldRefusal};
+ghost use Rattle.world.specs.OpeningWorld.{version_for, AreVersions, AreVersionsFor, IsVersion};
 ghost use Rattle.kahn_net.specs.declared.limits.TheConstants.{MAX_NODES};
 
 use crate::world::World;
 use ckpt_codec::{FIRST_VERSION, VERSION, spelled_image_length, write_header_in, write_image};
 use ckpt_store::{Store, StoreFault};
-use gate_cell::{LEAST_SPLIT_SECTORS, SlotCell, SplitCell, slot_room_of};
 use kahn_net::Port;
 use net_check::{Inputs, Net};
 use node::{Node, is_here, opening_record};
@@ -33,6 +29,7 @@ use outlet::Outlet;
 use protocol::DEFAULT_ROOM;
 use record::{Image, Record};
 use sector_disk::Disk;
+use slot_cell::{LEAST_SPLIT_SECTORS, SlotCell, SplitCell, slot_room_of};
 use station::{Output, Station};
 use std::alloc::Global;
 use std::sync::Arc;
@@ -110,21 +107,9 @@ fn open_store<D: Disk>(
     requires settled { kept.now.decisions ≡ [] }
     requires bounded { IsRecordWithin MAX_RETAINED_ITEMS kept.now }
     requires alone { kept.now.tentative ≡ None }
-    ensures record { IfOk result (λ store. record_in store ≡ kept.now) }
-    ensures known { IfOk result (λ store. IsSome (known_in store)) }
-    ensures failures { IfOk result
-        (λ store. failures_of (cell_in store) ≡ D.failure_count disk) }
-    ensures armed { IfOk result (λ store. armed_of (cell_in store) ≡ D.armed disk) }
-    ensures counted { IfOk result (λ store. calls_of (cell_in store) ≡ 0) }
-    ensures holds { IfOk result (λ store. Holds store kept.now) }
-    ensures formatted { IfOk result (StandsInVersion version kept.now) }
-    ensures room { IfOk result
-        (λ store. slot_capacity_of (cell_in store) ≡ slot_room_on (D.sector_count disk)) }
-    ensures fits { OnOk result (HasRoom (D.sector_count disk) (image_length kept.now.permanent)) }
-    ensures refused { IfErr result (λ refused. IsOpeningRefusal (D.sector_count disk)
-        (image_length kept.now.permanent) refused.fault) }
-    ensures handed_back { IfErr result
-        (λ refused. IsNotOpened D.sector_count D.failure_count disk refused.disk refused.fault) }
+    ensures opened { IfOk result (IsOpenedStore kept.now version disk) }
+    ensures refused { IfErr result (λ refused. IsNotOpened D.sector_count D.failure_count
+        (image_length kept.now.permanent) disk refused.disk refused.fault) }
 {
     if !has_room(&disk, &kept.permanent) {
         return Err(NotOpened {
@@ -183,11 +168,9 @@ fn open_node<D: Disk>(
     requires version { IsVersion version }
     ensures opened { IfOk result
         (IsOpenedNode (network_of net.now.program) nodes number version disk) }
-    ensures refused { IfErr result (λ refused. IsOpeningRefusal (D.sector_count disk)
+    ensures refused { IfErr result (λ refused. IsNotOpened D.sector_count D.failure_count
         (image_length (opening_record (network_of net.now.program) nodes number).permanent)
-        refused.fault) }
-    ensures handed_back { IfErr result
-        (λ refused. IsNotOpened D.sector_count D.failure_count disk refused.disk refused.fault) }
+        disk refused.disk refused.fault) }
 {
     let Ok(first) = opening_record(alloc, net, number, nodes) else {
         return Err(NotOpened {

@@ -6,9 +6,9 @@ ghost use Rattle.station.specs.EventView.{event_view};
 ghost use Rattle.world.specs.WholeView.{world_of};
 
 use crate::world::World;
-use gate_cell::SlotCell;
 use outlet::Outlet;
 use protocol::Deed;
+use slot_cell::SlotCell;
 use station::Event;
 use wire::Wire;
 

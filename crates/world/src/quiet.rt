@@ -5,8 +5,8 @@ ghost use Rattle.protocol.specs.World.Quiet.{is_node_quiet, AreWhole};
 ghost use Rattle.world.specs.WholeView.{world_of};
 
 use crate::world::World;
-use gate_cell::SlotCell;
 use outlet::Outlet;
+use slot_cell::SlotCell;
 
 impl<C: SlotCell, O: Outlet> World<C, O> {
     /// Whether nothing is left to do at a node; true of one that isn't of this world. Where it answers no, the world isn't complete.

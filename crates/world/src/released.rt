@@ -7,8 +7,8 @@ ghost use Rattle.protocol.specs.World.Released.{IsPutAtHome, IsStreamOf};
 ghost use Rattle.world.specs.WholeView.{world_of};
 
 use crate::world::World;
-use gate_cell::SlotCell;
 use outlet::Outlet;
+use slot_cell::SlotCell;
 use station::Output;
 
 // The items that have left by the output of this channel, where it is one of these.

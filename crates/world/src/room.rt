@@ -6,9 +6,9 @@ ghost use Rattle.world.specs.WholeView.{world_of};
 
 use crate::world::World;
 use ckpt_codec::MAX_RETAINED_ITEMS;
-use gate_cell::SlotCell;
 use outlet::Outlet;
 use protocol::MIN_ROOM;
+use slot_cell::SlotCell;
 use thiserror::Error;
 
 /// No room that a channel may have. It is from `MIN_ROOM` to `MAX_RETAINED_ITEMS` items.

@@ -9,9 +9,9 @@ ghost use Rattle.world.specs.WholeView.{world_of};
 
 use crate::world::World;
 use ckpt_codec::MAX_RETAINED_ITEMS;
-use gate_cell::SlotCell;
 use net_check::{Inputs, Net};
 use outlet::Outlet;
+use slot_cell::SlotCell;
 use station::Station;
 
 // Whether nothing is to be done at any of these stations.

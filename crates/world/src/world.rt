@@ -20,10 +20,10 @@ ghost use Rattle.world.specs.WorldView.{capacities, HoldsAsBeforeAt, IsGrown, Le
 ghost use Rattle.station.specs.Leaving.{IsCellUnchanged};
 ghost use Rattle.station.specs.StationView.{station_view};
 
-use gate_cell::SlotCell;
 use net_check::{Inputs, Net};
 use node::next_after;
 use outlet::Outlet;
+use slot_cell::SlotCell;
 use station::{Event, Lent, Refused, Reply, Station};
 use std::alloc::{AllocError, Global};
 use std::sync::Arc;

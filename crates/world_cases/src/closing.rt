@@ -1,9 +1,9 @@
 //! What a world stands on, once it is closed.
 
 use case_table::{byte, listed, size};
-use gate_cell::HEADER_SECTORS;
 use outlet::{ListOutlet, Outlet};
 use sector_disk::{Disk, MemDisk, SECTOR_BYTES};
+use slot_cell::HEADER_SECTORS;
 use std::alloc::{AllocError, Global};
 use world::Output;
 

@@ -5,11 +5,11 @@ ghost use Rattle.protocol.specs.Node.Common.{Fits, network_of, node_count, SECTO
 
 use crate::plan::{EarlyFault, Settings};
 use ckpt_store::StoreFault;
-use gate_cell::SplitCell;
 use net_check::{Inputs, Net, bind, check};
 use net_text::{parse, parse_inputs};
 use outlet::ListOutlet;
 use sector_disk::{Disk, MemDisk};
+use slot_cell::{SplitCell, SplitCell};
 use std::alloc::{AllocError, Global};
 use std::sync::Arc;
 use world::{World, list_outputs, node_count};

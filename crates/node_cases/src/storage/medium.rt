@@ -6,7 +6,7 @@ use crate::storage::words::{Disturbance, disturbance_of, sends};
 use crate::storage::{cell, disk, slots, store};
 use case_table::size;
 use ckpt_store::Store;
-use gate_cell::{GateCell, SplitCell};
+use gate_cell::GateCell;
 use sector_disk::MemDisk;
 use std::alloc::Global;
 use std::mem;

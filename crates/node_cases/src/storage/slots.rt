@@ -5,7 +5,7 @@ ghost use Rattle.std.specs.Prelude.{◌≤◌, IfOk};
 use crate::storage::answer::Answer;
 use crate::storage::cell::{self, answer_of, shown};
 use case_table::size;
-use gate_cell::SlotCell;
+use slot_cell::SlotCell;
 use std::alloc::Global;
 
 /// The number of a slot.

@@ -10,8 +10,6 @@ pub use Rattle.datagram.specs.PacketText.{IsPacket}
 pub use Rattle.datagram.specs.declared.packet.Body.{Body}
 pub use Rattle.datagram.specs.declared.packet.Need.{Need}
 pub use Rattle.datagram.specs.declared.packet.Packet.{Packet}
-pub use Rattle.gate_cell.specs.SplitLayout.{slot_room_on}
-pub use Rattle.gate_cell.specs.Whole.{Whole}
 pub use Rattle.gate_cell.specs.declared.TheConstants.{SECTORS}
 pub use Rattle.kahn_net.specs.Approximations.{approximation}
 pub use Rattle.kahn_net.specs.Fits.{Fits}
@@ -90,5 +88,7 @@ pub use Rattle.retained.specs.LogState.{IsInLog, IsLogOf, LogState, items_since,
 pub use Rattle.sector_disk.specs.Clock.{Only}
 pub use Rattle.sector_disk.specs.MemDisk.{sectors_of}
 pub use Rattle.sector_disk.specs.declared.TheConstants.{SECTOR_BYTES}
+pub use Rattle.slot_cell.specs.SplitLayout.{slot_room_on}
+pub use Rattle.slot_cell.specs.Whole.{Whole}
 pub use Rattle.stream_eq.specs.Reached.{HistoryReaches}
 pub use Rattle.window_link.specs.Windows.{popped_times, ready_items}

@@ -1,6 +1,6 @@
 -- What a crash may leave covers what has left the system.
 use Rattle.std.specs.Prelude.{◌≡◌, ◌⊎◌, ℕ, ◌≤◌, List, length, Some, slice_get}
-use Rattle.gate_cell.specs.Whole.{Whole}
+use Rattle.slot_cell.specs.Whole.{Whole}
 use Rattle.ckpt_codec.specs.Common.{ImageView, RecordView, sent_of}
 use Rattle.ckpt_store.specs.Spelling.{Spells, SpellsSome}
 use Rattle.protocol.specs.World.OutputView.{OutputView}

@@ -1,6 +1,6 @@
 -- What an event does to a station's cell, to what has left it, to what covers that, and to the other stations.
 use Rattle.std.specs.Prelude.{◌≡◌, ◌⊎◌, ◌≤◌, ℕ, List, slice_get}
-use Rattle.gate_cell.specs.Whole.{Whole}
+use Rattle.slot_cell.specs.Whole.{Whole}
 use Rattle.ckpt_codec.specs.Common.{RecordView}
 use Rattle.protocol.specs.World.OutputView.{OutputView}
 use Rattle.protocol.specs.World.StationView.{OutletView}

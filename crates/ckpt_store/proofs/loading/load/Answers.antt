@@ -1,5 +1,5 @@
 use Rattle.std.proofs.Common.{◌≡◌, ◌-◌, ◌≤◌, true, false, Some, Ok, sym, subst, ap, rules}
-use Rattle.gate_cell.specs.Whole.{slot_in}
+use Rattle.slot_cell.specs.Whole.{slot_in}
 use Rattle.ckpt_codec.specs.Common.{RecordView, HeaderView, IsRecord, spelled_length}
 use Rattle.ckpt_store.specs.Loading.{IsLoad}
 use Rattle.ckpt_store.specs.Spelling.{IsKept, is_short, known_as}

@@ -1,5 +1,5 @@
 use Rattle.std.proofs.Common.{inr, Some, Ok, Err, sym, subst, ap, ◌∙◌}
-use Rattle.gate_cell.specs.Whole.{Looks}
+use Rattle.gate_cell.specs.ValueCall.{Looks}
 use Rattle.ckpt_codec.specs.Common.{HeaderView, IsHeaderText}
 use Rattle.ckpt_codec.specs.Faults.{IsHeaderFault}
 use Rattle.ckpt_store.specs.Loading.{IsLook, IsRead, IsHeaderOf, IsHeaderWrong}

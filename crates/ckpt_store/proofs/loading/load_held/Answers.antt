@@ -1,6 +1,6 @@
 use Rattle.std.proofs.Common.{◌≡◌, ◌-◌, true, Option, Some, None, Result, Ok, Err, subst}
 use Rattle.std.specs.Option.{is_some}
-use Rattle.gate_cell.specs.Whole.{slot_in}
+use Rattle.slot_cell.specs.Whole.{slot_in}
 use Rattle.ckpt_codec.specs.Common.{ImageView, HeaderView}
 use Rattle.ckpt_codec.specs.declared.header.Instance.{Instance}
 use Rattle.ckpt_store.specs.declared.fault.StoreFault.{StoreFault}

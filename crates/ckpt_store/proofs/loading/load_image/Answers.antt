@@ -1,6 +1,6 @@
 use Rattle.std.proofs.Common.{◌≡◌, Err, Ok, sym, subst, ap, Some, ◌∙◌, rules}
 use Rattle.std.specs.Prelude.{option_copied}
-use Rattle.gate_cell.specs.Whole.{slot_in}
+use Rattle.slot_cell.specs.Whole.{slot_in}
 use Rattle.ckpt_codec.specs.Common.{ImageView, IsImageText}
 use Rattle.ckpt_codec.specs.Faults.{IsImageFault}
 use Rattle.ckpt_store.specs.Loading.{IsRead, IsImageOf, IsImageWrong}

@@ -1,7 +1,7 @@
 use Rattle.std.proofs.Common.{◌≡◌, true, false, Result, Ok, Err}
 use Rattle.std.specs.Prelude.{OnOk, IfErr}
 use Rattle.std.specs.Result.{is_err}
-use Rattle.gate_cell.specs.Whole.{Looks}
+use Rattle.gate_cell.specs.ValueCall.{Looks}
 use Rattle.gate_cell.specs.declared.fault.CellFault.{CellFault}
 use Rattle.gate_cell.specs.declared.fault.CellFault.TheVariants.{Device}
 use Rattle.ckpt_store.proofs.Loads.{kept_unknown, reload_done, reload_refused, reopen_failed}

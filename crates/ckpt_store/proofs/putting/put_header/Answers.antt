@@ -1,6 +1,6 @@
 use Rattle.std.proofs.Common.{◌≡◌, ◌≤◌, ◌∙◌, ℕ, List, length, true, Ok, Err, sym, subst, refl, rules}
 use Rattle.std.proofs.lemmas.Result.{err_from_is_err_and}
-use Rattle.gate_cell.specs.Whole.{Puts}
+use Rattle.gate_cell.specs.ValueCall.{Puts}
 use Rattle.gate_cell.specs.Setup.{setup_stays}
 use Rattle.ckpt_codec.specs.Common.{header_of}
 use Rattle.ckpt_codec.specs.HeaderText.{IsHeaderTextIn}

@@ -3,7 +3,8 @@ use Rattle.std.specs.Prelude.{IsTrue}
 use Rattle.std.specs.Option.{ForSome}
 use Rattle.std.proofs.lemmas.Result.{err_from_is_err_and}
 use Rattle.sector_disk.specs.Clock.{LeavesOnly}
-use Rattle.gate_cell.specs.Whole.{Puts, with_slot, LeftByFill}
+use Rattle.gate_cell.specs.ValueCall.{Puts}
+use Rattle.slot_cell.specs.Whole.{with_slot, LeftByFill}
 use Rattle.ckpt_codec.specs.Common.{RecordView, Tentative, header_of, IsImageSpelled}
 use Rattle.ckpt_codec.specs.HeaderText.{IsHeaderTextIn}
 use Rattle.ckpt_codec.specs.declared.lengths.TheConstants.{MAX_HEADER_BYTES}

@@ -1,5 +1,5 @@
 use Rattle.std.proofs.Common.{[], ◌∷◌, ◌++◌, Result, Ok, Err, OnOk, ap, ◌∙◌}
-use Rattle.gate_cell.specs.SplitCell.{disk_in}
+use Rattle.slot_cell.specs.SplitCell.{disk_in}
 use Rattle.world.proofs.closing.add_station.Goals as goal
 
 -- what holds is so where a result is Ok, too

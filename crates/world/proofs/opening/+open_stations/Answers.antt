@@ -1,6 +1,6 @@
 use Rattle.std.proofs.Common.{rules, ◌≡◌, ◌++◌, vec_len, ◌≤◌, length, map, sym, ap, subst, ◌∙◌, arith}
 use Rattle.protocol.specs.Node.Common.{node_count, network_of, MAX_NODES, slot_room_on}
-use Rattle.gate_cell.specs.SplitCell.{disk_in}
+use Rattle.slot_cell.specs.SplitCell.{disk_in}
 use Rattle.protocol.specs.World.Common.{is_output}
 use Rattle.protocol_laws.specs.Node.PlaceLaws.{nodes_few}
 use Rattle.world.proofs.OpenedStations.{none_opened, last_back, before_back, world_refused, last_refused}
@@ -43,7 +43,7 @@ returns-in-Err-clause-handed_back g t c =
     c.push_reserved-in-Err.new.self.items
     c.in-Some.disk c.in-Err.refused.disk c.in-Err.refused.fault c.in-Some.ensures.items
     c.push_reserved-in-Err.ensures.items
-    c.in-Err.ensures.handed_back
+    c.in-Err.ensures.refused
 
 pub returns-in-Err-clause-refused : goal.returns-in-Err-clause-refused
 returns-in-Err-clause-refused g t c =
@@ -51,7 +51,7 @@ returns-in-Err-clause-refused g t c =
     last_refused (network_of c.args.net.now.program) g.D.Disk.sector_count c.args.nodes c.len-number.result
     c.pop.new.self.items
     c.args.disks.now.items c.in-Some.disk c.in-Err.refused.fault c.requires.nodes place c.in-Some.ensures.items
-    c.in-Err.ensures.refused
+    c.in-Err.ensures.refused.why
 
 pub returns-in-Ok-open_stations-clause-opened : goal.returns-in-Ok-open_stations-clause-opened
 returns-in-Ok-open_stations-clause-opened g t c =

@@ -1,5 +1,5 @@
 use Rattle.std.proofs.Common.{refl}
-use Rattle.gate_cell.specs.Whole.{Looks}
+use Rattle.gate_cell.specs.ValueCall.{Looks}
 use Rattle.ckpt_store.proofs.Loads.{kept_untouched}
 use Rattle.ckpt_store.proofs.store.Store.arm.Goals as goal
 

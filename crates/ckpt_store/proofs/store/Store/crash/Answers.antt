@@ -1,6 +1,7 @@
 use Rattle.std.proofs.Common.{◌≡◌, sym, subst}
 use Rattle.std.specs.Prelude.{IsTrue}
-use Rattle.gate_cell.specs.Whole.{Whole, Crashes}
+use Rattle.gate_cell.specs.ValueCall.{Crashes}
+use Rattle.slot_cell.specs.Whole.{Whole}
 use Rattle.ckpt_store.specs.Spelling.{Spells}
 use Rattle.ckpt_store.proofs.Loads.{kept_unknown}
 use Rattle.ckpt_store.proofs.Seen.{ready_known, known_held}

@@ -1,0 +1,6 @@
+pub mod Slots
+mod SplitMoves
+mod Filling
+mod Framing
+mod Heading
+mod Slotting

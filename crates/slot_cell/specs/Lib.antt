@@ -1,0 +1,4 @@
+pub mod Whole
+pub mod SplitLayout
+pub mod SplitStands
+pub mod SplitCell
