@@ -6,4 +6,5 @@ pub mod Images
 pub mod Doubt
 pub mod Schedule
 pub mod FaultSchedule
+pub mod SectorsLeft
 pub mod MemDisk

@@ -1,9 +1,10 @@
 -- What a disk in memory shows.
 use Rattle.std.specs.Prelude.{ℕ, Bool, List, ◌∷◌, length, Option, Some, None}
-use Rattle.sector_disk.specs.Images.{MayLeave, IsSettledBy}
+use Rattle.sector_disk.specs.Images.{IsSettledBy}
 use Rattle.sector_disk.specs.Past.{states_of, LeftBySome}
 use Rattle.sector_disk.specs.Schedule.{FaultState}
 use Rattle.sector_disk.specs.FaultSchedule.{state_of}
+use Rattle.sector_disk.specs.SectorsLeft.{left_of}
 use Rattle.sector_disk.specs.declared.disk.ArmedFault.{ArmedFault}
 use Rattle.sector_disk.specs.declared.sectors.Sectors.{Sectors}
 use Rattle.sector_disk.specs.declared.memory.MemDisk.{MemDisk}
@@ -43,10 +44,6 @@ failed_call_of disk = disk.schedule.failed_call
 
 abbrev pub armed_of : MemDisk → List ArmedFault
 armed_of disk = disk.schedule.armed.items
-
--- a crash leaves this or that in the sectors in doubt, and what the others hold
-abbrev pub left_of : Sectors → List ℕ → Type 0
-left_of sectors = MayLeave sectors.bytes.items sectors.doubt.flags.items
 
 abbrev pub may_leave_of : MemDisk → List ℕ → Type 0
 may_leave_of disk = left_of disk.sectors

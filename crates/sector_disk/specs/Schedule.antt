@@ -43,6 +43,10 @@ after_meeting (Some fault) s = record s {
 abbrev pub after_call : FaultState → FaultState
 after_call s = after_meeting (fault_met s) s
 
+-- the call that was counted last has failed, though no fault was armed for it
+abbrev pub after_failing : FaultState → FaultState
+after_failing s = record s { failures = s.failures + 1; failed_call = s.calls }
+
 -- a crash has used up the fill
 abbrev pub after_crash : FaultState → FaultState
 after_crash s = record s { fill = 0 }

@@ -1,7 +1,8 @@
 //! A disk of sectors that may crash at any moment: what a read gives now, and what a crash may leave.
 //!
-//! `Disk` is the model that everything above rests on. `MemDisk` is a disk in memory that obeys armed faults. `Past`
-//! keeps, for proofs alone, what a value has been: a clock over it needs no memory.
+//! `Disk` is the model that everything above rests on. `MemDisk` is a disk in memory that obeys armed faults. Its parts
+//! are open for disks of another kind: `Sectors`, the bytes and what is in doubt of them, and `FaultSchedule`, the counts
+//! and the faults that are armed. `Past` keeps, for proofs alone, what a value has been: a clock over it needs no memory.
 #![tactic(auto)]
 
 mod disk;
@@ -13,9 +14,12 @@ mod schedule;
 mod sectors;
 
 pub use disk::{ArmedFault, Disk};
+pub use doubt::Doubt;
 pub use fault::DiskFault;
 pub use memory::MemDisk;
 pub use past::Past;
+pub use schedule::FaultSchedule;
+pub use sectors::{Sectors, is_in_range};
 
 /// Bytes of a sector.
 pub const SECTOR_BYTES: usize = 512;

@@ -12,7 +12,7 @@ use crate::disk::{ArmedFault, Disk};
 use crate::fault::DiskFault;
 use crate::past::Past;
 use crate::schedule::FaultSchedule;
-use crate::sectors::{Sectors, is_in_range, overwrite};
+use crate::sectors::{Sectors, is_in_range};
 use std::alloc::{AllocError, Global};
 
 /// A disk in memory. A call takes time by the sectors that it touches, and none but `arm` takes memory.
@@ -49,7 +49,8 @@ impl MemDisk {
 }
 
 impl Disk for MemDisk {
-    ghost use Rattle.sector_disk.specs.MemDisk.{content_of, doubt_of, faults_of, sectors_of, failures_of, calls_of, failed_call_of, armed_of, may_leave_of, moment_of, left_since_of, settles_to_of, past_of, left_of};
+    ghost use Rattle.sector_disk.specs.MemDisk.{content_of, doubt_of, faults_of, sectors_of, failures_of, calls_of, failed_call_of, armed_of, may_leave_of, moment_of, left_since_of, settles_to_of, past_of};
+    ghost use Rattle.sector_disk.specs.SectorsLeft.{left_of};
     ghost use Rattle.sector_disk.specs.Doubt.{marked, NoneInDoubt};
     ghost use Rattle.sector_disk.specs.Schedule.{fault_met, after_call, after_crash, after_arming, after_recount};
 
@@ -164,11 +165,11 @@ impl Disk for MemDisk {
             return Err(DiskFault::Range);
         }
         self.past.note(&self.sectors);
-        self.sectors.doubt.mark(first, bytes.len() / SECTOR_BYTES);
         if self.schedule.count_call() {
+            self.sectors.mark(first, bytes.len());
             return Err(DiskFault::Device);
         }
-        overwrite(&mut self.sectors.bytes, SECTOR_BYTES * first, bytes);
+        self.sectors.write(first, bytes);
         Ok(())
     }
 

@@ -1,5 +1,5 @@
 //! The counts of a disk's calls and failures, and the failures that are to come.
-ghost use Rattle.std.specs.Prelude.{◌≡◌, ◌≤◌, ◌↔◌, IsTrue, IsSome, OnOk, OnErr, find, ◌==◌};
+ghost use Rattle.std.specs.Prelude.{◌≡◌, ◌<◌, ◌≤◌, ◌↔◌, false, IsTrue, IsSome, OnOk, OnErr, find, ◌==◌};
 ghost use Rattle.sector_disk.specs.declared.TheConstants.{GREATEST_COUNT};
 ghost use Rattle.sector_disk.specs.Schedule.{fault_at};
 
@@ -49,7 +49,7 @@ fn fault_due(armed: &[ArmedFault], call: u64, failures: u64) -> Option<ArmedFaul
 
 impl FaultSchedule {
     ghost use Rattle.sector_disk.specs.FaultSchedule.{state_of};
-    ghost use Rattle.sector_disk.specs.Schedule.{no_faults, fault_met, after_call, after_recount, after_arming};
+    ghost use Rattle.sector_disk.specs.Schedule.{no_faults, fault_met, after_call, after_failing, after_recount, after_arming};
 
     /// Nothing is armed or counted.
     pub fn new(alloc: Global) -> FaultSchedule
@@ -90,6 +90,22 @@ impl FaultSchedule {
             }
             None => false,
         }
+    }
+
+    /// The call that was counted last has failed, for a cause that wasn't armed. Says whether that could be counted: not
+    /// where so many have failed that counts stop.
+    pub fn fail(&mut self) -> bool
+        ensures counted { IsTrue result
+            → state_of self.new ≡ after_failing (state_of self.old) }
+        ensures counted_out { IsTrue result ↔ self.old.failures < GREATEST_COUNT }
+        ensures same { result ≡ false → self.new ≡ self.old }
+    {
+        if self.failures >= GREATEST_COUNT {
+            return false;
+        }
+        self.failures += 1;
+        self.failed_call = self.calls;
+        true
     }
 
     /// Begins the count of calls anew.

@@ -1,8 +1,8 @@
-//! The bytes of a disk in memory, and what is in doubt of them.
-ghost use Rattle.std.specs.Prelude.{◌≡◌, ◌+◌, ◌*◌, ◌^◌, ◌<◌, ◌≤◌, ◌++◌, ◌↔◌, false, length, take, drop, replicate, IsTrue, IfOk};
+//! The bytes of a disk, and what is in doubt of them.
+ghost use Rattle.std.specs.Prelude.{◌≡◌, ◌+◌, ◌*◌, ◌/◌, ◌^◌, ◌<◌, ◌≤◌, ◌++◌, ◌↔◌, false, length, take, drop, replicate, IsTrue, IfOk};
 ghost use Rattle.sector_disk.specs.declared.TheConstants.{SECTOR_BYTES};
-ghost use Rattle.sector_disk.specs.Disk.{IsInRange, IsOverwritten};
-ghost use Rattle.sector_disk.specs.Doubt.{NoneInDoubt};
+ghost use Rattle.sector_disk.specs.Disk.{IsInRange, IsOverwritten, OneStepFrom, SameOutside};
+ghost use Rattle.sector_disk.specs.Doubt.{NoneInDoubt, marked};
 ghost use Rattle.sector_disk.specs.Images.{IsSettledBy};
 
 use crate::SECTOR_BYTES;
@@ -57,6 +57,8 @@ fn fill_doubtful(bytes: &mut [u8], in_doubt: &[bool], fill: u8)
 }
 
 impl Sectors {
+    ghost use Rattle.sector_disk.specs.SectorsLeft.{left_of};
+
     /// So many sectors of zeros, none of them in doubt.
     pub fn new(alloc: Global, count: usize) -> Result<Sectors, AllocError>
         requires { SECTOR_BYTES * count < 2 ^ 64 }
@@ -68,6 +70,34 @@ impl Sectors {
             bytes: Vec::from_elem(alloc, 0, SECTOR_BYTES * count)?,
             doubt: Doubt::new(alloc, count)?,
         })
+    }
+
+    /// So many bytes of whole sectors are in doubt from now on, and hold what they held.
+    pub fn mark(&mut self, first: usize, len: usize)
+        requires { IsInRange (length self.old.doubt.flags.items) first len }
+        ensures flags { self.new.doubt.flags.items
+            ≡ marked first (len / SECTOR_BYTES) self.old.doubt.flags.items }
+        ensures bytes { self.new.bytes ≡ self.old.bytes }
+        ensures crash { OneStepFrom (left_of self.old) (left_of self.new)
+            (SameOutside (SECTOR_BYTES * first) len) }
+    {
+        self.doubt.mark(first, len / SECTOR_BYTES);
+    }
+
+    /// Bytes of whole sectors are written, and these are in doubt from now on.
+    pub fn write(&mut self, first: usize, bytes: &[u8])
+        requires { IsInRange (length self.old.doubt.flags.items) first (length bytes.now) }
+        ensures flags { self.new.doubt.flags.items
+            ≡ marked first (length bytes.now / SECTOR_BYTES) self.old.doubt.flags.items }
+        ensures bytes { IsOverwritten self.old.bytes.items (SECTOR_BYTES * first) bytes.now
+            self.new.bytes.items }
+        ensures elsewhere { SameOutside (SECTOR_BYTES * first) (length bytes.now)
+            self.old.bytes.items self.new.bytes.items }
+        ensures crash { OneStepFrom (left_of self.old) (left_of self.new)
+            (SameOutside (SECTOR_BYTES * first) (length bytes.now)) }
+    {
+        self.doubt.mark(first, bytes.len() / SECTOR_BYTES);
+        overwrite(&mut self.bytes, SECTOR_BYTES * first, bytes);
     }
 
     /// A crash fills the sectors in doubt. After it none is.
