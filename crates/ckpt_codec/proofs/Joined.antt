@@ -1,24 +1,23 @@
 -- A record apart: its header and its images tell it, and each record that may be written has them.
-use Rattle.std.proofs.Common.{◌≡◌, ℕ, ◌≤◌, ◌++◌, List, length, [], ◌∷◌, Option, Some, None, Ok, refl, sym, ap, subst, ◌∙◌}
+use Rattle.std.proofs.Common.{◌≡◌, ℕ, ◌≤◌, ◌++◌, List, length, [], ◌∷◌, Option, Some, None, refl, sym, ap, subst, ◌∙◌}
 use Rattle.std.specs.Prelude.{All, FitsSigned}
 use Rattle.std.specs.Int.{w64}
 use Rattle.std.proofs.lemmas.List.Elements.{All-from_recursion, recursion_from_All}
-use Rattle.record.specs.Common.{DecisionView, ImageView, RecordView}
+use Rattle.record.specs.Common.{ImageView, RecordView}
 use Rattle.record.specs.declared.record.Tentative.{Tentative}
-use Rattle.ckpt_codec.specs.Fields.{Field, IsAllowed, AreAllowed, text_of}
-use Rattle.ckpt_codec.specs.RecordText.{flag, image_fields, tentative_fields, items_of_record, version_of, IsRecord}
+use Rattle.ckpt_codec.specs.Fields.{IsAllowed, AreAllowed, text_of}
+use Rattle.ckpt_codec.specs.RecordText.{image_fields, tentative_fields, items_of_record, version_of, IsRecord}
 use Rattle.ckpt_codec.specs.HeaderView.{HeaderView}
 use Rattle.ckpt_codec.specs.HeaderText.{instance_of, header_of, slot_field, held_fields, header_text, IsHeaderText}
 use Rattle.ckpt_codec.specs.HeaderText.{IsImageText, IsTentativeText, IsApart, tentative_with, record_with, IsHeldText}
 use Rattle.ckpt_codec.specs.declared.header.Instance.{Instance}
 use Rattle.ckpt_codec.specs.declared.version.TheConstants.{VERSION}
-use Rattle.ckpt_codec.specs.Reading.{header_at}
 use Rattle.ckpt_codec.proofs.Scan.{is_found}
 use Rattle.ckpt_codec.proofs.Text.{AllAllowed}
 use Rattle.ckpt_codec.proofs.Items.{image_items, is_kept}
 use Rattle.ckpt_codec.proofs.Records.{IsTentative}
 use Rattle.ckpt_codec.proofs.Headers.{header_again, written_is_header, image_again}
-use Rattle.ckpt_codec.proofs.Spelled.{allowed-split, allowed-append, FrontParts, front_parts, front_joined, header_allowed}
+use Rattle.ckpt_codec.proofs.Spelled.{allowed-split, allowed-append, front_parts, front_joined, header_allowed}
 use Rattle.ckpt_codec.proofs.Spelled.{image-spelled}
 use Rattle.ckpt_codec.proofs.Sizes.{length-image}
 use Rattle.ckpt_codec.specs.Lengths.{image_length}

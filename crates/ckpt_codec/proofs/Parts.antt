@@ -6,7 +6,6 @@ use Rattle.std.specs.Prelude.{FitsSigned}
 use Rattle.std.specs.List.{AllByRecursion}
 use Rattle.std.specs.Int.{w64, cast_signed, cast_unsigned, int_wrap}
 use Rattle.std.proofs.lemmas.Bool.{eqb-true, leb-true}
-use Rattle.std.proofs.lemmas.List.{nil_from_length}
 use Rattle.std.proofs.lemmas.Int.{of_z-to_z, to_z-of_z, int_wrap_fits}
 use Rattle.std.proofs.Math.Facts.{sfits_to_z, Fits-of_lt}
 use Rattle.byteorder.specs.Endian.{big_number}
@@ -19,7 +18,7 @@ use Rattle.record.specs.declared.image.SavedEnd.{SavedEnd}
 use Rattle.record.specs.declared.image.End.{End}
 use Rattle.record.specs.declared.image.End.TheVariants.{Receives, Sends, Both}
 use Rattle.ckpt_codec.specs.Fields.{Field}
-use Rattle.ckpt_codec.specs.RecordText.{any, at_most, exactly, count, item, flag, between, wanted_or, participants}
+use Rattle.ckpt_codec.specs.RecordText.{any, at_most, count, item, flag, between, wanted_or, participants}
 use Rattle.ckpt_codec.specs.RecordText.{decision_fields, each_decision_fields, decisions_fields, first_of, rest_of, wanted, variables_of, mode_fields}
 use Rattle.ckpt_codec.specs.RecordText.{process_fields, processes_fields, role_of, retained_count, end_fields}
 use Rattle.ckpt_codec.specs.RecordText.{saved_end_fields, ends_fields, processes_in, ends_in, image_fields}
@@ -39,9 +38,8 @@ use Rattle.ckpt_codec.specs.Reading.{retained_at, retained_items_at, log_at, end
 use Rattle.ckpt_codec.specs.Reading.{channel_wanted, role_wanted, end_like, past_end, ends_at, end_count_at}
 use Rattle.ckpt_codec.specs.Reading.{end_list_at, image_at}
 use Rattle.ckpt_codec.specs.Reading.Footing.{BeforeAll, AtPoint, PastAll}
-use Rattle.ckpt_codec.proofs.Scan.{Outcome, scan, Agrees, Lawful, Each, field_lawful, one_took}
-use Rattle.ckpt_codec.proofs.Scan.Outcome.{Passed, Stuck, Differs}
-use Rattle.ckpt_codec.proofs.Combining.{refined, mapped, same_reader, same_values, of_each, built, counted}
+use Rattle.ckpt_codec.proofs.Scan.{Lawful, Each, field_lawful}
+use Rattle.ckpt_codec.proofs.Combining.{refined, mapped, same_reader, same_values, built, counted}
 use Rattle.ckpt_codec.proofs.Combining.{only_lawful}
 
 -- ---- numbers

@@ -15,7 +15,7 @@ use Rattle.record.specs.declared.image.End.{End}
 use Rattle.record.specs.declared.image.End.TheVariants.{Receives, Sends, Both}
 use Rattle.record.specs.declared.record.Tentative.{Tentative}
 use Rattle.ckpt_codec.specs.Fields.{Field, IsAllowed, AreAllowed, number_text, field_text, text_of}
-use Rattle.ckpt_codec.specs.RecordText.{any, at_most, exactly, count, item, flag, between, wanted_or, participants}
+use Rattle.ckpt_codec.specs.RecordText.{any, at_most, count, item, flag, between, wanted_or, participants}
 use Rattle.ckpt_codec.specs.RecordText.{decision_fields, each_decision_fields, decisions_fields, most_decisions, version_field, first_of, rest_of, wanted, variables_of, mode_fields}
 use Rattle.ckpt_codec.specs.RecordText.{process_fields, processes_fields, role_of, retained_count, end_fields}
 use Rattle.ckpt_codec.specs.RecordText.{saved_end_fields, ends_fields, processes_in, ends_in, image_fields}

@@ -1,26 +1,21 @@
 -- Fields that are tested one after the other.
 use Rattle.std.proofs.Common.{◌≡◌, ℕ, suc, ℤ, Bool, true, false, List, [], ◌∷◌, ◌++◌, length, map, get_or, drop, ◌≤◌}
-use Rattle.std.proofs.Common.{◌<◌, ◌+◌, Option, Some, None, refl, sym, ◌∙◌, subst, arith}
-use Rattle.std.specs.Prelude.{◌↔◌, IsTrue, slice_index}
+use Rattle.std.proofs.Common.{◌+◌, Option, Some, None, refl, sym, ◌∙◌, subst, arith}
+use Rattle.std.specs.Prelude.{◌↔◌, IsTrue}
 use Rattle.std.proofs.lemmas.Bool.{false≢true}
 use Rattle.std.proofs.lemmas.List.Elements.{All-nil, All-cons, All-head, All-tail, All-append}
 use Rattle.record.specs.Common.{standing_in, MAX_PROCESSES, MAX_CHANNELS, MAX_VARIABLES, MAX_REPEATS, LogState}
-use Rattle.record.specs.Common.{DecisionView, SavedProcessView, ImageView, RecordView}
+use Rattle.record.specs.Common.{SavedProcessView}
 use Rattle.kahn_net.specs.declared.state.Place.{Place}
 use Rattle.kahn_net.specs.declared.state.Mode.{Mode}
 use Rattle.kahn_net.specs.declared.state.Mode.TheVariants.{NotBegun, At, Finished}
-use Rattle.record.specs.declared.record.Tentative.{Tentative}
 use Rattle.record.specs.declared.image.SavedEnd.{SavedEnd}
 use Rattle.ckpt_codec.specs.Fields.{Field, IsAllowed, AreAllowed}
 use Rattle.ckpt_codec.specs.ItemLaws.{wrapped_fits}
-use Rattle.ckpt_codec.specs.RecordText.{any, at_most, exactly, between, retained_count, count, flag, item, variables_of}
-use Rattle.ckpt_codec.specs.RecordText.{role_of, wanted, participants, wanted_or, first_of, rest_of, mode_fields, remaining}
+use Rattle.ckpt_codec.specs.RecordText.{any, at_most, between, retained_count, item, variables_of}
+use Rattle.ckpt_codec.specs.RecordText.{role_of, wanted, wanted_or, first_of, rest_of, mode_fields, remaining}
 use Rattle.ckpt_codec.specs.RecordText.{process_fields, processes_fields, end_fields, saved_end_fields, ends_fields}
-use Rattle.ckpt_codec.specs.RecordText.{decision_fields, each_decision_fields, decisions_fields, version_field, image_fields, tentative_fields, head_fields, record_fields}
-use Rattle.record.specs.declared.record.TheConstants.{MAX_DECISIONS}
-use Rattle.ckpt_codec.specs.declared.version.TheConstants.{VERSION}
-use Rattle.ckpt_codec.specs.Testing.{listed, log_fields, participant_field, participant_count_field, initiator_field}
-use Rattle.ckpt_codec.specs.Testing.{held_number_field, nodes_field}
+use Rattle.ckpt_codec.specs.Testing.{listed, log_fields}
 
 abbrev pub Tests : Bool → List Field → Type 0
 Tests b fields = IsTrue b ↔ AreAllowed fields
@@ -92,49 +87,6 @@ pub as_found : (found w : Option ℕ) (f : Field) (a : Bool) → found ≡ w →
 as_found found w f a is test = subst (λ o. IsTrue a ↔ IsAllowed (wanted_or o f)) is test
 
 -- ---- lists, of which the first is tested and then the others
-
-module _ (entries : List ℕ) (default : ℕ) (a : Bool) (some : 1 ≤ length entries)
-    (test : IsTrue a ↔ IsAllowed (count (get_or entries 0 default))) where
-  pub counts_not : a ≡ false → Tests false (map count entries)
-  counts_not is = at entries some test
-    where
-      at : (xs : List ℕ) → 1 ≤ length xs → (IsTrue a ↔ IsAllowed (count (get_or xs 0 default)))
-          → Tests false (map count xs)
-      at [] some test = absurd (omega (arith, some))
-      at (x ∷ xs) some test = field_not (count x) (map count xs) a test is
-
-  pub counts_then : (b : Bool) → a ≡ true → Tests b (map count (drop 1 entries)) → Tests b (map count entries)
-  counts_then b is behind = at entries some test behind
-    where
-      at : (xs : List ℕ) → 1 ≤ length xs → (IsTrue a ↔ IsAllowed (count (get_or xs 0 default)))
-          → Tests b (map count (drop 1 xs)) → Tests b (map count xs)
-      at [] some test behind = absurd (omega (arith, some))
-      at (x ∷ xs) some test behind = field_then (count x) (map count xs) a b test is behind
-
-module _ (node nodes least : ℕ) (ps : List ℕ) (default : ℕ) (a : Bool) (some : 1 ≤ length ps)
-    (test : IsTrue a ↔ IsAllowed (participant_field node nodes least (get_or ps 0 default))) where
-  pub participants_not : a ≡ false → Tests false (participants node nodes least ps)
-  participants_not is = at ps some test
-    where
-      at : (xs : List ℕ) → 1 ≤ length xs
-          → (IsTrue a ↔ IsAllowed (participant_field node nodes least (get_or xs 0 default)))
-          → Tests false (participants node nodes least xs)
-      at [] some test = absurd (omega (arith, some))
-      at (x ∷ xs) some test =
-          field_not (participant_field node nodes least x) (participants node nodes (suc x) xs) a test is
-
-  pub participants_then : (b : Bool) → a ≡ true
-      → Tests b (participants node nodes (suc (get_or ps 0 default)) (drop 1 ps))
-      → Tests b (participants node nodes least ps)
-  participants_then b is behind = at ps some test behind
-    where
-      at : (xs : List ℕ) → 1 ≤ length xs
-          → (IsTrue a ↔ IsAllowed (participant_field node nodes least (get_or xs 0 default)))
-          → Tests b (participants node nodes (suc (get_or xs 0 default)) (drop 1 xs))
-          → Tests b (participants node nodes least xs)
-      at [] some test behind = absurd (omega (arith, some))
-      at (x ∷ xs) some test behind =
-          field_then (participant_field node nodes least x) (participants node nodes (suc x) xs) a b test is behind
 
 module _ (likes : List SavedProcessView) (least : ℕ) (ps : List SavedProcessView) (default : SavedProcessView)
     (like : Option SavedProcessView) (a : Bool) (some : 1 ≤ length ps) (first : like ≡ first_of (Some likes))
@@ -322,160 +274,6 @@ module _ (place : Place) (a : Bool) (site : IsTrue a ↔ IsAllowed (any 4 place.
       field_stands (at_most 1 2 1) (any 4 place.site ∷ depth_field ∷ passes_fields) d at_site
       (field_then (any 4 place.site) (depth_field ∷ passes_fields) a d site is
       (field_then depth_field passes_fields b d depth shallow passes))
-
-flag_stands : IsAllowed (flag 1)
-flag_stands = (omega arith, refl)
-
-module _ (node nodes own least : ℕ) (d : DecisionView) (a : Bool)
-    (number : IsTrue a ↔ IsAllowed (between 8 least (suc own) d.number)) where
-  abbrev behind_number : List Field
-  behind_number = participant_count_field (length d.participants) ∷ participants node nodes 0 d.participants
-
-  pub decision_not : a ≡ false → Tests false (decision_fields node nodes own least d)
-  decision_not is = field_not (between 8 least (suc own) d.number) behind_number a number is
-
-  module _ (b : Bool) (numbered : a ≡ true)
-      (counted : IsTrue b ↔ IsAllowed (participant_count_field (length d.participants))) where
-    pub decision_uncounted : b ≡ false → Tests false (decision_fields node nodes own least d)
-    decision_uncounted is =
-        field_then (between 8 least (suc own) d.number) behind_number a false number numbered
-        (field_not (participant_count_field (length d.participants)) (participants node nodes 0 d.participants) b
-        counted is)
-
-    pub decision_then : (e : Bool) → b ≡ true → Tests e (participants node nodes 0 d.participants)
-        → Tests e (decision_fields node nodes own least d)
-    decision_then e is named =
-        field_then (between 8 least (suc own) d.number) behind_number a e number numbered
-        (field_then (participant_count_field (length d.participants)) (participants node nodes 0 d.participants) b
-        e counted is named)
-
-module _ (node nodes own least : ℕ) (ds : List DecisionView) (default : DecisionView) (a : Bool)
-    (some : 1 ≤ length ds) (test : Tests a (decision_fields node nodes own least (get_or ds 0 default))) where
-  pub decisions_not : a ≡ false → Tests false (each_decision_fields node nodes own least ds)
-  decisions_not is = at ds some test
-    where
-      at : (xs : List DecisionView) → 1 ≤ length xs
-          → Tests a (decision_fields node nodes own least (get_or xs 0 default))
-          → Tests false (each_decision_fields node nodes own least xs)
-      at [] some test = absurd (omega (arith, some))
-      at (x ∷ xs) some test =
-          not_first (decision_fields node nodes own least x) (each_decision_fields node nodes own (suc x.number) xs) a
-          test is
-
-  pub decisions_then : (b : Bool) → a ≡ true
-      → Tests b (each_decision_fields node nodes own (suc (get_or ds 0 default).number) (drop 1 ds))
-      → Tests b (each_decision_fields node nodes own least ds)
-  decisions_then b is behind = at ds some test behind
-    where
-      at : (xs : List DecisionView) → 1 ≤ length xs
-          → Tests a (decision_fields node nodes own least (get_or xs 0 default))
-          → Tests b (each_decision_fields node nodes own (suc (get_or xs 0 default).number) (drop 1 xs))
-          → Tests b (each_decision_fields node nodes own least xs)
-      at [] some test behind = absurd (omega (arith, some))
-      at (x ∷ xs) some test behind =
-          others (decision_fields node nodes own least x) (each_decision_fields node nodes own (suc x.number) xs) a b
-          test is behind
-
-module _ (highest : List ℕ) (permanent : ImageView) (t : Tentative) (a : Bool)
-    (initiator : IsTrue a ↔ IsAllowed (initiator_field highest t.initiator)) where
-  abbrev behind_initiator : List Field
-  behind_initiator = held_number_field highest t.initiator t.number ∷ image_fields (Some permanent) t.image
-
-  pub tentative_not : a ≡ false → Tests false (tentative_fields highest permanent (Some t))
-  tentative_not is =
-      field_stands (flag 1) (initiator_field highest t.initiator ∷ behind_initiator) false flag_stands
-      (field_not (initiator_field highest t.initiator) behind_initiator a initiator is)
-
-  module _ (b : Bool) (listed_there : a ≡ true)
-      (number : IsTrue b ↔ IsAllowed (held_number_field highest t.initiator t.number)) where
-    pub tentative_other : b ≡ false → Tests false (tentative_fields highest permanent (Some t))
-    tentative_other is =
-        field_stands (flag 1) (initiator_field highest t.initiator ∷ behind_initiator) false flag_stands
-        (field_then (initiator_field highest t.initiator) behind_initiator a false initiator listed_there
-        (field_not (held_number_field highest t.initiator t.number) (image_fields (Some permanent) t.image) b
-        number is))
-
-    pub tentative_then : (e : Bool) → b ≡ true → Tests e (image_fields (Some permanent) t.image)
-        → Tests e (tentative_fields highest permanent (Some t))
-    tentative_then e is image =
-        field_stands (flag 1) (initiator_field highest t.initiator ∷ behind_initiator) e flag_stands
-        (field_then (initiator_field highest t.initiator) behind_initiator a e initiator listed_there
-        (field_then (held_number_field highest t.initiator t.number) (image_fields (Some permanent) t.image) b e
-        number is image))
-
--- version, node, epoch and how many nodes there are
-module _ (kept : RecordView) (a : Bool) (small : kept.node < 256) (epoch : IsTrue a ↔ IsAllowed (count kept.epoch))
-  where
-    version_stands : IsAllowed (version_field VERSION)
-    version_stands = (omega arith, refl)
-
-    node_stands : IsAllowed (any 1 kept.node)
-    node_stands = (omega (arith, small), refl)
-
-    abbrev nodes_there : Field
-    nodes_there = nodes_field kept.node (length kept.highest)
-
-    pub head_not : a ≡ false → Tests false (head_fields VERSION kept)
-    head_not is =
-        field_stands (version_field VERSION) (any 1 kept.node ∷ count kept.epoch ∷ nodes_there ∷ []) false version_stands
-        (field_stands (any 1 kept.node) (count kept.epoch ∷ nodes_there ∷ []) false node_stands
-        (field_not (count kept.epoch) (nodes_there ∷ []) a epoch is))
-
-    pub head_then : (b : Bool) → a ≡ true → (IsTrue b ↔ IsAllowed nodes_there) → Tests b (head_fields VERSION kept)
-    head_then b is nodes =
-        field_stands (version_field VERSION) (any 1 kept.node ∷ count kept.epoch ∷ nodes_there ∷ []) b version_stands
-        (field_stands (any 1 kept.node) (count kept.epoch ∷ nodes_there ∷ []) b node_stands
-        (field_then (count kept.epoch) (nodes_there ∷ []) a b epoch is (single nodes_there b nodes)))
-
--- the parts of a record, each where those before it stand
-module _ (kept : RecordView) (a : Bool) (head : Tests a (head_fields VERSION kept)) where
-  abbrev entries_of : List Field
-  entries_of = map count kept.highest
-
-  abbrev decisions_of : List Field
-  decisions_of =
-      decisions_fields MAX_DECISIONS kept.node (length kept.highest) (slice_index kept.highest kept.node)
-      kept.decisions
-
-  abbrev permanent_of : List Field
-  permanent_of = image_fields None kept.permanent
-
-  abbrev tentative_of : List Field
-  tentative_of = tentative_fields kept.highest kept.permanent kept.tentative
-
-  pub record_no_head : a ≡ false → Tests false (record_fields VERSION kept)
-  record_no_head is =
-      not_first (head_fields VERSION kept) (entries_of ++ (decisions_of ++ (permanent_of ++ tentative_of))) a head is
-
-  module _ (headed : a ≡ true) (b : Bool) (entries : Tests b entries_of) where
-    behind_head : (r : Bool) → Tests r (entries_of ++ (decisions_of ++ (permanent_of ++ tentative_of)))
-        → Tests r (record_fields VERSION kept)
-    behind_head r test =
-        others (head_fields VERSION kept) (entries_of ++ (decisions_of ++ (permanent_of ++ tentative_of))) a r head headed test
-
-    pub record_no_entries : b ≡ false → Tests false (record_fields VERSION kept)
-    record_no_entries is =
-        behind_head false (not_first entries_of (decisions_of ++ (permanent_of ++ tentative_of)) b entries is)
-
-    module _ (entered : b ≡ true) (d : Bool) (decision : Tests d decisions_of) where
-      behind_entries : (r : Bool) → Tests r (decisions_of ++ (permanent_of ++ tentative_of))
-          → Tests r (record_fields VERSION kept)
-      behind_entries r test =
-          behind_head r (others entries_of (decisions_of ++ (permanent_of ++ tentative_of)) b r entries entered test)
-
-      pub record_no_decisions : d ≡ false → Tests false (record_fields VERSION kept)
-      record_no_decisions is = behind_entries false (not_first decisions_of (permanent_of ++ tentative_of) d decision is)
-
-      module _ (decided : d ≡ true) (e : Bool) (permanent : Tests e permanent_of) where
-        behind_decisions : (r : Bool) → Tests r (permanent_of ++ tentative_of) → Tests r (record_fields VERSION kept)
-        behind_decisions r test =
-            behind_entries r (others decisions_of (permanent_of ++ tentative_of) d r decision decided test)
-
-        pub record_no_image : e ≡ false → Tests false (record_fields VERSION kept)
-        record_no_image is = behind_decisions false (not_first permanent_of tentative_of e permanent is)
-
-        pub record_then : (f : Bool) → e ≡ true → Tests f tentative_of → Tests f (record_fields VERSION kept)
-        record_then f is tentative = behind_decisions f (others permanent_of tentative_of e f permanent is tentative)
 
 pub one_more : (n : ℕ) → n + 1 ≡ suc n
 one_more n = omega arith

@@ -1,5 +1,6 @@
 -- A record apart: its header, which names the slots of its images, and each image by itself.
 use Rattle.std.specs.Prelude.{◌≡◌, ℕ, List, ◌∷◌, [], ◌++◌, length, map, Option, Some, None, slice_index, All, FitsSigned}
+use Rattle.std.specs.Prelude.{nat_lt, nat_le, ◌&&◌, ◌==◌}
 use Rattle.std.specs.Int.{w64}
 use Rattle.record.specs.Common.{ImageView, RecordView}
 use Rattle.record.specs.declared.record.Tentative.{Tentative}
@@ -8,9 +9,16 @@ use Rattle.ckpt_codec.specs.declared.header.Instance.{Instance}
 use Rattle.ckpt_codec.specs.Fields.{Field, AreAllowed, text_of}
 use Rattle.ckpt_codec.specs.RecordText.{at_most, count, flag, first_fields, decisions_fields, most_decisions}
 use Rattle.ckpt_codec.specs.RecordText.{image_fields, items_of_image, version_of}
-use Rattle.ckpt_codec.specs.Testing.{initiator_field, held_number_field}
 
 -- ---- the header
+
+-- the initiator of an instance, and its number, which is the highest seen
+abbrev pub initiator_field : List ℕ → ℕ → Field
+initiator_field highest initiator = record { width = 1; allows = λ v. nat_lt v (length highest); value = initiator }
+
+abbrev pub held_number_field : List ℕ → ℕ → ℕ → Field
+held_number_field highest initiator number =
+    record { width = 8; allows = λ v. nat_le 1 v && (v == slice_index highest initiator); value = number }
 
 -- whose image a tentative one is
 abbrev pub instance_of : Option Tentative → Option Instance

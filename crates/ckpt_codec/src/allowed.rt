@@ -1,21 +1,18 @@
-// Which images and records may be written: each field is tested in its turn.
-ghost use Rattle.std.specs.Prelude.{◌≡◌, ◌↔◌, ◌<◌, [], length, suc, IsTrue, Some, None, option_copied, slice_index, map};
+// Which images may be written: each field is tested in its turn.
+ghost use Rattle.std.specs.Prelude.{◌≡◌, ◌↔◌, ◌<◌, [], length, IsTrue, Some, None, option_copied, map};
 ghost use Rattle.record.specs.Common.{standing_in, MAX_PROCESSES, MAX_VARIABLES, MAX_CHANNELS, MAX_REPEATS};
 ghost use Rattle.record.specs.Common.{SavedProcessView};
-ghost use Rattle.record.specs.declared.record.TheConstants.{MAX_DECISIONS};
-ghost use Rattle.ckpt_codec.specs.declared.version.TheConstants.{VERSION};
 ghost use Rattle.record.specs.declared.image.SavedEnd.{SavedEnd};
 ghost use Rattle.ckpt_codec.specs.Fields.{IsAllowed, AreAllowed};
-ghost use Rattle.ckpt_codec.specs.RecordText.{any, at_most, between, remaining, retained_count, wanted, wanted_or, count, variables_of, role_of, first_of, rest_of, processes_in, ends_in, mode_fields, participants as participant_fields, decision_fields, each_decision_fields, decisions_fields, process_fields, processes_fields, end_fields, saved_end_fields, ends_fields, image_fields, tentative_fields, head_fields, IsRecord};
-ghost use Rattle.ckpt_codec.specs.Testing.{listed, log_fields, process_list_fields, end_list_fields, participant_field, participant_count_field, initiator_field, held_number_field, nodes_field};
+ghost use Rattle.ckpt_codec.specs.RecordText.{any, at_most, between, remaining, retained_count, wanted, wanted_or, count, variables_of, role_of, first_of, rest_of, processes_in, ends_in, mode_fields, process_fields, processes_fields, end_fields, saved_end_fields, ends_fields, image_fields};
+ghost use Rattle.ckpt_codec.specs.Testing.{listed, log_fields, process_list_fields, end_list_fields};
 
 use crate::ends::role_number;
 use crate::images::{wanted_ends, wanted_processes};
-use crate::reading::entry_of;
 use kahn_net::{
     MAX_CHANNELS, MAX_COUNT, MAX_NODES, MAX_PROCESSES, MAX_REPEATS, MAX_TIMES, MAX_VARIABLES, Mode,
 };
-use record::{Decision, End, Image, MAX_DECISIONS, Record, SavedEnd, SavedProcess, Tentative};
+use record::{End, Image, SavedEnd, SavedProcess};
 use retained::{Log, MAX_LOG_ITEMS};
 
 fn number_stands(wanted: Option<u8>, least: u16, number: u8) -> bool
@@ -321,195 +318,4 @@ pub fn is_image(like: Option<&Image>, image: &Image) -> bool
         return false;
     }
     ends_stand(like, image)
-}
-
-fn is_participant(node: u8, nodes: usize, least: u16, participant: u8) -> bool
-    ensures { IsTrue result ↔ IsAllowed (participant_field node nodes least participant) }
-{
-    least <= participant as u16 && (participant as usize) < nodes && participant != node
-}
-
-// Nodes of a decision, from the least that is left on.
-fn are_participants_from(node: u8, nodes: usize, least: u16, participants: &[u8]) -> bool
-    ensures { IsTrue result ↔ AreAllowed (participant_fields node nodes least participants.now) }
-{
-    let [participant, behind @ ..] = participants else {
-        return true;
-    };
-    if !is_participant(node, nodes, least, *participant) {
-        return false;
-    }
-    are_participants_from(node, nodes, *participant as u16 + 1, behind)
-}
-
-/// Whether a decision of this node, one of so many, may name these nodes: in their order, none twice, and not this one.
-pub fn are_participants(node: u8, nodes: usize, participants: &[u8]) -> bool
-    ensures { IsTrue result ↔ AreAllowed (participant_fields node nodes 0 participants.now) }
-{
-    are_participants_from(node, nodes, 0, participants)
-}
-
-fn decided_number_stands(own: u64, least: u128, number: u64) -> bool
-    ensures { IsTrue result ↔ IsAllowed (between 8 least (suc own) number) }
-{
-    number as u128 >= least && number <= own
-}
-
-fn participant_count_stands(count: usize) -> bool
-    ensures { IsTrue result ↔ IsAllowed (participant_count_field count) }
-{
-    count >= 1 && count < 256
-}
-
-// A decision of a node of so many, whose own entry is this, with at least this number.
-fn is_decision(node: u8, nodes: usize, own: u64, least: u128, decision: &Decision) -> bool
-    ensures { IsTrue result ↔ AreAllowed (decision_fields node nodes own least decision.now) }
-{
-    if !decided_number_stands(own, least, decision.number) {
-        return false;
-    }
-    if !participant_count_stands(decision.participants.len()) {
-        return false;
-    }
-    are_participants_from(node, nodes, 0, decision.participants.as_slice())
-}
-
-// Decisions by ascending numbers, from the least that is left on.
-fn are_decisions(node: u8, nodes: usize, own: u64, least: u128, decisions: &[Decision]) -> bool
-    ensures { IsTrue result
-        ↔ AreAllowed (each_decision_fields node nodes own least decisions.now) }
-{
-    let [decision, behind @ ..] = decisions else {
-        return true;
-    };
-    if !is_decision(node, nodes, own, least, decision) {
-        return false;
-    }
-    are_decisions(node, nodes, own, decision.number as u128 + 1, behind)
-}
-
-fn decision_count_stands(count: usize) -> bool
-    ensures { IsTrue result ↔ IsAllowed (at_most 1 MAX_DECISIONS count) }
-{
-    count <= MAX_DECISIONS
-}
-
-// Decisions by ascending numbers, `MAX_DECISIONS` at most.
-fn are_few_decisions(node: u8, nodes: usize, own: u64, decisions: &[Decision]) -> bool
-    ensures { IsTrue result
-        ↔ AreAllowed (decisions_fields MAX_DECISIONS node nodes own decisions.now) }
-{
-    if !decision_count_stands(decisions.len()) {
-        return false;
-    }
-    are_decisions(node, nodes, own, 1, decisions)
-}
-
-fn initiator_stands(highest: &[u64], initiator: u8) -> bool
-    ensures { IsTrue result ↔ IsAllowed (initiator_field highest.now initiator) }
-{
-    (initiator as usize) < highest.len()
-}
-
-fn held_number_stands(highest: &[u64], initiator: u8, number: u64) -> bool
-    requires { initiator < length highest.now }
-    ensures { IsTrue result ↔ IsAllowed (held_number_field highest.now initiator number) }
-{
-    number >= 1 && number == highest[usize::from(initiator)]
-}
-
-fn is_tentative(highest: &[u64], permanent: &Image, tentative: &Option<Tentative>) -> bool
-    ensures { IsTrue result
-        ↔ AreAllowed (tentative_fields highest.now permanent.now tentative.now) }
-{
-    let Some(held) = tentative else {
-        return true;
-    };
-    if !initiator_stands(highest, held.initiator) {
-        return false;
-    }
-    if !held_number_stands(highest, held.initiator, held.number) {
-        return false;
-    }
-    is_image(Some(permanent), &held.image)
-}
-
-fn are_counts(entries: &[u64]) -> bool
-    ensures { IsTrue result ↔ AreAllowed (map count entries.now) }
-{
-    let [entry, behind @ ..] = entries else {
-        return true;
-    };
-    if !is_count(*entry) {
-        return false;
-    }
-    are_counts(behind)
-}
-
-// A node, one of so many.
-fn nodes_stand(node: u8, nodes: usize) -> bool
-    ensures stand { IsTrue result ↔ IsAllowed (nodes_field node nodes) }
-    ensures fits { node < 256 }
-    ensures one { IsTrue result → node < nodes }
-{
-    (node as usize) < nodes && nodes <= MAX_NODES as usize
-}
-
-fn is_head(kept: &Record) -> bool
-    ensures stands { IsTrue result ↔ AreAllowed (head_fields VERSION kept.now) }
-    ensures one { IsTrue result → kept.now.node < length kept.now.highest }
-{
-    let nodes = nodes_stand(kept.node, kept.highest.len());
-    if !is_count(kept.epoch) {
-        return false;
-    }
-    nodes
-}
-
-fn entries_stand(kept: &Record) -> bool
-    ensures { IsTrue result ↔ AreAllowed (map count kept.now.highest) }
-{
-    are_counts(kept.highest.as_slice())
-}
-
-fn decisions_stand(kept: &Record) -> bool
-    ensures { IsTrue result ↔ AreAllowed (decisions_fields MAX_DECISIONS kept.now.node
-        (length kept.now.highest) (slice_index kept.now.highest kept.now.node)
-        kept.now.decisions) }
-{
-    let highest = kept.highest.as_slice();
-    let own = entry_of(highest, kept.node);
-    are_few_decisions(kept.node, highest.len(), own, kept.decisions.as_slice())
-}
-
-fn permanent_stands(kept: &Record) -> bool
-    ensures { IsTrue result ↔ AreAllowed (image_fields None kept.now.permanent) }
-{
-    is_image(None, &kept.permanent)
-}
-
-fn tentative_stands(kept: &Record) -> bool
-    ensures { IsTrue result ↔ AreAllowed
-        (tentative_fields kept.now.highest kept.now.permanent kept.now.tentative) }
-{
-    is_tentative(kept.highest.as_slice(), &kept.permanent, &kept.tentative)
-}
-
-/// Whether a record may be written.
-pub fn is_record(kept: &Record) -> bool
-    ensures { IsTrue result ↔ IsRecord kept.now }
-{
-    if !is_head(kept) {
-        return false;
-    }
-    if !entries_stand(kept) {
-        return false;
-    }
-    if !decisions_stand(kept) {
-        return false;
-    }
-    if !permanent_stands(kept) {
-        return false;
-    }
-    tentative_stands(kept)
 }

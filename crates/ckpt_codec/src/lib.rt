@@ -23,7 +23,7 @@ mod reading;
 mod version;
 mod writing;
 
-pub use allowed::{are_participants, is_image, is_record};
+pub use allowed::is_image;
 pub use apart::{read_header, read_image, write_header, write_header_in, write_image};
 pub use fault::CodecFault;
 pub use header::{Header, Instance};

@@ -21,7 +21,7 @@ use Rattle.slot_cell.proofs.Slots.{put_done as cell_put}
 use Rattle.ckpt_codec.specs.Common.{ImageView, RecordView, Tentative, Field, IsAllowed, AreAllowed, IsRecord}
 use Rattle.ckpt_codec.specs.Common.{image_fields, tentative_fields, IsImageSpelled, spelled_length, image_length}
 use Rattle.ckpt_codec.specs.RecordText.{flag}
-use Rattle.ckpt_codec.specs.Testing.{initiator_field, held_number_field}
+use Rattle.ckpt_codec.specs.HeaderText.{initiator_field, held_number_field}
 use Rattle.ckpt_codec.specs.declared.lengths.TheConstants.{MAX_HEADER_BYTES, MAX_RECORD_BYTES}
 use Rattle.ckpt_store.specs.declared.known.Known.{Known}
 use Rattle.ckpt_store.specs.declared.fault.StoreFault.{StoreFault}

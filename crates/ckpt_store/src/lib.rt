@@ -15,4 +15,4 @@ mod undo;
 
 pub use fault::StoreFault;
 pub use store::{Refused, Store};
-pub use testing::{are_others, is_like};
+pub use testing::is_like;
