@@ -1,9 +1,10 @@
 -- Lines and their bytes.
 use Rattle.std.proofs.Common.{◌≡◌, ◌≢◌, inl, inr, ℕ, suc, zero, ◌+◌, ◌-◌, ◌<◌, ◌≤◌, ◌^◌, ℤ, pos, negsuc, List, [], ◌∷◌, ◌++◌, length, take, drop, arith}
 use Rattle.std.proofs.Common.{rules, refl, sym, ◌∙◌, ap, subst, append_assoc}
-use Rattle.std.proofs.Math.Seq.{take-nil, take-append-add}
+use Rattle.std.proofs.Math.Seq.{take-nil, take-append-add, take-length}
 use Rattle.std.proofs.lemmas.Bool.{cases_lt}
-use Rattle.std.proofs.lemmas.List.{length-append, take-append-le}
+use Rattle.std.proofs.lemmas.List.{length-append, take-append-le, length-drop, length-take-le, drop-drop, append-nil}
+use Rattle.std.proofs.Common.{Result, Ok}
 use Rattle.std.proofs.lemmas.Fmt.{decimal_is_IsNumeral, signed_decimal_injective}
 use Rattle.std.proofs.lemmas.Str.Parse.{digit_from_value}
 use Rattle.std.specs.Fmt.{decimal, signed_decimal}
@@ -169,3 +170,96 @@ any_beginning (z ∷ zs) size each = elim (cases_lt (length (signed_decimal z)) 
             cut_off = rest.holds.cut_off;
           };
         }
+
+pub ok_is : {A E : Type 0} (a b : A) → ◌≡◌ {A = Result A E} (Ok a) (Ok b) → a ≡ b
+ok_is a b e = cc
+
+-- what has been read of bytes, up to an offset: whole lines
+pub record HasRead (bytes : List ℕ) (items : List ℤ) (read : ℕ) : Type 0 where
+  pub each : AreItems items
+  pub measured : read ≡ length (lines_of items)
+  pub whole : bytes ≡ lines_of items ++ drop read bytes
+  pub within : read ≤ length bytes
+
+each_more : (items : List ℤ) (item : ℤ) → AreItems items → FitsSigned w64 item → AreItems (items ++ item ∷ [])
+each_more [] item each fits = (fits, tt)
+each_more (x ∷ items) item each fits = (each.0, each_more items item each.1 fits)
+
+-- the line that comes next, and what is behind it
+pub next_line : (bytes rest : List ℕ) (read len : ℕ) → rest ≡ drop read bytes
+    → rest ≡ take len rest ++ 10 ∷ drop (len + 1) rest
+    → drop read bytes ≡ take len rest ++ 10 ∷ drop (read + (len + 1)) bytes
+next_line bytes rest read len is parts =
+    sym is ∙ parts
+    ∙ ap (λ (xs : List ℕ). take len rest ++ 10 ∷ xs)
+    (ap (drop (len + 1)) is ∙ drop-drop (len + 1) read bytes)
+
+-- one line later
+pub read_more : (bytes rest line : List ℕ) (items now : List ℤ) (read next len : ℕ) (item : ℤ) → HasRead bytes items read
+    → rest ≡ drop read bytes → rest ≡ take len rest ++ 10 ∷ drop (len + 1) rest → len < length rest
+    → line ≡ take len rest → line ≡ signed_decimal item → FitsSigned w64 item → now ≡ items ++ item ∷ []
+    → next ≡ read + (len + 1) → HasRead bytes now next
+read_more bytes rest line items now read next len item was is parts some cut spelled fits pushed goes =
+    let many = length-drop read bytes in
+    let long = length-take-le len rest (omega (arith, some)) in
+    let all : lines_of now ≡ lines_of items ++ item_line item =
+    ap lines_of pushed ∙ lines_append items (item ∷ [])
+    ∙ ap (λ (xs : List ℕ). lines_of items ++ xs) (append-nil (item_line item)) in
+    let one : take len rest ≡ signed_decimal item = sym cut ∙ spelled in
+    record {
+      each = subst AreItems (sym pushed) (each_more items item was.each fits);
+      measured = omega (
+        arith,
+        goes,
+        was.measured,
+        ap length all,
+        length-append (lines_of items) (item_line item),
+        length-append (signed_decimal item) (10 ∷ []),
+        ap length one,
+        long,
+      );
+      whole = was.whole
+          ∙ ap (λ (xs : List ℕ). lines_of items ++ xs)
+          (next_line bytes rest read len is parts
+          ∙ ap (λ (xs : List ℕ). xs ++ 10 ∷ drop (read + (len + 1)) bytes) one
+          ∙ sym (line_then item (drop (read + (len + 1)) bytes)))
+          ∙ sym (append_assoc (lines_of items) (item_line item) (drop (read + (len + 1)) bytes))
+          ∙ ap (λ (xs : List ℕ). xs ++ drop (read + (len + 1)) bytes) (sym all)
+          ∙ ap (λ (n : ℕ). lines_of now ++ drop n bytes) (sym goes);
+      within = omega (arith, goes, some, ap length is, many, was.within);
+    }
+
+-- a line that is no item's is the first such one
+pub finds_bad : (bytes rest line : List ℕ) (items : List ℤ) (read len number : ℕ) → HasRead bytes items read
+    → rest ≡ drop read bytes → rest ≡ take len rest ++ 10 ∷ drop (len + 1) rest
+    → line ≡ take len rest → HasNoFeed (take len rest) → IsNoItem line → number ≡ length items + 1
+    → HasBadLine bytes number
+finds_bad bytes rest line items read len number was is parts cut one_line no_item numbered = record {
+  before = items;
+  line = take len rest;
+  after = drop (read + (len + 1)) bytes;
+  each = was.each;
+  whole = was.whole ∙ ap (λ (xs : List ℕ). lines_of items ++ xs) (next_line bytes rest read len is parts);
+  one_line = one_line;
+  no_item = subst IsNoItem cut no_item;
+  numbered = numbered;
+}
+
+-- then there are no lines of items
+pub bad_is_none : (bytes : List ℕ) (number : ℕ) (items : List ℤ) (tail : List ℕ) → HasBadLine bytes number
+    → HoldsLines bytes items tail → ⊥
+bad_is_none bytes number items tail bad p =
+    no_reading bad.before items bad.line bad.after tail bad.each p.each bad.one_line bad.no_item p.cut_off
+    (sym bad.whole ∙ p.whole)
+
+-- what a slice to the end has
+pub to_the_end : (bytes : List ℕ) (read : ℕ) → take (length bytes - read) (drop read bytes) ≡ drop read bytes
+to_the_end bytes read =
+    ap (λ (n : ℕ). take n (drop read bytes)) (sym (length-drop read bytes)) ∙ take-length (drop read bytes)
+
+-- what a slice of so many bytes has
+pub so_many : (bytes rest : List ℕ) (read len : ℕ) → rest ≡ drop read bytes
+    → take (read + len - read) (drop read bytes) ≡ take len rest
+so_many bytes rest read len is =
+    let same : read + len - read ≡ len = omega arith in
+    ap (λ (n : ℕ). take n (drop read bytes)) same ∙ ap (take len) (sym is)

@@ -1,15 +1,18 @@
 -- Lines that are put, and what stands in the file then.
 use Rattle.std.proofs.Common.{◌≡◌, ◌≢◌, inl, inr, ℕ, suc, zero, ◌+◌, ◌-◌, ◌<◌, ◌≤◌, ℤ, Bool, true, false, List, [], ◌∷◌, ◌++◌, length, take, drop, arith}
 use Rattle.std.proofs.Common.{rules, refl, sym, ◌∙◌, ap, subst, append_assoc}
-use Rattle.std.specs.Prelude.{not, ◌&&◌, ◌||◌, ◌==◌}
+use Rattle.std.specs.Prelude.{not, ◌&&◌, ◌||◌, ◌==◌, ◌^◌, ◌⊎◌, Option, Some, None, is_some, is_ok, Result, Err, IsOk, if◌then◌else◌}
+use Rattle.outlet.specs.declared.fault.OutletFault.{OutletFault}
+use Rattle.outlet.specs.declared.fault.OutletFault.TheVariants.{NoMemory, Failed}
 use Rattle.std.proofs.Math.Seq.{take-length}
 use Rattle.std.proofs.Math.ListN.{drop_of_length-le}
 use Rattle.std.proofs.lemmas.Bool.{eqb-true, eq-eqb}
-use Rattle.std.proofs.lemmas.List.{length-append, append-nil}
+use Rattle.std.proofs.lemmas.List.{length-append, append-nil, take-append-drop, take-append-le, drop-append-le}
 use Rattle.std.specs.Fmt.{signed_decimal}
 use Rattle.output_file.specs.Lines.{item_line, lines_of}
 use Rattle.output_file.specs.Requests.{Request, Put, Synced, bytes_put, has_failed, go_on_from, with_bytes, content_after}
-use Rattle.output_file.specs.Writing.{IsWritten}
+use Rattle.output_file.specs.Writing.{IsWritten, OutputView, HasSameItems, Appends}
+use Rattle.output_file.proofs.Lining.{lines_append}
 
 both_true : (a b : Bool) → (a && b) ≡ true → (a ≡ true) × (b ≡ true)
 both_true true b is = (refl, is)
@@ -61,3 +64,61 @@ one_line_more start lines asked end next block after digits broken item was is a
   );
   failed = was.failed;
 }
+
+-- where nothing waits, the file has the lines of all items
+pub all_put : (items : List ℤ) (held : ℕ) (asked : List Request) (end : ℕ) (block : List ℕ) (broken : Bool)
+    → IsWritten (length (lines_of (take held items))) (lines_of (drop held items)) asked end block broken → block ≡ []
+    → content_after (lines_of (take held items)) asked ≡ lines_of items
+all_put items held asked end block broken was empty =
+    let put : bytes_put asked ≡ lines_of (drop held items) =
+    sym (append-nil (bytes_put asked)) ∙ ap (λ (xs : List ℕ). bytes_put asked ++ xs) (sym empty) ∙ was.put in
+    put_behind (lines_of (take held items)) asked was.order
+    ∙ ap (λ (xs : List ℕ). lines_of (take held items) ++ xs) put
+    ∙ sym (lines_append (take held items) (drop held items))
+    ∙ ap lines_of (take-append-drop held items)
+
+-- what fits is added
+pub with_room : {A E : Type 0} (r : Result A E) (now more old : List ℕ) → IsOk r
+    → now ≡ (if is_ok r then more else old) → now ≡ more
+with_room r now more old ok e = e ∙ ap (λ (b : Bool). if b then more else old) ok
+
+-- what it is not to refuse
+pub not_refusing : (broken : Bool) (difference : Option ℕ) → (broken || is_some difference) ≡ false
+    → (broken ≡ false) × (difference ≡ None)
+not_refusing false None is = (refl, refl)
+not_refusing false (Some d) is = absurd (cc)
+not_refusing true d is = absurd (cc)
+
+-- one item more behind those held
+pub written_more : (items now : List ℤ) (held : ℕ) (item : ℤ) (asked : List Request) (end : ℕ) (block : List ℕ)
+    (broken : Bool) → held ≤ length items → now ≡ items ++ item ∷ []
+    → IsWritten (length (lines_of (take held items))) (lines_of (drop held items) ++ item_line item) asked end block broken
+    → IsWritten (length (lines_of (take held now))) (lines_of (drop held now)) asked end block broken
+written_more items now held item asked end block broken le pushed was =
+    let front : take held items ≡ take held now =
+    sym (take-append-le held items (item ∷ []) le) ∙ ap (take held) (sym pushed) in
+    let back : lines_of (drop held items) ++ item_line item ≡ lines_of (drop held now) =
+    ap (λ (xs : List ℕ). lines_of (drop held items) ++ xs) (sym (append-nil (item_line item)))
+    ∙ sym (lines_append (drop held items) (item ∷ []))
+    ∙ ap lines_of (sym (drop-append-le held items (item ∷ []) le) ∙ ap (drop held) (sym pushed)) in
+    subst (λ (xs : List ℕ). IsWritten (length (lines_of (take held now))) xs asked end block broken) back
+    (subst (λ (xs : List ℤ). IsWritten (length (lines_of xs)) (lines_of (drop held items) ++ item_line item) asked end block
+    broken) front was)
+
+-- the bytes of all lines
+pub all_bytes : (items : List ℤ) (held : ℕ) (asked : List Request) (end : ℕ) (block : List ℕ) (broken : Bool)
+    → IsWritten (length (lines_of (take held items))) (lines_of (drop held items)) asked end block broken
+    → end ≡ length (lines_of items)
+all_bytes items held asked end block broken was = was.ends
+    ∙ sym (length-append (lines_of (take held items)) (lines_of (drop held items)))
+    ∙ ap length (sym (lines_append (take held items) (drop held items)))
+    ∙ ap (λ (xs : List ℤ). length (lines_of xs)) (take-append-drop held items)
+
+-- a refusal of what was to be appended
+pub refused_append : (old new : OutputView) (item : ℤ) (fault : OutletFault) → (fault ≡ NoMemory → new ≡ old)
+    → HasSameItems old new
+    → (fault ≡ Failed
+    → (new.broken ≡ true) ⊎ (2 ^ 64 ≤ length (lines_of old.items) + length (item_line item)))
+    → Appends old item (Err fault) new
+refused_append old new item NoMemory memory same cause = memory refl
+refused_append old new item Failed memory same cause = (same, cause refl)

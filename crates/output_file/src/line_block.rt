@@ -62,6 +62,28 @@ impl<F: LineFile> LineBlock<F> {
         !self.broken
     }
 
+    // Puts the block where it has no room for so many bytes more. False where a put failed.
+    fn make_room(&mut self, len: usize) -> bool
+        requires within { length self.old.block.items ≤ self.old.end }
+        requires small { length self.old.block.items ≤ BLOCK_BYTES }
+        requires whole { self.old.broken ≡ false }
+        requires fits { len ≤ BLOCK_BYTES }
+        ensures room { IsTrue result → length self.new.block.items + len ≤ BLOCK_BYTES }
+        ensures whole { IsTrue result → self.new.broken ≡ false }
+        ensures broken { result ≡ false → self.new.broken ≡ true }
+        ensures written { (start : ℕ) (lines : List ℕ)
+            → IsWritten start lines (F.asked self.old.file) self.old.end self.old.block.items self.old.broken
+            → IsWritten start lines (F.asked self.new.file) self.new.end self.new.block.items self.new.broken }
+        ensures small { length self.new.block.items ≤ BLOCK_BYTES }
+        ensures same_room { vec_capacity self.new.block ≡ vec_capacity self.old.block }
+        ensures same_end { self.new.end ≡ self.old.end }
+    {
+        if len <= BLOCK_BYTES - self.block.len() {
+            return true;
+        }
+        self.put_block()
+    }
+
     // Adds an item's line to the block; where it is full, it is put first. False where that put failed, or where the
     // file would have 2^64 bytes.
     pub fn add(&mut self, item: i64) -> bool
@@ -88,7 +110,7 @@ impl<F: LineFile> LineBlock<F> {
         let Some(end) = self.end.checked_add(len as u64) else {
             return false;
         };
-        if BLOCK_BYTES - self.block.len() < len && !self.put_block() {
+        if !self.make_room(len) {
             return false;
         }
         // There is room, so neither needs memory.

@@ -188,7 +188,8 @@ impl<F: LineFile> ResumedOutlet<F> {
     /// that is unknown: then no later sync says anything of what was put before.
     pub fn sync(&mut self) -> bool
         ensures asked { asked_of self.new ≡ Synced result ∷ asked_of self.old }
-        ensures same { output_view self.new ≡ record output_view self.old { asked = Synced result ∷ asked_of self.old } }
+        ensures same { let old = output_view self.old in output_view self.new
+            ≡ record old { asked = Synced result ∷ old.asked } }
         ensures count { failures_of self.new ≡ failures_of self.old }
     {
         self.lines.file.sync()

@@ -1,5 +1,5 @@
 use Rattle.std.proofs.Common.{sym, ◌∙◌, arith}
-use Rattle.output_file.proofs.Lining.{one_reading, no_reading, one_bad_line}
+use Rattle.output_file.proofs.Lining.{one_reading, bad_is_none, one_bad_line}
 use Rattle.output_file.proofs.laws.reading_law.Goals as goal
 
 pub returns-clause-one_way : goal.returns-clause-one_way
@@ -7,9 +7,7 @@ returns-clause-one_way c = λ bytes items others tail other p q.
     one_reading items others tail other p.each q.each p.cut_off q.cut_off (sym p.whole ∙ q.whole)
 
 pub returns-clause-no_way : goal.returns-clause-no_way
-returns-clause-no_way c = λ bytes line items tail bad p.
-    no_reading bad.before items bad.line bad.after tail bad.each p.each bad.one_line bad.no_item p.cut_off
-    (sym bad.whole ∙ p.whole)
+returns-clause-no_way c = bad_is_none
 
 pub returns-clause-one_fault : goal.returns-clause-one_fault
 returns-clause-one_fault c = λ bytes line other p q.
