@@ -122,3 +122,35 @@ pub refused_append : (old new : OutputView) (item : ℤ) (fault : OutletFault) �
     → Appends old item (Err fault) new
 refused_append old new item NoMemory memory same cause = memory refl
 refused_append old new item Failed memory same cause = (same, cause refl)
+
+-- outlets that are seen alike
+pub same_output : {items others : List ℤ} {held count : ℕ} {difference : Option ℕ} {broken other : Bool}
+    {block before : List ℕ} {asked earlier : List Request} → items ≡ others → broken ≡ other → block ≡ before
+    → asked ≡ earlier
+    → ◌≡◌ {A = OutputView} (record {
+      items = items;
+      held = held;
+      count = count;
+      difference = difference;
+      broken = broken;
+      block = block;
+      asked = asked;
+    }) (record {
+      items = others;
+      held = held;
+      count = count;
+      difference = difference;
+      broken = other;
+      block = before;
+      asked = earlier;
+    })
+same_output a b c d = cc
+
+-- what is written for items is written for the same items
+pub written_alike : (items now : List ℤ) (held : ℕ) (asked : List Request) (end : ℕ) (block : List ℕ) (broken : Bool)
+    → now ≡ items
+    → IsWritten (length (lines_of (take held items))) (lines_of (drop held items)) asked end block broken
+    → IsWritten (length (lines_of (take held now))) (lines_of (drop held now)) asked end block broken
+written_alike items now held asked end block broken same was =
+    subst (λ (xs : List ℤ). IsWritten (length (lines_of (take held xs))) (lines_of (drop held xs)) asked end block broken)
+    (sym same) was
