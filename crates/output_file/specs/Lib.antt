@@ -1,0 +1,6 @@
+pub mod Lines
+pub mod Reading
+pub mod Requests
+pub mod HostLines
+pub mod Writing
+pub mod Output
