@@ -188,14 +188,14 @@ run_of_readers options net_bytes input_bytes script_bytes net inputs (Err e) of_
 run_of_readers options net_bytes input_bytes script_bytes net inputs (Ok r) of_net of_inputs report =
     ∣ (net, inputs, of_net, of_inputs, report) ∣₁
 
-pub failed_run : {T : Type 0} (options : Options) (net_bytes input_bytes script_bytes : Option (List ℕ)) (net : Net)
+pub failed_run : {T : Type 0} (keeps : Bool) (options : Options) (net_bytes input_bytes script_bytes : Option (List ℕ)) (net : Net)
     (inputs : List (List ℤ)) (result : Result T Failure)
     → IfSome net_bytes (λ bytes. IsNetOf bytes net)
     → IfSome input_bytes (λ bytes. AreInputsOf bytes net inputs)
-    → IfErr result (IsReportFailure options (network_of net.program) inputs script_bytes)
-    → IfErr result (IsRunFailure options net_bytes input_bytes script_bytes)
-failed_run options net_bytes input_bytes script_bytes net inputs (Ok value) of_net of_inputs err = tt
-failed_run options net_bytes input_bytes script_bytes net inputs (Err failure) of_net of_inputs err =
+    → IfErr result (IsReportFailure keeps options (network_of net.program) inputs script_bytes)
+    → IfErr result (IsRunFailure keeps options net_bytes input_bytes script_bytes)
+failed_run keeps options net_bytes input_bytes script_bytes net inputs (Ok value) of_net of_inputs err = tt
+failed_run keeps options net_bytes input_bytes script_bytes net inputs (Err failure) of_net of_inputs err =
     of_report net inputs of_net of_inputs err
 
 -- a report by the lines of a script is one by its reader

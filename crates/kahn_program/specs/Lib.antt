@@ -1,5 +1,6 @@
 pub mod CommandLine
 pub mod Failures
+pub mod Keeping
 pub mod Runnable
 pub mod Readings
 pub mod Report

@@ -26,14 +26,13 @@ pub returns-clause-first : goal.returns-clause-first
 returns-clause-first c =
     let net = network_of c.args.net.now.value.program in
     let opened = world_of c.in-Ok-new-2.world in
-    opens_first _ _ (λ outlet. refl) net _ c.args.inputs _ c.args.room c.in-Ok.outputs.items
+    opens_first _ _ net _ c.args.inputs _ c.args.room c.args.outputs.items
     (world_of c.set_room.new.self) opened (ap (λ (n : Net). network_of n.program) c.in-Ok-try_clone.ensures)
     c.in-Ok-new.ensures.ok _
     (c.in-Ok-empty_disks.ensures.unfailed ∙ ap (λ (n : ℕ). replicate n 0) c.requires.nodes)
     (c.in-Ok-set_room.ensures.set ∙ ap (λ (n : ℕ). with_room n opened) c.nearest_room.ensures)
     c.in-Ok-new-2.ensures.made.opening
-    (c.in-Ok.ensures.listed ∙ ap (λ (n : Net). output_channels 0 n.program.channels.items) c.deref.ensures)
-    c.in-Ok.ensures.empty
+    c.requires.listed c.requires.unused c.requires.unfailed
 
 pub returns-clause-room : goal.returns-clause-room
 returns-clause-room c =

@@ -19,5 +19,5 @@ returns-in_err-inputs-clause-err g c =
 
 pub returns-clause-err : goal.returns-clause-err
 returns-clause-err g c =
-    failed_run _ _ _ _ _ _ c.report_of.result c.in_ok-net.ensures.net c.in_ok-inputs.ensures.inputs
+    failed_run _ _ _ _ _ _ _ c.report_of.result c.in_ok-net.ensures.net c.in_ok-inputs.ensures.inputs
     c.report_of.ensures.err
