@@ -3,7 +3,7 @@ use Rattle.std.specs.Prelude.{◌≡◌, ℕ, Bool, true}
 use Rattle.station.specs.declared.output.Output.{Output}
 use Rattle.kahn_program.specs.declared.failure.Failure.{Failure}
 use Rattle.kahn_program.specs.declared.failure.Failure.TheVariants.{Line, Whole, NotText, Unreadable, Approximation}
-use Rattle.kahn_program.specs.declared.failure.Failure.TheVariants.{NoMemory, State, Other}
+use Rattle.kahn_program.specs.declared.failure.Failure.TheVariants.{NoMemory, State, InUse, Other}
 
 -- its outlet never failed
 abbrev pub HasNoFailures : {O : Type 0} → (O → ℕ) → Output O → Type 0
@@ -18,4 +18,5 @@ IsKeeperFailure keeps (Unreadable source) = ⊥
 IsKeeperFailure keeps (Approximation number) = ⊥
 IsKeeperFailure keeps NoMemory = Unit {0}
 IsKeeperFailure keeps (State number) = keeps ≡ true
+IsKeeperFailure keeps InUse = ⊥
 IsKeeperFailure keeps (Other number) = ⊥

@@ -19,7 +19,7 @@ use Rattle.fail_script.specs.Lines.{IsScriptFault}
 use Rattle.fail_script.specs.declared.fault.ScriptFault.{ScriptFault}
 use Rattle.kahn_program.specs.declared.failure.Failure.{Failure}
 use Rattle.kahn_program.specs.declared.failure.Failure.TheVariants.{Line, Whole, NotText, Unreadable, Approximation}
-use Rattle.kahn_program.specs.declared.failure.Failure.TheVariants.{NoMemory, State, Other}
+use Rattle.kahn_program.specs.declared.failure.Failure.TheVariants.{NoMemory, State, InUse, Other}
 use Rattle.kahn_program.specs.Failures.{failure_line, status_of}
 use Rattle.kahn_program.specs.Runnable.{IsApproximationFailure, IsReportless}
 use Rattle.kahn_program.specs.declared.asked.Options.{Options}
@@ -84,6 +84,7 @@ IsReadFailure source known (NotText other) = (other ≡ source) × IfSome known 
 IsReadFailure source known (Unreadable other) = other ≡ source
 IsReadFailure source known NoMemory = Unit {0}
 IsReadFailure source known (State number) = ⊥
+IsReadFailure source known InUse = ⊥
 IsReadFailure source known (Line other line number) = ⊥
 IsReadFailure source known (Whole other number) = ⊥
 IsReadFailure source known (Approximation number) = ⊥

@@ -13,7 +13,7 @@ use Rattle.world.specs.OpeningWorld.{SomeFailed}
 use Rattle.kahn_program.specs.declared.failure.Failure.{Failure}
 use Rattle.kahn_program.specs.Keeping.{IsKeeperFailure}
 use Rattle.kahn_program.specs.declared.failure.Failure.TheVariants.{Line, Whole, NotText, Unreadable, Approximation}
-use Rattle.kahn_program.specs.declared.failure.Failure.TheVariants.{NoMemory, State, Other}
+use Rattle.kahn_program.specs.declared.failure.Failure.TheVariants.{NoMemory, State, InUse, Other}
 
 -- an approximation up to the n-th has too long a history, or memory is missing
 abbrev pub IsApproximationFailure : Network → List (List ℤ) → ℕ → Failure → Type 0
@@ -57,6 +57,7 @@ IsStoreFailure plain (Unreadable source) = ⊥
 IsStoreFailure plain (Approximation number) = ⊥
 IsStoreFailure plain NoMemory = Unit {0}
 IsStoreFailure plain (State number) = ⊥
+IsStoreFailure plain InUse = ⊥
 IsStoreFailure plain (Other number) =
     ((number ≡ refusal_number fault.Device) × ∥ HasFailedAtOnce ∥₁)
     ⊎ ((number ≡ refusal_number fault.Spent) × (plain ≡ false))

@@ -41,6 +41,8 @@ pub enum Failure {
     State {
         number: u8,
     },
+    /// Another run is at work where what left is kept.
+    InUse,
     /// A refusal that is no text's.
     Other {
         number: u8,
@@ -75,6 +77,7 @@ impl fmt::Display for Failure {
             Failure::Approximation { number } => write!(f, "approx: refusal {number}"),
             Failure::NoMemory => f.write_str("no memory"),
             Failure::State { number } => write!(f, "state: refusal {number}"),
+            Failure::InUse => f.write_str("state: in use"),
             Failure::Other { number } => write!(f, "refusal {number}"),
         }
     }
@@ -91,6 +94,7 @@ impl Failure {
             | Failure::Approximation { .. }
             | Failure::NoMemory
             | Failure::State { .. }
+            | Failure::InUse
             | Failure::Other { .. } => 1,
         }
     }

@@ -86,7 +86,7 @@ impl<F: LineFile> Keeper<ResumedOutlet<F>> for FileKeeper<F> {
     ghost keeps = { true };
 
     fn open(&mut self, alloc: Global, net: &Net) -> Result<Vec<Output<ResumedOutlet<F>>>, Failure> {
-        if self.files.len() != count_outputs(&net.program.channels) {
+        if self.files.len() != count_outputs(net) {
             return Err(Failure::State {
                 number: OTHER_STATE,
             });
