@@ -10,7 +10,7 @@ use kahn_net::Channel;
 use outlet::ListOutlet;
 use runtime::have_left;
 use sector_disk::MemDisk;
-use slot_cell::{SplitCell, SplitCell};
+use slot_cell::SplitCell;
 use world::World;
 
 /// The world of a run: of nodes on disks in memory, with outlets in memory.
