@@ -7,7 +7,7 @@ use kahn_net::{Channel, Port};
 use marks::{Marks, MarksName, Seat};
 use outlet::Outlet;
 use run_log::{FaultAnswer, HubFault, Run};
-use slot_cell::{SlotCell, SlotCell};
+use slot_cell::SlotCell;
 use std::alloc::Global;
 use std::sync::Wait;
 

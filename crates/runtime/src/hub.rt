@@ -29,7 +29,7 @@ use run_log::{
     ArmedWorld, FaultAnswer, HeldBack, History, HubFault, Run, RunLog, Status, TurnAnswer,
     UnusedLedgers, no_deliveries,
 };
-use slot_cell::{SlotCell, SlotCell};
+use slot_cell::SlotCell;
 use std::alloc::{AllocError, Global};
 use std::sync::{Mutex, Wait};
 use world::{Reply, World};

@@ -13,7 +13,7 @@ use marks::{Marks, MarksName, Seat};
 use outlet::Outlet;
 use proc_step::Job;
 use run_log::{HubFault, Run, TurnAnswer};
-use slot_cell::{SlotCell, SlotCell};
+use slot_cell::SlotCell;
 use std::alloc::Global;
 use std::sync::{Arc, Wait};
 use stream_eq::Freed;

@@ -9,7 +9,7 @@ use net_check::{Inputs, Net, bind, check};
 use net_text::{parse, parse_inputs};
 use outlet::ListOutlet;
 use sector_disk::{Disk, MemDisk};
-use slot_cell::{SplitCell, SplitCell};
+use slot_cell::SplitCell;
 use std::alloc::{AllocError, Global};
 use std::sync::Arc;
 use world::{World, list_outputs, node_count};
