@@ -24,6 +24,8 @@ use std::fs::File;
 use std::io::Read;
 use std::process::ExitCode;
 use std::rt::Env;
+use std::sync::Wait;
+use std::thread::Threads;
 use std::{env, fs, io};
 
 /// The words of the command line, the program's name first.
@@ -109,8 +111,9 @@ fn bytes_of(alloc: Global, file: Option<File>, source: Source) -> Result<Vec<u8>
 }
 
 // A run of which what left is kept in a folder.
-fn run_kept(
-    rt: &HostRuntime,
+fn run_kept<R: Threads + Wait + Sync>(
+    rt: &R,
+    host: &HostRuntime,
     alloc: Global,
     options: &Options,
     files: Files,
@@ -131,7 +134,7 @@ fn run_kept(
     let Folder {
         files: held,
         lock: _lock,
-    } = open_state(rt, alloc, folder, texts, &checked)?;
+    } = open_state(host, alloc, folder, texts, &checked)?;
     let mut keeper = FileKeeper::new(held);
     Ok(run::<ResumedOutlet<HostLines>, _, _, _, _, _, _, _>(
         rt,
@@ -141,8 +144,8 @@ fn run_kept(
         Some(texts.inputs),
         script,
         &mut keeper,
-        &mut rt.stdout(),
-        &mut rt.stderr(),
+        &mut host.stdout(),
+        &mut host.stderr(),
     ))
 }
 
@@ -156,7 +159,7 @@ fn main(rt: HostRuntime) -> ExitCode {
         return ExitCode::from(no_memory(&rt));
     };
     if let (Some(folder), None) = (&options.state, options.approx) {
-        return ExitCode::from(match run_kept(&rt, alloc, &options, files, folder.as_str()) {
+        return ExitCode::from(match run_kept(&rt, &rt, alloc, &options, files, folder.as_str()) {
             Ok(status) => status,
             Err(failure) => print_failure(failure, &mut rt.stderr()),
         });
