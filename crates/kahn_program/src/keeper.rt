@@ -1,11 +1,11 @@
 //! Where the items of a run's outputs go, beside its report.
 
-ghost use Rattle.std.specs.Prelude.{◌≡◌, Bool, length, map, false, IfErr, IfOk, OnErr};
+ghost use Rattle.std.specs.Prelude.{◌≡◌, Bool, List, ℤ, map, false, IfErr, IfOk, OnOk};
 ghost use Rattle.std.specs.List.{AllByRecursion};
 ghost use Rattle.protocol.specs.Node.Common.{network_of};
 ghost use Rattle.protocol.specs.World.Common.{output_channels};
 ghost use Rattle.world.specs.OpeningWorld.{IsUnused};
-ghost use Rattle.kahn_program.specs.Keeping.{HasNoFailures, IsKeeperFailure};
+ghost use Rattle.kahn_program.specs.Keeping.{HasNoFailures, IsKeeperFailure, taken_streams};
 
 use crate::failure::Failure;
 use net_check::Net;
@@ -18,6 +18,9 @@ pub trait Keeper<O: Outlet> {
     /// Whether what the outlets take outlasts the run. Then they can fail.
     ghost keeps: { Bool };
 
+    /// What it has of streams, one for each output, that its outlets took.
+    ghost has_kept: { Self → List (List ℤ) → Type 0 };
+
     /// The network's outputs, each with an outlet that took nothing yet.
     fn open(&mut self, alloc: Global, net: &Net) -> Result<Vec<Output<O>>, Failure>
         ensures listed { IfOk result (λ outputs. map (λ output. output.channel) outputs.items
@@ -28,6 +31,7 @@ pub trait Keeper<O: Outlet> {
 
     /// The run is over, and the outlets took what they took.
     fn close(&mut self, alloc: Global, outputs: Vec<Output<O>>) -> Result<(), Failure>
+        ensures kept { OnOk result (has_kept self.new (taken_streams O.taken outputs.items)) }
         ensures err { IfErr result (IsKeeperFailure keeps) };
 }
 
@@ -37,6 +41,8 @@ pub struct InMemory;
 
 impl Keeper<ListOutlet> for InMemory {
     ghost keeps = { false };
+
+    ghost has_kept = { λ keeper streams. Unit {0} };
 
     fn open(&mut self, alloc: Global, net: &Net) -> Result<Vec<Output<ListOutlet>>, Failure> {
         match list_outputs(alloc, net) {

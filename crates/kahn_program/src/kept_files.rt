@@ -1,6 +1,9 @@
 //! Outlets over files, which outlast a run.
 
-ghost use Rattle.std.specs.Prelude.{◌≡◌, [], true, IfOk, OnOk, OnErr};
+ghost use Rattle.std.specs.Prelude.{◌≡◌, [], true, IfErr, IfOk, OnOk};
+ghost use Rattle.output_file.specs.Output.{taken_of};
+ghost use Rattle.kahn_program.specs.Keeping.{IsKeeperFailure, taken_streams};
+ghost use Rattle.kahn_program.specs.KeptFiles.{AreInFiles, IsInFile};
 
 use crate::failure::Failure;
 use crate::keeper::Keeper;
@@ -33,6 +36,8 @@ pub struct HeldFile<F: LineFile> {
 pub struct FileKeeper<F: LineFile> {
     // the last output's first
     files: Vec<HeldFile<F>>,
+    // those of a run that is over
+    closed: Vec<ResumedOutlet<F>>,
 }
 
 // Makes an outlet over the next file.
@@ -44,9 +49,12 @@ struct FileOutlets<'a, F: LineFile> {
 
 impl<F: LineFile> FileKeeper<F> {
     /// A run's outlets over these files, one for each output, in order of the channels.
-    pub fn new(mut files: Vec<HeldFile<F>>) -> FileKeeper<F> {
+    pub fn new(alloc: Global, mut files: Vec<HeldFile<F>>) -> FileKeeper<F> {
         files.reverse();
-        FileKeeper { files }
+        FileKeeper {
+            files,
+            closed: Vec::new(alloc),
+        }
     }
 }
 
@@ -63,27 +71,51 @@ impl<'a, F: LineFile> OutletMaker<ResumedOutlet<F>> for FileOutlets<'a, F> {
     }
 }
 
-// Whether an item differed from the one that a file holds at its place.
-fn has_difference<F: LineFile>(outputs: &[Output<ResumedOutlet<F>>]) -> bool {
-    outputs
-        .iter()
-        .any(|output| output.outlet.first_difference().is_some())
+// An outlet of a run that is over: what it took and its file lacks is put there. Refuses where an item differed from the one
+// that the file held at its place, and then puts nothing; and where a put failed.
+fn put_all<F: LineFile>(outlet: &mut ResumedOutlet<F>) -> Result<(), Failure>
+    ensures kept { OnOk result (IsInFile (taken_of outlet.old) outlet.new) }
+    ensures err { IfErr result (IsKeeperFailure true) }
+{
+    if outlet.first_difference().is_some() {
+        return Err(Failure::State {
+            number: ITEM_DIFFERS,
+        });
+    }
+    match outlet.flush() {
+        Ok(()) => Ok(()),
+        Err(_) => Err(Failure::State {
+            number: FILE_FAILED,
+        }),
+    }
 }
 
-// Puts to the files what the outlets took and the files lack. Says whether all was put.
-fn flush_all<F: LineFile>(outputs: Vec<Output<ResumedOutlet<F>>>) -> bool {
-    let mut all = true;
+// The outlets of a run that is over, each with its file.
+fn put_each<F: LineFile>(
+    alloc: Global,
+    outputs: Vec<Output<ResumedOutlet<F>>>,
+) -> Result<Vec<ResumedOutlet<F>>, Failure>
+    ensures kept { IfOk result (λ outlets. AreInFiles outlets.items
+        (taken_streams taken_of outputs.items)) }
+    ensures err { IfErr result (IsKeeperFailure true) }
+{
+    let Ok(mut outlets) = Vec::with_capacity(alloc, outputs.len()) else {
+        return Err(Failure::NoMemory);
+    };
     for output in outputs {
         let Output { mut outlet, .. } = output;
-        if outlet.flush().is_err() {
-            all = false;
+        put_all(&mut outlet)?;
+        if outlets.push(outlet).is_err() {
+            return Err(Failure::NoMemory);
         }
     }
-    all
+    Ok(outlets)
 }
 
 impl<F: LineFile> Keeper<ResumedOutlet<F>> for FileKeeper<F> {
     ghost keeps = { true };
+
+    ghost has_kept = { λ keeper streams. AreInFiles keeper.closed.items streams };
 
     fn open(&mut self, alloc: Global, net: &Net) -> Result<Vec<Output<ResumedOutlet<F>>>, Failure> {
         if self.files.len() != count_outputs(net) {
@@ -103,19 +135,10 @@ impl<F: LineFile> Keeper<ResumedOutlet<F>> for FileKeeper<F> {
 
     fn close(
         &mut self,
-        _alloc: Global,
+        alloc: Global,
         outputs: Vec<Output<ResumedOutlet<F>>>,
     ) -> Result<(), Failure> {
-        if has_difference(&outputs) {
-            return Err(Failure::State {
-                number: ITEM_DIFFERS,
-            });
-        }
-        if !flush_all(outputs) {
-            return Err(Failure::State {
-                number: FILE_FAILED,
-            });
-        }
+        self.closed = put_each(alloc, outputs)?;
         Ok(())
     }
 }

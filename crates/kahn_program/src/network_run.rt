@@ -14,7 +14,7 @@ ghost use Rattle.world.specs.OpeningWorld.{IsUnused};
 ghost use Rattle.kahn_program.specs.Keeping.{HasNoFailures, IsKeeperFailure};
 ghost use Rattle.kahn_program.specs.Turning.{IsRunRoom, first_world, nearest_room};
 ghost use Rattle.kahn_program.specs.Runnable.{IsReportless, IsStoreFailure, hub_failure, store_failure};
-ghost use Rattle.kahn_program.specs.Runs.{IsEnd, IsReport, IsToldOf, first_items, is_whole};
+ghost use Rattle.kahn_program.specs.Runs.{IsEnd, IsReport, IsToldOf, first_items, is_whole, released_streams};
 
 use crate::asked::Options;
 use crate::ending::{RunWorld, cut};
@@ -281,6 +281,8 @@ fn close_outputs<O: Outlet, K: Keeper<O>>(
     world: RunWorld<O>,
     keeper: &mut K,
 ) -> Result<(), Failure>
+    ensures kept { OnOk result (K.has_kept keeper.new
+        (released_streams (network_of world.net.value.program) (world_of world).stations)) }
     ensures err { IfErr result (IsKeeperFailure K.keeps) }
 {
     match world.close(alloc) {
@@ -302,7 +304,8 @@ pub fn report_of_run<O: Outlet + Send, K: Keeper<O>, R: Threads + Wait + Sync>(
 ) -> Result<(Vec<u8>, bool), Failure>
     requires fitting { Fits (network_of net.program) inputs }
     ensures ok { IfOk result
-        (λ report. IsReport options.now net inputs script.items report.0.items report.1) }
+        (λ report. IsReport (K.has_kept keeper.new) options.now net inputs script.items
+        report.0.items report.1) }
     // A device failed (20), memory is missing (1), a count would pass 2^63 - 1 (44), or what outlasts the run failed.
     ensures err { IfErr result (IsReportless options.now.plain K.keeps) }
 {

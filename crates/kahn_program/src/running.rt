@@ -62,7 +62,7 @@ fn report_by_script<
     keeper: &mut K,
 ) -> Result<(Vec<u8>, bool), Failure>
     requires fitting { Fits (network_of net.program) inputs }
-    ensures ok { IfOk result (λ report. IsScriptedReport options.now net inputs
+    ensures ok { IfOk result (λ report. IsScriptedReport (K.has_kept keeper.new) options.now net inputs
         (option_and_then S.remaining script) report.0.items report.1) }
     ensures err { IfErr result (IsRunOrScriptFailure K.keeps options.now (network_of net.program)
         (option_and_then S.remaining script)) }
@@ -86,7 +86,7 @@ fn report_of<O: Outlet + Send, K: Keeper<O>, S: Read + Drop, R: Threads + Wait +
     keeper: &mut K,
 ) -> Result<(Vec<u8>, bool), Failure>
     requires fitting { Fits (network_of net.program) inputs }
-    ensures ok { IfOk result (λ report. IsReportOf options.now net inputs
+    ensures ok { IfOk result (λ report. IsReportOf (K.has_kept keeper.new) options.now net inputs
         (option_and_then S.remaining script) report.0.items report.1) }
     ensures err { IfErr result (IsReportFailure K.keeps options.now (network_of net.program) inputs
         (option_and_then S.remaining script)) }
@@ -114,7 +114,7 @@ fn report_of_readers<
     script: Option<S>,
     keeper: &mut K,
 ) -> Result<(Vec<u8>, bool), Failure>
-    ensures ok { IfOk result (λ report. IsReported options.now
+    ensures ok { IfOk result (λ report. IsReported (K.has_kept keeper.new) options.now
         (option_and_then N.remaining net) (option_and_then I.remaining inputs)
         (option_and_then S.remaining script) report.0.items report.1) }
     ensures err { IfErr result (IsRunFailure K.keeps options.now
@@ -159,9 +159,9 @@ pub fn run<
     // items that are asked for; or a history leads from there to where the run ends, each event of which is next for its node
     // or in the script. Each stream is a prefix of its history in one approximation, where all have the items that are asked
     // for the first ones of each, and where the status is 0 whole, in the least solution. That of an approximation: the whole
-    // histories there, and 0 exactly where it is a solution.
+    // histories there, and 0 exactly where it is a solution. Of a run the keeper has kept what left.
     ensures written { (complete : Bool) → result ≡ status_of_run complete
-        → HasWritten options.now
+        → HasWritten (K.has_kept keeper.new) options.now
         (option_and_then N.remaining net) (option_and_then I.remaining inputs)
         (option_and_then S.remaining script)
         (W.contents out.old) (W.contents out.new) complete }

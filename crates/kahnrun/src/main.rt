@@ -135,7 +135,7 @@ fn run_kept<R: Threads + Wait + Sync>(
         files: held,
         lock: _lock,
     } = open_state(host, alloc, folder, texts, &checked)?;
-    let mut keeper = FileKeeper::new(held);
+    let mut keeper = FileKeeper::new(alloc, held);
     Ok(run::<ResumedOutlet<HostLines>, _, _, _, _, _, _, _>(
         rt,
         alloc,
