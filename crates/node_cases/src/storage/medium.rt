@@ -8,6 +8,7 @@ use case_table::size;
 use ckpt_store::Store;
 use gate_cell::GateCell;
 use sector_disk::MemDisk;
+use slot_cell::SplitCell;
 use std::alloc::Global;
 use std::mem;
 
