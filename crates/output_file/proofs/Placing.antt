@@ -65,15 +65,14 @@ one_line_more start lines asked end next block after digits broken item was is a
   failed = was.failed;
 }
 
--- where nothing waits, the file has the lines of all items
+-- where nothing waits, all lines were put
 pub all_put : (items : List ℤ) (held : ℕ) (asked : List Request) (end : ℕ) (block : List ℕ) (broken : Bool)
     → IsWritten (length (lines_of (take held items))) (lines_of (drop held items)) asked end block broken → block ≡ []
-    → content_after (lines_of (take held items)) asked ≡ lines_of items
+    → lines_of (take held items) ++ bytes_put asked ≡ lines_of items
 all_put items held asked end block broken was empty =
     let put : bytes_put asked ≡ lines_of (drop held items) =
     sym (append-nil (bytes_put asked)) ∙ ap (λ (xs : List ℕ). bytes_put asked ++ xs) (sym empty) ∙ was.put in
-    put_behind (lines_of (take held items)) asked was.order
-    ∙ ap (λ (xs : List ℕ). lines_of (take held items) ++ xs) put
+    ap (λ (xs : List ℕ). lines_of (take held items) ++ xs) put
     ∙ sym (lines_append (take held items) (drop held items))
     ∙ ap lines_of (take-append-drop held items)
 
