@@ -92,8 +92,22 @@ fn refuses(rt: &impl Abort, alloc: Global, bytes: &[u8], line: u64) {
 fn lines_are_read(rt: HostRuntime) {
     let alloc = rt.alloc();
     reads(&rt, alloc, b"1\n-2\n30\n4", 3, 8, 30);
-    reads(&rt, alloc, b"-9223372036854775808\n9223372036854775807\n", 2, 41, i64::MAX);
-    reads(&rt, alloc, b"0\n-9223372036854775808\n\0\0\0", 2, 23, i64::MIN);
+    reads(
+        &rt,
+        alloc,
+        b"-9223372036854775808\n9223372036854775807\n",
+        2,
+        41,
+        i64::MAX,
+    );
+    reads(
+        &rt,
+        alloc,
+        b"0\n-9223372036854775808\n\0\0\0",
+        2,
+        23,
+        i64::MIN,
+    );
     refuses(&rt, alloc, b"007\n", 1);
     refuses(&rt, alloc, b"1\n+5\n", 2);
     refuses(&rt, alloc, b"1\n2\n-0\n4\n", 3);
@@ -138,7 +152,12 @@ fn goes_on_behind_what_is_held(rt: HostRuntime) -> Result<(), Fail> {
     let mut outlet = outlet_over(rt.alloc(), b"1\n2\n3", 0)?;
     same(&rt, hand(&mut outlet, 1, 2), 1, "the first held item");
     holds(&rt, !outlet.has_caught_up(), "one is left");
-    same(&rt, hand(&mut outlet, 2, 5), 3, "the other one, and two behind it");
+    same(
+        &rt,
+        hand(&mut outlet, 2, 5),
+        3,
+        "the other one, and two behind it",
+    );
     holds(&rt, outlet.has_caught_up(), "all are met");
     same(&rt, outlet.file().puts, 0, "nothing was put yet");
     holds(&rt, outlet.flush() == Ok(()), "flush");
@@ -154,7 +173,11 @@ fn differs_for_good(rt: HostRuntime) -> Result<(), Fail> {
     let mut outlet = outlet_over(rt.alloc(), b"1\n5\n", 0)?;
     same(&rt, hand(&mut outlet, 1, 4), 1, "the first one");
     holds(&rt, outlet.first_difference() == Some(1), "where");
-    holds(&rt, outlet.append(5) == Err(OutletFault::Failed), "for good");
+    holds(
+        &rt,
+        outlet.append(5) == Err(OutletFault::Failed),
+        "for good",
+    );
     holds(&rt, outlet.flush() == Ok(()), "nothing waits");
     file_is(&rt, &outlet, b"1\n5\n");
     Ok(())
@@ -176,7 +199,11 @@ fn a_put_fails(rt: HostRuntime) -> Result<(), Fail> {
     let taken = hand(&mut outlet, 0, 4000);
     holds(&rt, taken < 4000, "stopped");
     holds(&rt, outlet.is_broken(), "broken");
-    holds(&rt, outlet.append(9) == Err(OutletFault::Failed), "for good");
+    holds(
+        &rt,
+        outlet.append(9) == Err(OutletFault::Failed),
+        "for good",
+    );
     holds(&rt, outlet.flush() == Err(OutletFault::Failed), "flush");
     same(&rt, outlet.len(), taken, "what it took");
     same(&rt, outlet.file().puts, 2, "puts");
