@@ -168,11 +168,12 @@ impl<F: LineFile> ResumedOutlet<F> {
         ensures ok { OnOk result (taken_of self.new ≡ taken_of self.old ++ item ∷ []) }
         ensures err { OnErr result (taken_of self.new ≡ taken_of self.old) }
     {
-        if self.items[self.count] != item {
-            self.difference = Some(self.count as u64);
+        let next = self.count;
+        if self.items[next] != item {
+            self.difference = Some(next as u64);
             return Err(OutletFault::Failed);
         }
-        self.count += 1;
+        self.count = next + 1;
         Ok(())
     }
 
