@@ -20,7 +20,7 @@ pub use asked::Asked;
 pub use fault::LinesFault;
 pub use file::LineFile;
 pub use host_file::HostLines;
-pub use laws::{beginning_law, reading_law};
+pub use laws::{beginning_law, kill_law, reading_law};
 pub use reading::{HeldItems, read_items};
 pub use resumed::ResumedOutlet;
 

@@ -113,9 +113,14 @@ impl<F: LineFile> ResumedOutlet<F> {
         self.lines.broken
     }
 
-    /// The file, by what it was asked.
+    /// The file. The lines of the held items, those that it was asked to put and those that wait in the block are the lines
+    /// of all items; each put was asked right behind the one before.
     pub fn file(&self) -> &F
-        ensures { F.asked result.now ≡ asked_of self.now }
+        ensures asked { F.asked result.now ≡ asked_of self.now }
+        ensures lines { lines_of (held_of self.now) ++ bytes_put (asked_of self.now)
+            ++ (output_view self.now).block ≡ lines_of (items_of self.now) }
+        ensures order { go_on_from (length (lines_of (held_of self.now))) (asked_of self.now) ≡ true }
+        ensures waiting { length (output_view self.now).block ≤ BLOCK_BYTES }
     {
         &self.lines.file
     }
