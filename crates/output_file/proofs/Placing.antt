@@ -1,18 +1,18 @@
 -- Lines that are put, and what stands in the file then.
-use Rattle.std.proofs.Common.{◌≡◌, ◌≢◌, inl, inr, ℕ, suc, zero, ◌+◌, ◌-◌, ◌<◌, ◌≤◌, ℤ, Bool, true, false, List, [], ◌∷◌, ◌++◌, length, take, drop, arith}
-use Rattle.std.proofs.Common.{rules, refl, sym, ◌∙◌, ap, subst, append_assoc}
+use Rattle.std.proofs.Common.{◌≡◌, inl, inr, min, ℕ, ◌+◌, ◌≤◌, ℤ, Bool, true, false, List, [], ◌∷◌, ◌++◌, length, take, drop, arith}
+use Rattle.std.proofs.Common.{refl, sym, ◌∙◌, ap, subst, append_assoc}
 use Rattle.std.specs.Prelude.{not, ◌&&◌, ◌||◌, ◌==◌, ◌^◌, ◌⊎◌, Option, Some, None, is_some, is_ok, Result, Err, IsOk, if◌then◌else◌}
 use Rattle.outlet.specs.declared.fault.OutletFault.{OutletFault}
 use Rattle.outlet.specs.declared.fault.OutletFault.TheVariants.{NoMemory, Failed}
-use Rattle.std.proofs.Math.Seq.{take-length}
+use Rattle.std.proofs.Math.Seq.{take-length, take-append-add}
 use Rattle.std.proofs.Math.ListN.{drop_of_length-le}
-use Rattle.std.proofs.lemmas.Bool.{eqb-true, eq-eqb}
-use Rattle.std.proofs.lemmas.List.{length-append, append-nil, take-append-drop, take-append-le, drop-append-le}
+use Rattle.std.proofs.lemmas.Bool.{eqb-true}
+use Rattle.std.proofs.lemmas.List.{length-append, append-nil, take-append-drop, take-append-le, drop-append-le, take_min}
 use Rattle.std.specs.Fmt.{signed_decimal}
-use Rattle.output_file.specs.Lines.{item_line, lines_of}
-use Rattle.output_file.specs.Requests.{Request, Put, Synced, bytes_put, has_failed, go_on_from, with_bytes, content_after}
+use Rattle.output_file.specs.Lines.{item_line, lines_of, AreItems}
+use Rattle.output_file.specs.Requests.{Request, Put, Synced, MayBeLeft, bytes_put, has_failed, go_on_from, with_bytes, content_after}
 use Rattle.output_file.specs.Writing.{IsWritten, OutputView, HasSameItems, Appends}
-use Rattle.output_file.proofs.Lining.{lines_append}
+use Rattle.output_file.proofs.Lining.{lines_append, BeginsSo, any_beginning}
 
 both_true : (a b : Bool) → (a && b) ≡ true → (a ≡ true) × (b ≡ true)
 both_true true b is = (refl, is)
@@ -65,17 +65,76 @@ one_line_more start lines asked end next block after digits broken item was is a
   failed = was.failed;
 }
 
--- where nothing waits, the file has the lines of all items
-pub all_put : (items : List ℤ) (held : ℕ) (asked : List Request) (end : ℕ) (block : List ℕ) (broken : Bool)
-    → IsWritten (length (lines_of (take held items))) (lines_of (drop held items)) asked end block broken → block ≡ []
-    → content_after (lines_of (take held items)) asked ≡ lines_of items
-all_put items held asked end block broken was empty =
-    let put : bytes_put asked ≡ lines_of (drop held items) =
-    sym (append-nil (bytes_put asked)) ∙ ap (λ (xs : List ℕ). bytes_put asked ++ xs) (sym empty) ∙ was.put in
-    put_behind (lines_of (take held items)) asked was.order
-    ∙ ap (λ (xs : List ℕ). lines_of (take held items) ++ xs) put
+-- the lines of the held items, those that were put and those that wait are the lines of all items
+pub put_or_waiting : (items : List ℤ) (held : ℕ) (asked : List Request) (end : ℕ) (block : List ℕ) (broken : Bool)
+    → IsWritten (length (lines_of (take held items))) (lines_of (drop held items)) asked end block broken
+    → lines_of (take held items) ++ bytes_put asked ++ block ≡ lines_of items
+put_or_waiting items held asked end block broken was =
+    append_assoc (lines_of (take held items)) (bytes_put asked) block
+    ∙ ap (λ (xs : List ℕ). lines_of (take held items) ++ xs) was.put
     ∙ sym (lines_append (take held items) (drop held items))
     ∙ ap lines_of (take-append-drop held items)
+
+-- where nothing waits, all lines were put
+pub all_put : (items : List ℤ) (held : ℕ) (asked : List Request) (end : ℕ) (block : List ℕ) (broken : Bool)
+    → IsWritten (length (lines_of (take held items))) (lines_of (drop held items)) asked end block broken → block ≡ []
+    → lines_of (take held items) ++ bytes_put asked ≡ lines_of items
+all_put items held asked end block broken was empty =
+    sym (append-nil (lines_of (take held items) ++ bytes_put asked))
+    ∙ ap (λ (xs : List ℕ). lines_of (take held items) ++ bytes_put asked ++ xs) (sym empty)
+    ∙ put_or_waiting items held asked end block broken was
+
+-- a beginning of these bytes
+record Begins (left all : List ℕ) : Type 0 where
+  pub size : ℕ
+  pub front : left ≡ take size all
+
+begins_more : (left all more : List ℕ) → Begins left all → Begins left (all ++ more)
+begins_more left all more b =
+    let size : ℕ = min b.size (length all) in
+    record {
+      size = size;
+      front = b.front ∙ sym (take_min b.size all) ∙ sym (take-append-le size all more (omega arith));
+    }
+
+-- what a kill leaves is a beginning of what was to be there
+left_begins : (content : List ℕ) (asked : List Request) (left : List ℕ) → go_on_from (length content) asked ≡ true
+    → MayBeLeft content asked left → Begins left (content ++ bytes_put asked)
+left_begins content [] left on is = record {
+  size = length content;
+  front = is ∙ sym (take-length content) ∙ ap (take (length content)) (sym (append-nil content));
+}
+left_begins content (Put at bytes done ∷ earlier) left on (inl before) =
+    let one = both_true ((at == length content + length (bytes_put earlier)) && not (has_failed earlier))
+    (go_on_from (length content) earlier) on in
+    subst (Begins left) (append_assoc content (bytes_put earlier) bytes)
+    (begins_more left (content ++ bytes_put earlier) bytes (left_begins content earlier left one.1 before))
+left_begins content (Put at bytes done ∷ earlier) left on (inr cut) =
+    let one = both_true ((at == length content + length (bytes_put earlier)) && not (has_failed earlier))
+    (go_on_from (length content) earlier) on in
+    let two = both_true (at == length content + length (bytes_put earlier)) (not (has_failed earlier)) one.0 in
+    let place : at ≡ length content + length (bytes_put earlier) = eqb-true _ _ two.0 in
+    let all : List ℕ = content ++ bytes_put earlier in
+    record {
+      size = length all + cut.0;
+      front = cut.1
+          ∙ ap (λ (xs : List ℕ). with_bytes xs at (take cut.0 bytes)) (put_behind content earlier one.1)
+          ∙ behind all (take cut.0 bytes) at (place ∙ sym (length-append content (bytes_put earlier)))
+          ∙ sym (take-append-add all bytes cut.0)
+          ∙ ap (take (length all + cut.0)) (append_assoc content (bytes_put earlier) bytes);
+    }
+left_begins content (Synced done ∷ earlier) left on before = left_begins content earlier left on before
+
+-- and so it reads as a beginning of the items
+pub left_reads : (items : List ℤ) (held : ℕ) (asked : List Request) (waiting left : List ℕ) → AreItems items
+    → go_on_from (length (lines_of (take held items))) asked ≡ true
+    → lines_of (take held items) ++ bytes_put asked ++ waiting ≡ lines_of items
+    → MayBeLeft (lines_of (take held items)) asked left → BeginsSo items left
+left_reads items held asked waiting left each on all may =
+    let part = subst (Begins left) all
+    (begins_more left (lines_of (take held items) ++ bytes_put asked) waiting
+    (left_begins (lines_of (take held items)) asked left on may)) in
+    subst (BeginsSo items) (sym part.front) (any_beginning items part.size each)
 
 -- what fits is added
 pub with_room : {A E : Type 0} (r : Result A E) (now more old : List ℕ) → IsOk r

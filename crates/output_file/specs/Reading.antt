@@ -1,6 +1,6 @@
 -- What reading a file of lines answers.
-use Rattle.std.specs.Prelude.{◌≡◌, ℕ, ℤ, List, Result, Ok, Err}
-use Rattle.output_file.specs.Lines.{HoldsLines, HasBadLine}
+use Rattle.std.specs.Prelude.{ℕ, List}
+use Rattle.output_file.specs.Lines.{HasBadLine}
 use Rattle.output_file.specs.declared.fault.LinesFault.{LinesFault}
 use Rattle.output_file.specs.declared.fault.LinesFault.TheVariants.{NoMemory, NotAnItem}
 

@@ -1,5 +1,5 @@
 -- What a file of lines was asked since it was opened, the newest first.
-use Rattle.std.specs.Prelude.{ℕ, ◌+◌, ◌==◌, ◌&&◌, ◌||◌, not, Bool, true, false, List, [], ◌∷◌, ◌++◌, length, take, drop}
+use Rattle.std.specs.Prelude.{◌≡◌, ◌⊎◌, ℕ, ◌+◌, ◌==◌, ◌&&◌, ◌||◌, not, Bool, true, false, List, [], ◌∷◌, ◌++◌, length, take, drop}
 
 -- these bytes were to be put from this offset on; or a sync: each with its answer
 pub data Request : Type 0 where
@@ -35,3 +35,12 @@ abbrev pub content_after : List ℕ → List Request → List ℕ
 content_after content [] = content
 content_after content (Put at bytes done ∷ earlier) = with_bytes (content_after content earlier) at bytes
 content_after content (Synced done ∷ earlier) = content_after content earlier
+
+-- What a file may hold that held this content when it was opened, where the process was killed while it asked all that:
+-- the newest requests may not have been made, and of the last put that was made a beginning may stand there alone.
+abbrev pub MayBeLeft : List ℕ → List Request → List ℕ → Type 0
+MayBeLeft content [] left = left ≡ content
+MayBeLeft content (Put at bytes done ∷ earlier) left =
+    MayBeLeft content earlier left
+    ⊎ ((size : ℕ) × (left ≡ with_bytes (content_after content earlier) at (take size bytes)))
+MayBeLeft content (Synced done ∷ earlier) left = MayBeLeft content earlier left

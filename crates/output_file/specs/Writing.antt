@@ -1,5 +1,5 @@
 -- What a file was asked so that lines stand in it.
-use Rattle.std.specs.Prelude.{◌≡◌, ◌⊎◌, ℕ, ◌+◌, ◌^◌, ◌<◌, ◌≤◌, ℤ, Bool, true, false, ◌||◌, is_some, List, [], ◌∷◌, ◌++◌, length, Option, Some, None, Result, Ok, Err, slice_get, IsTrue}
+use Rattle.std.specs.Prelude.{◌≡◌, ◌⊎◌, ℕ, ◌+◌, ◌^◌, ◌≤◌, ℤ, Bool, true, ◌||◌, is_some, List, [], ◌∷◌, ◌++◌, length, Option, Result, Ok, Err}
 use Rattle.outlet.specs.declared.fault.OutletFault.{OutletFault}
 use Rattle.outlet.specs.declared.fault.OutletFault.TheVariants.{NoMemory, Failed}
 use Rattle.output_file.specs.Lines.{item_line, lines_of}

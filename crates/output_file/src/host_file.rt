@@ -1,29 +1,19 @@
 // A file of the host that lines are put to.
-ghost use Rattle.std.specs.Prelude.{◌≡◌, [], ◌∷◌};
-ghost use Rattle.output_file.specs.Requests.{Put, Synced};
+ghost use Rattle.std.specs.Prelude.{◌≡◌, []};
 
+use crate::asked::Asked;
 use crate::file::LineFile;
-use sector_disk::Past;
 use std::fs::File;
 use std::os::unix::fs::FileExt;
-use std::snapshot::Snapshot;
 
-// A request and its answer, for proofs alone.
-#[derive(Drop)]
-enum Noted {
-    // these bytes from an offset on
-    Put(u64, Snapshot<Vec<u8>>, bool),
-    Synced(bool),
-}
-
-/// A file of the host that lines are put to. What it was asked takes no memory.
+/// A file of the host that lines are put to.
 ///
-/// A `put` that succeeded is in the host's hands: it outlasts the process, also one that is killed. A `sync` that
-/// succeeded behind it outlasts a loss of power.
+/// A `put` that succeeded is in the host's hands: it outlasts the process, also one that is killed. With a `sync` behind
+/// it that succeeded it outlasts a loss of power.
 #[derive(Drop)]
 pub struct HostLines {
     file: File,
-    asked: Past<Noted>,
+    asked: Asked,
 }
 
 impl HostLines {
@@ -35,7 +25,7 @@ impl HostLines {
     {
         HostLines {
             file,
-            asked: Past::new(),
+            asked: Asked::nothing(),
         }
     }
 }
@@ -47,15 +37,13 @@ impl LineFile for HostLines {
 
     fn put(&mut self, at: u64, bytes: &Vec<u8>) -> bool {
         let done = self.file.write_all_at(bytes, at).is_ok();
-        let noted = Noted::Put(at, Snapshot::of(bytes), done);
-        self.asked.note(&noted);
+        self.asked.note_put(at, bytes, done);
         done
     }
 
     fn sync(&mut self) -> bool {
         let done = self.file.sync_data().is_ok();
-        let noted = Noted::Synced(done);
-        self.asked.note(&noted);
+        self.asked.note_sync(done);
         done
     }
 }

@@ -5,6 +5,7 @@
 //! was cut off in the middle of a line. `ResumedOutlet` is the outlet over it.
 #![tactic(auto)]
 
+mod asked;
 mod fault;
 mod file;
 mod host_file;
@@ -12,11 +13,14 @@ mod laws;
 mod line_block;
 mod reading;
 mod resumed;
+#[cfg(test)]
+mod tests;
 
+pub use asked::Asked;
 pub use fault::LinesFault;
 pub use file::LineFile;
 pub use host_file::HostLines;
-pub use laws::{beginning_law, reading_law};
+pub use laws::{beginning_law, kill_law, reading_law};
 pub use reading::{HeldItems, read_items};
 pub use resumed::ResumedOutlet;
 

@@ -1,9 +1,9 @@
 // An outlet that goes on with what a file holds.
-ghost use Rattle.std.specs.Prelude.{◌≡◌, ◌≢◌, ◌⊎◌, ◌↔◌, ◌+◌, ◌^◌, ◌<◌, ◌≤◌, ◌++◌, [], ◌∷◌, true, false, ℕ, ℤ, List, length, max, take, drop, slice_get, Some, None, Ok, Err, OnOk, OnErr, IfOk, IsErrOf, IsOk, IsTrue, vec_capacity};
+ghost use Rattle.std.specs.Prelude.{◌≡◌, ◌≢◌, ◌⊎◌, ◌↔◌, ◌+◌, ◌^◌, ◌<◌, ◌≤◌, ◌++◌, [], ◌∷◌, true, false, ℕ, ℤ, List, length, max, take, drop, slice_get, Some, None, Ok, Err, OnOk, OnErr, IfOk, IfSome, IsErrOf, IsOk, IsTrue, vec_capacity};
 ghost use Rattle.outlet.specs.Faults.{failures_after};
 ghost use Rattle.sector_disk.specs.Past.{states_of};
 ghost use Rattle.output_file.specs.Lines.{item_line, lines_of};
-ghost use Rattle.output_file.specs.Requests.{Synced, content_after};
+ghost use Rattle.output_file.specs.Requests.{Synced, bytes_put, has_failed, go_on_from, content_after};
 ghost use Rattle.output_file.specs.Writing.{IsWritten, OutputView, is_refusing, HasSameItems, Appends};
 ghost use Rattle.output_file.specs.declared.TheConstants.{BLOCK_BYTES};
 
@@ -91,7 +91,9 @@ impl<F: LineFile> ResumedOutlet<F> {
 
     /// The position, from 0, of the held item from which an item differed. The outlet took those before it.
     pub fn first_difference(&self) -> Option<u64>
-        ensures { result ≡ (output_view self.now).difference }
+        ensures kept { result ≡ (output_view self.now).difference }
+        ensures place { IfSome result (λ position. (position ≡ length (taken_of self.now))
+            × (position < length (items_of self.now))) }
     {
         self.difference
     }
@@ -105,9 +107,22 @@ impl<F: LineFile> ResumedOutlet<F> {
 
     /// Whether a put failed.
     pub fn is_broken(&self) -> bool
-        ensures { result ≡ (output_view self.now).broken }
+        ensures kept { result ≡ (output_view self.now).broken }
+        ensures cause { result ≡ has_failed (asked_of self.now) }
     {
         self.lines.broken
+    }
+
+    /// The file. The lines of the held items, those that it was asked to put and those that wait in the block are the lines
+    /// of all items; each put was asked right behind the one before.
+    pub fn file(&self) -> &F
+        ensures asked { F.asked result.now ≡ asked_of self.now }
+        ensures lines { lines_of (held_of self.now) ++ bytes_put (asked_of self.now)
+            ++ (output_view self.now).block ≡ lines_of (items_of self.now) }
+        ensures order { go_on_from (length (lines_of (held_of self.now))) (asked_of self.now) ≡ true }
+        ensures waiting { length (output_view self.now).block ≤ BLOCK_BYTES }
+    {
+        &self.lines.file
     }
 
     // Whether it takes nothing any more.
@@ -158,11 +173,12 @@ impl<F: LineFile> ResumedOutlet<F> {
         ensures ok { OnOk result (taken_of self.new ≡ taken_of self.old ++ item ∷ []) }
         ensures err { OnErr result (taken_of self.new ≡ taken_of self.old) }
     {
-        if self.items[self.count] != item {
-            self.difference = Some(self.count as u64);
+        let next = self.count;
+        if self.items[next] != item {
+            self.difference = Some(next as u64);
             return Err(OutletFault::Failed);
         }
-        self.count += 1;
+        self.count = next + 1;
         Ok(())
     }
 
@@ -170,6 +186,10 @@ impl<F: LineFile> ResumedOutlet<F> {
     /// that did all that it was asked holds the lines of all items. Refuses with `Failed` (60) where a put failed.
     pub fn flush(&mut self) -> Result<(), OutletFault>
         ensures put { OnOk result (((output_view self.new).block ≡ []) × ((output_view self.new).broken ≡ false)) }
+        // The puts are the lines of the items behind those held, each put right behind the one before.
+        ensures lines { OnOk result (lines_of (held_of self.new) ++ bytes_put (asked_of self.new)
+            ≡ lines_of (items_of self.new)) }
+        ensures order { go_on_from (length (lines_of (held_of self.new))) (asked_of self.new) ≡ true }
         ensures content { OnOk result (content_after (lines_of (held_of self.new)) (asked_of self.new)
             ≡ lines_of (items_of self.new)) }
         ensures failed { OnErr result ((output_view self.new).broken ≡ true) }

@@ -1,4 +1,4 @@
-use Rattle.std.proofs.Common.{◌≡◌, ℤ, Result, Err, Ok, sym, ◌∙◌, ap, subst, w64, FitsSigned, rules}
+use Rattle.std.proofs.Common.{ℤ, Result, Err, Ok, sym, ◌∙◌, ap, subst, w64, FitsSigned, rules}
 use Rattle.std.specs.Fmt.{signed_decimal}
 use Rattle.std.specs.Str.{IsUtf8}
 use Rattle.std.specs.Cmp.Lexicographic.{other_text}

@@ -1,4 +1,4 @@
-use Rattle.std.proofs.Common.{inl, inr, sym, ◌∙◌, ap, arith, refl, ℤ, List, ◌++◌, ◌∷◌, [], w64, FitsSigned, rules}
+use Rattle.std.proofs.Common.{◌∙◌, ap, arith, refl, ℤ, ◌++◌, ◌∷◌, [], w64, FitsSigned, rules}
 use Rattle.std.proofs.lemmas.Int.{to_z-of_z}
 use Rattle.output_file.proofs.Lining.{read_more, finds_bad, bad_is_none, to_the_end, so_many}
 use Rattle.output_file.proofs.reading.read_items.Goals as goal

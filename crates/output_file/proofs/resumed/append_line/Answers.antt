@@ -1,6 +1,5 @@
-use Rattle.std.proofs.Common.{refl, subst, sym, rules, w64, FitsSigned, ℤ}
+use Rattle.std.proofs.Common.{refl, rules, w64, FitsSigned}
 use Rattle.std.proofs.lemmas.Int.{to_z-of_z}
-use Rattle.output_file.specs.Lines.{item_line}
 use Rattle.output_file.proofs.resumed.append_line.Goals as goal
 
 pub returns-then-not-add-clause-refused : goal.returns-then-not-add-clause-refused

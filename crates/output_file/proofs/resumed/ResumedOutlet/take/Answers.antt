@@ -1,10 +1,9 @@
-use Rattle.std.proofs.Common.{◌≡◌, ◌+◌, ◌≤◌, ◌<◌, ℕ, ℤ, List, length, take, drop, inl, inr, Some, Err, ◌⊎◌, ◌^◌, true, sym, ◌∙◌, ap, subst, arith, refl, ◌++◌, ◌∷◌, [], w64, FitsSigned, rules}
+use Rattle.std.proofs.Common.{◌≡◌, ◌+◌, ◌≤◌, ◌<◌, ℕ, ℤ, List, length, Some, Err, ◌⊎◌, ◌^◌, true, sym, ◌∙◌, ap, subst, arith, refl, ◌++◌, ◌∷◌, [], w64, FitsSigned, rules}
 use Rattle.std.proofs.lemmas.Int.{to_z-of_z}
 use Rattle.std.proofs.lemmas.Option.{slice_get_within}
 use Rattle.std.proofs.lemmas.List.{length-append}
 use Rattle.std.proofs.lemmas.Result.{err_from_is_err_and}
-use Rattle.output_file.specs.Lines.{item_line, lines_of}
-use Rattle.output_file.specs.Writing.{IsWritten}
+use Rattle.output_file.specs.Lines.{item_line}
 use Rattle.output_file.proofs.Placing.{not_refusing, written_more, all_bytes, refused_append, same_output, written_alike}
 use Rattle.output_file.proofs.resumed.ResumedOutlet.take.Goals as goal
 
