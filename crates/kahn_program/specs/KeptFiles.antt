@@ -1,20 +1,11 @@
 -- What files have of a run.
-use Rattle.std.specs.Prelude.{◌≡◌, ◌⊎◌, ℤ, List}
+use Rattle.std.specs.Prelude.{ℤ, List}
 use Rattle.std.specs.List.{AllZip}
-use Rattle.output_file.specs.Lines.{lines_of}
-use Rattle.output_file.specs.Output.{asked_of, held_of, items_of, taken_of}
-use Rattle.output_file.specs.Requests.{content_after}
+use Rattle.output_file.specs.InFile.{IsInFile}
 use Rattle.output_file.specs.declared.file.LineFile.{Ghosts as FileWords}
 use Rattle.output_file.specs.declared.resumed.ResumedOutlet.{ResumedOutlet}
 
--- An output's stream is in its file: the file that had the lines of the held items, and did what it was asked since, has those of
--- these items. They begin with the held ones; they are the stream, or the held ones where the run hasn't come further.
-pub record IsInFile {F : Type 0} {file : FileWords F} (stream : List ℤ) (outlet : ResumedOutlet F file) : Type 0 where
-  pub took : taken_of outlet ≡ stream
-  pub content : content_after (lines_of (held_of outlet)) (asked_of outlet) ≡ lines_of (items_of outlet)
-  pub no_more : (items_of outlet ≡ stream) ⊎ (items_of outlet ≡ held_of outlet)
-
--- the same of each of these streams
+-- each of these streams is in the file of its outlet
 abbrev pub AreInFiles : {F : Type 0} {file : FileWords F} → List (ResumedOutlet F file) → List (List ℤ) → Type 0
 AreInFiles {F} {file} outlets streams =
     AllZip (λ (stream : List ℤ) (outlet : ResumedOutlet F file). IsInFile stream outlet) streams outlets

@@ -3,7 +3,8 @@
 ghost use Rattle.std.specs.Prelude.{◌≡◌, [], true, IfErr, IfOk, OnOk};
 ghost use Rattle.output_file.specs.Output.{taken_of};
 ghost use Rattle.kahn_program.specs.Keeping.{IsKeeperFailure, taken_streams};
-ghost use Rattle.kahn_program.specs.KeptFiles.{AreInFiles, IsInFile};
+ghost use Rattle.kahn_program.specs.KeptFiles.{AreInFiles};
+ghost use Rattle.output_file.specs.InFile.{IsInFile};
 
 use crate::failure::Failure;
 use crate::keeper::Keeper;
