@@ -1,19 +1,15 @@
 -- What a world leaves, and a fresh world over it.
-use Rattle.std.proofs.Common.{◌≡◌, ℕ, zero, suc, ◌+◌, ◌<◌, ◌&&◌, Bool, true, false, cond, ℤ, List, [], ◌∷◌, ◌++◌, length}
-use Rattle.std.proofs.Common.{map, All, get_or, Some, refl, sym, ap, subst, ◌∙◌, arith}
+use Rattle.std.proofs.Common.{◌≡◌, ◌⊎◌, inl, inr, ℕ, zero, suc, ◌+◌, ◌<◌, ◌≤◌, ◌&&◌, Bool, true, false, cond, ℤ, List, [], ◌∷◌, ◌++◌, length}
+use Rattle.std.proofs.Common.{map, All, get_or, None, Some, refl, sym, ap, subst, ◌∙◌, arith}
 use Rattle.std.specs.Prelude.{filter, slice_get, IsTrue}
 use Rattle.std.specs.List.{AllZip, flat_map}
 use Rattle.std.specs.List.Sorted.{IsPermutation}
-use Rattle.std.proofs.Math.Bool.{Bool-set}
-use Rattle.std.proofs.Math.Bridge.{le_prop}
-use Rattle.std.proofs.Math.IntN.{ℤ_set}
 use Rattle.std.proofs.Math.Logic.{∥∥₁_elim}
-use Rattle.std.proofs.Math.Nat.{ℕ_set}
 use Rattle.std.proofs.Math.Path.{fun_ext}
+use Rattle.std.proofs.Props.{props}
 use Rattle.std.proofs.lemmas.List.Elements.{All-append, All-nil}
 use Rattle.std.proofs.lemmas.List.Sorted.{All-permutation}
-use Rattle.std.proofs.lemmas.Option.{slice_get_within}
-use mathlib.Core.HLevel.{⊥_prop}
+use Rattle.std.proofs.lemmas.Option.{get_or_from_slice_get, slice_get_cases, slice_get_within}
 use Rattle.protocol.specs.Node.Common.{Channel, Network, node_count, numbers_where, port_on, RecordView}
 use Rattle.protocol.specs.World.Common.{goes_outside, is_output, output_channels, output_of, outputs_of, outputs_on}
 use Rattle.protocol.specs.World.Common.{OutputView, records_of, released_of, StationView, WorldInvariant, WorldView}
@@ -167,10 +163,14 @@ all_of_each P (s ∷ stations) each =
 -- of each place, and of all
 to_all : (P : OutputView → Type 0) (outputs : List OutputView)
     → ((j : ℕ) (o : OutputView) → slice_get outputs j ≡ Some o → P o) → All P outputs
-to_all P [] each = All-nil P
-to_all P (x ∷ outputs) each zero d below = each 0 x refl
-to_all P (x ∷ outputs) each (suc j) d below =
-    to_all P outputs (λ i o is. each (suc i) o is) j d (omega (arith, below))
+to_all P outputs each j d below =
+    at (slice_get_cases outputs j).1
+  where
+    at : ((x : OutputView) × (j < length outputs) × (slice_get outputs j ≡ Some x) × (get_or outputs j x ≡ x))
+        ⊎ ((length outputs ≤ j) × (slice_get outputs j ≡ None)) → P (get_or outputs j d)
+    at (inl there) =
+        subst P (sym (get_or_from_slice_get outputs j there.0 d there.2)) (each j there.0 there.2)
+    at (inr past) = absurd (omega (arith, below, past.0))
 
 from_all : (P : OutputView → Type 0) (outputs : List OutputView) → All P outputs
     → (j : ℕ) (o : OutputView) → slice_get outputs j ≡ Some o → P o
@@ -257,7 +257,7 @@ module _ (net : Network) (inputs : List (List ℤ)) (records : List RecordView) 
 
 pub opens_soundly : OpensSoundly
 opens_soundly net inputs records outputs new was opens =
-    ∥∥₁_elim was (hlevel (le_prop, ℕ_set, ℤ_set, Bool-set, ⊥_prop))
+    ∥∥₁_elim was (hlevel props)
     (λ left. (
       keeps_again left.0 new left.1.true_before (starts net inputs records outputs left.0 new left.1 opens),
       left_again net inputs records outputs left.0 new left.1 opens,
