@@ -1,6 +1,6 @@
 -- A world that starts again is one of the machine's, and all that is true of a world is true of it.
-use Rattle.std.proofs.Common.{◌≡◌, ℕ, zero, suc, ◌<◌, ◌≤◌, Bool, true, false, cond, nat_lt, ℤ, List, [], ◌∷◌, length, map}
-use Rattle.std.proofs.Common.{All, Option, Some, None, refl, sym, ap, subst, ◌∙◌, inl, inr, arith}
+use Rattle.std.proofs.Common.{◌≡◌, ℕ, zero, suc, Bool, true, false, cond, nat_lt, ℤ, List, [], ◌∷◌, length, map}
+use Rattle.std.proofs.Common.{All, Some, None, refl, sym, ap, subst, ◌∙◌, inl, inr, arith}
 use Rattle.std.specs.Prelude.{◌==◌, find, slice_get}
 use Rattle.std.specs.List.{AllZip}
 use Rattle.std.proofs.Math.Logic.{∥∥₁_map}
@@ -13,13 +13,15 @@ use Rattle.protocol.specs.Join.Joined.{KeepsNodes}
 use Rattle.protocol.specs.Join.Runs.{Carries}
 use Rattle.protocol.specs.Join.Seen.{mode_or_new, modes_seen}
 use Rattle.protocol.specs.Node.Beginning.{live_in}
-use Rattle.protocol.specs.Node.Common.{Fits, IsValid, ModeView, Network, node_count, RecordView, running_in, RunningNode}
+use Rattle.protocol.specs.Node.Common.{Fits, IsValid, ModeView, Network, node_count, RecordView, running_in}
+use Rattle.protocol.specs.Node.Common.{RunningNode}
 use Rattle.protocol.specs.Node.LiveView.{LiveView}
 use Rattle.protocol.specs.Node.NodeView as view
-use Rattle.protocol.specs.World.Common.{AreSound, Flight, flights_to, HasRun, IsJoined, IsNumbered, Leads, Mode, net_seen}
+use Rattle.protocol.specs.World.Common.{AreSound, Flight, flights_to, HasRun, IsJoined, IsNumbered, Leads, Mode}
+use Rattle.protocol.specs.World.Common.{net_seen}
 use Rattle.protocol.specs.World.Common.{outlets_seen, output_of, outputs_of, OutletView, OutputView, Packet, Record}
 use Rattle.protocol.specs.World.Common.{RecordIsSound, records_of, records_seen, released_of, RunsOn, SaysWhatWasSent}
-use Rattle.protocol.specs.World.Common.{StationInvariant, StationView, taken_or, Traffic, TrafficIsSound, World}
+use Rattle.protocol.specs.World.Common.{StationInvariant, StationView, taken_or, Traffic, TrafficIsSound}
 use Rattle.protocol.specs.World.Common.{world_seen, WorldInvariant, WorldView}
 use Rattle.protocol.specs.World.Invariant.{AreJoined}
 use Rattle.protocol.specs.World.Traffic.{FlightIsSound}

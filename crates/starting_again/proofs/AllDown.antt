@@ -1,5 +1,5 @@
 -- In the abstract machine all that is under way may be lost, and all nodes may crash, one after another.
-use Rattle.std.proofs.Common.{◌≡◌, ◌≢◌, ◌⊎◌, inl, inr, ℕ, zero, suc, ◌<◌, ◌≤◌, Bool, true, false, cond, nat_lt, None, refl}
+use Rattle.std.proofs.Common.{◌≡◌, ◌≢◌, inl, inr, ℕ, zero, suc, ◌<◌, ◌≤◌, Bool, true, false, cond, nat_lt, None, refl}
 use Rattle.std.proofs.Common.{sym, ap, subst, ◌∙◌, rules, tests, arith}
 use Rattle.std.proofs.Math.Path.{fun_ext}
 use Rattle.std.proofs.lemmas.Bool.{cases_lt}
@@ -39,7 +39,7 @@ module _ (net : Net) (w : World) where
     | inl lt ↦ ap (λ (b : Bool). cond b Down (w.modes j)) (below j (suc k) (omega (arith, lt)) ∙ sym (below j k lt))
     | inr le ↦ elim (cases_lt k j) [
       | inl past ↦
-        ap (λ (b : Bool). cond b Down (w.modes j)) (not_below j (suc k) (omega (arith, past)) ∙ sym (not_below j k le))
+          ap (λ (b : Bool). cond b Down (w.modes j)) (not_below j (suc k) (omega (arith, past)) ∙ sym (not_below j k le))
       | inr same ↦ absurd (other (omega (arith, le, same)))
     ]
   ]

@@ -1,22 +1,22 @@
 -- What a world leaves, and a fresh world over it.
-use Rattle.std.proofs.Common.{◌≡◌, ◌⊎◌, inl, inr, ℕ, zero, suc, ◌+◌, ◌<◌, ◌≤◌, ◌&&◌, Bool, true, false, cond, ℤ, List, [], ◌∷◌, ◌++◌, length}
+use Rattle.std.proofs.Common.{◌≡◌, ◌⊎◌, inl, inr, ℕ, zero, suc, ◌+◌, ◌<◌, ◌≤◌, ◌&&◌, Bool, true, false, cond, ℤ, List}
+use Rattle.std.proofs.Common.{[], ◌∷◌, length}
 use Rattle.std.proofs.Common.{map, All, get_or, None, Some, refl, sym, ap, subst, ◌∙◌, arith}
 use Rattle.std.specs.Prelude.{filter, slice_get, IsTrue}
-use Rattle.std.specs.List.{AllZip, flat_map}
-use Rattle.std.specs.List.Sorted.{IsPermutation}
+use Rattle.std.specs.List.{AllZip}
 use Rattle.std.proofs.Math.Logic.{∥∥₁_elim}
 use Rattle.std.proofs.Math.Path.{fun_ext}
 use Rattle.std.proofs.Props.{props}
 use Rattle.std.proofs.lemmas.List.Elements.{All-append, All-nil}
 use Rattle.std.proofs.lemmas.List.Sorted.{All-permutation}
 use Rattle.std.proofs.lemmas.Option.{get_or_from_slice_get, slice_get_cases, slice_get_within}
-use Rattle.protocol.specs.Node.Common.{Channel, Network, node_count, numbers_where, port_on, RecordView}
+use Rattle.protocol.specs.Node.Common.{Channel, Network, numbers_where, port_on, RecordView}
 use Rattle.protocol.specs.World.Common.{goes_outside, is_output, output_channels, output_of, outputs_of, outputs_on}
-use Rattle.protocol.specs.World.Common.{OutputView, records_of, released_of, StationView, WorldInvariant, WorldView}
+use Rattle.protocol.specs.World.Common.{OutputView, records_of, StationView, WorldInvariant, WorldView}
 use Rattle.protocol.specs.World.Sound.{leaves_from}
 use Rattle.protocol_laws.specs.World.OutputLaws.{map_at, output_here, output_there, same_output}
 use Rattle.protocol_laws.specs.World.ShownLaws.{shown_at}
-use Rattle.starting_again.proofs.Again.{keeps_again, outputs_each, same_kept, same_outputs, same_released}
+use Rattle.starting_again.proofs.Again.{keeps_again, same_outputs, same_released}
 use Rattle.starting_again.specs.Laws.{GivesBackItsOwn, LeavesItsOwn, OpensSoundly}
 use Rattle.starting_again.specs.StartsAgain.{StationStartsAgain, WorldStartsAgain}
 use Rattle.starting_again.specs.WasLeft.{IsLeftBy, OpensOver, output_left, outputs_at, outputs_by_station, outputs_left}
@@ -106,7 +106,8 @@ module _ (world : WorldView) (inv : WorldInvariant world) where
       → AreBy (output_left world.stations) (outputs_of station.outlets)
   shows place station there j output is = told
     where
-      listed : map (λ (o : OutputView). o.channel) (outputs_of station.outlets) ≡ outputs_on world.net station.node.kept.node
+      listed : map (λ (o : OutputView). o.channel) (outputs_of station.outlets)
+          ≡ outputs_on world.net station.node.kept.node
       listed = (inv.stations place station there).kept.listed
 
       named : station.node.kept.node ≡ place
@@ -149,7 +150,16 @@ module _ (world : WorldView) (inv : WorldInvariant world) where
 
 pub leaves_its_own : LeavesItsOwn
 leaves_its_own world inv =
-    ∣ (world, record { true_before = inv; same_net = refl; same_inputs = refl; records_are = refl; outputs_are = refl }) ∣₁
+    ∣ (
+      world,
+      record {
+        true_before = inv;
+        same_net = refl;
+        same_inputs = refl;
+        records_are = refl;
+        outputs_are = refl;
+      },
+    ) ∣₁
 
 -- what holds of each element of each list holds of all
 all_of_each : (P : OutputView → Type 0) (stations : List StationView)

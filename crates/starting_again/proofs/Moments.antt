@@ -1,7 +1,7 @@
 -- At each moment inside an event there lies what some world leaves.
-use Rattle.std.proofs.Common.{◌≡◌, ◌≢◌, ◌⊎◌, inl, inr, ℕ, zero, suc, ◌+◌, ◌<◌, Bool, true, false, cond, ℤ, List, [], ◌∷◌}
+use Rattle.std.proofs.Common.{◌≡◌, ◌≢◌, ◌⊎◌, inl, inr, ℕ, zero, suc, ◌+◌, Bool, true, false, cond, ℤ, List, [], ◌∷◌}
 use Rattle.std.proofs.Common.{map, All, Option, Some, None, refl, sym, ap, subst, ◌∙◌, arith}
-use Rattle.std.specs.Prelude.{IsTrue, slice_get, slice_set}
+use Rattle.std.specs.Prelude.{slice_get, slice_set}
 use Rattle.std.proofs.Math.Path.{fun_ext}
 use Rattle.std.proofs.lemmas.Bool.{eq-eqb, ne_eqb}
 use Rattle.std.proofs.lemmas.List.{map-set}
@@ -9,9 +9,10 @@ use Rattle.std.proofs.lemmas.List.Elements.{All-nil}
 use Rattle.recovery_line.proofs.Basics.{same_or_other}
 use Rattle.protocol.specs.Node.Common.{crashed, Exhausted, IsMade, IsPacket, IsPut, Network, packets_by, Plan, Planned}
 use Rattle.protocol.specs.Node.Common.{Prospect, RecordView, restart_after, room_for, Undue, next_record, with_kept}
-use Rattle.protocol.specs.World.Common.{answer_by, AreEither, ByNetwork, ByNode, event_node, EventView, Install, IsAct}
+use Rattle.protocol.specs.World.Common.{AreEither, ByNetwork, ByNode, event_node, EventView, Install}
 use Rattle.protocol.specs.World.Common.{IsActOf, IsPlanned, IsStationStep, IsStep, moved_to, next_kept, output_channels}
-use Rattle.protocol.specs.World.Common.{outputs_of, OutputView, plan_of, records_of, Release, ReplyView, round_after, Setting}
+use Rattle.protocol.specs.World.Common.{outputs_of, OutputView, plan_of, records_of, Release, ReplyView, round_after}
+use Rattle.protocol.specs.World.Common.{Setting}
 use Rattle.protocol.specs.World.Common.{setting_of, StationPlan, StationView, traffic_after, turns_by, WorldInvariant}
 use Rattle.protocol.specs.World.Common.{WorldView}
 use Rattle.protocol.specs.World.RecoveryLine.{next_for}
@@ -25,7 +26,6 @@ use Rattle.protocol_laws.specs.World.OutputLaws.{map_at}
 use Rattle.protocol_laws.specs.World.StepKeeps.{step_keeps, world_station, world_sure}
 use Rattle.starting_again.proofs.Again.{outputs_each, same_released}
 use Rattle.starting_again.specs.Laws.{LeavesAtEachMoment}
-use Rattle.starting_again.specs.Moments.{MayLieThere}
 use Rattle.starting_again.specs.WasLeft.{output_left, outputs_left, WasLeft}
 
 -- ---- an element in place of one at its place
@@ -90,29 +90,29 @@ module _ (setting : Setting) (e : EventView) where
           | inl own ↦ elim either.0 [
             | inl old ↦ inl (both r s.node.kept records (records_of stations) old olds)
             | inr next ↦ inr (record {
-                place = zero;
-                station = s;
-                there = refl;
-                number = own;
-                put = both r (next_kept setting e s) records (records_of stations) (next ∙ own_next s own) olds;
-              })
+              place = zero;
+              station = s;
+              there = refl;
+              number = own;
+              put = both r (next_kept setting e s) records (records_of stations) (next ∙ own_next s own) olds;
+            })
           ]
           | inr other ↦ inl (both r s.node.kept records (records_of stations) (unput other either.0) olds)
         ]
         | inr later ↦
-          let here = from 0 s refl in
-          let there = from (suc later.place) later.station later.there in
-          let number = later.number in
-          let other : s.number ≢ event_node e = λ own. omega (arith, here, there, number, own) in
-          inr (record {
-            place = suc later.place;
-            station = later.station;
-            there = later.there;
-            number = later.number;
-            put = both r s.node.kept records
-                (slice_set (records_of stations) later.place (next_kept setting e later.station))
-                (unput other either.0) later.put;
-          })
+            let here = from 0 s refl in
+            let there = from (suc later.place) later.station later.there in
+            let number = later.number in
+            let other : s.number ≢ event_node e = λ own. omega (arith, here, there, number, own) in
+            inr (record {
+              place = suc later.place;
+              station = later.station;
+              there = later.there;
+              number = later.number;
+              put = both r s.node.kept records
+                  (slice_set (records_of stations) later.place (next_kept setting e later.station))
+                  (unput other either.0) later.put;
+            })
       ]
     where
       both : (x y : RecordView) (xs ys : List RecordView) → x ≡ y → xs ≡ ys → x ∷ xs ≡ y ∷ ys
@@ -202,16 +202,19 @@ module _ (world : WorldView) (k : ℕ) (deed : Deed) (station : StationView)
       → WasLeft world.net world.inputs (slice_set (records_of world.stations) k made.node.kept) (outputs_left world)
   put_behind inv =
       let behind = failed_behind world.round (plan_of (setting_of world) k deed station) made station in
-      ∣ (failed_world world k deed station made, record {
-        true_before = step_keeps (any_rooms world.stations) (ByNode k deed) world reply.Down
-            (failed_world world k deed station made) inv step_fails;
-        same_net = refl;
-        same_inputs = refl;
-        records_are = map-set (λ (s : StationView). s.node.kept) world.stations k behind;
-        outputs_are = left_alike world.stations (slice_set world.stations k behind)
-            (set_alike (λ (s : StationView). outputs_of s.outlets) world.stations k station behind there refl)
-            (output_channels 0 world.net.channels);
-      }) ∣₁
+      ∣ (
+        failed_world world k deed station made,
+        record {
+          true_before = step_keeps (any_rooms world.stations) (ByNode k deed) world reply.Down
+              (failed_world world k deed station made) inv step_fails;
+          same_net = refl;
+          same_inputs = refl;
+          records_are = map-set (λ (s : StationView). s.node.kept) world.stations k behind;
+          outputs_are = left_alike world.stations (slice_set world.stations k behind)
+              (set_alike (λ (s : StationView). outputs_of s.outlets) world.stations k station behind there refl)
+              (output_channels 0 world.net.channels);
+        },
+      ) ∣₁
 
 -- ---- whatever record an event may put
 
@@ -220,7 +223,11 @@ module _ (world : WorldView) (inv : WorldInvariant world) where
   as_before : (records : List RecordView) → records ≡ records_of world.stations
       → WasLeft world.net world.inputs records (outputs_left world)
   as_before records same =
-      ∣ (world, record { true_before = inv; same_net = refl; same_inputs = refl; records_are = sym same; outputs_are = refl }) ∣₁
+      ∣ (
+        world,
+        record
+            { true_before = inv; same_net = refl; same_inputs = refl; records_are = sym same; outputs_are = refl },
+      ) ∣₁
 
   unchanged : (k : ℕ) (station : StationView) → slice_get world.stations k ≡ Some station
       → WasLeft world.net world.inputs (slice_set (records_of world.stations) k station.node.kept) (outputs_left world)
@@ -266,11 +273,11 @@ module _ (world : WorldView) (inv : WorldInvariant world) where
       elim (which (setting_of world) e 0 world.stations records numbered_from either) [
         | inl olds ↦ as_before records olds
         | inr one ↦
-          let number = one.number in
-          let place = (inv.numbered one.place one.station one.there).0 in
-          let here : one.place ≡ event_node e = omega (arith, number, place) in
-          subst (λ (rs : List RecordView). WasLeft world.net world.inputs rs (outputs_left world)) (sym one.put)
-          (next_left e one.place one.station one.there here)
+            let number = one.number in
+            let place = (inv.numbered one.place one.station one.there).0 in
+            let here : one.place ≡ event_node e = omega (arith, number, place) in
+            subst (λ (rs : List RecordView). WasLeft world.net world.inputs rs (outputs_left world)) (sym one.put)
+            (next_left e one.place one.station one.there here)
       ]
 
 -- ---- an event changes a record or the outlets, never both
@@ -343,15 +350,18 @@ leaves_at_each_moment fits e old answer new records outputs inv step lies =
       | inl before ↦ with_outputs before (left_before old inv e records lies.of_nodes)
       | inr after ↦ elim apart [
         | inl same ↦
-          with_outputs (after ∙ left_same same) (left_before old inv e records lies.of_nodes)
+            with_outputs (after ∙ left_same same) (left_before old inv e records lies.of_nodes)
         | inr none ↦
-          ∣ (new, record {
-            true_before = step_keeps fits e old answer new inv step;
-            same_net = step.net;
-            same_inputs = step.inputs;
-            records_are = none.1 ∙ sym (none_put (setting_of old) e old.stations records none.0 lies.of_nodes);
-            outputs_are = sym after;
-          }) ∣₁
+            ∣ (
+              new,
+              record {
+                true_before = step_keeps fits e old answer new inv step;
+                same_net = step.net;
+                same_inputs = step.inputs;
+                records_are = none.1 ∙ sym (none_put (setting_of old) e old.stations records none.0 lies.of_nodes);
+                outputs_are = sym after;
+              },
+            ) ∣₁
       ]
     ]
   where

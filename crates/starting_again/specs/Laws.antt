@@ -1,5 +1,5 @@
 -- What is true of a world that starts again, and of what worlds leave.
-use Rattle.std.specs.Prelude.{◌≡◌, ◌⊎◌, ℕ, ℤ, Bool, List, map}
+use Rattle.std.specs.Prelude.{◌≡◌, ℕ, ℤ, Bool, List, map}
 use Rattle.std.specs.List.Sorted.{IsPermutation}
 use Rattle.protocol.specs.Node.Common.{Network, RecordView}
 use Rattle.protocol.specs.World.Common.{EventView, IsStep, output_channels, OutputView, records_of, released_of}
@@ -40,8 +40,8 @@ GivesBackItsOwn = (world : WorldView) (outputs : List OutputView) → WorldInvar
     → map (λ (output : OutputView). output.channel) outputs ≡ output_channels 0 world.net.channels
     → outputs ≡ outputs_left world
 
--- Of a fresh world over what was left all is true that is true of a world whatever events came before, and what has left
--- is what had left.
+-- Of a fresh world over what was left all is true that is true of a world whatever events came before, and what has
+-- left is what had left.
 abbrev pub OpensSoundly : Type 0
 OpensSoundly = (net : Network) (inputs : List (List ℤ)) (records : List RecordView) (outputs : List OutputView)
     (new : WorldView) → WasLeft net inputs records outputs → OpensOver net inputs records outputs new

@@ -1,7 +1,6 @@
 -- That records and outlets are such as a world may leave, and a fresh world over them.
 use Rattle.std.specs.Prelude.{◌≡◌, ℕ, ℤ, List, [], filter, map, Some, slice_get}
 use Rattle.std.specs.List.{flat_map}
-use Rattle.std.specs.List.Sorted.{IsPermutation}
 use Rattle.protocol.specs.Node.Common.{Down, Network, RecordView}
 use Rattle.protocol.specs.World.Common.{flights_to, is_output, output_channels, outputs_of, OutputView, records_of}
 use Rattle.protocol.specs.World.Common.{released_of, StationView, WorldInvariant, WorldView}
