@@ -39,7 +39,8 @@ module _ (net : Net) (w : World) where
     | inl lt ↦ ap (λ (b : Bool). cond b Down (w.modes j)) (below j (suc k) (omega (arith, lt)) ∙ sym (below j k lt))
     | inr le ↦ elim (cases_lt k j) [
       | inl past ↦
-          ap (λ (b : Bool). cond b Down (w.modes j)) (not_below j (suc k) (omega (arith, past)) ∙ sym (not_below j k le))
+          ap (λ (b : Bool). cond b Down (w.modes j))
+          (not_below j (suc k) (omega (arith, past)) ∙ sym (not_below j k le))
       | inr same ↦ absurd (other (omega (arith, le, same)))
     ]
   ]

@@ -10,16 +10,21 @@ use Rattle.std.proofs.Props.{props}
 use Rattle.std.proofs.lemmas.List.Elements.{All-append, All-nil}
 use Rattle.std.proofs.lemmas.List.Sorted.{All-permutation}
 use Rattle.std.proofs.lemmas.Option.{get_or_from_slice_get, slice_get_cases, slice_get_within}
+use Rattle.protocol.specs.Join.Joined.{KeepsNodes}
 use Rattle.protocol.specs.Node.Common.{Channel, Network, numbers_where, port_on, RecordView}
 use Rattle.protocol.specs.World.Common.{goes_outside, is_output, output_channels, output_of, outputs_of, outputs_on}
-use Rattle.protocol.specs.World.Common.{OutputView, records_of, StationView, WorldInvariant, WorldView}
+use Rattle.protocol.specs.World.Common.{OutputView, RecordIsSound, records_of, StationView, WorldInvariant, WorldView}
+use Rattle.protocol.specs.World.Released.{IsStreamOf}
 use Rattle.protocol.specs.World.Sound.{leaves_from}
+use Rattle.protocol_laws.specs.Node.ImageLaws.{map_got}
 use Rattle.protocol_laws.specs.World.OutputLaws.{map_at, output_here, output_there, same_output}
+use Rattle.protocol_laws.specs.World.ReleasedLaws.{released_is_right}
 use Rattle.protocol_laws.specs.World.ShownLaws.{shown_at}
 use Rattle.starting_again.proofs.Again.{keeps_again, same_outputs, same_released}
-use Rattle.starting_again.specs.Laws.{GivesBackItsOwn, LeavesItsOwn, OpensSoundly}
+use Rattle.starting_again.specs.Laws.{GivesBackItsOwn, LeavesItsOwn, LeftAreSound, OpensSoundly}
 use Rattle.starting_again.specs.StartsAgain.{StationStartsAgain, WorldStartsAgain}
-use Rattle.starting_again.specs.WasLeft.{IsLeftBy, OpensOver, output_left, outputs_at, outputs_by_station, outputs_left}
+use Rattle.starting_again.specs.WasLeft.{AreSoundByThemselves, IsLeftBy, OpensOver, output_left, outputs_at}
+use Rattle.starting_again.specs.WasLeft.{outputs_by_station, outputs_left}
 
 -- ---- outputs that are told by their channels
 
@@ -200,6 +205,54 @@ gives_back_its_own world outputs inv moved listed =
     (shows world inv i s is)))))
     ∙ ap (map (output_left world.stations)) listed
 
+-- ---- what was left, by itself
+
+record_count : (stations : List StationView) → length (records_of stations) ≡ length stations
+record_count [] = refl
+record_count (s ∷ stations) = ap suc (record_count stations)
+
+left_channels : (stations : List StationView) (channels : List ℕ)
+    → map (λ (output : OutputView). output.channel) (map (output_left stations) channels) ≡ channels
+left_channels stations [] = refl
+left_channels stations (c ∷ channels) = ap (λ (cs : List ℕ). c ∷ cs) (left_channels stations channels)
+
+module _ (world : WorldView) (inv : WorldInvariant world) where
+  sound_itself : AreSoundByThemselves world.net world.inputs (records_of world.stations) (outputs_left world)
+  sound_itself = record {
+    valid = inv.valid;
+    fits = inv.fits;
+    each = record_count world.stations ∙ inv.count;
+    listed = left_channels world.stations (output_channels 0 world.net.channels);
+    named = λ node kept is.
+        let had = map_got (λ (s : StationView). s.node.kept) world.stations node kept is in
+        sym (ap (λ (r : RecordView). r.node) had.2) ∙ (inv.numbered node had.0 had.1).1;
+    sound = λ node kept is.
+        let had = map_got (λ (s : StationView). s.node.kept) world.stations node kept is in
+        subst (λ (r : RecordView). RecordIsSound world.net world.inputs r
+        (outputs_at world.net node (outputs_left world))) had.2
+        (subst (RecordIsSound world.net world.inputs had.0.node.kept) (own_outputs world inv node had.0 had.1)
+        (inv.stations node had.0 had.1).kept);
+    joined = λ node kept is.
+        let had = map_got (λ (s : StationView). s.node.kept) world.stations node kept is in
+        subst (KeepsNodes world.net node) had.2
+        (subst (λ (n : ℕ). KeepsNodes world.net n had.0.node.kept) (inv.numbered node had.0 had.1).0
+        (inv.joined node had.0 had.1).kept);
+    streams = λ j output is.
+        let had = map_got (output_left world.stations) (output_channels 0 world.net.channels) j output is in
+        subst (λ (o : OutputView). IsStreamOf world.net world.inputs o.channel o.taken) had.2
+        (released_is_right world inv had.0);
+  }
+
+pub left_are_sound : LeftAreSound
+left_are_sound net inputs records outputs was =
+    ∥∥₁_elim was (hlevel props)
+    (λ left. subst (AreSoundByThemselves net inputs records) left.1.outputs_are
+    (subst (λ (rs : List RecordView). AreSoundByThemselves net inputs rs (outputs_left left.0)) left.1.records_are
+    (subst (λ (i : List (List ℤ)). AreSoundByThemselves net i (records_of left.0.stations) (outputs_left left.0))
+    left.1.same_inputs
+    (subst (λ (n : Network). AreSoundByThemselves n left.0.inputs (records_of left.0.stations) (outputs_left left.0))
+    left.1.same_net (sound_itself left.0 left.1.true_before)))))
+
 -- ---- a fresh world
 
 -- lists of stations of which each at its place starts again from the other's
@@ -213,10 +266,6 @@ starts_each (x ∷ xs) (y ∷ ys) long each = (
   each 0 x y refl refl,
   starts_each xs ys (omega (arith, long)) (λ i a b is other. each (suc i) a b is other),
 )
-
-record_count : (stations : List StationView) → length (records_of stations) ≡ length stations
-record_count [] = refl
-record_count (s ∷ stations) = ap suc (record_count stations)
 
 module _ (net : Network) (inputs : List (List ℤ)) (records : List RecordView) (outputs : List OutputView)
     (old new : WorldView) (left : IsLeftBy net inputs records outputs old)

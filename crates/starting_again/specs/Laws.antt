@@ -7,7 +7,7 @@ use Rattle.protocol.specs.World.Common.{ReplyView, WorldInvariant, WorldView}
 use Rattle.protocol.specs.World.Coordination.{AreCoordinated}
 use Rattle.starting_again.specs.Moments.{MayLieThere}
 use Rattle.starting_again.specs.StartsAgain.{WorldStartsAgain}
-use Rattle.starting_again.specs.WasLeft.{OpensOver, outputs_by_station, outputs_left, WasLeft}
+use Rattle.starting_again.specs.WasLeft.{AreSoundByThemselves, OpensOver, outputs_by_station, outputs_left, WasLeft}
 
 -- ---- a world that starts again
 
@@ -39,6 +39,11 @@ GivesBackItsOwn = (world : WorldView) (outputs : List OutputView) → WorldInvar
     → IsPermutation (outputs_by_station world.stations) outputs
     → map (λ (output : OutputView). output.channel) outputs ≡ output_channels 0 world.net.channels
     → outputs ≡ outputs_left world
+
+-- What was left is sound by itself.
+abbrev pub LeftAreSound : Type 0
+LeftAreSound = (net : Network) (inputs : List (List ℤ)) (records : List RecordView) (outputs : List OutputView)
+    → WasLeft net inputs records outputs → AreSoundByThemselves net inputs records outputs
 
 -- Of a fresh world over what was left all is true that is true of a world whatever events came before, and what has
 -- left is what had left.

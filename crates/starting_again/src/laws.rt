@@ -1,6 +1,6 @@
 // Laws of worlds that start again.
 ghost use Rattle.starting_again.specs.Laws.{GivesBackItsOwn, GoesOnAgain, HasTheSame, KeepsAgain};
-ghost use Rattle.starting_again.specs.Laws.{LeavesAtEachMoment, LeavesItsOwn, OpensSoundly};
+ghost use Rattle.starting_again.specs.Laws.{LeavesAtEachMoment, LeavesItsOwn, LeftAreSound, OpensSoundly};
 
 /// All that is true of a world, whatever events came before, is true of one that starts again from its records and its outlets, in
 /// which all nodes are down and nothing is in flight. The records and what has left are the same, and checkpoints are coordinated
@@ -11,11 +11,12 @@ pub fn starting_again_law()
     ensures goes_on { GoesOnAgain }
 {}
 
-/// What a world leaves: its records and its outputs, which its stations give back. All that is true of a world is true of a fresh one
-/// over what some world left.
+/// What a world leaves: its records and its outputs, which its stations give back. They are sound by themselves, and all that is true
+/// of a world is true of a fresh one over what some world left.
 pub fn leaving_law()
     ensures leaves { LeavesItsOwn }
     ensures gives_back { GivesBackItsOwn }
+    ensures sound { LeftAreSound }
     ensures opens { OpensSoundly }
 {}
 
