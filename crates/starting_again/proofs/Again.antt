@@ -1,6 +1,6 @@
 -- A world that starts again is one of the machine's, and all that is true of a world is true of it.
 use Rattle.std.proofs.Common.{◌≡◌, ℕ, zero, suc, Bool, true, false, cond, nat_lt, ℤ, List, [], ◌∷◌, length, map}
-use Rattle.std.proofs.Common.{All, Some, None, refl, sym, ap, subst, ◌∙◌, inl, inr, arith}
+use Rattle.std.proofs.Common.{All, Some, None, replicate, unwrap_or, refl, sym, ap, subst, ◌∙◌, inl, inr, arith}
 use Rattle.std.specs.Prelude.{◌==◌, find, slice_get}
 use Rattle.std.specs.List.{AllZip}
 use Rattle.std.proofs.Math.Logic.{∥∥₁_map}
@@ -13,10 +13,11 @@ use Rattle.protocol.specs.Join.Joined.{KeepsNodes}
 use Rattle.protocol.specs.Join.Runs.{Carries}
 use Rattle.protocol.specs.Join.Seen.{mode_or_new, modes_seen}
 use Rattle.protocol.specs.Node.Beginning.{live_in}
-use Rattle.protocol.specs.Node.Common.{Fits, IsValid, ModeView, Network, node_count, RecordView, running_in}
+use Rattle.protocol.specs.Node.Common.{crashed, Fits, IsValid, ModeView, Network, node_count, RecordView, running_in}
 use Rattle.protocol.specs.Node.Common.{RunningNode}
 use Rattle.protocol.specs.Node.LiveView.{LiveView}
 use Rattle.protocol.specs.Node.NodeView as view
+use Rattle.protocol.specs.World.Common.{NODES, opening_traffic}
 use Rattle.protocol.specs.World.Common.{AreSound, Flight, flights_to, HasRun, IsJoined, IsNumbered, Leads, Mode}
 use Rattle.protocol.specs.World.Common.{net_seen}
 use Rattle.protocol.specs.World.Common.{outlets_seen, output_of, outputs_of, OutletView, OutputView, Packet, Record}
@@ -25,10 +26,11 @@ use Rattle.protocol.specs.World.Common.{StationInvariant, StationView, taken_or,
 use Rattle.protocol.specs.World.Common.{world_seen, WorldInvariant, WorldView}
 use Rattle.protocol.specs.World.Invariant.{AreJoined}
 use Rattle.protocol.specs.World.Traffic.{FlightIsSound}
+use Rattle.wire.specs.Traffic.{empty_queue}
 use Rattle.protocol_laws.specs.Join.Flown.{has_run_then}
 use Rattle.protocol_laws.specs.World.CoordinationLaws.{event_is_coordinated}
 use Rattle.starting_again.proofs.AllDown.{all_fall, below, downed, not_below, silent}
-use Rattle.starting_again.specs.Laws.{GoesOnAgain, HasTheSame, KeepsAgain}
+use Rattle.starting_again.specs.Laws.{GoesOnAgain, HasTheSame, KeepsAgain, OneStartsAgain}
 use Rattle.starting_again.specs.StartsAgain.{StationStartsAgain, WorldStartsAgain}
 
 -- ---- what has left depends on outputs alone
@@ -118,6 +120,57 @@ before (x ∷ xs) (y ∷ ys) again zero new is =
 before (x ∷ xs) (y ∷ ys) again (suc place) new is =
     let rest = before xs ys again.1 place new is in
     record { old = rest.old; there = rest.there; again = rest.again }
+
+-- ---- a world that starts again
+
+-- nothing is in flight at first
+no_flights : (nodes to : ℕ)
+    → (unwrap_or (slice_get (replicate nodes empty_queue) to) (record { flights = []; counts = [] })).flights ≡ []
+no_flights zero to = refl
+no_flights (suc nodes) zero = refl
+no_flights (suc nodes) (suc to) = no_flights nodes to
+
+pub nothing_opened : (to : ℕ) → flights_to opening_traffic to ≡ []
+nothing_opened to = no_flights NODES to
+
+-- the same station, its node down
+abbrev pub down_station : StationView → StationView
+down_station station =
+    record {
+      number = station.number;
+      node = crashed 0 station.node;
+      failures = station.failures;
+      outlets = station.outlets;
+      turns = station.turns;
+    }
+
+abbrev pub started_again : WorldView → WorldView
+started_again world =
+    record {
+      net = world.net;
+      inputs = world.inputs;
+      stations = map down_station world.stations;
+      traffic = opening_traffic;
+      round = 0;
+      room = world.room;
+    }
+
+pub start_down : (stations : List StationView) → StartAgain stations (map down_station stations)
+start_down [] = tt
+start_down (s ∷ stations) =
+    (record { number = refl; record_kept = refl; down = refl; outputs = refl }, start_down stations)
+
+pub one_starts_again : OneStartsAgain
+one_starts_again old =
+    ∣ (
+      started_again old,
+      record {
+        net = refl;
+        inputs = refl;
+        stations = start_down old.stations;
+        nothing = nothing_opened;
+      },
+    ) ∣₁
 
 -- ---- as the abstract machine sees them
 

@@ -4,7 +4,7 @@ use Rattle.std.proofs.Common.{[], ◌∷◌, length}
 use Rattle.std.proofs.Common.{map, All, get_or, None, Some, refl, sym, ap, subst, ◌∙◌, arith}
 use Rattle.std.specs.Prelude.{filter, slice_get, IsTrue}
 use Rattle.std.specs.List.{AllZip}
-use Rattle.std.proofs.Math.Logic.{∥∥₁_elim}
+use Rattle.std.proofs.Math.Logic.{∥∥₁_elim, ∥∥₁_map}
 use Rattle.std.proofs.Math.Path.{fun_ext}
 use Rattle.std.proofs.Props.{props}
 use Rattle.std.proofs.lemmas.List.Elements.{All-append, All-nil}
@@ -20,10 +20,12 @@ use Rattle.protocol_laws.specs.Node.ImageLaws.{map_got}
 use Rattle.protocol_laws.specs.World.OutputLaws.{map_at, output_here, output_there, same_output}
 use Rattle.protocol_laws.specs.World.ReleasedLaws.{released_is_right}
 use Rattle.protocol_laws.specs.World.ShownLaws.{shown_at}
-use Rattle.starting_again.proofs.Again.{keeps_again, same_outputs, same_released}
-use Rattle.starting_again.specs.Laws.{GivesBackItsOwn, LeavesItsOwn, LeftAreSound, OpensSoundly}
+use Rattle.starting_again.proofs.Again.{down_station, keeps_again, nothing_opened, same_kept, same_outputs}
+use Rattle.starting_again.proofs.Again.{same_released}
+use Rattle.starting_again.proofs.Again.{start_down, started_again}
+use Rattle.starting_again.specs.Laws.{GivesBackItsOwn, LeavesItsOwn, LeftAreSound, OneOpens, OpensSoundly}
 use Rattle.starting_again.specs.StartsAgain.{StationStartsAgain, WorldStartsAgain}
-use Rattle.starting_again.specs.WasLeft.{AreSoundByThemselves, IsLeftBy, OpensOver, output_left, outputs_at}
+use Rattle.starting_again.specs.WasLeft.{AreSoundByThemselves, IsLeftBy, OpensAt, OpensOver, output_left, outputs_at}
 use Rattle.starting_again.specs.WasLeft.{outputs_by_station, outputs_left}
 
 -- ---- outputs that are told by their channels
@@ -313,6 +315,36 @@ module _ (net : Network) (inputs : List (List ℤ)) (records : List RecordView) 
       (fun_ext (λ c. ap (λ (items : List ℤ). record { channel = c; taken = items })
       (same_released c old.stations new.stations (same_outputs old.stations new.stations starts.stations))))
       ∙ left.outputs_are)
+
+-- there is one
+module _ (net : Network) (inputs : List (List ℤ)) (records : List RecordView) (outputs : List OutputView)
+    (old : WorldView) (left : IsLeftBy net inputs records outputs old) where
+  opens_at : (place : ℕ) (station : StationView)
+      → slice_get (map down_station old.stations) place ≡ Some station → OpensAt net outputs place station
+  opens_at place station is =
+      let had = map_got down_station old.stations place station is in
+      subst (OpensAt net outputs place) had.2
+      (record {
+        number = (left.true_before.numbered place had.0 had.1).0;
+        down = refl;
+        outputs_are = own_outputs old left.true_before place had.0 had.1
+            ∙ (ap (outputs_at old.net place) left.outputs_are
+            ∙ ap (λ (n : Network). outputs_at n place outputs) left.same_net);
+      })
+
+  opened : OpensOver net inputs records outputs (started_again old)
+  opened = record {
+    same_net = left.same_net;
+    same_inputs = left.same_inputs;
+    records_are = same_kept old.stations (map down_station old.stations) (start_down old.stations)
+        ∙ left.records_are;
+    stations = opens_at;
+    nothing = nothing_opened;
+  }
+
+pub one_opens : OneOpens
+one_opens net inputs records outputs was =
+    ∥∥₁_map was (λ left. (started_again left.0, opened net inputs records outputs left.0 left.1))
 
 pub opens_soundly : OpensSoundly
 opens_soundly net inputs records outputs new was opens =

@@ -265,8 +265,8 @@ module _ (world : WorldView) (inv : WorldInvariant world) where
   numbered_from : AreFrom 0 world.stations
   numbered_from i station is = (let number = (inv.numbered i station is).0 in omega (arith, number))
 
-  -- with what had left before the event
-  left_before : (e : EventView) (records : List RecordView)
+  -- with what had left before the event, whether it happens or not
+  pub left_before : (e : EventView) (records : List RecordView)
       → AreEither (records_of world.stations) (map (next_for (setting_of world) e) world.stations) records
       → WasLeft world.net world.inputs records (outputs_left world)
   left_before e records either =

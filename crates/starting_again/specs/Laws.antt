@@ -15,6 +15,10 @@ use Rattle.starting_again.specs.WasLeft.{AreSoundByThemselves, OpensOver, output
 abbrev pub KeepsAgain : Type 0
 KeepsAgain = (old new : WorldView) → WorldInvariant old → WorldStartsAgain old new → WorldInvariant new
 
+-- Of each world there is one that starts again from it: the definition asks for nothing that can't be.
+abbrev pub OneStartsAgain : Type 0
+OneStartsAgain = (old : WorldView) → ∥ ((new : WorldView) × WorldStartsAgain old new) ∥₁
+
 -- By each channel the same has left, and the records are the same.
 abbrev pub HasTheSame : Type 0
 HasTheSame = (old new : WorldView) → WorldStartsAgain old new
@@ -44,6 +48,11 @@ GivesBackItsOwn = (world : WorldView) (outputs : List OutputView) → WorldInvar
 abbrev pub LeftAreSound : Type 0
 LeftAreSound = (net : Network) (inputs : List (List ℤ)) (records : List RecordView) (outputs : List OutputView)
     → WasLeft net inputs records outputs → AreSoundByThemselves net inputs records outputs
+
+-- There is a fresh world over it.
+abbrev pub OneOpens : Type 0
+OneOpens = (net : Network) (inputs : List (List ℤ)) (records : List RecordView) (outputs : List OutputView)
+    → WasLeft net inputs records outputs → ∥ ((new : WorldView) × OpensOver net inputs records outputs new) ∥₁
 
 -- Of a fresh world over what was left all is true that is true of a world whatever events came before, and what has
 -- left is what had left.
