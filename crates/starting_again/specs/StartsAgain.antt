@@ -7,15 +7,13 @@ use Rattle.protocol.specs.World.Common.{flights_to, outputs_of, StationView, Wor
 -- A station that starts again from an earlier one. Field by field:
 --
 -- - `number`: the same.
--- - `node.kept`, the record: the same, all of it (epoch, numbers used, decisions, both images), since it lay on the
--- disk.
--- - `node.mode`: down. So the current image, the job that is out, inboxes, outboxes and the answers that are collected
---   are gone.
+-- - `node.kept`, the record: the same, since it lay on the disk: epoch, numbers used, decisions, both images.
+-- - `node.mode`: down. What was in memory is gone: the current image, the job that is out, inboxes, outboxes, and
+--   the answers that are collected.
 -- - `node.version`: any. A job of before isn't out at a node that is down, whatever its version.
--- - `node.restart`: any. It says from which round the node may be recovered, and nothing that is true of it.
+-- - `node.restart`: any. It says from which round the node may be recovered, and nothing of what is true of it.
 -- - `node.armed`, and `failures`: any. They are the device's, which may be another one.
--- - `outlets`: the same channels in the same order, and the same items of each; `failed` and `failures` of each are
--- any.
+-- - `outlets`: the same channels in the same order, and the same items of each. `failed` and `failures` are any.
 -- - `turns`: any. What is remembered of a round bounds what is chosen, and not what may happen.
 pub record StationStartsAgain (old new : StationView) : Type 0 where
   pub number : new.number ≡ old.number
@@ -27,9 +25,8 @@ pub record StationStartsAgain (old new : StationView) : Type 0 where
 --
 -- - `net` and `inputs`: the same.
 -- - `stations`: as many, and each starts again from the one of its place.
--- - `traffic`: nothing is in flight to any node. How many packets each node has sent to which, and which rules are
--- armed
---   for packets still to be sent, is any.
+-- - `traffic`: nothing is in flight to any node. How many packets each node has sent to which is any, and so is which
+--   rules are armed for packets still to be sent.
 -- - `round` and `room`: any.
 pub record WorldStartsAgain (old new : WorldView) : Type 0 where
   pub net : new.net ≡ old.net
