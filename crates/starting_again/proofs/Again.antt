@@ -1,6 +1,6 @@
 -- A world that starts again is one of the machine's, and all that is true of a world is true of it.
-use Rattle.std.proofs.Common.{◌≡◌, ℕ, zero, suc, Bool, true, false, cond, nat_lt, ℤ, List, [], ◌∷◌, length, map}
-use Rattle.std.proofs.Common.{All, Some, None, replicate, unwrap_or, refl, sym, ap, subst, ◌∙◌, inl, inr, arith}
+use Rattle.std.proofs.Common.{◌≡◌, ℕ, zero, suc, Bool, true, false, cond, nat_lt, ℤ, List, [], ◌∷◌, length, map, All}
+use Rattle.std.proofs.Common.{Some, None, replicate, unwrap_or, refl, sym, ap, subst, ◌∙◌, inl, inr, arith}
 use Rattle.std.specs.Prelude.{◌==◌, find, slice_get}
 use Rattle.std.specs.List.{AllZip}
 use Rattle.std.proofs.Math.Logic.{∥∥₁_map}
@@ -17,13 +17,12 @@ use Rattle.protocol.specs.Node.Common.{crashed, Fits, IsValid, ModeView, Network
 use Rattle.protocol.specs.Node.Common.{RunningNode}
 use Rattle.protocol.specs.Node.LiveView.{LiveView}
 use Rattle.protocol.specs.Node.NodeView as view
-use Rattle.protocol.specs.World.Common.{NODES, opening_traffic}
 use Rattle.protocol.specs.World.Common.{AreSound, Flight, flights_to, HasRun, IsJoined, IsNumbered, Leads, Mode}
-use Rattle.protocol.specs.World.Common.{net_seen}
-use Rattle.protocol.specs.World.Common.{outlets_seen, output_of, outputs_of, OutletView, OutputView, Packet, Record}
-use Rattle.protocol.specs.World.Common.{RecordIsSound, records_of, records_seen, released_of, RunsOn, SaysWhatWasSent}
-use Rattle.protocol.specs.World.Common.{StationInvariant, StationView, taken_or, Traffic, TrafficIsSound}
-use Rattle.protocol.specs.World.Common.{world_seen, WorldInvariant, WorldView}
+use Rattle.protocol.specs.World.Common.{net_seen, NODES, opening_traffic, outlets_seen, OutletView, output_of}
+use Rattle.protocol.specs.World.Common.{outputs_of, OutputView, Packet, Record, RecordIsSound, records_of}
+use Rattle.protocol.specs.World.Common.{records_seen, released_of, RunsOn, SaysWhatWasSent, StationInvariant}
+use Rattle.protocol.specs.World.Common.{StationView, taken_or, Traffic, TrafficIsSound, world_seen, WorldInvariant}
+use Rattle.protocol.specs.World.Common.{WorldView}
 use Rattle.protocol.specs.World.Invariant.{AreJoined}
 use Rattle.protocol.specs.World.Traffic.{FlightIsSound}
 use Rattle.wire.specs.Traffic.{empty_queue}

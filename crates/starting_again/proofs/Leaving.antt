@@ -1,7 +1,6 @@
 -- What a world leaves, and a fresh world over it.
 use Rattle.std.proofs.Common.{◌≡◌, ◌⊎◌, inl, inr, ℕ, zero, suc, ◌+◌, ◌<◌, ◌≤◌, ◌&&◌, Bool, true, false, cond, ℤ, List}
-use Rattle.std.proofs.Common.{[], ◌∷◌, length}
-use Rattle.std.proofs.Common.{map, All, get_or, None, Some, refl, sym, ap, subst, ◌∙◌, arith}
+use Rattle.std.proofs.Common.{[], ◌∷◌, length, map, All, get_or, None, Some, refl, sym, ap, subst, ◌∙◌, arith}
 use Rattle.std.specs.Prelude.{filter, slice_get, IsTrue}
 use Rattle.std.specs.List.{AllZip}
 use Rattle.std.proofs.Math.Logic.{∥∥₁_elim, ∥∥₁_map}
@@ -21,8 +20,7 @@ use Rattle.protocol_laws.specs.World.OutputLaws.{map_at, output_here, output_the
 use Rattle.protocol_laws.specs.World.ReleasedLaws.{released_is_right}
 use Rattle.protocol_laws.specs.World.ShownLaws.{shown_at}
 use Rattle.starting_again.proofs.Again.{down_station, keeps_again, nothing_opened, same_kept, same_outputs}
-use Rattle.starting_again.proofs.Again.{same_released}
-use Rattle.starting_again.proofs.Again.{start_down, started_again}
+use Rattle.starting_again.proofs.Again.{same_released, start_down, started_again}
 use Rattle.starting_again.specs.Laws.{GivesBackItsOwn, LeavesItsOwn, LeftAreSound, OneOpens, OpensSoundly}
 use Rattle.starting_again.specs.StartsAgain.{StationStartsAgain, WorldStartsAgain}
 use Rattle.starting_again.specs.WasLeft.{AreSoundByThemselves, IsLeftBy, OpensAt, OpensOver, output_left, outputs_at}

@@ -7,14 +7,13 @@ use Rattle.std.proofs.lemmas.Bool.{eq-eqb, ne_eqb}
 use Rattle.std.proofs.lemmas.List.{map-set}
 use Rattle.std.proofs.lemmas.List.Elements.{All-nil}
 use Rattle.recovery_line.proofs.Basics.{same_or_other}
-use Rattle.protocol.specs.Node.Common.{crashed, Exhausted, IsMade, IsPacket, IsPut, Network, packets_by, Plan, Planned}
-use Rattle.protocol.specs.Node.Common.{Prospect, RecordView, restart_after, room_for, Undue, next_record, with_kept}
-use Rattle.protocol.specs.World.Common.{AreEither, ByNetwork, ByNode, event_node, EventView, Install}
-use Rattle.protocol.specs.World.Common.{IsActOf, IsPlanned, IsStationStep, IsStep, moved_to, next_kept, output_channels}
+use Rattle.protocol.specs.Node.Common.{crashed, Exhausted, IsMade, IsPacket, IsPut, Network, next_record, packets_by}
+use Rattle.protocol.specs.Node.Common.{Plan, Planned, Prospect, RecordView, restart_after, room_for, Undue, with_kept}
+use Rattle.protocol.specs.World.Common.{AreEither, ByNetwork, ByNode, event_node, EventView, Install, IsAct, IsActOf}
+use Rattle.protocol.specs.World.Common.{IsPlanned, IsStationStep, IsStep, moved_to, next_kept, output_channels}
 use Rattle.protocol.specs.World.Common.{outputs_of, OutputView, plan_of, records_of, Release, ReplyView, round_after}
-use Rattle.protocol.specs.World.Common.{Setting}
-use Rattle.protocol.specs.World.Common.{setting_of, StationPlan, StationView, traffic_after, turns_by, WorldInvariant}
-use Rattle.protocol.specs.World.Common.{WorldView}
+use Rattle.protocol.specs.World.Common.{Setting, setting_of, StationPlan, StationView, traffic_after, turns_by}
+use Rattle.protocol.specs.World.Common.{WorldInvariant, WorldView}
 use Rattle.protocol.specs.World.RecoveryLine.{next_for}
 use Rattle.protocol.specs.declared.event.Deed.{Deed}
 use Rattle.protocol.specs.declared.outcome.Outcome.{Outcome}
@@ -23,7 +22,7 @@ use Rattle.protocol.specs.declared.reply.Reply.TheVariants as reply
 use Rattle.protocol_laws.specs.Join.Leading.{set_itself}
 use Rattle.protocol_laws.specs.World.KeptLaws.{step_kept}
 use Rattle.protocol_laws.specs.World.OutputLaws.{map_at}
-use Rattle.protocol_laws.specs.World.StepKeeps.{step_keeps, world_station, world_sure}
+use Rattle.protocol_laws.specs.World.StepKeeps.{act_keeps_world, step_keeps, world_station, world_sure}
 use Rattle.starting_again.proofs.Again.{outputs_each, same_released}
 use Rattle.starting_again.specs.Laws.{LeavesAtEachMoment}
 use Rattle.starting_again.specs.WasLeft.{output_left, outputs_left, WasLeft}
@@ -344,37 +343,72 @@ none_put setting e (s ∷ stations) (r ∷ records) none either =
       | inr other ↦ other_next setting e s other
     ]
 
-pub leaves_at_each_moment : LeavesAtEachMoment
-leaves_at_each_moment fits e old answer new records outputs inv step lies =
-    elim lies.of_outlets [
-      | inl before ↦ with_outputs before (left_before old inv e records lies.of_nodes)
+-- Whatever records a crash of all nodes leaves at moments of an event, of each station the one of before or the one that
+-- the event puts there, and whether an item has left by then or not: some world left them.
+pub act_leaves : (rooms : List (RecordView → Bool)) (e : EventView) (came : Outcome) (old : WorldView)
+    (answer : ReplyView) (setting : Setting) (number : ℕ) (stations : List StationView) (records : List RecordView)
+    (outputs : List OutputView) → WorldInvariant old → setting ≡ setting_of old → number ≡ event_node e
+    → IsAct setting number rooms e came old.stations answer stations
+    → AreEither (records_of old.stations) (map (next_for setting e) old.stations) records
+    → (outputs ≡ outputs_left old) ⊎ (outputs ≡ map (output_left stations) (output_channels 0 old.net.channels))
+    → WasLeft old.net old.inputs records outputs
+act_leaves rooms e came old answer setting number stations records outputs inv same_setting same_number act either
+    outputs_are =
+    elim outputs_are [
+      | inl before ↦ with_outputs before (left_before old inv e records here)
       | inr after ↦ elim apart [
         | inl same ↦
-            with_outputs (after ∙ left_same same) (left_before old inv e records lies.of_nodes)
+            with_outputs (after ∙ left_alike old.stations stations same (output_channels 0 old.net.channels))
+            (left_before old inv e records here)
         | inr none ↦
             ∣ (
-              new,
               record {
-                true_before = step_keeps fits e old answer new inv step;
-                same_net = step.net;
-                same_inputs = step.inputs;
-                records_are = none.1 ∙ sym (none_put (setting_of old) e old.stations records none.0 lies.of_nodes);
+                net = old.net;
+                inputs = old.inputs;
+                stations = stations;
+                traffic = traffic_after setting e came answer (slice_get old.stations number);
+                round = round_after answer old.round stations;
+                room = old.room;
+              },
+              record {
+                true_before = act_keeps_world rooms e came old answer setting number
+                    (round_after answer old.round stations) stations
+                    (traffic_after setting e came answer (slice_get old.stations number)) inv same_setting same_number
+                    act refl refl;
+                same_net = refl;
+                same_inputs = refl;
+                records_are = none.1 ∙ sym (none_put (setting_of old) e old.stations records none.0 here);
                 outputs_are = sym after;
               },
             ) ∣₁
       ]
     ]
   where
-    apart : (outputs_each new.stations ≡ outputs_each old.stations)
-        ⊎ (PutsNone (setting_of old) e × (records_of new.stations ≡ records_of old.stations))
-    apart = act_apart old inv answer step.came e (slice_get fits (event_node e))
-        (slice_get old.stations (event_node e)) new.stations refl step.act
+    here : AreEither (records_of old.stations) (map (next_for (setting_of old) e) old.stations) records
+    here =
+        subst (λ (s : Setting). AreEither (records_of old.stations) (map (next_for s e) old.stations) records)
+        same_setting either
 
-    left_same : outputs_each new.stations ≡ outputs_each old.stations → outputs_left new ≡ outputs_left old
-    left_same same =
-        ap (λ (n : Network). map (output_left new.stations) (output_channels 0 n.channels)) step.net
-        ∙ left_alike old.stations new.stations same (output_channels 0 old.net.channels)
+    acted : IsAct (setting_of old) (event_node e) rooms e came old.stations answer stations
+    acted =
+        subst (λ (n : ℕ). IsAct (setting_of old) n rooms e came old.stations answer stations) same_number
+        (subst (λ (s : Setting). IsAct s number rooms e came old.stations answer stations) same_setting act)
+
+    apart : (outputs_each stations ≡ outputs_each old.stations)
+        ⊎ (PutsNone (setting_of old) e × (records_of stations ≡ records_of old.stations))
+    apart = act_apart old inv answer came e (slice_get rooms (event_node e)) (slice_get old.stations (event_node e))
+        stations refl acted
 
     with_outputs : {left : List OutputView} → outputs ≡ left → WasLeft old.net old.inputs records left
         → WasLeft old.net old.inputs records outputs
     with_outputs same was = subst (λ (os : List OutputView). WasLeft old.net old.inputs records os) (sym same) was
+
+pub leaves_at_each_moment : LeavesAtEachMoment
+leaves_at_each_moment fits e old answer new records outputs inv step lies =
+    act_leaves fits e step.came old answer (setting_of old) (event_node e) new.stations records outputs inv refl refl
+    step.act lies.of_nodes
+    (elim lies.of_outlets [
+      | inl before ↦ inl before
+      | inr after ↦ inr (after
+          ∙ ap (λ (n : Network). map (output_left new.stations) (output_channels 0 n.channels)) step.net)
+    ])

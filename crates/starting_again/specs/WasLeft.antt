@@ -3,8 +3,8 @@ use Rattle.std.specs.Prelude.{◌≡◌, ℕ, ℤ, List, [], filter, length, map
 use Rattle.std.specs.List.{flat_map}
 use Rattle.protocol.specs.Join.Joined.{KeepsNodes}
 use Rattle.protocol.specs.Node.Common.{Down, Fits, IsValid, Network, node_count, RecordView}
-use Rattle.protocol.specs.World.Common.{flights_to, is_output, output_channels, outputs_of, OutputView, records_of}
-use Rattle.protocol.specs.World.Common.{RecordIsSound, released_of, StationView, WorldInvariant, WorldView}
+use Rattle.protocol.specs.World.Common.{flights_to, is_output, output_channels, outputs_of, OutputView, RecordIsSound}
+use Rattle.protocol.specs.World.Common.{records_of, released_of, StationView, WorldInvariant, WorldView}
 use Rattle.protocol.specs.World.Released.{IsStreamOf}
 
 -- ---- what a world leaves
