@@ -1,13 +1,13 @@
 -- A file that is asked what a disk is asked stays in step with its sectors.
-use Rattle.std.proofs.Common.{◌≡◌, ◌⊎◌, inl, inr, ℕ, Bool, true, false, ◌+◌, ◌*◌, ◌/◌, ◌<◌, ◌≤◌, List, length, get_or}
-use Rattle.std.proofs.Common.{Some, refl, sym, ◌∙◌, ap, subst, arith}
+use Rattle.std.proofs.Common.{◌≡◌, inl, inr, ℕ, Bool, true, false, ◌+◌, ◌*◌, ◌/◌, ◌<◌, ◌≤◌, List, length, get_or}
+use Rattle.std.proofs.Common.{Some, refl, sym, ◌∙◌, ap, arith}
 use Rattle.std.proofs.lemmas.List.{ext_get_or}
 use Rattle.std.proofs.lemmas.Bool.{cases_lt}
 use Rattle.sector_disk.specs.declared.TheConstants.{SECTOR_BYTES}
 use Rattle.sector_disk.specs.Disk.{SameOutside}
 use Rattle.sector_disk.specs.Images.{MayLeave}
 use Rattle.sector_disk.proofs.Writes.{same_outside}
-use Rattle.file_disk.specs.History.{FileHistory, Put, Synced, HoldsOnly, MayHold, MightHaveHeld, due, request_count}
+use Rattle.file_disk.specs.History.{FileHistory, Put, Synced, HoldsOnly, due, request_count}
 use Rattle.file_disk.specs.InStep.{IsInStep, StaysInStep, AreDue, IsOutside}
 use Rattle.file_disk.proofs.Held.{stays_outside, due_by_put, holds_now, held_now}
 

@@ -1,5 +1,5 @@
 -- A file goes with the sectors of a disk after each call.
-use Rattle.std.proofs.Common.{◌≡◌, ℕ, Bool, true, false, ◌<◌, List, length, get_or, refl, sym, ◌∙◌, ap, subst}
+use Rattle.std.proofs.Common.{◌≡◌, ℕ, Bool, true, false, ◌<◌, List, length, get_or, sym, ◌∙◌, ap, subst}
 use Rattle.sector_disk.specs.declared.sectors.Sectors.{Sectors}
 use Rattle.file_disk.specs.History.{FileHistory, HoldsOnly, MayHold, Put}
 use Rattle.file_disk.specs.InStep.{AreDue, GoesWith, IsInStep, IsRewritten}

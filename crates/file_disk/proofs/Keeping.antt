@@ -1,5 +1,5 @@
 -- A file keeps up with a disk through a call.
-use Rattle.std.proofs.Common.{◌≡◌, inl, inr, ℕ, Bool, ◌≤◌, List, ◌∷◌, length, sym, ap, subst, arith}
+use Rattle.std.proofs.Common.{◌≡◌, inl, inr, ℕ, Bool, List, ◌∷◌, length, sym, ap, subst, arith}
 use Rattle.sector_disk.specs.Past.{LeftBySome}
 use Rattle.sector_disk.specs.SectorsLeft.{left_of}
 use Rattle.sector_disk.specs.declared.sectors.Sectors.{Sectors}

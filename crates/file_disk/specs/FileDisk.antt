@@ -1,6 +1,5 @@
 -- What a disk in a file shows, and how its file keeps up with it.
-use Rattle.std.specs.Prelude.{◌≡◌, ◌⊎◌, ◌<◌, ℕ, Bool, false, true, List, [], ◌∷◌, length, Option, IsSome}
-use Rattle.sector_disk.specs.declared.TheConstants.{GREATEST_COUNT}
+use Rattle.std.specs.Prelude.{◌≡◌, ℕ, Bool, false, List, ◌∷◌, length, Option}
 use Rattle.sector_disk.specs.Past.{states_of, LeftBySome}
 use Rattle.sector_disk.specs.Schedule.{FaultState, no_faults}
 use Rattle.sector_disk.specs.FaultSchedule.{state_of}

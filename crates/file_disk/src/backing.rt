@@ -100,11 +100,9 @@ impl<F: SectorFile> Backing<F> {
         if self.lost || !self.freshen(sectors) {
             return false;
         }
-        if self.file.sync() {
-            return true;
-        }
-        self.stale = true;
-        false
+        let done = self.file.sync();
+        self.stale = !done;
+        done
     }
 
     /// The disk has settled; where the file hasn't, it is lost.

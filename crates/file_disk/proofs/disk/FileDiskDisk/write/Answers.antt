@@ -1,10 +1,8 @@
-use Rattle.std.proofs.Common.{rules, ◌≡◌, ◌*◌, ◌∷◌, ℕ, List, length, refl, sym, subst, ap, ◌∙◌}
+use Rattle.std.proofs.Common.{rules, ◌≡◌, ◌*◌, ◌∷◌, length, refl, sym, subst, ap, ◌∙◌}
 use Rattle.sector_disk.specs.declared.TheConstants.{SECTOR_BYTES}
 use Rattle.sector_disk.specs.Disk.{IsInRange, SameOutside}
 use Rattle.sector_disk.specs.Past.{states_of}
 use Rattle.sector_disk.proofs.Writes.{same_outside}
-use Rattle.file_disk.specs.FileDisk.{history_of, lost_of}
-use Rattle.file_disk.specs.declared.disk.FileDisk.{FileDisk}
 use Rattle.file_disk.proofs.Goes.{mark_goes}
 use Rattle.file_disk.proofs.Keeping.{unasked, left_by_now, left_by_old, one_put}
 use Rattle.file_disk.proofs.Rewrites.{rewrites}
