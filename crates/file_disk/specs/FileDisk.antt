@@ -68,8 +68,8 @@ module _ {F : Type 0} {words : Ghosts F} where
   abbrev pub IsFileUntouched : FileDisk F words → FileDisk F words → Type 0
   IsFileUntouched old new = (history_of new ≡ history_of old) × (lost_of new ≡ lost_of old)
 
-  -- The file keeps up with a call: whatever it might have held at a moment of the call is what a crash might have left of
-  -- the disk at a moment of it.
+  -- The file keeps up with a call: whatever it might have held at a moment of the call is what a crash might have left
+  -- of the disk at a moment of it.
   abbrev pub KeepsUp : FileDisk F words → FileDisk F words → Type 0
   KeepsUp old new =
       lost_of old ≡ false → (c : List ℕ) → MightHaveHeld (history_of new) (request_count (history_of old)) c

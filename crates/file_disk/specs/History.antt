@@ -1,6 +1,7 @@
--- What a file was asked since it was opened, and what it may hold then. `due` and `MayHold` are the whole premise on real
--- files.
-use Rattle.std.specs.Prelude.{◌≡◌, ◌⊎◌, ℕ, ◌+◌, ◌≤◌, ◌<◌, nat_lt, Bool, true, false, if◌then◌else◌, List, Option, Some, None}
+-- What a file was asked since it was opened, and what it may hold then. `due` and `MayHold` are the whole premise on
+-- real files.
+use Rattle.std.specs.Prelude.{◌≡◌, ◌⊎◌, ℕ, ◌+◌, ◌≤◌, ◌<◌, nat_lt, Bool, true, false, if◌then◌else◌, List, Option, Some}
+use Rattle.std.specs.Prelude.{None}
 use Rattle.std.proofs.Common.{get_or}
 use Rattle.sector_disk.specs.Disk.{SameOutside}
 
@@ -23,8 +24,8 @@ due (Put content at len done before) i =
     else due before i
 due (Synced done before) i = None
 
--- What a file may hold, now or after a loss of power or the end of the program. As it was opened it held what was read. A
--- put may have left any bytes in its range, also where it failed, and changed none outside of it. After a sync that
+-- What a file may hold, now or after a loss of power or the end of the program. As it was opened it held what was read.
+-- A put may have left any bytes in its range, also where it failed, and changed none outside of it. After a sync that
 -- succeeded the bytes that were due are there; one that failed fixes nothing.
 abbrev pub MayHold : FileHistory → List ℕ → Type 0
 MayHold (Opened bytes) c = c ≡ bytes
@@ -41,7 +42,8 @@ request_count (Opened bytes) = 0
 request_count (Put content at len done before) = request_count before + 1
 request_count (Synced done before) = request_count before + 1
 
--- what the file might have held at some moment since it had been asked `t` requests, while a request was carried out too
+-- what the file might have held at some moment since it had been asked `t` requests, while a request was carried out
+-- too
 abbrev pub MightHaveHeld : FileHistory → ℕ → List ℕ → Type 0
 MightHaveHeld (Opened bytes) t c = (t ≤ 0) × MayHold (Opened bytes) c
 MightHaveHeld (Put content at len done before) t c =

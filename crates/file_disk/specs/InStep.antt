@@ -22,8 +22,8 @@ AreDue history bytes in_doubt =
     (i : ℕ) → i < length bytes → get_or in_doubt (i / SECTOR_BYTES) false ≡ true
     → due history i ≡ Some (get_or bytes i 0)
 
--- A file goes with the sectors of a disk, unless it is lost: it is in step with them, and unless it is stale a sync that
--- succeeds brings it to what reads give.
+-- A file goes with the sectors of a disk, unless it is lost: it is in step with them, and unless it is stale a sync
+-- that succeeds brings it to what reads give.
 pub record GoesWith {F : Type 0} (history : F → FileHistory) (backing : Backing F) (sectors : Sectors) : Type 0 where
   pub in_step : backing.lost ≡ false → IsInStep (history backing.file) sectors.bytes.items sectors.doubt.flags.items
   pub due : backing.lost ≡ false → backing.stale ≡ false

@@ -1,5 +1,5 @@
 //! A disk in a file.
-ghost use Rattle.std.specs.Prelude.{◌≡◌, ◌⊎◌, ◌*◌, ◌/◌, ◌%◌, ◌^◌, ◌<◌, ◌≤◌, ◌++◌, ◌↔◌, [], ◌∷◌, ℕ, Bool, List, false, true, length, take, drop, IsTrue, IsSome, IfOk, OnOk, OnErr, IsErrOf};
+ghost use Rattle.std.specs.Prelude.{◌≡◌, ◌⊎◌, ◌*◌, ◌/◌, ◌%◌, ◌<◌, ◌≤◌, ◌++◌, ◌↔◌, [], ◌∷◌, ℕ, Bool, List, false, true, length, take, drop, IsSome, IfOk, OnOk, OnErr, IsErrOf};
 ghost use Rattle.std.proofs.Common.{inl};
 ghost use Rattle.sector_disk.specs.declared.TheConstants.{GREATEST_COUNT, SECTOR_BYTES};
 ghost use Rattle.sector_disk.specs.Clock.{Only, TimePasses};
@@ -32,8 +32,8 @@ use std::alloc::{AllocError, Global};
 /// opened again, it is a sound disk.
 ///
 /// Failures are counted up to `GREATEST_COUNT`, and one that can't be counted can't be answered. Behind so many failures a
-/// write that the file refuses is Ok, since its range is in doubt and the next sync puts it again, and a sync that the
-/// file refuses is Ok too, but loses the file: `is_lost` tells. At a failure each nanosecond that takes 292 years.
+/// write that the file refuses is Ok: its range is in doubt, and the next sync puts it again. A sync that the file refuses
+/// is Ok too, but loses the file, and `is_lost` tells. With a failure each nanosecond that takes 292 years.
 ///
 /// No call but `arm` takes memory, and none but `write`, `sync` and `crash` asks anything of the file.
 #[derive(Drop)]
@@ -221,8 +221,8 @@ impl<F: SectorFile> Disk for FileDisk<F> {
         ensures lost { lost_of self.new ≡ lost_of self.old }
         ensures kept { KeepsUp self.old self.new }
 
-        // It fails where a fault was armed, where the file refused, or where it is lost; and there only Ok if that can't
-        // be counted.
+        // It fails where a fault was armed, where the file refused, and where the file is lost. There it is Ok only if
+        // failures are counted out.
         ensures fails { IsErrOf result DiskFault.Device
             → IsSome (fault_met (faults_of self.old))
             ⊎ (HasRefused (history_of self.old) (history_of self.new)
@@ -273,8 +273,8 @@ impl<F: SectorFile> Disk for FileDisk<F> {
         ensures armed_file { IsSome (fault_met (faults_of self.old))
             → history_of self.new ≡ history_of self.old }
 
-        // Ok says that the file has synced and holds what reads give, and nothing else, unless a refusal can't be counted.
-        // Then the file is lost.
+        // Ok says that the file has synced and holds what reads give, and nothing else, unless it is lost. A sync loses it
+        // only by a refusal where failures are counted out.
         ensures synced { OnOk result
             (lost_of self.new ≡ false → HasSynced (history_of self.old) (history_of self.new)) }
         ensures settled { OnOk result
@@ -286,8 +286,8 @@ impl<F: SectorFile> Disk for FileDisk<F> {
         ensures spared { lost_of self.old ≡ true → history_of self.new ≡ history_of self.old }
         ensures kept { KeepsUp self.old self.new }
 
-        // It fails where a fault was armed, where the file refused, or where it is lost; and is only Ok there if that
-        // can't be counted.
+        // It fails where a fault was armed, where the file refused, and where the file is lost. There it is Ok only if
+        // failures are counted out.
         ensures fails { IsErrOf result DiskFault.Device
             → IsSome (fault_met (faults_of self.old))
             ⊎ (HasRefused (history_of self.old) (history_of self.new)

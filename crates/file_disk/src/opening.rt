@@ -1,5 +1,5 @@
 //! Opening a file of the host as a disk, and making one.
-ghost use Rattle.std.specs.Prelude.{◌≡◌, ◌*◌, ◌%◌, ◌^◌, ◌<◌, ◌≤◌, ◌↔◌, length, replicate, IfOk, IfErr};
+ghost use Rattle.std.specs.Prelude.{◌≡◌, ◌*◌, ◌%◌, ◌^◌, ◌<◌, ◌≤◌, length, replicate, IfOk, IfErr};
 ghost use Rattle.sector_disk.specs.declared.TheConstants.{SECTOR_BYTES};
 ghost use Rattle.file_disk.specs.FileDisk.{IsNew, content_of};
 ghost use Rattle.file_disk.specs.History.{HoldsOnly, Opened};

@@ -1,5 +1,5 @@
 //! What no contract can say: that calls succeed, what a file really holds, and what opening one answers.
-ghost use Rattle.std.specs.Prelude.{◌≡◌, ◌≤◌, IfSome, length};
+ghost use Rattle.std.specs.Prelude.{◌≡◌, IfSome};
 ghost use Rattle.file_disk.specs.FileLog.{logged};
 ghost use Rattle.file_disk.specs.History.{Opened};
 
@@ -12,7 +12,8 @@ use sector_disk::Disk;
 use std::alloc::Global;
 use std::process::Abort;
 use std::test::Fail;
-use std::{fs, process};
+use std::thread::Threads;
+use std::{fs, process, thread};
 
 /// What a file in memory holds. It loses as much as a file may.
 #[derive(Drop)]
@@ -245,6 +246,11 @@ fn differing_in(rt: &HostRuntime, name: &str, bytes: &[u8], into: &mut [u8]) -> 
     Some(differing(bytes, into))
 }
 
+// The sectors of a file's disk, as another thread counts them: a disk in a file may be sent there.
+fn sectors_there(rt: &impl Threads, disk: FileDisk<HostFile>) -> usize {
+    thread::join(rt, move || disk.sectors(), || ()).0
+}
+
 // What a file of four sectors is told and tells, in the order in which it is asked.
 fn asked(rt: &HostRuntime, name: &str, sector: usize) -> Option<[u8; 8]> {
     let alloc = rt.alloc();
@@ -272,6 +278,9 @@ fn a_file_of_the_host(rt: HostRuntime) -> Result<(), Fail> {
         asked(&rt, name.as_str(), 512),
         Some([5, 0, 5, 0, 0, 2, 4, 0])
     );
+    if let Ok(disk) = open_disk(&rt, name.as_str(), 0) {
+        assert_eq!(rt; sectors_there(&rt, disk), 4);
+    }
     fs::write(&rt, name.as_str(), "not a disk")?;
     assert_eq!(rt; opens(&rt, name.as_str(), 0), 3);
     fs::remove_file(&rt, name.as_str())?;
