@@ -285,10 +285,11 @@ fn close_outputs<O: Outlet, K: Keeper<O>>(
         (released_streams (network_of world.net.value.program) (world_of world).stations)) }
     ensures err { IfErr result (IsKeeperFailure K.keeps) }
 {
-    match world.close(alloc) {
-        Ok((_disks, outputs)) => keeper.close(alloc, outputs),
-        Err(_) => Err(Failure::NoMemory),
-    }
+    let Ok(closed) = world.close(alloc) else {
+        return Err(Failure::NoMemory);
+    };
+    let (_disks, outputs) = closed;
+    keeper.close(alloc, outputs)
 }
 
 /// Runs a network on its inputs by the events of a script, as the options say, until nothing is left to do, the rounds are over,
