@@ -1,6 +1,6 @@
 -- What the outlets of a run took is what has left.
-use Rattle.std.proofs.Common.{◌≡◌, ◌∙◌, ℕ, suc, ◌+◌, ℤ, List, [], ◌∷◌, ◌++◌, map, Some, refl, sym, ap, subst, arith}
-use Rattle.std.specs.List.{All, flat_map}
+use Rattle.std.proofs.Common.{◌≡◌, ◌∙◌, ℕ, suc, ◌+◌, ℤ, List, [], ◌∷◌, ◌++◌, map, Some, refl, sym, ap, arith}
+use Rattle.std.specs.List.{All}
 use Rattle.std.specs.Prelude.{slice_get, IsPermutation}
 use Rattle.std.proofs.lemmas.List.Elements.{All-nil, All-cons, All-head, All-tail, All-append}
 use Rattle.std.proofs.lemmas.List.Sorted.{All-permutation}
@@ -15,61 +15,58 @@ use Rattle.world.specs.Closing.{all_outputs}
 use Rattle.kahn_program.specs.Keeping.{taken_streams}
 use Rattle.kahn_program.specs.Runs.{released_streams}
 
-module _ {C O : Type 0} {cell : CellWords C} {slots : SlotWords C} (taken : O → List ℤ) (failures : O → ℕ)
-    (world : WorldView) (inv : WorldInvariant world) where
-  -- its outlet took what has left by its channel
-  abbrev HasLeft : Output O → Type 0
-  HasLeft output = taken output.outlet ≡ released_of output.channel world.stations
+-- its outlet took what has left by its channel
+abbrev HasLeft : {O : Type 0} → (O → List ℤ) → WorldView → Output O → Type 0
+HasLeft taken world output = taken output.outlet ≡ released_of output.channel world.stations
 
+module _ {O : Type 0} (taken : O → List ℤ) (failures : O → ℕ) (world : WorldView) (inv : WorldInvariant world) where
   -- so it is with the outputs of a station, of which these are the last ones
   of_station : (k : ℕ) (station : StationView) → slice_get world.stations k ≡ Some station → (first : ℕ)
       (outputs : List (Output O))
       → ((j : ℕ) (outlet : OutletView) → slice_get (outlet_views taken failures outputs) j ≡ Some outlet
       → slice_get station.outlets (first + j) ≡ Some outlet)
-      → All HasLeft outputs
-  of_station k station there first [] each = All-nil HasLeft
+      → All (HasLeft taken world) outputs
+  of_station k station there first [] each = All-nil (HasLeft taken world)
   of_station k station there first (output ∷ outputs) each =
-      All-cons HasLeft output outputs
+      All-cons (HasLeft taken world) output outputs
       (sym (left_is world.net world.inputs world.stations k station there inv.numbered inv.stations (first + 0)
       (outlet_view taken failures output) (each 0 (outlet_view taken failures output) refl)))
       (of_station k station there (suc first) outputs
       (λ j outlet is. (let place : first + suc j ≡ suc first + j = omega arith in
       ap (slice_get station.outlets) (sym place) ∙ each (suc j) outlet is)))
 
-  -- and with those of all stations, of which these are the last ones
-  of_stations : (first : ℕ) (stations : List (Station C O slots cell))
-      → ((k : ℕ) (station : StationView) → slice_get (map (station_view taken failures) stations) k ≡ Some station
-      → slice_get world.stations (first + k) ≡ Some station)
-      → All HasLeft (all_outputs stations)
-  of_stations first [] each = All-nil HasLeft
-  of_stations first (station ∷ stations) each =
-      All-append HasLeft station.outputs.items (all_outputs stations)
-      (of_station (first + 0) (station_view taken failures station)
-      (each 0 (station_view taken failures station) refl) 0 station.outputs.items
-      (λ j outlet is. (let place : j ≡ 0 + j = omega arith in
-      ap (slice_get (outlet_views taken failures station.outputs.items)) (sym place) ∙ is)))
-      (of_stations (suc first) stations
-      (λ k next is. (let place : first + suc k ≡ suc first + k = omega arith in
-      ap (slice_get world.stations) (sym place) ∙ each (suc k) next is)))
-
-  streams_of : (outputs : List (Output O)) → All HasLeft outputs
+  streams_of : (outputs : List (Output O)) → All (HasLeft taken world) outputs
       → taken_streams taken outputs
       ≡ map (λ (channel : ℕ). released_of channel world.stations) (map (λ (output : Output O). output.channel) outputs)
   streams_of [] all = refl
   streams_of (output ∷ outputs) all =
-      ap (λ (stream : List ℤ). stream ∷ taken_streams taken outputs) (All-head HasLeft output outputs all)
+      ap (λ (stream : List ℤ). stream ∷ taken_streams taken outputs)
+      (All-head (HasLeft taken world) output outputs all)
       ∙ ap (λ (rest : List (List ℤ)). released_of output.channel world.stations ∷ rest)
-      (streams_of outputs (All-tail HasLeft output outputs all))
+      (streams_of outputs (All-tail (HasLeft taken world) output outputs all))
 
-  -- the outputs that a world gives back, in order of their channels
-  pub closed_streams : (stations : List (Station C O slots cell)) (closed : List (Output O))
-      → world.stations ≡ map (station_view taken failures) stations → IsPermutation (all_outputs stations) closed
-      → map (λ (output : Output O). output.channel) closed ≡ output_channels 0 world.net.channels
-      → taken_streams taken closed ≡ released_streams world.net world.stations
-  closed_streams stations closed same moved listed =
-      streams_of closed
-      (All-permutation HasLeft (all_outputs stations) closed moved
-      (of_stations 0 stations
-      (λ k station is. (let place : k ≡ 0 + k = omega arith in
-      ap (slice_get world.stations) (sym place) ∙ (ap (λ (list : List StationView). slice_get list k) same ∙ is)))))
-      ∙ ap (map (λ (channel : ℕ). released_of channel world.stations)) listed
+  module _ {C : Type 0} {cell : CellWords C} {slots : SlotWords C} where
+    -- and with those of all stations, of which these are the last ones
+    of_stations : (first : ℕ) (stations : List (Station C O slots cell))
+        → ((k : ℕ) (station : StationView) → slice_get (map (station_view taken failures) stations) k ≡ Some station
+        → slice_get world.stations (first + k) ≡ Some station)
+        → All (HasLeft taken world) (all_outputs stations)
+    of_stations first [] each = All-nil (HasLeft taken world)
+    of_stations first (station ∷ stations) each =
+        All-append (HasLeft taken world) station.outputs.items (all_outputs stations)
+        (of_station (first + 0) (station_view taken failures station)
+        (each 0 (station_view taken failures station) refl) 0 station.outputs.items (λ j outlet is. is))
+        (of_stations (suc first) stations
+        (λ k next is. (let place : first + suc k ≡ suc first + k = omega arith in
+        ap (slice_get world.stations) (sym place) ∙ each (suc k) next is)))
+
+    -- the outputs that a world gives back, in order of their channels
+    pub closed_streams : (stations : List (Station C O slots cell)) (closed : List (Output O))
+        → world.stations ≡ map (station_view taken failures) stations → IsPermutation (all_outputs stations) closed
+        → map (λ (output : Output O). output.channel) closed ≡ output_channels 0 world.net.channels
+        → taken_streams taken closed ≡ released_streams world.net world.stations
+    closed_streams stations closed same moved listed =
+        streams_of closed
+        (All-permutation (HasLeft taken world) (all_outputs stations) closed moved
+        (of_stations 0 stations (λ k station is. ap (λ (list : List StationView). slice_get list k) same ∙ is)))
+        ∙ ap (map (λ (channel : ℕ). released_of channel world.stations)) listed

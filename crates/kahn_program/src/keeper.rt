@@ -51,7 +51,10 @@ impl Keeper<ListOutlet> for InMemory {
         }
     }
 
-    fn close(&mut self, _alloc: Global, _outputs: Vec<Output<ListOutlet>>) -> Result<(), Failure> {
+    fn close(&mut self, _alloc: Global, _outputs: Vec<Output<ListOutlet>>) -> Result<(), Failure>
+        ensures kept { OnOk result (Unit {0}) }
+        ensures err { IfErr result (IsKeeperFailure false) }
+    {
         Ok(())
     }
 }

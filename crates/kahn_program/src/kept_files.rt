@@ -138,7 +138,11 @@ impl<F: LineFile> Keeper<ResumedOutlet<F>> for FileKeeper<F> {
         &mut self,
         alloc: Global,
         outputs: Vec<Output<ResumedOutlet<F>>>,
-    ) -> Result<(), Failure> {
+    ) -> Result<(), Failure>
+        ensures kept { OnOk result (AreInFiles self.new.closed.items
+            (taken_streams taken_of outputs.items)) }
+        ensures err { IfErr result (IsKeeperFailure true) }
+    {
         self.closed = put_each(alloc, outputs)?;
         Ok(())
     }

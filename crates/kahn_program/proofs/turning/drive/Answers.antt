@@ -8,7 +8,7 @@ use Rattle.kahn_program.proofs.Turns.{in_room}
 use Rattle.kahn_program.proofs.turning.drive.Goals as goal
 
 pub returns-in_ok-play-in-Some-clause-driven : goal.returns-in_ok-play-in-Some-clause-driven
-returns-in_ok-play-in-Some-clause-driven c =
+returns-in_ok-play-in-Some-clause-driven g c =
     let old = c.args.armed.now in
     let new = c.play.new.self in
     let answer = reply_view c.in_ok-play-in-Some.field-0 in

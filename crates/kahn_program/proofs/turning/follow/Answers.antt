@@ -11,7 +11,7 @@ use Rattle.kahn_program.proofs.Turns.{in_room, nothing_follows}
 use Rattle.kahn_program.proofs.turning.follow.Goals as goal
 
 pub returns-in-Ok-apply-clause-follows : goal.returns-in-Ok-apply-clause-follows
-returns-in-Ok-apply-clause-follows c =
+returns-in-Ok-apply-clause-follows g c =
     let old = c.args.armed.now in
     let new = c.apply.new.self in
     subst (λ (answer : Reply). Follows (reply_view answer) (armed_view old) (armed_view new)) (sym c.in-Granted.is) (
@@ -23,7 +23,7 @@ returns-in-Ok-apply-clause-follows c =
     )
 
 pub returns : goal.returns
-returns c = record {
+returns g c = record {
   same = (refl, refl);
   room = c.requires;
   follows = nothing_follows c.args.answer _ c.in_default.not-Granted;

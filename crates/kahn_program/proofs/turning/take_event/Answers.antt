@@ -12,7 +12,7 @@ use Rattle.kahn_program.proofs.Turns.{in_room}
 use Rattle.kahn_program.proofs.turning.take_event.Goals as goal
 
 pub returns-in-Ok-clause-turn : goal.returns-in-Ok-clause-turn
-returns-in-Ok-clause-turn c =
+returns-in-Ok-clause-turn g c =
     let old = c.args.armed.now in
     let view = armed_view old in
     let later = armed_view c.apply.new.self in
@@ -31,7 +31,7 @@ returns-in-Ok-clause-turn c =
     c.follow.ensures.follows
 
 pub returns-in-Ok-clause-rest : goal.returns-in-Ok-clause-rest
-returns-in-Ok-clause-rest c =
+returns-in-Ok-clause-rest g c =
     let old = c.args.armed.now in
     let view = armed_view old in
     let later = armed_view c.apply.new.self in
