@@ -55,7 +55,9 @@ module _ {O : Type 0} (taken : O → List ℤ) (failures : O → ℕ) (world : W
     of_stations first (station ∷ stations) each =
         All-append (HasLeft taken world) station.outputs.items (all_outputs stations)
         (of_station (first + 0) (station_view taken failures station)
-        (each 0 (station_view taken failures station) refl) 0 station.outputs.items (λ j outlet is. is))
+        (each 0 (station_view taken failures station) refl) 0 station.outputs.items
+        (λ j outlet is. (let place : 0 + j ≡ j = omega arith in
+        ap (slice_get (outlet_views taken failures station.outputs.items)) place ∙ is)))
         (of_stations (suc first) stations
         (λ k next is. (let place : first + suc k ≡ suc first + k = omega arith in
         ap (slice_get world.stations) (sym place) ∙ each (suc k) next is)))
@@ -68,5 +70,7 @@ module _ {O : Type 0} (taken : O → List ℤ) (failures : O → ℕ) (world : W
     closed_streams stations closed same moved listed =
         streams_of closed
         (All-permutation (HasLeft taken world) (all_outputs stations) closed moved
-        (of_stations 0 stations (λ k station is. ap (λ (list : List StationView). slice_get list k) same ∙ is)))
+        (of_stations 0 stations
+        (λ k station is. (let place : 0 + k ≡ k = omega arith in
+        ap (slice_get world.stations) place ∙ (ap (λ (list : List StationView). slice_get list k) same ∙ is)))))
         ∙ ap (map (λ (channel : ℕ). released_of channel world.stations)) listed

@@ -106,9 +106,9 @@ fn put_each<F: LineFile>(
     for output in outputs {
         let Output { mut outlet, .. } = output;
         put_all(&mut outlet)?;
-        if outlets.push(outlet).is_err() {
+        let Ok(()) = outlets.push(outlet) else {
             return Err(Failure::NoMemory);
-        }
+        };
     }
     Ok(outlets)
 }

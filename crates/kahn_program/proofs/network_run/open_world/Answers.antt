@@ -25,17 +25,17 @@ returns-in-Err-clause-err g c = λ plain.
 pub returns-clause-first : goal.returns-clause-first
 returns-clause-first g c =
     let net = network_of c.args.net.now.value.program in
-    let opened = world_of c.in-Ok-new-2.world in
+    let opened = world_of c.in-Ok-new.world in
     opens_first _ _ net _ c.args.inputs _ c.args.room c.args.outputs.items
     (world_of c.set_room.new.self) opened (ap (λ (n : Net). network_of n.program) c.in-Ok-try_clone.ensures)
-    c.in-Ok-new.ensures.ok _
+    c.in-Ok.ensures.ok _
     (c.in-Ok-empty_disks.ensures.unfailed ∙ ap (λ (n : ℕ). replicate n 0) c.requires.nodes)
     (c.in-Ok-set_room.ensures.set ∙ ap (λ (n : ℕ). with_room n opened) c.nearest_room.ensures)
-    c.in-Ok-new-2.ensures.made.opening
+    c.in-Ok-new.ensures.made.opening
     c.requires.listed c.requires.unused c.requires.unfailed
 
 pub returns-clause-room : goal.returns-clause-room
 returns-clause-room g c =
     rooms_given sectors_of c.in-Ok-empty_disks.disks.items _
-    (ap (λ stations. capacities stations.items) c.set_room.ensures.same.2 ∙ c.in-Ok-new-2.ensures.made.room)
+    (ap (λ stations. capacities stations.items) c.set_room.ensures.same.2 ∙ c.in-Ok-new.ensures.made.room)
     c.in-Ok-empty_disks.ensures.sectors

@@ -15,7 +15,7 @@ returns-in_ok-play-in-Some-clause-driven g c =
     subst (λ (event : Option RunEvent). IsDriven event (progress (armed_view old) c.args.passed)
     (progress (armed_view new) (c.args.passed + 1))) (sym c.in-Some.is) (
       answer,
-      in_room (λ taken. taken) (λ outlet. 0) old.world.stations.items (run_view c.in-Some.event) (armed_view old)
+      in_room g.O.Outlet.taken g.O.Outlet.failures old.world.stations.items (run_view c.in-Some.event) (armed_view old)
           (armed_view new) answer c.requires.room refl c.in_ok-play-in-Some.ensures.step,
       refl,
     )

@@ -18,7 +18,7 @@ returns-in-Ok-apply-clause-follows g c =
       done_view c.in-Ok.done,
       ap shared_view c.in-Ok.ensures,
       reply_view c.in-Ok-apply.field-0,
-      in_room (λ taken. taken) (λ outlet. 0) old.world.stations.items (OfWorld (Install (done_view c.in-Ok.done)))
+      in_room g.O.Outlet.taken g.O.Outlet.failures old.world.stations.items (OfWorld (Install (done_view c.in-Ok.done)))
           (armed_view old) (armed_view new) (reply_view c.in-Ok-apply.field-0) c.requires refl c.in-Ok-apply.ensures.step,
     )
 

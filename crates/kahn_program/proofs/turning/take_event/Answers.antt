@@ -24,7 +24,7 @@ returns-in-Ok-clause-turn g c =
     (λ follows. record {
       answer = answer;
       between = later;
-      step = in_room (λ taken. taken) (λ outlet. 0) old.world.stations.items
+      step = in_room g.O.Outlet.taken g.O.Outlet.failures old.world.stations.items
           (OfWorld (choice (world_of old.world) c.args.node)) view later answer c.requires.room refl step;
       follows = follows;
     })
@@ -37,7 +37,7 @@ returns-in-Ok-clause-rest g c =
     let later = armed_view c.apply.new.self in
     let event = event_view c.pick-event.result in
     let answer = reply_view c.in-Ok.answer in
-    let step = in_room (λ taken. taken) (λ outlet. 0) old.world.stations.items (OfWorld event) view later answer
+    let step = in_room g.O.Outlet.taken g.O.Outlet.failures old.world.stations.items (OfWorld event) view later answer
     c.requires.room refl c.in-Ok.ensures.step in
     on_ok_weaker c.follow.result
     (λ follows.
