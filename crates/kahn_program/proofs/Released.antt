@@ -168,7 +168,7 @@ pub report_is : (kept : List (List ℤ) → Type 0) (options : Options) (net : N
     → ∥ (now.net ≡ first.net) × (now.inputs ≡ first.inputs) ∥₁ → WorldInvariant now
     → complete ≡ are_quiet now → (IsTrue complete → AreWhole now)
     → IsEnd options.plain options (network_of net.program) inputs script now
-    → IsToldOf net options.items now text told → kept (released_streams (network_of net.program) now.stations)
+    → IsToldOf net options.items now text told → kept (released_streams now.net now.stations)
     → IsReport kept options net inputs script text told
 report_is kept options net inputs script first now text told complete same_net same_inputs same inv quiet whole end told_of
     has =
@@ -178,7 +178,7 @@ report_is kept options net inputs script first now text told complete same_net s
       subst (IsRun (network_of net.program) inputs (released_streams (network_of net.program) now.stations)) quiet
           (run_of now (network_of net.program) inputs complete (s.0 ∙ same_net) (s.1 ∙ same_inputs) inv whole),
       told_of,
-      has,
+      subst (λ (n : Network). kept (released_streams n now.stations)) (s.0 ∙ same_net) has,
     ))
 
 -- The report that is asked for, of the texts of three readers

@@ -13,6 +13,7 @@ use net_check::Net;
 use outlet::Outlet;
 use output_file::{HeldItems, LineFile, ResumedOutlet};
 use std::alloc::{AllocError, Global};
+use std::mem;
 use world::{Output, OutletMaker, outputs_of};
 
 /// The refusal of a folder that is another network's, or has other inputs, or is damaged.
@@ -43,9 +44,9 @@ pub struct FileKeeper<F: LineFile> {
 
 // Makes an outlet over the next file.
 #[derive(Drop)]
-struct FileOutlets<'a, F: LineFile> {
+struct FileOutlets<F: LineFile> {
     alloc: Global,
-    files: &'a mut Vec<HeldFile<F>>,
+    files: Vec<HeldFile<F>>,
 }
 
 impl<F: LineFile> FileKeeper<F> {
@@ -59,7 +60,7 @@ impl<F: LineFile> FileKeeper<F> {
     }
 }
 
-impl<'a, F: LineFile> OutletMaker<ResumedOutlet<F>> for FileOutlets<'a, F> {
+impl<F: LineFile> OutletMaker<ResumedOutlet<F>> for FileOutlets<F> {
     ghost use Rattle.output_file.specs.Output.{failures_of};
 
     ghost makes = { λ channel outlet. failures_of outlet ≡ 0 };
@@ -126,7 +127,7 @@ impl<F: LineFile> Keeper<ResumedOutlet<F>> for FileKeeper<F> {
         }
         let mut maker = FileOutlets {
             alloc,
-            files: &mut self.files,
+            files: mem::replace(&mut self.files, Vec::new(alloc)),
         };
         match outputs_of(alloc, net, &mut maker) {
             Ok(outputs) => Ok(outputs),

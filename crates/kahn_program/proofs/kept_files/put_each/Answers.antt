@@ -1,4 +1,4 @@
-use Rattle.std.proofs.Common.{◌++◌, ◌∙◌, [], ◌∷◌, ap, sym, subst, ℤ, List, append_assoc, append-nil}
+use Rattle.std.proofs.Common.{rules, ◌≡◌, ◌++◌, ◌∙◌, length, [], ◌∷◌, ap, sym, subst, ℤ, List, append_assoc, append-nil}
 use Rattle.std.specs.Vec.Iter.{into_iter_items}
 use Rattle.output_file.specs.Output.{taken_of}
 use Rattle.kahn_program.specs.Keeping.{taken_streams}
@@ -22,8 +22,9 @@ loop-output-preserved g c =
 pub returns-clause-kept : goal.returns-clause-kept
 returns-clause-kept g c =
     let so_far = c.loop-output.invariant in
+    let none : length (into_iter_items c.loop-output.output-iterator) ≡ 0 = search rules in
     subst (AreInFiles c.loop-output.outlets.items)
     (sym (append-nil so_far.0)
     ∙ (ap (λ outputs. so_far.0 ++ taken_streams taken_of outputs)
-    (sym (no_items (into_iter_items c.loop-output.output-iterator) c.in-None.ensures.steps.0)) ∙ so_far.2))
+    (sym (no_items (into_iter_items c.loop-output.output-iterator) none)) ∙ so_far.2))
     so_far.1
