@@ -26,7 +26,7 @@ returns-clause-ok g c =
     ∙ ap (λ (n : Net). first_world (network_of n.program) c.args.inputs options.room) made in
     let seen : c.deref.result.now ≡ net = c.deref.ensures ∙ made in
     let seen_then : c.deref-2.result.now ≡ net = c.deref-2.ensures ∙ made in
-    report_is _ options net c.args.inputs c.args.script.items first (world_of now) told.0.items told.1 _
+    report_is (g.K.Keeper.has_kept c.close_outputs.new.keeper) options net c.args.inputs c.args.script.items first (world_of now) told.0.items told.1 _
     (ap (λ (w : WorldView). w.net) opened) (ap (λ (w : WorldView). w.inputs) opened) c.in_ok-world-2.ensures.same
     now.sound refl c.in-Ok-report_of_world.ensures.whole
     (subst (λ (n : Net). IsEnd options.plain options (network_of n.program) c.args.inputs c.args.script.items
