@@ -1,0 +1,2 @@
+pub mod Lining
+pub mod Placing
