@@ -1,0 +1,5 @@
+mod Held
+mod Follows
+mod Rewrites
+mod Goes
+mod Keeping

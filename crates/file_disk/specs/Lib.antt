@@ -1,0 +1,5 @@
+pub mod History
+pub mod FileLog
+pub mod HostFile
+pub mod InStep
+pub mod FileDisk
