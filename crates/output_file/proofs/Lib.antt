@@ -1,2 +1,3 @@
+mod Ahead
 pub mod Lining
 pub mod Placing

@@ -5,3 +5,4 @@ pub mod Asked
 pub mod HostLines
 pub mod Writing
 pub mod Output
+pub mod InFile

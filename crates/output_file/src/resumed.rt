@@ -45,6 +45,7 @@ pub struct ResumedOutlet<F: LineFile> {
 
 impl<F: LineFile> ResumedOutlet<F> {
     ghost use Rattle.output_file.specs.Output.{output_view, items_of, held_of, taken_of, asked_of, failures_of};
+    ghost use Rattle.output_file.specs.InFile.{IsInFile};
 
     /// It took nothing yet, over a file that was just opened and holds these items. What stands in the file behind their
     /// lines, as a line that was cut off, is overwritten by the next puts; cut it off before.
@@ -192,6 +193,8 @@ impl<F: LineFile> ResumedOutlet<F> {
         ensures order { go_on_from (length (lines_of (held_of self.new))) (asked_of self.new) ≡ true }
         ensures content { OnOk result (content_after (lines_of (held_of self.new)) (asked_of self.new)
             ≡ lines_of (items_of self.new)) }
+        // What the outlet took is in the file, unless the file had more.
+        ensures in_file { OnOk result (IsInFile (taken_of self.old) self.new) }
         ensures failed { OnErr result ((output_view self.new).broken ≡ true) }
         ensures memory { ¬ (IsErrOf result OutletFault.NoMemory) }
         ensures same { HasSameItems (output_view self.old) (output_view self.new) }
