@@ -14,7 +14,7 @@ use outlet::Outlet;
 use output_file::{HeldItems, LineFile, ResumedOutlet};
 use std::alloc::{AllocError, Global};
 use std::mem;
-use world::{Output, OutletMaker, outputs_of};
+use world::{OutletMaker, Output, outputs_of};
 
 /// The refusal of a folder that is another network's, or has other inputs, or is damaged.
 pub const OTHER_STATE: u8 = 80;

@@ -47,12 +47,7 @@ fn lines_of<S: Read + Drop>(
 }
 
 /// The report of a run by the script of a reader, and whether it tells `complete`.
-fn report_by_script<
-    O: Outlet + Send,
-    K: Keeper<O>,
-    S: Read + Drop,
-    R: Threads + Wait + Sync,
->(
+fn report_by_script<O: Outlet + Send, K: Keeper<O>, S: Read + Drop, R: Threads + Wait + Sync>(
     rt: &R,
     alloc: Global,
     options: &Options,

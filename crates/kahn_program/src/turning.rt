@@ -31,7 +31,11 @@ pub(crate) const MAX_TURNS: u64 = u64::MAX;
 pub(crate) type RunArmed<O> = ArmedWorld<SplitCell<MemDisk>, O>;
 
 /// What follows an answer: a job that was granted is run, and comes back at once.
-fn follow<O: Outlet>(alloc: Global, armed: &mut RunArmed<O>, answer: Reply) -> Result<(), AllocError>
+fn follow<O: Outlet>(
+    alloc: Global,
+    armed: &mut RunArmed<O>,
+    answer: Reply,
+) -> Result<(), AllocError>
     requires { AllByRecursion IsRunRoom (capacities armed.old.world.stations.items) }
     ensures same { (armed.new.world.net ≡ armed.old.world.net)
         × (armed.new.world.inputs ≡ armed.old.world.inputs) }
@@ -182,7 +186,11 @@ fn drive<O: Outlet>(
 }
 
 /// The events of all lines that are due at first. Gives how many lines are passed then.
-fn begin<O: Outlet>(alloc: Global, armed: &mut RunArmed<O>, script: &[ScriptedEvent]) -> Result<usize, AllocError>
+fn begin<O: Outlet>(
+    alloc: Global,
+    armed: &mut RunArmed<O>,
+    script: &[ScriptedEvent],
+) -> Result<usize, AllocError>
     requires room { AllByRecursion IsRunRoom (capacities armed.old.world.stations.items) }
     ensures same { (armed.new.world.net ≡ armed.old.world.net)
         × (armed.new.world.inputs ≡ armed.old.world.inputs) }

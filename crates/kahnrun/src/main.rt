@@ -11,6 +11,7 @@
 
 use clap::Error;
 use clap::error::ErrorKind;
+
 mod state;
 
 use kahn_program::{
@@ -159,10 +160,12 @@ fn main(rt: HostRuntime) -> ExitCode {
         return ExitCode::from(no_memory(&rt));
     };
     if let (Some(folder), None) = (&options.state, options.approx) {
-        return ExitCode::from(match run_kept(&rt, &rt, alloc, &options, files, folder.as_str()) {
-            Ok(status) => status,
-            Err(failure) => print_failure(failure, &mut rt.stderr()),
-        });
+        return ExitCode::from(
+            match run_kept(&rt, &rt, alloc, &options, files, folder.as_str()) {
+                Ok(status) => status,
+                Err(failure) => print_failure(failure, &mut rt.stderr()),
+            },
+        );
     }
     let Files {
         net,

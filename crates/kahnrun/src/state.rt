@@ -9,10 +9,9 @@ use kahn_program::{FILE_FAILED, Failure, HeldFile, OTHER_STATE};
 use net_check::Net;
 use output_file::{HeldItems, HostLines, LinesFault, read_items};
 use std::alloc::Global;
-use std::fs;
 use std::fs::{File, OpenOptions, TryLockError};
-use std::io;
 use std::io::Read;
+use std::{fs, io};
 
 /// The two texts that a run is of.
 #[derive(Clone, Copy)]
@@ -60,12 +59,7 @@ fn file_name(alloc: Global, output: &str) -> Result<String, Failure> {
 // The names of a network's outputs, in order of the channels.
 fn output_names<'a>(alloc: Global, net: &'a Net) -> Result<Vec<&'a str>, Failure> {
     let mut names = Vec::new(alloc);
-    for (channel, name) in net
-        .program
-        .channels
-        .iter()
-        .zip(net.channel_names.iter())
-    {
+    for (channel, name) in net.program.channels.iter().zip(net.channel_names.iter()) {
         if let Port::Outside = channel.consumer {
             if names.push(name.as_str()).is_err() {
                 return Err(Failure::NoMemory);
