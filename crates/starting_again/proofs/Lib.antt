@@ -1,0 +1,4 @@
+mod AllDown
+pub mod Again
+pub mod Leaving
+pub mod Moments

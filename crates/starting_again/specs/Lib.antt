@@ -1,0 +1,4 @@
+pub mod StartsAgain
+pub mod WasLeft
+pub mod Moments
+pub mod Laws
