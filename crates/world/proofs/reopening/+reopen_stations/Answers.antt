@@ -30,10 +30,14 @@ returns-in_default-2-clause-as_left g t c =
 
 pub reopen_node-requires : goal.reopen_node-requires
 reopen_node-requires g t c =
-    let place : c.len-number.result ≡ 0 + length c.pop.new.self.items = search rules in
-    subst (λ (n : ℕ). HoldsItsOwn g.D.Disk.sector_count g.D.Disk.content g.D.Disk.may_leave n c.in-Some.disk) (sym place)
-    (own_last g.D.Disk 0 c.pop.new.self.items c.in-Some.disk
-    (subst (Own g.D.Disk 0) c.in-Some.ensures.items c.requires.own))
+    let at : c.len-number.result ≡ length c.pop.new.self.items = search rules in
+    let place : 0 + length c.pop.new.self.items ≡ c.len-number.result = omega (arith, at) in
+    record {
+      own = subst (λ (n : ℕ). HoldsItsOwn g.D.Disk.sector_count g.D.Disk.content g.D.Disk.may_leave n c.in-Some.disk)
+          place
+          (own_last g.D.Disk 0 c.pop.new.self.items c.in-Some.disk
+          (subst (Own g.D.Disk 0) c.in-Some.ensures.items c.requires.own));
+    }
 
 pub reopen_stations-requires-clause-own : goal.reopen_stations-requires-clause-own
 reopen_stations-requires-clause-own g t c =

@@ -14,8 +14,8 @@ invariant_of-result g c = record {
   };
 }
 
-pub returns-in-Ok-clause-opened : goal.returns-in-Ok-clause-opened
-returns-in-Ok-clause-opened g c =
+pub returns-clause-opened : goal.returns-clause-opened
+returns-clause-opened g c =
     let opened = c.in-Ok.ensures.opened in
     record {
       number_is = refl;
