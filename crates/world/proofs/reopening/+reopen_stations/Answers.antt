@@ -1,4 +1,4 @@
-use Rattle.std.proofs.Common.{rules, ℕ, ◌≡◌, ◌++◌, [], ◌∷◌, List, vec_len, ◌≤◌, length, map, sym, ap, subst, ◌∙◌, arith}
+use Rattle.std.proofs.Common.{rules, ℕ, ◌+◌, ◌≡◌, ◌++◌, vec_len, ◌≤◌, length, map, sym, ap, subst, ◌∙◌, arith}
 use Rattle.protocol.specs.Node.Common.{node_count, network_of, MAX_NODES, slot_room_on}
 use Rattle.slot_cell.specs.SplitCell.{disk_in}
 use Rattle.protocol.specs.World.Common.{is_output}
@@ -39,10 +39,14 @@ reopen_node-requires g t c =
           (subst (Own g.D.Disk 0) c.in-Some.ensures.items c.requires.own));
     }
 
-pub reopen_stations-requires-clause-own : goal.reopen_stations-requires-clause-own
-reopen_stations-requires-clause-own g t c =
-    own_front g.D.Disk 0 c.pop.new.self.items c.in-Some.disk
-    (subst (Own g.D.Disk 0) c.in-Some.ensures.items c.requires.own)
+pub reopen_stations-requires : goal.reopen_stations-requires
+reopen_stations-requires g t c = record {
+  few = omega (arith, c.requires.few, c.pop.ensures.len);
+  own = own_front g.D.Disk 0 c.pop.new.self.items c.in-Some.disk
+      (subst (Own g.D.Disk 0) c.in-Some.ensures.items c.requires.own);
+  none = c.requires.none;
+  room = omega (arith, c.requires.room, c.pop.ensures.len);
+}
 
 pub returns-in-Err-clause-handed_back : goal.returns-in-Err-clause-handed_back
 returns-in-Err-clause-handed_back g t c =
