@@ -1,7 +1,7 @@
 -- The stations of a world that is opened over what was left.
-use Rattle.std.proofs.Common.{◌≡◌, ℕ, zero, suc, ◌+◌, ◌<◌, ◌≤◌, Bool, true, false, cond, List, ℤ, Some, [], ◌∷◌, ◌++◌, map, length}
+use Rattle.std.proofs.Common.{◌≡◌, ℕ, zero, suc, ◌+◌, ◌<◌, ◌≤◌, Bool, true, false, cond, List, ℤ, None, Option, Some, [], ◌∷◌, ◌++◌, map, length}
 use Rattle.std.proofs.Common.{refl, sym, ap, subst, ◌∙◌, arith}
-use Rattle.std.specs.Prelude.{slice_get}
+use Rattle.std.specs.Prelude.{IfSome, option_to_list, slice_get}
 use Rattle.std.specs.List.{AllByRecursion, AllZip}
 use Rattle.std.proofs.lemmas.List.{length-map}
 use Rattle.std.proofs.lemmas.Option.{slice_get_within}
@@ -58,6 +58,18 @@ module _ {D : Type 0} (disk : DiskWords D) where
       let sum : suc number + length front ≡ number + suc (length front) = omega arith in
       subst (λ (n : ℕ). HoldsItsOwn disk.sector_count disk.content disk.may_leave n given) sum
       (own_last (suc number) front given own.1)
+
+  pub own_prefix : (number : ℕ) (front more : List D) → Own disk number (front ++ more) → Own disk number front
+  own_prefix number [] more own = tt
+  own_prefix number (d ∷ front) more own = (own.0, own_prefix (suc number) front more own.1)
+
+  pub popped_last : (taken : Option D) (all front : List D) → all ≡ front ++ option_to_list taken → Own disk 0 all
+      → IfSome taken (λ (given : D). HoldsItsOwn disk.sector_count disk.content disk.may_leave (length front) given)
+  popped_last None all front split own = tt
+  popped_last (Some given) all front split own =
+      let sum : 0 + length front ≡ length front = omega arith in
+      subst (λ (n : ℕ). HoldsItsOwn disk.sector_count disk.content disk.may_leave n given) sum
+      (own_last 0 front given (subst (Own disk 0) split own))
 
   -- disks with which nothing was done
   pub all_same : (number : ℕ) (disks : List D) → Own disk number disks → AllZip (AsLeft disk) disks disks

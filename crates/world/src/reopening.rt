@@ -1,5 +1,5 @@
 // A world that is opened over what an earlier one left.
-ghost use Rattle.std.specs.Prelude.{◌≡◌, ◌≤◌, ℕ, map, IfErr, IfOk, OnErr, OnOk, vec_capacity, vec_len};
+ghost use Rattle.std.specs.Prelude.{◌≡◌, ◌+◌, ◌++◌, ◌<◌, ◌≤◌, ◌↔◌, ℕ, length, map, IfErr, IfOk, IfSome, IsSome, MatchOption, OnErr, OnOk, option_to_list, vec_capacity, vec_len};
 ghost use Rattle.std.specs.List.{AllZip};
 ghost use Rattle.kahn_net.specs.Nodes.{node_count};
 ghost use Rattle.kahn_net.specs.Syntax.{network_of};
@@ -81,6 +81,22 @@ fn reopen_node<D: Disk>(
     })
 }
 
+// Takes the last of these disks, if there is one. Each of them is that of the node of its place.
+fn take_last<D: Disk>(disks: &mut Vec<D>) -> Option<D>
+    requires own { HoldTheirOwn D.sector_count D.content D.may_leave 0 disks.old.items }
+    ensures items { disks.old.items ≡ disks.new.items ++ option_to_list result }
+    ensures variant { IsSome result ↔ (0 < vec_len disks.old) }
+    ensures len { vec_len disks.new + length (option_to_list result) ≡ vec_len disks.old }
+    ensures capacity { vec_capacity disks.new ≡ vec_capacity disks.old }
+    ensures cases { MatchOption result ((vec_len disks.old ≡ 0) × (vec_len disks.new ≡ 0))
+        (λ _. vec_len disks.new + 1 ≡ vec_len disks.old) }
+    ensures front { HoldTheirOwn D.sector_count D.content D.may_leave 0 disks.new.items }
+    ensures last { IfSome result (λ disk. HoldsItsOwn D.sector_count D.content D.may_leave
+        (length disks.new.items) disk) }
+{
+    disks.pop()
+}
+
 // A station over what lies on each of these disks, the last one's first, with those of the outputs that are its node's; the
 // others are left. Where one is refused, all disks and outputs are back in their places.
 fn reopen_stations<D: Disk, O: Outlet>(
@@ -112,7 +128,7 @@ fn reopen_stations<D: Disk, O: Outlet>(
         D.armed) disks.old.items disks.new.items) }
     ensures refused { IfErr result IsOfReopening }
 {
-    let Some(disk) = disks.pop() else {
+    let Some(disk) = take_last(disks) else {
         return Ok(());
     };
     let number = disks.len() as u8;
@@ -175,9 +191,10 @@ impl<D: Disk, O: Outlet> World<SplitCell<D>, O> {
     {
         let mut disks = disks;
         let mut outputs = outputs;
-        let (Ok(wire), Ok(mut stations)) =
-            (Wire::new(alloc), Vec::with_capacity(alloc, disks.len()))
-        else {
+        let (Ok(wire), Ok(mut stations)) = (
+            Wire::new(alloc),
+            Vec::with_capacity(alloc, disks.len()),
+        ) else {
             return Err(OpeningRefused {
                 disks,
                 outputs,

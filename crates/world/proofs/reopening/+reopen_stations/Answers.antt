@@ -1,4 +1,4 @@
-use Rattle.std.proofs.Common.{rules, ℕ, ◌+◌, ◌≡◌, ◌++◌, vec_len, ◌≤◌, length, map, sym, ap, subst, ◌∙◌, arith}
+use Rattle.std.proofs.Common.{rules, ℕ, ◌≡◌, ◌++◌, vec_len, ◌≤◌, length, map, sym, ap, subst, ◌∙◌, arith}
 use Rattle.protocol.specs.Node.Common.{node_count, network_of, MAX_NODES, slot_room_on}
 use Rattle.slot_cell.specs.SplitCell.{disk_in}
 use Rattle.protocol.specs.World.Common.{is_output}
@@ -16,7 +16,7 @@ pub overflow_cast-number : goal.overflow_cast-number
 overflow_cast-number g t c =
     let net = network_of c.args.net.now.program in
     let few : node_count net ≤ MAX_NODES = nodes_few net c.args.net.now.valid in
-    omega (arith, few, c.requires.few, c.pop.ensures.len, c.len-number.ensures)
+    omega (arith, few, c.requires.few, c.take_last.ensures.len, c.len-number.ensures)
 
 pub returns-in_default-2-clause-handed_back : goal.returns-in_default-2-clause-handed_back
 returns-in_default-2-clause-handed_back g t c =
@@ -30,30 +30,18 @@ returns-in_default-2-clause-as_left g t c =
 
 pub reopen_node-requires : goal.reopen_node-requires
 reopen_node-requires g t c =
-    let at : c.len-number.result ≡ length c.pop.new.self.items = search rules in
-    let place : 0 + length c.pop.new.self.items ≡ c.len-number.result = omega (arith, at) in
+    let place : length c.take_last.new.disks.items ≡ c.len-number.result = search rules in
     record {
       own = subst (λ (n : ℕ). HoldsItsOwn g.D.Disk.sector_count g.D.Disk.content g.D.Disk.may_leave n c.in-Some.disk)
-          place
-          (own_last g.D.Disk 0 c.pop.new.self.items c.in-Some.disk
-          (subst (Own g.D.Disk 0) c.in-Some.ensures.items c.requires.own));
+          place c.in-Some.ensures.last;
     }
-
-pub reopen_stations-requires : goal.reopen_stations-requires
-reopen_stations-requires g t c = record {
-  few = omega (arith, c.requires.few, c.pop.ensures.len);
-  own = own_front g.D.Disk 0 c.pop.new.self.items c.in-Some.disk
-      (subst (Own g.D.Disk 0) c.in-Some.ensures.items c.requires.own);
-  none = c.requires.none;
-  room = omega (arith, c.requires.room, c.pop.ensures.len);
-}
 
 pub returns-in-Err-clause-handed_back : goal.returns-in-Err-clause-handed_back
 returns-in-Err-clause-handed_back g t c =
     let last =
-    own_last g.D.Disk 0 c.pop.new.self.items c.in-Some.disk
+    own_last g.D.Disk 0 c.take_last.new.disks.items c.in-Some.disk
     (subst (Own g.D.Disk 0) c.in-Some.ensures.items c.requires.own) in
-    last_back g.D.Disk.sector_count g.D.Disk.failure_count c.pop.new.self.items c.args.disks.now.items
+    last_back g.D.Disk.sector_count g.D.Disk.failure_count c.take_last.new.disks.items c.args.disks.now.items
     c.push_reserved-in-Err.new.self.items
     c.in-Some.disk c.in-Err.refused.disk c.in-Err.refused.fault c.in-Some.ensures.items
     c.push_reserved-in-Err.ensures.items
@@ -62,11 +50,11 @@ returns-in-Err-clause-handed_back g t c =
 
 pub returns-in-Err-clause-as_left : goal.returns-in-Err-clause-as_left
 returns-in-Err-clause-as_left g t c =
-    disks_back g.D.Disk c.pop.new.self.items c.pop.new.self.items c.args.disks.now.items
+    disks_back g.D.Disk c.take_last.new.disks.items c.take_last.new.disks.items c.args.disks.now.items
     c.push_reserved-in-Err.new.self.items c.in-Some.disk c.in-Err.refused.disk c.in-Some.ensures.items
     c.push_reserved-in-Err.ensures.items
-    (all_same g.D.Disk 0 c.pop.new.self.items
-    (own_front g.D.Disk 0 c.pop.new.self.items c.in-Some.disk
+    (all_same g.D.Disk 0 c.take_last.new.disks.items
+    (own_front g.D.Disk 0 c.take_last.new.disks.items c.in-Some.disk
     (subst (Own g.D.Disk 0) c.in-Some.ensures.items c.requires.own)))
     c.in-Err.ensures.refused.as_left
 
@@ -76,8 +64,8 @@ returns-in-Err-clause-refused g t c = c.in-Err.ensures.refused.why
 pub returns-in-Ok-reopen_stations-clause-opened : goal.returns-in-Ok-reopen_stations-clause-opened
 returns-in-Ok-reopen_stations-clause-opened g t c =
     let net = network_of c.args.net.now.program in
-    let place : c.len-number.result ≡ length c.pop.new.self.items = search rules in
-    more_reopened g.O.Outlet.taken g.O.Outlet.failures net c.args.outputs.now.items c.pop.new.self.items
+    let place : c.len-number.result ≡ length c.take_last.new.disks.items = search rules in
+    more_reopened g.O.Outlet.taken g.O.Outlet.failures net c.args.outputs.now.items c.take_last.new.disks.items
     c.args.disks.now.items
     c.in-Some.disk c.reopen_stations.new.stations.items c.push_reserved-in-Ok-reopen_stations.new.self.items c.new.result
     c.len-number.result c.in-Some.ensures.items place c.push_reserved-in-Ok-reopen_stations.ensures.items
@@ -124,7 +112,7 @@ returns-in-Ok-reopen_stations-clause-fewer g t c =
 
 pub returns-in-Err-reopen_stations-clause-handed_back : goal.returns-in-Err-reopen_stations-clause-handed_back
 returns-in-Err-reopen_stations-clause-handed_back g t c =
-    before_back g.D.Disk.sector_count g.D.Disk.failure_count c.pop.new.self.items c.reopen_stations.new.disks.items
+    before_back g.D.Disk.sector_count g.D.Disk.failure_count c.take_last.new.disks.items c.reopen_stations.new.disks.items
     c.args.disks.now.items c.push_reserved-in-Err-reopen_stations.new.self.items c.in-Some.disk
     c.close-in-Err-reopen_stations.result c.in-Err-reopen_stations.fault c.in-Some.ensures.items
     c.push_reserved-in-Err-reopen_stations.ensures.items c.in-Err-reopen_stations.ensures.handed_back
@@ -136,7 +124,7 @@ returns-in-Err-reopen_stations-clause-handed_back g t c =
 
 pub returns-in-Err-reopen_stations-clause-as_left : goal.returns-in-Err-reopen_stations-clause-as_left
 returns-in-Err-reopen_stations-clause-as_left g t c =
-    disks_back g.D.Disk c.pop.new.self.items c.reopen_stations.new.disks.items c.args.disks.now.items
+    disks_back g.D.Disk c.take_last.new.disks.items c.reopen_stations.new.disks.items c.args.disks.now.items
     c.push_reserved-in-Err-reopen_stations.new.self.items c.in-Some.disk c.close-in-Err-reopen_stations.result
     c.in-Some.ensures.items c.push_reserved-in-Err-reopen_stations.ensures.items
     c.in-Err-reopen_stations.ensures.as_left
