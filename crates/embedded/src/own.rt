@@ -1,6 +1,6 @@
 //! Worlds over a disk and outlets of one's own: a network with two outputs, event by event, once with a crash in the middle, twice
 //! with an outlet that fails, and once with one that lacks memory. An event that is refused for want of memory is applied once more;
-//! and one world is closed where that happens, to look at its disk.
+//! and one world is closed where that happens, to look at its disk. One is closed in the middle of its run, and opened again.
 
 ghost use Rattle.std.specs.Prelude.{◌≡◌, ◌*◌, ◌^◌, ◌<◌, IfOk, length, map};
 ghost use Rattle.std.specs.List.{AllByRecursion};
@@ -30,6 +30,10 @@ const SECTORS: usize = 401;
 
 /// The turn before which the node crashes: it has taken a tentative image then, and not made it permanent.
 const CRASHES_AT: u32 = 2;
+
+/// The turns behind which the world is closed that is opened again. Two items have left by then: a job was granted, and a checkpoint
+/// taken and made permanent.
+const CLOSES_AFTER: u32 = 5;
 
 pub type OwnDisk = CountingDisk<MemDisk>;
 
@@ -206,6 +210,34 @@ fn run_whole(
     print_disks(rt, &disks)
 }
 
+/// The world that is opened over what another one of its network leaves.
+fn reopen(alloc: Global, world: OwnWorld) -> anyhow::Result<OwnWorld> {
+    let net = Arc::clone(&world.net)?;
+    let inputs = Arc::clone(&world.inputs)?;
+    let (disks, outputs) = world.close(alloc)?;
+    match World::open(alloc, net, inputs, disks, outputs) {
+        Ok(again) => Ok(again),
+        Err(refused) => Err(refused.fault.into()),
+    }
+}
+
+/// A run that is closed in its middle and opened again, and what it led to.
+fn run_again(rt: &HostRuntime) -> anyhow::Result<()> {
+    println!(rt; "closed and opened again")?;
+    let mut world = open(rt.alloc(), Weakness::None)?;
+    print!(rt; "left:")?;
+    for _ in 0..CLOSES_AFTER {
+        step(rt, &mut world)?;
+    }
+    println!(rt; "")?;
+    let mut again = reopen(rt.alloc(), world)?;
+    run(rt, &mut again, false)?;
+    print_world(rt, &again)?;
+    let (disks, outputs) = again.close(rt.alloc())?;
+    print_outputs(rt, &outputs)?;
+    print_disks(rt, &disks)
+}
+
 /// A world that is closed where an event is refused, since its outlet lacks memory, and two that are closed behind as many events, unless one
 /// of their own is refused before. Whether the disks of those with as many hold the same.
 fn run_closed(rt: &HostRuntime) -> anyhow::Result<()> {
@@ -242,5 +274,6 @@ pub fn run_all(rt: &HostRuntime) -> anyhow::Result<()> {
         Weakness::Lacks(1),
         false,
     )?;
-    run_closed(rt)
+    run_closed(rt)?;
+    run_again(rt)
 }

@@ -162,52 +162,55 @@ reported net given items cut streams now text complete told channels where_cut l
     )
 
 -- the report of a run's last world
-pub report_is : (options : Options) (net : Net) (inputs : List (List ℤ)) (script : List ScriptedEvent)
+pub report_is : (kept : List (List ℤ) → Type 0) (options : Options) (net : Net) (inputs : List (List ℤ)) (script : List ScriptedEvent)
     (first now : WorldView) (text : List ℕ) (told complete : Bool) → first.net ≡ network_of net.program
     → first.inputs ≡ inputs
     → ∥ (now.net ≡ first.net) × (now.inputs ≡ first.inputs) ∥₁ → WorldInvariant now
     → complete ≡ are_quiet now → (IsTrue complete → AreWhole now)
     → IsEnd options.plain options (network_of net.program) inputs script now
-    → IsToldOf net options.items now text told → IsReport options net inputs script text told
-report_is options net inputs script first now text told complete same_net same_inputs same inv quiet whole end told_of =
+    → IsToldOf net options.items now text told → kept (released_streams now.net now.stations)
+    → IsReport kept options net inputs script text told
+report_is kept options net inputs script first now text told complete same_net same_inputs same inv quiet whole end told_of
+    has =
     ∥∥₁_map same (λ s. (
       now,
       end,
       subst (IsRun (network_of net.program) inputs (released_streams (network_of net.program) now.stations)) quiet
           (run_of now (network_of net.program) inputs complete (s.0 ∙ same_net) (s.1 ∙ same_inputs) inv whole),
       told_of,
+      subst (λ (n : Network). kept (released_streams n now.stations)) (s.0 ∙ same_net) has,
     ))
 
 -- The report that is asked for, of the texts of three readers
-pub run_of_readers : (options : Options) (net_bytes input_bytes script_bytes : Option (List ℕ))
+pub run_of_readers : (kept : List (List ℤ) → Type 0) (options : Options) (net_bytes input_bytes script_bytes : Option (List ℕ))
     (net : Net) (inputs : List (List ℤ)) (result : Result (Vec ℕ Global × Bool) Failure)
     → IfSome net_bytes (λ bytes. IsNetOf bytes net) → IfSome input_bytes (λ bytes. AreInputsOf bytes net inputs)
-    → IfOk result (λ report. IsReportOf options net inputs script_bytes report.0.items report.1)
-    → IfOk result (λ report. IsReported options net_bytes input_bytes script_bytes report.0.items report.1)
-run_of_readers options net_bytes input_bytes script_bytes net inputs (Err e) of_net of_inputs report = tt
-run_of_readers options net_bytes input_bytes script_bytes net inputs (Ok r) of_net of_inputs report =
+    → IfOk result (λ report. IsReportOf kept options net inputs script_bytes report.0.items report.1)
+    → IfOk result (λ report. IsReported kept options net_bytes input_bytes script_bytes report.0.items report.1)
+run_of_readers kept options net_bytes input_bytes script_bytes net inputs (Err e) of_net of_inputs report = tt
+run_of_readers kept options net_bytes input_bytes script_bytes net inputs (Ok r) of_net of_inputs report =
     ∣ (net, inputs, of_net, of_inputs, report) ∣₁
 
-pub failed_run : {T : Type 0} (options : Options) (net_bytes input_bytes script_bytes : Option (List ℕ)) (net : Net)
+pub failed_run : {T : Type 0} (keeps : Bool) (options : Options) (net_bytes input_bytes script_bytes : Option (List ℕ)) (net : Net)
     (inputs : List (List ℤ)) (result : Result T Failure)
     → IfSome net_bytes (λ bytes. IsNetOf bytes net)
     → IfSome input_bytes (λ bytes. AreInputsOf bytes net inputs)
-    → IfErr result (IsReportFailure options (network_of net.program) inputs script_bytes)
-    → IfErr result (IsRunFailure options net_bytes input_bytes script_bytes)
-failed_run options net_bytes input_bytes script_bytes net inputs (Ok value) of_net of_inputs err = tt
-failed_run options net_bytes input_bytes script_bytes net inputs (Err failure) of_net of_inputs err =
+    → IfErr result (IsReportFailure keeps options (network_of net.program) inputs script_bytes)
+    → IfErr result (IsRunFailure keeps options net_bytes input_bytes script_bytes)
+failed_run keeps options net_bytes input_bytes script_bytes net inputs (Ok value) of_net of_inputs err = tt
+failed_run keeps options net_bytes input_bytes script_bytes net inputs (Err failure) of_net of_inputs err =
     of_report net inputs of_net of_inputs err
 
 -- a report by the lines of a script is one by its reader
-pub by_script : (options : Options) (net : Net) (inputs : List (List ℤ)) (script_bytes : Option (List ℕ))
+pub by_script : (kept : List (List ℤ) → Type 0) (options : Options) (net : Net) (inputs : List (List ℤ)) (script_bytes : Option (List ℕ))
     (lines : List ScriptLine) (events : List ScriptedEvent) (result : Result (Vec ℕ Global × Bool) Failure)
     → AreLinesOf options.script (node_count (network_of net.program)) script_bytes lines
     → events ≡ map scripted_of lines
-    → IfOk result (λ report. IsReport options net inputs events report.0.items report.1)
-    → IfOk result (λ report. IsScriptedReport options net inputs script_bytes report.0.items report.1)
-by_script options net inputs script_bytes lines events (Err e) of_script are report = tt
-by_script options net inputs script_bytes lines events (Ok r) of_script are report =
-    (lines, of_script, subst (λ (list : List ScriptedEvent). IsReport options net inputs list r.0.items r.1) are report)
+    → IfOk result (λ report. IsReport kept options net inputs events report.0.items report.1)
+    → IfOk result (λ report. IsScriptedReport kept options net inputs script_bytes report.0.items report.1)
+by_script kept options net inputs script_bytes lines events (Err e) of_script are report = tt
+by_script kept options net inputs script_bytes lines events (Ok r) of_script are report =
+    (lines, of_script, subst (λ (list : List ScriptedEvent). IsReport kept options net inputs list r.0.items r.1) are report)
 
 -- what was written where the status is that of a report
 one_status : (a b : Bool) → status_of_run a ≡ status_of_run b → a ≡ b
@@ -220,16 +223,16 @@ not_failed : (a : Bool) → status_of_run a ≡ 1 → ⊥
 not_failed true e = cc
 not_failed false e = cc
 
-pub written_report : (options : Options)
+pub written_report : (kept : List (List ℤ) → Type 0) (options : Options)
     (net_bytes input_bytes script_bytes before after : Option (List ℕ)) (text : List ℕ) (complete : Bool) (status : ℕ)
-    → IsReported options net_bytes input_bytes script_bytes text complete
+    → IsReported kept options net_bytes input_bytes script_bytes text complete
     → (status ≡ 1) ⊎ (status ≡ status_of_run complete) → (status ≢ 1 → Appends before after text)
     → (whole : Bool) → status ≡ status_of_run whole
-    → HasWritten options net_bytes input_bytes script_bytes before after whole
-written_report options net_bytes input_bytes script_bytes before after text complete status of (inl failed) writes whole
+    → HasWritten kept options net_bytes input_bytes script_bytes before after whole
+written_report kept options net_bytes input_bytes script_bytes before after text complete status of (inl failed) writes whole
     is = absurd (not_failed whole (sym is ∙ failed))
-written_report options net_bytes input_bytes script_bytes before after text complete status of (inr came) writes whole
+written_report kept options net_bytes input_bytes script_bytes before after text complete status of (inr came) writes whole
     is =
     let same : complete ≡ whole = one_status complete whole (sym came ∙ is) in
-    subst (HasWritten options net_bytes input_bytes script_bytes before after) same
+    subst (HasWritten kept options net_bytes input_bytes script_bytes before after) same
     ∣ (text, of, writes (λ failed. not_failed complete (sym came ∙ failed))) ∣₁

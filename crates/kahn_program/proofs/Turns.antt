@@ -41,6 +41,7 @@ use Rattle.kahn_program.specs.Turning.{IsRunRoom, IsRunStep, Progress, line_befo
 use Rattle.kahn_program.specs.Turning.{next_event, progress, run_rooms, unused_outlet}
 use Rattle.run_log.specs.declared.answer.HubFault.{HubFault}
 use Rattle.run_log.specs.declared.answer.HubFault.TheVariants as hub
+use Rattle.kahn_program.specs.Keeping.{HasNoFailures}
 use Rattle.kahn_program.specs.Runnable.{HasFailedAtOnce, IsStoreFailure, hub_failure, store_failure}
 use Rattle.kahn_program.specs.declared.failure.Failure.{Failure}
 use Rattle.kahn_program.specs.Runs.{IsEnd, IsReplayed}
@@ -193,12 +194,13 @@ more_turns over nodes script turns first before now after came goes_on turn driv
 
 -- The first world
 
-module _ {O : Type 0} (taken : O → List ℤ) (failures : O → ℕ) (none : (outlet : O) → failures outlet ≡ 0) where
+module _ {O : Type 0} (taken : O → List ℤ) (failures : O → ℕ) where
   unused_outlets : (outputs : List (Output O)) → AllByRecursion (IsUnused taken) outputs
+      → AllByRecursion (HasNoFailures failures) outputs
       → map opening_outlet (outlet_views taken failures outputs)
       ≡ map opening_outlet (map unused_outlet (map (λ (output : Output O). output.channel) outputs))
-  unused_outlets [] unused = refl
-  unused_outlets (output ∷ outputs) unused =
+  unused_outlets [] unused none = refl
+  unused_outlets (output ∷ outputs) unused none =
       let first : opening_outlet (outlet_view taken failures output) ≡ opening_outlet (unused_outlet output.channel)
       = ap (λ (items : List ℤ). opening_outlet
       (record {
@@ -209,10 +211,10 @@ module _ {O : Type 0} (taken : O → List ℤ) (failures : O → ℕ) (none : (o
       })) unused.0
       ∙ ap (λ (n : ℕ). opening_outlet
       (record { channel = output.channel; taken = []; failed = output.failed; failures = n }))
-      (none output.outlet) in
+      none.0 in
       ap (λ (outlet : OutletView). outlet ∷ map opening_outlet (outlet_views taken failures outputs)) first
       ∙ ap (λ (rest : List OutletView). opening_outlet (unused_outlet output.channel) ∷ rest)
-      (unused_outlets outputs unused.1)
+      (unused_outlets outputs unused.1 none.1)
 
   pub opens_first : (net other : Network) (inputs others : List (List ℤ)) (room : ℕ) (outputs : List (Output O))
       (first opened : WorldView) → other ≡ net → others ≡ inputs
@@ -220,9 +222,10 @@ module _ {O : Type 0} (taken : O → List ℤ) (failures : O → ℕ) (none : (o
       → first ≡ with_room (nearest_room room) opened
       → opened ≡ opening_world other others failed (outlet_views taken failures outputs)
       → map (λ (output : Output O). output.channel) outputs ≡ output_channels 0 net.channels
-      → AllByRecursion (IsUnused taken) outputs → first ≡ first_world net inputs room
+      → AllByRecursion (IsUnused taken) outputs → AllByRecursion (HasNoFailures failures) outputs
+      → first ≡ first_world net inputs room
   opens_first net other inputs others room outputs first opened same_net same_inputs failed never set opening listed
-      unused =
+      unused none =
       let views = outlet_views taken failures outputs in
       set
       ∙ ap (with_room (nearest_room room)) (opening
@@ -238,7 +241,7 @@ module _ {O : Type 0} (taken : O → List ℤ) (failures : O → ℕ) (none : (o
         round = 0;
         room = DEFAULT_ROOM;
       })
-      (unused_outlets outputs unused
+      (unused_outlets outputs unused none
       ∙ ap (λ (channels : List ℕ). map opening_outlet (map unused_outlet channels)) listed)))))
 
 -- The last one, of a run by threads

@@ -5,7 +5,7 @@ use Rattle.kahn_program.specs.declared.failure.Source.{Source}
 use Rattle.kahn_program.specs.declared.failure.Source.TheVariants.{Net, Inputs, Script}
 use Rattle.kahn_program.specs.declared.failure.Failure.{Failure}
 use Rattle.kahn_program.specs.declared.failure.Failure.TheVariants.{Line, Whole, NotText, Unreadable, Approximation}
-use Rattle.kahn_program.specs.declared.failure.Failure.TheVariants.{NoMemory, Other}
+use Rattle.kahn_program.specs.declared.failure.Failure.TheVariants.{NoMemory, State, InUse, Other}
 
 abbrev pub source_text : Source → List ℕ
 source_text Net = codes "net"
@@ -20,6 +20,8 @@ failure_text (NotText source) = source_text source ++ codes ": not text"
 failure_text (Unreadable source) = source_text source ++ codes ": cannot be read"
 failure_text (Approximation number) = codes "approx: refusal " ++ decimal number
 failure_text NoMemory = codes "no memory"
+failure_text (State number) = codes "state: refusal " ++ decimal number
+failure_text InUse = codes "state: in use"
 failure_text (Other number) = codes "refusal " ++ decimal number
 
 -- and the line feed behind it
@@ -34,4 +36,6 @@ status_of (NotText source) = 2
 status_of (Unreadable source) = 1
 status_of (Approximation number) = 1
 status_of NoMemory = 1
+status_of (State number) = 1
+status_of InUse = 1
 status_of (Other number) = 1

@@ -1,5 +1,7 @@
 pub mod CommandLine
 pub mod Failures
+pub mod Keeping
+pub mod KeptFiles
 pub mod Runnable
 pub mod Readings
 pub mod Report

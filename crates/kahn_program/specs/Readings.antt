@@ -1,5 +1,5 @@
 -- What the texts that a reader gives stand for, and why one is refused.
-use Rattle.std.specs.Prelude.{◌≡◌, ◌⊎◌, ℕ, ℤ, List, Option, Some, None, IfSome, IsUtf8, IsTrue, is_some}
+use Rattle.std.specs.Prelude.{◌≡◌, ◌⊎◌, ℕ, ℤ, Bool, List, Option, Some, None, IfSome, IsUtf8, IsTrue, is_some}
 use Rattle.std.specs.Io.KnownBytes.{Appends}
 use Rattle.net_text.specs.Faults as text
 use Rattle.net_text.specs.Grammar.{IsTextOf}
@@ -19,9 +19,9 @@ use Rattle.fail_script.specs.Lines.{IsScriptFault}
 use Rattle.fail_script.specs.declared.fault.ScriptFault.{ScriptFault}
 use Rattle.kahn_program.specs.declared.failure.Failure.{Failure}
 use Rattle.kahn_program.specs.declared.failure.Failure.TheVariants.{Line, Whole, NotText, Unreadable, Approximation}
-use Rattle.kahn_program.specs.declared.failure.Failure.TheVariants.{NoMemory, Other}
+use Rattle.kahn_program.specs.declared.failure.Failure.TheVariants.{NoMemory, State, InUse, Other}
 use Rattle.kahn_program.specs.Failures.{failure_line, status_of}
-use Rattle.kahn_program.specs.Runnable.{IsApproximationFailure, IsStoreFailure}
+use Rattle.kahn_program.specs.Runnable.{IsApproximationFailure, IsReportless}
 use Rattle.kahn_program.specs.declared.asked.Options.{Options}
 use Rattle.kahn_program.specs.declared.failure.Source.{Source}
 use Rattle.kahn_program.specs.declared.failure.Source.TheVariants as source
@@ -83,6 +83,8 @@ abbrev pub IsReadFailure : Source → Option (List ℕ) → Failure → Type 0
 IsReadFailure source known (NotText other) = (other ≡ source) × IfSome known (λ bytes. ¬ (IsUtf8 bytes))
 IsReadFailure source known (Unreadable other) = other ≡ source
 IsReadFailure source known NoMemory = Unit {0}
+IsReadFailure source known (State number) = ⊥
+IsReadFailure source known InUse = ⊥
 IsReadFailure source known (Line other line number) = ⊥
 IsReadFailure source known (Whole other number) = ⊥
 IsReadFailure source known (Approximation number) = ⊥
@@ -139,36 +141,38 @@ IsScriptFailureOf options nodes script_bytes failure =
     IsTrue (is_some options.script) × IsScriptFailure nodes script_bytes failure
 
 -- why there is no report of this approximation, or of a run: its script is refused, or the run fails
-abbrev pub IsRunOrScriptFailure : Options → Network → Option (List ℕ) → Failure → Type 0
-IsRunOrScriptFailure options net script_bytes failure =
-    IsScriptFailureOf options (node_count net) script_bytes failure ⊎ IsStoreFailure options.plain failure
+abbrev pub IsRunOrScriptFailure : Bool → Options → Network → Option (List ℕ) → Failure → Type 0
+IsRunOrScriptFailure keeps options net script_bytes failure =
+    IsScriptFailureOf options (node_count net) script_bytes failure ⊎ IsReportless options.plain keeps failure
 
-abbrev pub IsReportFailureOf : Option ℕ → Options → Network → List (List ℤ) → Option (List ℕ) → Failure → Type 0
-IsReportFailureOf (Some n) options net inputs script_bytes failure = IsApproximationFailure net inputs n failure
-IsReportFailureOf None options net inputs script_bytes failure = IsRunOrScriptFailure options net script_bytes failure
+abbrev pub IsReportFailureOf : Option ℕ → Bool → Options → Network → List (List ℤ) → Option (List ℕ) → Failure → Type 0
+IsReportFailureOf (Some n) keeps options net inputs script_bytes failure = IsApproximationFailure net inputs n failure
+IsReportFailureOf None keeps options net inputs script_bytes failure =
+    IsRunOrScriptFailure keeps options net script_bytes failure
 
-abbrev pub IsReportFailure : Options → Network → List (List ℤ) → Option (List ℕ) → Failure → Type 0
-IsReportFailure options net inputs script_bytes failure =
-    IsReportFailureOf options.approx options net inputs script_bytes failure
+-- `keeps` says whether what the outlets take outlasts the run
+abbrev pub IsReportFailure : Bool → Options → Network → List (List ℤ) → Option (List ℕ) → Failure → Type 0
+IsReportFailure keeps options net inputs script_bytes failure =
+    IsReportFailureOf options.approx keeps options net inputs script_bytes failure
 
 -- Why the program on readers with these bytes, where they are known, ends without a report: the network's reader, then
 -- that of the inputs for the network that it describes; then, where a run by a script is asked for, that of the script;
 -- then what is asked for.
-pub data IsRunFailure : Options → Option (List ℕ) → Option (List ℕ) → Option (List ℕ) → Failure → Type 0 where
-  of_net : {options : Options} {net_bytes input_bytes script_bytes : Option (List ℕ)} {failure : Failure}
-      → IsNetFailure net_bytes failure → IsRunFailure options net_bytes input_bytes script_bytes failure
-  of_inputs : {options : Options} {net_bytes input_bytes script_bytes : Option (List ℕ)} {failure : Failure} (net : Net)
+pub data IsRunFailure : Bool → Options → Option (List ℕ) → Option (List ℕ) → Option (List ℕ) → Failure → Type 0 where
+  of_net : {keeps : Bool} {options : Options} {net_bytes input_bytes script_bytes : Option (List ℕ)} {failure : Failure}
+      → IsNetFailure net_bytes failure → IsRunFailure keeps options net_bytes input_bytes script_bytes failure
+  of_inputs : {keeps : Bool} {options : Options} {net_bytes input_bytes script_bytes : Option (List ℕ)} {failure : Failure} (net : Net)
       → IfSome net_bytes (λ bytes. IsNetOf bytes net) → IsInputsFailure net input_bytes failure
-      → IsRunFailure options net_bytes input_bytes script_bytes failure
-  of_report : {options : Options} {net_bytes input_bytes script_bytes : Option (List ℕ)} {failure : Failure} (net : Net)
+      → IsRunFailure keeps options net_bytes input_bytes script_bytes failure
+  of_report : {keeps : Bool} {options : Options} {net_bytes input_bytes script_bytes : Option (List ℕ)} {failure : Failure} (net : Net)
       (inputs : List (List ℤ)) → IfSome net_bytes (λ bytes. IsNetOf bytes net)
       → IfSome input_bytes (λ bytes. AreInputsOf bytes net inputs)
-      → IsReportFailure options (network_of net.program) inputs script_bytes failure
-      → IsRunFailure options net_bytes input_bytes script_bytes failure
+      → IsReportFailure keeps options (network_of net.program) inputs script_bytes failure
+      → IsRunFailure keeps options net_bytes input_bytes script_bytes failure
 
 -- the line of such a failure was written; its status is this one
-abbrev pub HasTold : Options → Option (List ℕ) → Option (List ℕ) → Option (List ℕ) → Option (List ℕ)
+abbrev pub HasTold : Bool → Options → Option (List ℕ) → Option (List ℕ) → Option (List ℕ) → Option (List ℕ)
     → Option (List ℕ) → ℕ → Type 0
-HasTold options net_bytes input_bytes script_bytes before after status =
-    ∥ ((failure : Failure) × IsRunFailure options net_bytes input_bytes script_bytes failure
+HasTold keeps options net_bytes input_bytes script_bytes before after status =
+    ∥ ((failure : Failure) × IsRunFailure keeps options net_bytes input_bytes script_bytes failure
     × (status ≡ status_of failure) × Appends before after (failure_line failure)) ∥₁

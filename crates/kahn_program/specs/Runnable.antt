@@ -11,8 +11,9 @@ use Rattle.run_log.specs.declared.answer.HubFault.{HubFault}
 use Rattle.run_log.specs.declared.answer.HubFault.TheVariants as hub
 use Rattle.world.specs.OpeningWorld.{SomeFailed}
 use Rattle.kahn_program.specs.declared.failure.Failure.{Failure}
+use Rattle.kahn_program.specs.Keeping.{IsKeeperFailure}
 use Rattle.kahn_program.specs.declared.failure.Failure.TheVariants.{Line, Whole, NotText, Unreadable, Approximation}
-use Rattle.kahn_program.specs.declared.failure.Failure.TheVariants.{NoMemory, Other}
+use Rattle.kahn_program.specs.declared.failure.Failure.TheVariants.{NoMemory, State, InUse, Other}
 
 -- an approximation up to the n-th has too long a history, or memory is missing
 abbrev pub IsApproximationFailure : Network → List (List ℤ) → ℕ → Failure → Type 0
@@ -55,6 +56,12 @@ IsStoreFailure plain (NotText source) = ⊥
 IsStoreFailure plain (Unreadable source) = ⊥
 IsStoreFailure plain (Approximation number) = ⊥
 IsStoreFailure plain NoMemory = Unit {0}
+IsStoreFailure plain (State number) = ⊥
+IsStoreFailure plain InUse = ⊥
 IsStoreFailure plain (Other number) =
     ((number ≡ refusal_number fault.Device) × ∥ HasFailedAtOnce ∥₁)
     ⊎ ((number ≡ refusal_number fault.Spent) × (plain ≡ false))
+
+-- the same, or what outlasts the run is refused, or failed
+abbrev pub IsReportless : Bool → Bool → Failure → Type 0
+IsReportless plain keeps failure = IsStoreFailure plain failure ⊎ IsKeeperFailure keeps failure

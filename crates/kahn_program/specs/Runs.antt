@@ -81,20 +81,21 @@ IsToldOf net items now text told =
     (released_streams (network_of net.program) now.stations) (are_quiet now))
 
 -- A text is the report of a run of this network on these inputs, by the events of this script, and tells whether it is
--- complete: of what has left in the world at its end. Where so many items of each output were asked for, and each has them,
--- the first ones of each are printed, and the run is partial.
-abbrev pub IsReport : Options → Net → List (List ℤ) → List ScriptedEvent → List ℕ → Bool → Type 0
-IsReport options net inputs script text told =
+-- complete: of what has left in the world at its end, which is kept too. Where so many items of each output were asked for, and
+-- each has them, the first ones of each are printed, and the run is partial.
+abbrev pub IsReport : (List (List ℤ) → Type 0) → Options → Net → List (List ℤ) → List ScriptedEvent → List ℕ → Bool → Type 0
+IsReport kept options net inputs script text told =
     ∥ ((now : WorldView) × IsEnd options.plain options (network_of net.program) inputs script now
     × IsRun (network_of net.program) inputs (released_streams (network_of net.program) now.stations) (are_quiet now)
-    × IsToldOf net options.items now text told) ∥₁
+    × IsToldOf net options.items now text told
+    × kept (released_streams (network_of net.program) now.stations)) ∥₁
 
 -- the same by the script of a reader with these bytes, where they are known, if a script is asked for
-abbrev pub IsScriptedReport : Options → Net → List (List ℤ) → Option (List ℕ) → List ℕ → Bool → Type 0
-IsScriptedReport options net inputs script_bytes text told =
+abbrev pub IsScriptedReport : (List (List ℤ) → Type 0) → Options → Net → List (List ℤ) → Option (List ℕ) → List ℕ → Bool → Type 0
+IsScriptedReport kept options net inputs script_bytes text told =
     (lines : List ScriptLine)
     × AreLinesOf options.script (node_count (network_of net.program)) script_bytes lines
-    × IsReport options net inputs (map scripted_of lines) text told
+    × IsReport kept options net inputs (map scripted_of lines) text told
 
 -- A text is the report of the n-th approximation on these inputs: each output's whole history there. It tells
 -- `complete` exactly where that approximation is a solution.
@@ -106,26 +107,28 @@ pub record IsApproximated (net : Net) (inputs : List (List ℤ)) (n : ℕ) (text
       ↔ IsSolution (network_of net.program) inputs (approximation (network_of net.program) inputs n)
 
 -- a text is the report that is asked for: of an approximation, or of a run
-abbrev pub IsReportBy : Option ℕ → Options → Net → List (List ℤ) → Option (List ℕ) → List ℕ → Bool → Type 0
-IsReportBy (Some n) options net inputs script_bytes text told = IsApproximated net inputs n text told
-IsReportBy None options net inputs script_bytes text told =
-    IsScriptedReport options net inputs script_bytes text told
+abbrev pub IsReportBy : Option ℕ → (List (List ℤ) → Type 0) → Options → Net → List (List ℤ) → Option (List ℕ) → List ℕ → Bool
+    → Type 0
+IsReportBy (Some n) kept options net inputs script_bytes text told = IsApproximated net inputs n text told
+IsReportBy None kept options net inputs script_bytes text told =
+    IsScriptedReport kept options net inputs script_bytes text told
 
-abbrev pub IsReportOf : Options → Net → List (List ℤ) → Option (List ℕ) → List ℕ → Bool → Type 0
-IsReportOf options net inputs script_bytes text told =
-    IsReportBy options.approx options net inputs script_bytes text told
+abbrev pub IsReportOf : (List (List ℤ) → Type 0) → Options → Net → List (List ℤ) → Option (List ℕ) → List ℕ → Bool → Type 0
+IsReportOf kept options net inputs script_bytes text told =
+    IsReportBy options.approx kept options net inputs script_bytes text told
 
 -- The same of the network that a reader with these bytes describes, on the inputs that another gives, where the bytes
 -- are known.
-abbrev pub IsReported : Options → Option (List ℕ) → Option (List ℕ) → Option (List ℕ) → List ℕ → Bool → Type 0
-IsReported options net_bytes input_bytes script_bytes text told =
+abbrev pub IsReported : (List (List ℤ) → Type 0) → Options → Option (List ℕ) → Option (List ℕ) → Option (List ℕ) → List ℕ → Bool
+    → Type 0
+IsReported kept options net_bytes input_bytes script_bytes text told =
     ∥ ((net : Net) × (inputs : List (List ℤ)) × IfSome net_bytes (λ bytes. IsNetOf bytes net)
     × IfSome input_bytes (λ bytes. AreInputsOf bytes net inputs)
-    × IsReportOf options net inputs script_bytes text told) ∥₁
+    × IsReportOf kept options net inputs script_bytes text told) ∥₁
 
 -- and such a text was written
-abbrev pub HasWritten : Options → Option (List ℕ) → Option (List ℕ) → Option (List ℕ) → Option (List ℕ)
-    → Option (List ℕ) → Bool → Type 0
-HasWritten options net_bytes input_bytes script_bytes before after told =
-    ∥ ((text : List ℕ) × IsReported options net_bytes input_bytes script_bytes text told
+abbrev pub HasWritten : (List (List ℤ) → Type 0) → Options → Option (List ℕ) → Option (List ℕ) → Option (List ℕ)
+    → Option (List ℕ) → Option (List ℕ) → Bool → Type 0
+HasWritten kept options net_bytes input_bytes script_bytes before after told =
+    ∥ ((text : List ℕ) × IsReported kept options net_bytes input_bytes script_bytes text told
     × Appends before after text) ∥₁

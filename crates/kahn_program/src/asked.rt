@@ -26,6 +26,8 @@ pub struct Options {
     pub inputs: String,
     /// The file of the failure script, if a run has one.
     pub script: Option<String>,
+    /// The folder in which what left outlasts the run, if there is one.
+    pub state: Option<String>,
     /// A run ends after so many rounds, complete or not.
     pub rounds: u64,
     /// A run ends where each output has so many items.
@@ -45,13 +47,14 @@ impl Options {
         ensures names { (result.net ≡ net) × (result.inputs ≡ inputs) }
         ensures rounds { result.rounds ≡ DEFAULT_ROUNDS }
         ensures room { result.room ≡ DEFAULT_ROOM }
-        ensures others { (result.script ≡ None) × (result.items ≡ None) × (result.plain ≡ false)
+        ensures others { (result.script ≡ None) × (result.state ≡ None) × (result.items ≡ None) × (result.plain ≡ false)
             × (result.approx ≡ None) }
     {
         Options {
             net,
             inputs,
             script: None,
+            state: None,
             rounds: DEFAULT_ROUNDS,
             items: None,
             room: DEFAULT_ROOM as u64,

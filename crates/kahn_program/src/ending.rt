@@ -7,17 +7,21 @@ ghost use Rattle.world.specs.WholeView.{world_of};
 ghost use Rattle.kahn_program.specs.Turning.{cut_at, is_over};
 
 use kahn_net::Channel;
-use outlet::ListOutlet;
+use outlet::Outlet;
 use runtime::have_left;
 use sector_disk::MemDisk;
 use slot_cell::SplitCell;
 use world::World;
 
-/// The world of a run: of nodes on disks in memory, with outlets in memory.
-pub(crate) type RunWorld = World<SplitCell<MemDisk>, ListOutlet>;
+/// The world of a run: of nodes on disks in memory.
+pub(crate) type RunWorld<O> = World<SplitCell<MemDisk>, O>;
 
 /// Where what has left is cut: at so many items, where that is asked for and each output has them.
-pub(crate) fn cut(channels: &[Channel], world: &RunWorld, items: Option<u64>) -> Option<u64>
+pub(crate) fn cut<O: Outlet>(
+    channels: &[Channel],
+    world: &RunWorld<O>,
+    items: Option<u64>,
+) -> Option<u64>
     requires { length channels.now ≤ MAX_CHANNELS }
     ensures { result ≡ cut_at items
         (map (λ channel. released_of channel (world_of world.now).stations)
@@ -37,7 +41,7 @@ pub(crate) fn cut(channels: &[Channel], world: &RunWorld, items: Option<u64>) ->
 
 /// Whether nothing is left to do. A node at which something was left before is asked first: mostly something still is, and then no
 /// other needs to be asked. Where it has nothing left, another takes its place.
-fn is_complete(world: &RunWorld, nodes: usize, busy: &mut u8) -> bool
+fn is_complete<O: Outlet>(world: &RunWorld<O>, nodes: usize, busy: &mut u8) -> bool
     requires { nodes ≤ MAX_NODES }
     ensures { result ≡ are_quiet (world_of world.now) }
 {
@@ -54,9 +58,9 @@ fn is_complete(world: &RunWorld, nodes: usize, busy: &mut u8) -> bool
 }
 
 /// Whether a run is over: nothing is left to do, the rounds are over, or each output has the items that are asked for.
-pub(crate) fn is_over(
+pub(crate) fn is_over<O: Outlet>(
     channels: &[Channel],
-    world: &RunWorld,
+    world: &RunWorld<O>,
     nodes: usize,
     busy: &mut u8,
     rounds: u64,

@@ -37,6 +37,12 @@ pub enum Failure {
     },
     /// There is no memory.
     NoMemory,
+    /// What outlasts the run is refused, or failed.
+    State {
+        number: u8,
+    },
+    /// Another run is at work where what left is kept.
+    InUse,
     /// A refusal that is no text's.
     Other {
         number: u8,
@@ -70,6 +76,8 @@ impl fmt::Display for Failure {
             Failure::Unreadable(source) => write!(f, "{source}: cannot be read"),
             Failure::Approximation { number } => write!(f, "approx: refusal {number}"),
             Failure::NoMemory => f.write_str("no memory"),
+            Failure::State { number } => write!(f, "state: refusal {number}"),
+            Failure::InUse => f.write_str("state: in use"),
             Failure::Other { number } => write!(f, "refusal {number}"),
         }
     }
@@ -85,6 +93,8 @@ impl Failure {
             Failure::Unreadable(_)
             | Failure::Approximation { .. }
             | Failure::NoMemory
+            | Failure::State { .. }
+            | Failure::InUse
             | Failure::Other { .. } => 1,
         }
     }

@@ -5,6 +5,8 @@ mod approximating;
 mod asked;
 mod ending;
 mod failure;
+mod keeper;
+mod kept_files;
 mod network_run;
 mod printing;
 mod reading;
@@ -17,6 +19,8 @@ mod words;
 
 pub use asked::{DEFAULT_ROUNDS, MAX_APPROXIMATION, MAX_ITEMS, MAX_ROUNDS, Options};
 pub use failure::{Failure, Source};
+pub use keeper::{InMemory, Keeper};
+pub use kept_files::{FILE_FAILED, FileKeeper, HeldFile, ITEM_DIFFERS, OTHER_STATE};
 pub use printing::{print_failure, print_report};
 pub use reading::{read_inputs, read_net, read_script};
 pub use reporting::{Stream, count_outputs, report};

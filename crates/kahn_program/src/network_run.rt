@@ -10,26 +10,30 @@ ghost use Rattle.protocol.specs.World.Quiet.{AreWhole};
 ghost use Rattle.run_log.specs.Happened.{HasRun};
 ghost use Rattle.world.specs.WholeView.{world_of};
 ghost use Rattle.world.specs.WorldView.{capacities, rooms};
+ghost use Rattle.world.specs.OpeningWorld.{IsUnused};
+ghost use Rattle.kahn_program.specs.Keeping.{HasNoFailures, IsKeeperFailure};
 ghost use Rattle.kahn_program.specs.Turning.{IsRunRoom, first_world, nearest_room};
-ghost use Rattle.kahn_program.specs.Runnable.{IsStoreFailure, hub_failure, store_failure};
-ghost use Rattle.kahn_program.specs.Runs.{IsEnd, IsReport, IsToldOf, first_items, is_whole};
+ghost use Rattle.kahn_program.specs.Runnable.{IsReportless, IsStoreFailure, hub_failure, store_failure};
+ghost use Rattle.kahn_program.specs.Runs.{IsEnd, IsReport, IsToldOf, first_items, is_whole, released_streams};
 
 use crate::asked::Options;
 use crate::ending::{RunWorld, cut};
 use crate::failure::Failure;
+use crate::keeper::Keeper;
 use crate::reporting::{Stream, report};
 use crate::turning::run_by_turns;
 use ckpt_codec::MAX_RETAINED_ITEMS;
 use ckpt_store::StoreFault;
 use kahn_net::{Channel, Port};
 use net_check::{Inputs, Net};
+use outlet::Outlet;
 use replay::ScriptedEvent;
 use runtime::{Bounds, Ended, HubFault, NoWatch, RunEnd, run_world};
 use sector_disk::MemDisk;
 use std::alloc::{AllocError, Global};
 use std::sync::{Arc, Wait};
 use std::thread::Threads;
-use world::{MIN_ROOM, SECTORS, World, list_outputs, node_count};
+use world::{MIN_ROOM, Output, SECTORS, World, node_count};
 
 /// A disk in memory of so many sectors, which never failed. (What it holds is left out of the contract: of a given number, a
 /// proof that has it in reach would write out all the zeros.)
@@ -87,15 +91,20 @@ fn nearest_room(asked: u64) -> usize
 }
 
 /// The world of a run before its first event, with the room that is asked for on its channels.
-fn open_world(
+fn open_world<O: Outlet>(
     alloc: Global,
     net: &Arc<Net>,
     inputs: Inputs,
+    outputs: Vec<Output<O>>,
     nodes: usize,
     room: u64,
-) -> Result<RunWorld, Failure>
+) -> Result<RunWorld<O>, Failure>
     requires fitting { Fits (network_of net.now.value.program) inputs }
     requires nodes { nodes ≡ node_count (network_of net.now.value.program) }
+    requires listed { map (λ output. output.channel) outputs.items
+        ≡ output_channels 0 (network_of net.now.value.program).channels }
+    requires unused { AllByRecursion (IsUnused O.taken) outputs.items }
+    requires unfailed { AllByRecursion (HasNoFailures O.failures) outputs.items }
     ensures first { IfOk result (λ world. world_of world
         ≡ first_world (network_of net.now.value.program) inputs room) }
     ensures room { IfOk result
@@ -103,9 +112,6 @@ fn open_world(
     // A device failed (20), or memory is missing (1).
     ensures err { (plain : Bool) → IfErr result (IsStoreFailure plain) }
 {
-    let Ok(outputs) = list_outputs(alloc, net) else {
-        return Err(Failure::NoMemory);
-    };
     let Ok(inputs) = Arc::new(alloc, inputs) else {
         return Err(Failure::NoMemory);
     };
@@ -127,13 +133,13 @@ fn open_world(
 }
 
 /// Runs a world by a thread for each node.
-fn run_by_threads<R: Threads + Wait + Sync>(
+fn run_by_threads<O: Outlet + Send, R: Threads + Wait + Sync>(
     rt: &R,
     alloc: Global,
-    world: RunWorld,
+    world: RunWorld<O>,
     script: Vec<ScriptedEvent>,
     bounds: Bounds,
-) -> Result<RunWorld, Failure>
+) -> Result<RunWorld<O>, Failure>
     ensures run { IfOk result (λ now. HasRun (rooms world.stations.items) script.items (world_of world)
         (world_of now)) }
     ensures err { IfErr result (IsStoreFailure false) }
@@ -146,15 +152,15 @@ fn run_by_threads<R: Threads + Wait + Sync>(
 }
 
 /// Runs a world to its end, by turns or by threads as the options say.
-fn run_to_end<R: Threads + Wait + Sync>(
+fn run_to_end<O: Outlet + Send, R: Threads + Wait + Sync>(
     rt: &R,
     alloc: Global,
     options: &Options,
     net: &Net,
-    world: RunWorld,
+    world: RunWorld<O>,
     script: Vec<ScriptedEvent>,
     nodes: usize,
-) -> Result<RunWorld, Failure>
+) -> Result<RunWorld<O>, Failure>
     requires nodes { nodes ≡ node_count (network_of net.now.program) }
     requires few { nodes ≤ MAX_NODES }
     requires room { AllByRecursion IsRunRoom (capacities world.stations.items) }
@@ -213,11 +219,11 @@ fn is_whole(cut: Option<u64>, complete: bool) -> bool
 }
 
 /// Adds what has left by a channel, if its items go outside.
-fn add_stream<'a>(
+fn add_stream<'a, O: Outlet>(
     streams: &mut Vec<Stream<'a>>,
     number: u8,
     channel: &Channel,
-    world: &'a RunWorld,
+    world: &'a RunWorld<O>,
     cut: Option<u64>,
 ) -> Result<(), AllocError>
     ensures { OnOk result (streams.new.items ≡ streams.old.items
@@ -231,10 +237,10 @@ fn add_stream<'a>(
 }
 
 /// What has left by each output, or the first items of it, in order of the channels.
-fn streams<'a>(
+fn streams<'a, O: Outlet>(
     alloc: Global,
     channels: &[Channel],
-    world: &'a RunWorld,
+    world: &'a RunWorld<O>,
     cut: Option<u64>,
 ) -> Result<Vec<Stream<'a>>, AllocError>
     requires { length channels.now ≤ MAX_CHANNELS }
@@ -250,10 +256,10 @@ fn streams<'a>(
 }
 
 /// The report of a world at the end of a run, and whether it tells that the run is complete.
-fn report_of_world(
+fn report_of_world<O: Outlet>(
     alloc: Global,
     net: &Net,
-    world: &RunWorld,
+    world: &RunWorld<O>,
     items: Option<u64>,
 ) -> Result<(Vec<u8>, bool), AllocError>
     ensures told { IfOk result
@@ -269,30 +275,51 @@ fn report_of_world(
     Ok((bytes, complete))
 }
 
+/// The run is over: its outlets go back to where they come from.
+fn close_outputs<O: Outlet, K: Keeper<O>>(
+    alloc: Global,
+    world: RunWorld<O>,
+    keeper: &mut K,
+) -> Result<(), Failure>
+    ensures kept { OnOk result (K.has_kept keeper.new
+        (released_streams (network_of world.net.value.program) (world_of world).stations)) }
+    ensures err { IfErr result (IsKeeperFailure K.keeps) }
+{
+    let Ok(closed) = world.close(alloc) else {
+        return Err(Failure::NoMemory);
+    };
+    let (_disks, outputs) = closed;
+    keeper.close(alloc, outputs)
+}
+
 /// Runs a network on its inputs by the events of a script, as the options say, until nothing is left to do, the rounds are over,
 /// or each output has the items that are asked for. Gives the whole report, and whether the run is complete.
-pub fn report_of_run<R: Threads + Wait + Sync>(
+pub fn report_of_run<O: Outlet + Send, K: Keeper<O>, R: Threads + Wait + Sync>(
     rt: &R,
     alloc: Global,
     options: &Options,
     net: Net,
     inputs: Inputs,
     script: Vec<ScriptedEvent>,
+    keeper: &mut K,
 ) -> Result<(Vec<u8>, bool), Failure>
     requires fitting { Fits (network_of net.program) inputs }
     ensures ok { IfOk result
-        (λ report. IsReport options.now net inputs script.items report.0.items report.1) }
-    // A device failed (20), memory is missing (1), or a count would pass 2^63 - 1 (44).
-    ensures err { IfErr result (IsStoreFailure options.now.plain) }
+        (λ report. IsReport (K.has_kept keeper.new) options.now net inputs script.items
+        report.0.items report.1) }
+    // A device failed (20), memory is missing (1), a count would pass 2^63 - 1 (44), or what outlasts the run failed.
+    ensures err { IfErr result (IsReportless options.now.plain K.keeps) }
 {
     let nodes = node_count(&net);
+    let outputs = keeper.open(alloc, &net)?;
     let Ok(net) = Arc::new(alloc, net) else {
         return Err(Failure::NoMemory);
     };
-    let world = open_world(alloc, &net, inputs, nodes, options.room)?;
+    let world = open_world(alloc, &net, inputs, outputs, nodes, options.room)?;
     let world = run_to_end(rt, alloc, options, &net, world, script, nodes)?;
-    match report_of_world(alloc, &net, &world, options.items) {
-        Ok(report) => Ok(report),
-        Err(_) => Err(Failure::NoMemory),
-    }
+    let Ok(report) = report_of_world(alloc, &net, &world, options.items) else {
+        return Err(Failure::NoMemory);
+    };
+    close_outputs(alloc, world, keeper)?;
+    Ok(report)
 }

@@ -13,6 +13,7 @@ ghost use Rattle.kahn_program.specs.Turning.{IsNodeTurn};
 
 use crate::turning::RunArmed;
 use kahn_net::MAX_NODES;
+use outlet::Outlet;
 use world::{Deed, Event, PlainEvent, Reply};
 
 /// Of which nodes it is noted that they rest: they let a turn pass in this round, and nothing has happened to them since but that
@@ -21,7 +22,7 @@ pub(crate) type Resting = [bool; MAX_NODES as usize];
 
 /// Whether a turn of this node would pass once more, and nothing would change by it: it rests, no packet is in flight to it, and
 /// the round waits for another node.
-pub(crate) fn passes_again(armed: &RunArmed, resting: &Resting, node: u8) -> bool
+pub(crate) fn passes_again<O: Outlet>(armed: &RunArmed<O>, resting: &Resting, node: u8) -> bool
     requires { AllRest resting.now (world_of armed.now.world) }
     ensures { IsTrue result → IsNodeTurn node (armed_view armed.now) (armed_view armed.now) }
 {
@@ -64,7 +65,7 @@ fn is_grant(answer: &Reply) -> bool
 
 /// Whether nothing but its own event came of a node's turn: the round, which was this one, is the same, and no job was granted,
 /// whose turn would come back at once.
-pub(crate) fn is_alone(armed: &RunArmed, round: u64, answer: &Reply) -> bool
+pub(crate) fn is_alone<O: Outlet>(armed: &RunArmed<O>, round: u64, answer: &Reply) -> bool
     ensures { result ≡ ((world_of armed.now.world).round == round
         && not (is_grant (reply_view answer.now))) }
 {

@@ -10,12 +10,14 @@ ghost use Rattle.kahn_program.specs.Statuses.{status_of_run};
 use crate::approximating::report_of_approximation;
 use crate::asked::Options;
 use crate::failure::Failure;
+use crate::keeper::Keeper;
 use crate::network_run::report_of_run;
 use crate::printing::{print_failure, print_report};
 use crate::reading::{read_inputs, read_net, read_script};
 use crate::scripting::events_of;
 use fail_script::{Script, ScriptLine};
 use net_check::{Inputs, Net};
+use outlet::Outlet;
 use std::alloc::Global;
 use std::io::{Read, Write};
 use std::sync::Wait;
@@ -45,76 +47,89 @@ fn lines_of<S: Read + Drop>(
 }
 
 /// The report of a run by the script of a reader, and whether it tells `complete`.
-fn report_by_script<S: Read + Drop, R: Threads + Wait + Sync>(
+fn report_by_script<O: Outlet + Send, K: Keeper<O>, S: Read + Drop, R: Threads + Wait + Sync>(
     rt: &R,
     alloc: Global,
     options: &Options,
     net: Net,
     inputs: Inputs,
     script: Option<S>,
+    keeper: &mut K,
 ) -> Result<(Vec<u8>, bool), Failure>
     requires fitting { Fits (network_of net.program) inputs }
-    ensures ok { IfOk result (λ report. IsScriptedReport options.now net inputs
+    ensures ok { IfOk result (λ report. IsScriptedReport (K.has_kept keeper.new) options.now net inputs
         (option_and_then S.remaining script) report.0.items report.1) }
-    ensures err { IfErr result (IsRunOrScriptFailure options.now (network_of net.program)
+    ensures err { IfErr result (IsRunOrScriptFailure K.keeps options.now (network_of net.program)
         (option_and_then S.remaining script)) }
 {
     let lines = lines_of(alloc, options, script, node_count(&net))?;
     let Ok(events) = events_of(alloc, &lines) else {
         return Err(Failure::NoMemory);
     };
-    report_of_run(rt, alloc, options, net, inputs, events)
+    report_of_run(rt, alloc, options, net, inputs, events, keeper)
 }
 
 /// The report that is asked for of a network on its inputs, and whether it tells `complete`: of an approximation, or of a
 /// run.
-fn report_of<S: Read + Drop, R: Threads + Wait + Sync>(
+fn report_of<O: Outlet + Send, K: Keeper<O>, S: Read + Drop, R: Threads + Wait + Sync>(
     rt: &R,
     alloc: Global,
     options: &Options,
     net: Net,
     inputs: Inputs,
     script: Option<S>,
+    keeper: &mut K,
 ) -> Result<(Vec<u8>, bool), Failure>
     requires fitting { Fits (network_of net.program) inputs }
-    ensures ok { IfOk result (λ report. IsReportOf options.now net inputs
+    ensures ok { IfOk result (λ report. IsReportOf (K.has_kept keeper.new) options.now net inputs
         (option_and_then S.remaining script) report.0.items report.1) }
-    ensures err { IfErr result (IsReportFailure options.now (network_of net.program) inputs
+    ensures err { IfErr result (IsReportFailure K.keeps options.now (network_of net.program) inputs
         (option_and_then S.remaining script)) }
 {
     match options.approx {
         Some(n) => report_of_approximation(alloc, &net, &inputs, n),
-        None => report_by_script(rt, alloc, options, net, inputs, script),
+        None => report_by_script(rt, alloc, options, net, inputs, script, keeper),
     }
 }
 
 /// The same of the network that one reader describes, on the inputs that another gives.
-fn report_of_readers<N: Read + Drop, I: Read + Drop, S: Read + Drop, R: Threads + Wait + Sync>(
+fn report_of_readers<
+    O: Outlet + Send,
+    K: Keeper<O>,
+    N: Read + Drop,
+    I: Read + Drop,
+    S: Read + Drop,
+    R: Threads + Wait + Sync,
+>(
     rt: &R,
     alloc: Global,
     options: &Options,
     net: Option<N>,
     inputs: Option<I>,
     script: Option<S>,
+    keeper: &mut K,
 ) -> Result<(Vec<u8>, bool), Failure>
-    ensures ok { IfOk result (λ report. IsReported options.now
+    ensures ok { IfOk result (λ report. IsReported (K.has_kept keeper.new) options.now
         (option_and_then N.remaining net) (option_and_then I.remaining inputs)
         (option_and_then S.remaining script) report.0.items report.1) }
-    ensures err { IfErr result (IsRunFailure options.now
+    ensures err { IfErr result (IsRunFailure K.keeps options.now
         (option_and_then N.remaining net) (option_and_then I.remaining inputs)
         (option_and_then S.remaining script)) }
 {
     let net = read_net(alloc, net)?;
     let inputs = read_inputs(alloc, inputs, &net)?;
-    report_of(rt, alloc, options, net, inputs, script)
+    report_of(rt, alloc, options, net, inputs, script, keeper)
 }
 
 /// Runs the network of one reader on the inputs of another by the script of a third, or prints an approximation of it, as the
 /// options say; no reader stands for a file that can't be opened, and the script's isn't read where none is asked for. Each node
-/// has a thread of its own, unless turns on one thread are asked for. Writes the whole report to `out`, or the line of a failure
+/// has a thread of its own, unless turns on one thread are asked for. The keeper gives the outlets, and gets them back at the end.
+/// Writes the whole report to `out`, or the line of a failure
 /// to `err`, and gives the exit status: 0 where the report tells `complete`, 3 where it tells `partial`, 2 where a text is
 /// refused, 1 for any other failure, as where memory is missing or a write fails.
 pub fn run<
+    O: Outlet + Send,
+    K: Keeper<O>,
     N: Read + Drop,
     I: Read + Drop,
     S: Read + Drop,
@@ -128,6 +143,7 @@ pub fn run<
     net: Option<N>,
     inputs: Option<I>,
     script: Option<S>,
+    keeper: &mut K,
     out: &mut W,
     err: &mut E,
 ) -> u8
@@ -138,15 +154,15 @@ pub fn run<
     // items that are asked for; or a history leads from there to where the run ends, each event of which is next for its node
     // or in the script. Each stream is a prefix of its history in one approximation, where all have the items that are asked
     // for the first ones of each, and where the status is 0 whole, in the least solution. That of an approximation: the whole
-    // histories there, and 0 exactly where it is a solution.
+    // histories there, and 0 exactly where it is a solution. Of a run the keeper has kept what left.
     ensures written { (complete : Bool) → result ≡ status_of_run complete
-        → HasWritten options.now
+        → HasWritten (K.has_kept keeper.new) options.now
         (option_and_then N.remaining net) (option_and_then I.remaining inputs)
         (option_and_then S.remaining script)
         (W.contents out.old) (W.contents out.new) complete }
     // Where the status is 2, a text has the fault of which the line is written to `err`, and nothing is written to `out`.
     ensures told { result ≡ 2
-        → HasTold options.now
+        → HasTold K.keeps options.now
         (option_and_then N.remaining net) (option_and_then I.remaining inputs)
         (option_and_then S.remaining script)
         (E.contents err.old) (E.contents err.new) result }
@@ -157,7 +173,7 @@ pub fn run<
     // A report and a failure's line aren't written both, also where the status is 1.
     ensures apart { (out.new ≡ out.old) ⊎ (err.new ≡ err.old) }
 {
-    match report_of_readers(rt, alloc, options, net, inputs, script) {
+    match report_of_readers(rt, alloc, options, net, inputs, script, keeper) {
         Ok((report, complete)) => print_report(&report, complete, out),
         Err(failure) => print_failure(failure, err),
     }

@@ -16,7 +16,7 @@ ghost use Rattle.kahn_program.specs.Turning.{Follows, HasBegun, IsDriven, IsNode
 use crate::ending::{RunWorld, is_over};
 use crate::resting::{Resting, is_alone, is_idle, note_line, note_none, note_turn, passes_again};
 use kahn_net::{Channel, MAX_NODES};
-use outlet::ListOutlet;
+use outlet::Outlet;
 use proc_step::Job;
 use replay::{RunEvent, ScriptedEvent};
 use run_log::ArmedWorld;
@@ -28,10 +28,14 @@ use world::{Event, Reply};
 /// The most turns of a run, so many that nobody waits for them.
 pub(crate) const MAX_TURNS: u64 = u64::MAX;
 
-pub(crate) type RunArmed = ArmedWorld<SplitCell<MemDisk>, ListOutlet>;
+pub(crate) type RunArmed<O> = ArmedWorld<SplitCell<MemDisk>, O>;
 
 /// What follows an answer: a job that was granted is run, and comes back at once.
-fn follow(alloc: Global, armed: &mut RunArmed, answer: Reply) -> Result<(), AllocError>
+fn follow<O: Outlet>(
+    alloc: Global,
+    armed: &mut RunArmed<O>,
+    answer: Reply,
+) -> Result<(), AllocError>
     requires { AllByRecursion IsRunRoom (capacities armed.old.world.stations.items) }
     ensures same { (armed.new.world.net ≡ armed.old.world.net)
         × (armed.new.world.inputs ≡ armed.old.world.inputs) }
@@ -63,9 +67,9 @@ fn node_after(nodes: usize, node: u8) -> u8
 }
 
 /// The event that is next for a node. A job that it grants is run and comes back at once. Notes which nodes rest then.
-fn take_event(
+fn take_event<O: Outlet>(
     alloc: Global,
-    armed: &mut RunArmed,
+    armed: &mut RunArmed<O>,
     resting: &mut Resting,
     node: u8,
 ) -> Result<(), AllocError>
@@ -92,7 +96,7 @@ fn take_event(
 
 /// Gives channels more room where the world stands still for want of it, if a round has ended: if this round is another. A node
 /// that rests may go on then.
-fn give_room(armed: &mut RunArmed, resting: &mut Resting, round: u64)
+fn give_room<O: Outlet>(armed: &mut RunArmed<O>, resting: &mut Resting, round: u64)
     requires room { AllByRecursion IsRunRoom (capacities armed.old.world.stations.items) }
     requires rest { AllRest resting.old (world_of armed.old.world) }
     ensures same { (armed.new.world.net ≡ armed.old.world.net)
@@ -114,9 +118,9 @@ fn give_room(armed: &mut RunArmed, resting: &mut Resting, round: u64)
 
 /// A turn of a node: the event that is next for it, or nothing, where that event would be to let the turn pass once more.
 /// Where a round ends by it, and nothing but room is missing, channels get more. Answers whether nothing happened.
-fn take_turn(
+fn take_turn<O: Outlet>(
     alloc: Global,
-    armed: &mut RunArmed,
+    armed: &mut RunArmed<O>,
     resting: &mut Resting,
     node: u8,
 ) -> Result<bool, AllocError>
@@ -157,9 +161,9 @@ fn next_event(script: &[ScriptedEvent], passed: usize, round: u64) -> Option<Run
 }
 
 /// This event of a line, if there is one. Gives how many lines are passed then.
-fn drive(
+fn drive<O: Outlet>(
     alloc: Global,
-    armed: &mut RunArmed,
+    armed: &mut RunArmed<O>,
     script: &[ScriptedEvent],
     passed: usize,
     event: Option<RunEvent>,
@@ -182,7 +186,11 @@ fn drive(
 }
 
 /// The events of all lines that are due at first. Gives how many lines are passed then.
-fn begin(alloc: Global, armed: &mut RunArmed, script: &[ScriptedEvent]) -> Result<usize, AllocError>
+fn begin<O: Outlet>(
+    alloc: Global,
+    armed: &mut RunArmed<O>,
+    script: &[ScriptedEvent],
+) -> Result<usize, AllocError>
     requires room { AllByRecursion IsRunRoom (capacities armed.old.world.stations.items) }
     ensures same { (armed.new.world.net ≡ armed.old.world.net)
         × (armed.new.world.inputs ≡ armed.old.world.inputs) }
@@ -201,9 +209,9 @@ fn begin(alloc: Global, armed: &mut RunArmed, script: &[ScriptedEvent]) -> Resul
 }
 
 /// The line that comes before a turn of this node, if one does. Gives how many lines are passed then.
-fn drive_before(
+fn drive_before<O: Outlet>(
     alloc: Global,
-    armed: &mut RunArmed,
+    armed: &mut RunArmed<O>,
     script: &[ScriptedEvent],
     passed: usize,
     node: u8,
@@ -225,10 +233,10 @@ fn drive_before(
 }
 
 /// Whether a run is over. Where nothing happened since it wasn't, no world is asked.
-fn is_over_now(
+fn is_over_now<O: Outlet>(
     goes_on: bool,
     channels: &[Channel],
-    world: &RunWorld,
+    world: &RunWorld<O>,
     nodes: usize,
     busy: &mut u8,
     rounds: u64,
@@ -254,10 +262,10 @@ fn is_same(nothing: bool, passed: usize, now: usize) -> bool
 }
 
 /// Takes turns until the run is over: of the nodes, so many, one after another.
-fn take_turns(
+fn take_turns<O: Outlet>(
     alloc: Global,
     channels: &[Channel],
-    armed: &mut RunArmed,
+    armed: &mut RunArmed<O>,
     script: &[ScriptedEvent],
     begun: usize,
     nodes: usize,
@@ -303,15 +311,15 @@ fn take_turns(
 
 /// Runs a world by turns, until nothing is left to do, the rounds are over, or all streams have the items that are asked for.
 /// Refuses for want of memory alone.
-pub(crate) fn run_by_turns(
+pub(crate) fn run_by_turns<O: Outlet>(
     alloc: Global,
     channels: &[Channel],
-    world: RunWorld,
+    world: RunWorld<O>,
     script: &[ScriptedEvent],
     nodes: usize,
     rounds: u64,
     items: Option<u64>,
-) -> Result<RunWorld, AllocError>
+) -> Result<RunWorld<O>, AllocError>
     requires few { length channels.now ≤ MAX_CHANNELS }
     requires nodes { nodes ≤ MAX_NODES }
     requires room { AllByRecursion IsRunRoom (capacities world.stations.items) }

@@ -45,6 +45,9 @@ Refusals, as in `net line 4: refusal 14` on standard error:
   19  an approximation that is too long
   70  no line of a failure script
   71  a node that the network doesn't have
+  80  a folder of another network or of other inputs, or one that is damaged
+  81  an item that differs from the one that the folder has
+  82  a file of the folder that failed
 
 Exit status:
    0  the report ends in `complete`
@@ -62,14 +65,14 @@ fn file<'a>(alloc: Global, name: &'a str, help: &'a str) -> Arg<'a>
     Arg::new(alloc, name).required(true).help(help)
 }
 
-/// An option with the name of a file.
-fn file_option<'a>(alloc: Global, name: &'a str, help: &'a str) -> Arg<'a>
+/// An option with the name of a file, or of a folder, as `value` says.
+fn file_option<'a>(alloc: Global, name: &'a str, value: &'a str, help: &'a str) -> Arg<'a>
     ensures rule { rule_of result ≡ file_option name.entry.now }
     ensures here { result.global ≡ false }
 {
     Arg::new(alloc, name)
         .long(name)
-        .value_name("FILE")
+        .value_name(value)
         .help(help)
 }
 
@@ -129,7 +132,7 @@ fn flag<'a>(alloc: Global, name: &'a str, help: &'a str) -> Arg<'a>
 }
 
 /// The command line:
-/// `kahnrun [--script FILE] [--rounds N] [--items N] [--room N] [--plain] [--approx N] NET INPUTS`.
+/// `kahnrun [--script FILE] [--state FOLDER] [--rounds N] [--items N] [--room N] [--plain] [--approx N] NET INPUTS`.
 fn command<'a>(alloc: Global) -> Result<Command<'a>, AllocError>
     ensures { IfOk result (λ c. app_of c ≡ kahnrun) }
 {
@@ -142,7 +145,18 @@ fn command<'a>(alloc: Global) -> Result<Command<'a>, AllocError>
             "INPUTS",
             "The items of each input, a line for each: i: 1 2 3",
         ))?
-        .arg(file_option(alloc, "script", "What is to fail, a line for each failure"))?
+        .arg(file_option(
+            alloc,
+            "script",
+            "FILE",
+            "What is to fail, a line for each failure",
+        ))?
+        .arg(file_option(
+            alloc,
+            "state",
+            "FOLDER",
+            "Keeps what left in this folder, and goes on where an earlier run ended",
+        ))?
         .arg(rounds(alloc))?
         .arg(number(
             alloc,
@@ -167,12 +181,16 @@ fn command<'a>(alloc: Global) -> Result<Command<'a>, AllocError>
     Ok(command)
 }
 
-/// The name of the script's file, if one was given.
-fn script_name(alloc: Global, matches: &ArgMatches<'_>) -> Result<Option<String>, AllocError>
-    ensures { IfOk result (λ name. first_value (found_of matches.now) (codes "script")
+/// The name of the file or folder that an option was given, if it was.
+fn name_given(
+    alloc: Global,
+    matches: &ArgMatches<'_>,
+    option: &str,
+) -> Result<Option<String>, AllocError>
+    ensures { IfOk result (λ name. first_value (found_of matches.now) option.now
         ≡ option_map string_bytes name) }
 {
-    match matches.get_str("script") {
+    match matches.get_str(option) {
         Some(name) => Ok(Some(String::from_str(alloc, name)?)),
         None => Ok(None),
     }
@@ -220,7 +238,8 @@ pub fn options<S: AsStr>(alloc: Global, words: &[S]) -> Result<Options, Error>
     Ok(Options {
         net: String::from_str(alloc, net)?,
         inputs: String::from_str(alloc, inputs)?,
-        script: script_name(alloc, &matches)?,
+        script: name_given(alloc, &matches, "script")?,
+        state: name_given(alloc, &matches, "state")?,
         rounds,
         items: given(&matches, "items", 0, MAX_ITEMS)?,
         room,

@@ -9,8 +9,9 @@ use crate::texts::text_of;
 use clap::Error;
 use clap::error::ErrorKind;
 use fail_script::{Script, parse_script};
-use kahn_program::{Failure, Options, not_text, options, print_failure, run};
+use kahn_program::{Failure, InMemory, Options, not_text, options, print_failure, run};
 use net_text::{Token, tokens};
+use outlet::ListOutlet;
 use std::alloc::{AllocError, Global};
 use std::mem;
 use std::sync::Wait;
@@ -34,13 +35,14 @@ fn run_by<R: Threads + Wait + Sync>(
 ) -> Outcome {
     let mut out = plan.out.writer(alloc);
     let mut err = plan.err.writer(alloc);
-    let status = run(
+    let status = run::<ListOutlet, _, _, _, _, _, _, _>(
         rt,
         alloc,
         options,
         plan.net.reader(),
         plan.inputs.reader(),
         plan.script.reader(),
+        &mut InMemory,
         &mut out,
         &mut err,
     );

@@ -1,8 +1,11 @@
 mod Closed
+mod Left
 mod Lines
 mod Openings
 mod OpenedStations
 mod OpeningStores
+mod Reopened
+mod ReopenedStations
 mod Views
 mod Stations
 mod Showing

@@ -59,7 +59,7 @@ version_valid (v ∷ versions) (suc number) all = version_valid versions number 
 
 -- The outputs of one node
 
-own_views : {O : Type 0} (taken : O → List ℤ) (failures : O → ℕ) (net : Network) (home : ℕ) (outputs : List (Output O))
+pub own_views : {O : Type 0} (taken : O → List ℤ) (failures : O → ℕ) (net : Network) (home : ℕ) (outputs : List (Output O))
     → outlet_views taken failures (own_outputs net home outputs)
     ≡ outlets_on net home (outlet_views taken failures outputs)
 own_views taken failures net home [] = refl
@@ -76,7 +76,7 @@ own_views {O} taken failures net home (x ∷ outputs) =
     at false rest = rest
 
 -- that no failure is remembered changes no outlet
-own_fresh : {O : Type 0} (net : Network) (home : ℕ) (outputs : List (Output O))
+pub own_fresh : {O : Type 0} (net : Network) (home : ℕ) (outputs : List (Output O))
     → map (λ (output : Output O). output.outlet) (own_outputs net home (map fresh outputs))
     ≡ map (λ (output : Output O). output.outlet) (own_outputs net home outputs)
 own_fresh net home [] = refl
@@ -221,7 +221,7 @@ module _ {D O : Type 0} {disk : DiskWords D} {cell : CellWords (SplitCell D disk
 -- One station more
 
 -- parting outputs and forgetting their failures may come in either order
-fresh_own : {O : Type 0} (net : Network) (home : ℕ) (outputs : List (Output O))
+pub fresh_own : {O : Type 0} (net : Network) (home : ℕ) (outputs : List (Output O))
     → map fresh (own_outputs net home outputs) ≡ own_outputs net home (map fresh outputs)
 fresh_own net home [] = refl
 fresh_own {O} net home (x ∷ outputs) = at (is_output net home x.channel) (fresh_own net home outputs)

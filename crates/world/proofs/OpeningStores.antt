@@ -93,7 +93,7 @@ node_stands {C} words slots node store kept opening version same is stands =
     subst (λ (r : RecordView). StandsInVersion version r node.store) is
     (subst (λ (s : Store C slots words). StandsInVersion version kept s) (sym same) stands)
 
-answered : (o : Option RecordView) → IsSome o → ¬ (IsErrOf (record_or Reopen o) Device)
+pub answered : (o : Option RecordView) → IsSome o → ¬ (IsErrOf (record_or Reopen o) Device)
 answered None known failed = absurd (cc)
 answered (Some kept) known failed = absurd (cc)
 

@@ -4,4 +4,7 @@ pub mod Acting
 pub mod RecoveryLine
 pub mod OpeningWorld
 pub mod NewWorld
+pub mod Left
+pub mod Reopening
+pub mod ReopenedWorld
 pub mod Closing

@@ -4,6 +4,7 @@ ghost use Rattle.std.specs.List.Sorted.{IsNonDecreasingBy};
 ghost use Rattle.protocol.specs.Node.Common.{network_of};
 ghost use Rattle.protocol.specs.World.Common.{output_channels};
 ghost use Rattle.world.specs.Closing.{all_outputs, disk_of, disks_of};
+ghost use Rattle.world.specs.Left.{AreLeft};
 
 use crate::world::World;
 use outlet::Outlet;
@@ -84,6 +85,11 @@ impl<D: Disk, O: Outlet> World<SplitCell<D>, O> {
             ≡ output_channels 0 (network_of self.net.value.program).channels) }
         ensures channels { IfOk result
             (λ closed. IsNonDecreasingBy (λ output. output.channel) closed.1.items) }
+        // They are what a world of this network on these inputs left: the records on the disks, and what the outlets took. So
+        // `World::open` takes them.
+        ensures left { IfOk result
+            (λ closed. AreLeft D.sector_count D.content D.may_leave O.taken
+            (network_of self.net.value.program) self.inputs.value closed.0.items closed.1.items) }
     {
         // There are no more outputs than channels.
         let mut parts = parts_of(alloc, self.stations, self.net.program.channels.len())?;

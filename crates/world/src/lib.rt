@@ -12,6 +12,7 @@ mod outputs;
 mod picking;
 mod quiet;
 mod released;
+mod reopening;
 mod room;
 mod still;
 mod world;

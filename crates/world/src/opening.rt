@@ -35,7 +35,7 @@ use std::alloc::Global;
 use std::sync::Arc;
 use wire::Wire;
 
-fn forget_failures<O: Outlet>(outputs: &mut Vec<Output<O>>)
+pub(crate) fn forget_failures<O: Outlet>(outputs: &mut Vec<Output<O>>)
     ensures { outputs.new.items ≡ map fresh outputs.old.items }
 {
     for output in outputs.iter_mut() {
@@ -45,9 +45,9 @@ fn forget_failures<O: Outlet>(outputs: &mut Vec<Output<O>>)
 
 /// A disk on which no store was opened, and why.
 #[derive(Drop)]
-struct NotOpened<D: Disk> {
-    disk: D,
-    fault: StoreFault,
+pub(crate) struct NotOpened<D: Disk> {
+    pub(crate) disk: D,
+    pub(crate) fault: StoreFault,
 }
 
 /// The disks and the outputs of a world that wasn't made, in the order in which they were given, and why it wasn't.
@@ -205,7 +205,7 @@ fn is_output(net: &Net, home: u8, number: u8) -> bool
 }
 
 // Parts outputs into those of the node and the others, for which there is room.
-fn part_outputs<O: Outlet>(
+pub(crate) fn part_outputs<O: Outlet>(
     net: &Net,
     home: u8,
     outputs: Vec<Output<O>>,

@@ -11,8 +11,8 @@ busy : (world : WorldView) (node : ℕ) (quiet : Bool) → quiet ≡ is_node_qui
 busy world node quiet is told = ap (λ (one : Bool). one && are_quiet world) (sym told ∙ is) ∙ quiet_first world node
 
 pub returns-then-not-is_quiet : goal.returns-then-not-is_quiet
-returns-then-not-is_quiet c = busy (world_of c.args.world.now) _ _ c.is_quiet.ensures c.if-not-is_quiet.true
+returns-then-not-is_quiet g c = busy (world_of c.args.world.now) _ _ c.is_quiet.ensures c.if-not-is_quiet.true
 
 pub returns-then-not-is_quiet-2 : goal.returns-then-not-is_quiet-2
-returns-then-not-is_quiet-2 c =
+returns-then-not-is_quiet-2 g c =
     busy (world_of c.args.world.now) _ _ c.is_quiet-in-loop-node.ensures c.if-not-is_quiet-2.true

@@ -9,7 +9,7 @@ use Rattle.kahn_program.proofs.Turns.{opens_first, rooms_given, run_refused}
 use Rattle.kahn_program.proofs.network_run.open_world.Goals as goal
 
 pub returns-in-Err-clause-err : goal.returns-in-Err-clause-err
-returns-in-Err-clause-err c = λ plain.
+returns-in-Err-clause-err g c = λ plain.
     let share = c.in-Ok-try_clone.share in
     let disks = c.in-Ok-empty_disks.disks.items in
     subst (IsStoreFailure plain) (sym c.store_failure.ensures)
@@ -23,20 +23,19 @@ returns-in-Err-clause-err c = λ plain.
     }))
 
 pub returns-clause-first : goal.returns-clause-first
-returns-clause-first c =
+returns-clause-first g c =
     let net = network_of c.args.net.now.value.program in
-    let opened = world_of c.in-Ok-new-2.world in
-    opens_first _ _ (λ outlet. refl) net _ c.args.inputs _ c.args.room c.in-Ok.outputs.items
+    let opened = world_of c.in-Ok-new.world in
+    opens_first _ _ net _ c.args.inputs _ c.args.room c.args.outputs.items
     (world_of c.set_room.new.self) opened (ap (λ (n : Net). network_of n.program) c.in-Ok-try_clone.ensures)
-    c.in-Ok-new.ensures.ok _
+    c.in-Ok.ensures.ok _
     (c.in-Ok-empty_disks.ensures.unfailed ∙ ap (λ (n : ℕ). replicate n 0) c.requires.nodes)
     (c.in-Ok-set_room.ensures.set ∙ ap (λ (n : ℕ). with_room n opened) c.nearest_room.ensures)
-    c.in-Ok-new-2.ensures.made.opening
-    (c.in-Ok.ensures.listed ∙ ap (λ (n : Net). output_channels 0 n.program.channels.items) c.deref.ensures)
-    c.in-Ok.ensures.empty
+    c.in-Ok-new.ensures.made.opening
+    c.requires.listed c.requires.unused c.requires.unfailed
 
 pub returns-clause-room : goal.returns-clause-room
-returns-clause-room c =
+returns-clause-room g c =
     rooms_given sectors_of c.in-Ok-empty_disks.disks.items _
-    (ap (λ stations. capacities stations.items) c.set_room.ensures.same.2 ∙ c.in-Ok-new-2.ensures.made.room)
+    (ap (λ stations. capacities stations.items) c.set_room.ensures.same.2 ∙ c.in-Ok-new.ensures.made.room)
     c.in-Ok-empty_disks.ensures.sectors

@@ -8,14 +8,14 @@ use Rattle.kahn_program.proofs.Released.{counted_streams, reported}
 use Rattle.kahn_program.proofs.network_run.report_of_world.Goals as goal
 
 pub report-requires : goal.report-requires
-report-requires c =
+report-requires g c =
     let f = λ (channel : ℕ). first_items c.cut-cut.result
     (released_of channel (world_of c.args.world.now).stations) in
     ap (length {A = List ℤ}) (c.deref.ensures.value ∙ c.in_ok-streams.ensures)
     ∙ (counted_streams f 0 c.as_slice-channels.result.now ∙ ap output_count c.as_slice-channels.ensures.value)
 
 pub returns : goal.returns
-returns c =
+returns g c =
     let net = c.args.net.now in
     let told = c.is_whole-complete.result in
     record {

@@ -11,7 +11,7 @@ returns-then-not-options-clause-end g c = λ inputs opened.
     by_threads_ends (λ now. world_of now) options.plain options net inputs c.args.script.items c.run_by_threads.result
     c.if-not-options.true
     (if_ok_then _ _ c.run_by_threads.result
-    (λ now run. replayed_world (λ taken. taken) (λ outlet. 0) c.args.world.stations.items options net inputs
+    (λ now run. replayed_world g.O.Outlet.taken g.O.Outlet.failures c.args.world.stations.items options net inputs
     c.args.script.items (world_of c.args.world) (world_of now) c.requires.room refl opened run)
     c.run_by_threads.ensures.run)
 

@@ -6,7 +6,7 @@ use Rattle.kahn_program.proofs.Released.{streams_next}
 use Rattle.kahn_program.proofs.network_run.streams.Goals as goal
 
 pub loop-number-preserved : goal.loop-number-preserved
-loop-number-preserved c =
+loop-number-preserved g c =
     streams_next (λ (channel : ℕ). first_items c.args.cut (released_of channel (world_of c.args.world.now).stations))
     c.args.channels.now c.loop-number.number _ _ _ _ (search rules) c.loop-number.invariant
     c.in_ok-add_stream.ensures

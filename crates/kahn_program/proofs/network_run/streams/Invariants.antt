@@ -6,7 +6,7 @@ use Rattle.kahn_program.proofs.network_run.streams.Given as goal
 
 -- what was listed, and then what is to come
 abbrev pub invariant-loop-number : goal.invariant-loop-number
-invariant-loop-number l =
+invariant-loop-number g l =
     l.streams.items
     ++ map (λ (channel : ℕ). first_items l.cut (released_of channel (world_of l.world).stations))
     (output_channels l.number (drop l.number l.channels))

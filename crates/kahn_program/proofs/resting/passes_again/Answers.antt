@@ -5,7 +5,7 @@ use Rattle.kahn_program.proofs.Passing.{asked}
 use Rattle.kahn_program.proofs.resting.passes_again.Goals as goal
 
 pub returns : goal.returns
-returns c done =
+returns g c done =
     let noted = c.in-Some.rests.now in
     let found = c.in-Some.ensures.lookup in
     let there : slice_get c.args.resting.now c.args.node ≡ Some noted =

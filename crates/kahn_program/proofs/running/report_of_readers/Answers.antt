@@ -5,7 +5,7 @@ use Rattle.kahn_program.proofs.running.report_of_readers.Goals as goal
 
 pub returns-clause-ok : goal.returns-clause-ok
 returns-clause-ok g c =
-    run_of_readers _ _ _ _ _ _ _ c.in_ok-net.ensures.net c.in_ok-inputs.ensures.inputs c.report_of.ensures.ok
+    run_of_readers (g.K.Keeper.has_kept c.report_of.new.keeper) _ _ _ _ _ _ _ c.in_ok-net.ensures.net c.in_ok-inputs.ensures.inputs c.report_of.ensures.ok
 
 pub returns-in_err-net-clause-err : goal.returns-in_err-net-clause-err
 returns-in_err-net-clause-err g c =
@@ -19,5 +19,5 @@ returns-in_err-inputs-clause-err g c =
 
 pub returns-clause-err : goal.returns-clause-err
 returns-clause-err g c =
-    failed_run _ _ _ _ _ _ c.report_of.result c.in_ok-net.ensures.net c.in_ok-inputs.ensures.inputs
+    failed_run _ _ _ _ _ _ _ c.report_of.result c.in_ok-net.ensures.net c.in_ok-inputs.ensures.inputs
     c.report_of.ensures.err

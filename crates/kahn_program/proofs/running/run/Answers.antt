@@ -8,8 +8,8 @@ pub returns-in-Ok-clause-written : goal.returns-in-Ok-clause-written
 returns-in-Ok-clause-written g c =
     let options = c.args.options.now in
     let of =
-    subst (λ (text : List ℕ). IsReported options (option_and_then g.N.Read.remaining c.args.net)
+    subst (λ (text : List ℕ). IsReported (g.K.Keeper.has_kept c.report_of_readers.new.keeper) options (option_and_then g.N.Read.remaining c.args.net)
     (option_and_then g.I.Read.remaining c.args.inputs) (option_and_then g.S.Read.remaining c.args.script) text
     c.in-Ok.complete) (sym c.deref.ensures.value) c.in-Ok.ensures.ok in
-    written_report options _ _ _ _ _ c.deref.result.now c.in-Ok.complete
+    written_report (g.K.Keeper.has_kept c.report_of_readers.new.keeper) options _ _ _ _ _ c.deref.result.now c.in-Ok.complete
     c.print_report.result of c.print_report.ensures.status c.print_report.ensures.written

@@ -5,7 +5,7 @@ use Rattle.kahn_program.proofs.Turns.{more_passed}
 use Rattle.kahn_program.proofs.turning.begin.Goals as goal
 
 pub loop-alloc-preserved : goal.loop-alloc-preserved
-loop-alloc-preserved c =
+loop-alloc-preserved g c =
     let loop = c.loop-alloc in
     record {
       same = (

@@ -12,7 +12,7 @@ use Rattle.kahn_program.proofs.Turns.{in_room}
 use Rattle.kahn_program.proofs.turning.take_event.Goals as goal
 
 pub returns-in-Ok-clause-turn : goal.returns-in-Ok-clause-turn
-returns-in-Ok-clause-turn c =
+returns-in-Ok-clause-turn g c =
     let old = c.args.armed.now in
     let view = armed_view old in
     let later = armed_view c.apply.new.self in
@@ -24,20 +24,20 @@ returns-in-Ok-clause-turn c =
     (λ follows. record {
       answer = answer;
       between = later;
-      step = in_room (λ taken. taken) (λ outlet. 0) old.world.stations.items
+      step = in_room g.O.Outlet.taken g.O.Outlet.failures old.world.stations.items
           (OfWorld (choice (world_of old.world) c.args.node)) view later answer c.requires.room refl step;
       follows = follows;
     })
     c.follow.ensures.follows
 
 pub returns-in-Ok-clause-rest : goal.returns-in-Ok-clause-rest
-returns-in-Ok-clause-rest c =
+returns-in-Ok-clause-rest g c =
     let old = c.args.armed.now in
     let view = armed_view old in
     let later = armed_view c.apply.new.self in
     let event = event_view c.pick-event.result in
     let answer = reply_view c.in-Ok.answer in
-    let step = in_room (λ taken. taken) (λ outlet. 0) old.world.stations.items (OfWorld event) view later answer
+    let step = in_room g.O.Outlet.taken g.O.Outlet.failures old.world.stations.items (OfWorld event) view later answer
     c.requires.room refl c.in-Ok.ensures.step in
     on_ok_weaker c.follow.result
     (λ follows.

@@ -10,7 +10,7 @@ use Rattle.kahn_program.proofs.Turns.{more_turns}
 use Rattle.kahn_program.proofs.turning.take_turns.Goals as goal
 
 pub loop-turn-init : goal.loop-turn-init
-loop-turn-init c =
+loop-turn-init g c =
     let first = progress (armed_view c.args.armed.now) c.args.begun in
     let now = progress (armed_view c.drive_before.new.armed) c.in_ok-passed.passed in
     record {
@@ -24,7 +24,7 @@ loop-turn-init c =
     }
 
 pub loop-turn-preserved : goal.loop-turn-preserved
-loop-turn-preserved c =
+loop-turn-preserved g c =
     let before = progress (armed_view c.loop-turn.armed) c.loop-turn.passed in
     let after = armed_view c.take_turn.new.armed in
     let between = progress after c.loop-turn.passed in
@@ -59,4 +59,4 @@ loop-turn-preserved c =
     }
 
 pub is_over_now-requires-clause-goes_on : goal.is_over_now-requires-clause-goes_on
-is_over_now-requires-clause-goes_on c = c.loop-turn.invariant.goes_on
+is_over_now-requires-clause-goes_on g c = c.loop-turn.invariant.goes_on

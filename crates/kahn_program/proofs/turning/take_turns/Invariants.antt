@@ -11,7 +11,7 @@ use Rattle.kahn_program.proofs.turning.take_turns.Given as goal
 -- the network and the inputs are the same as before, each cell has the room of a run, it is this node's turn, each node of
 -- which that is noted rests, and so many turns led to where the world is and as far as the script is passed
 abbrev pub invariant-loop-turn : goal.invariant-loop-turn
-invariant-loop-turn l = record {
+invariant-loop-turn g l = record {
   same : (l.armed.world.net ≡ l.fn.armed.world.net) × (l.armed.world.inputs ≡ l.fn.armed.world.inputs);
   room : AllByRecursion IsRunRoom (capacities l.armed.world.stations.items);
   node : l.node ≡ turn_node l.nodes l._turn;

@@ -50,7 +50,8 @@ returns-clause-asked g c =
     record {
       net = text (codes "NET") ∙ (sym some.ensures ∙ search rules);
       inputs = text (codes "INPUTS") ∙ (sym some.ensures' ∙ search rules);
-      script = text (codes "script") ∙ c.in_ok-script_name.ensures;
+      script = text (codes "script") ∙ c.in_ok-name_given.ensures;
+      state = text (codes "state") ∙ c.in_ok-name_given-2.ensures;
       rounds =
           subst (λ (given : Option ℕ). IsNumber 1 MAX_ROUNDS (one_of (codes "rounds") (matches_of kahnrun words))
           given) some.is-2

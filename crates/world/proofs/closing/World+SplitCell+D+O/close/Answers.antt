@@ -2,6 +2,7 @@ use Rattle.std.proofs.Common.{refl, subst}
 use Rattle.std.specs.Prelude.{IsPermutation}
 use Rattle.world.specs.WholeView.{world_of}
 use Rattle.world.proofs.Closed.{closed_listed}
+use Rattle.world.proofs.Left.{closed_left}
 use Rattle.world.proofs.closing.World+SplitCell+D+O.close.Goals as goal
 
 -- what was collected is all outputs, and sorting only moves them
@@ -17,3 +18,14 @@ returns-clause-listed g c =
     (subst (λ xs. IsPermutation xs c.sort_outputs.new.outputs.items) c.in_ok-parts.ensures.outputs
     c.sort_outputs.ensures.moved)
     c.sort_outputs.ensures.sorted
+
+pub returns-clause-left : goal.returns-clause-left
+returns-clause-left g c =
+    let moved =
+    subst (λ xs. IsPermutation xs c.sort_outputs.new.outputs.items) c.in_ok-parts.ensures.outputs
+    c.sort_outputs.ensures.moved in
+    closed_left g.O.Outlet.taken g.O.Outlet.failures (λ cell. refl) (λ cell left might. might) (world_of c.args.self)
+    c.args.self.stations.items c.sort_outputs.new.outputs.items _ c.args.self.sound refl c.in_ok-parts.ensures.disks
+    moved
+    (closed_listed g.O.Outlet.taken g.O.Outlet.failures (world_of c.args.self) c.args.self.stations.items
+    c.sort_outputs.new.outputs.items c.args.self.sound refl moved c.sort_outputs.ensures.sorted)

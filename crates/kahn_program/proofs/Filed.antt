@@ -1,0 +1,29 @@
+-- Streams in the files of outlets, one after another; and outlets that never failed.
+use Rattle.std.proofs.Common.{◌≡◌, ◌++◌, [], ◌∷◌, ℤ, List, length, refl}
+use Rattle.std.specs.List.{AllByRecursion}
+use Rattle.output_file.specs.InFile.{IsInFile}
+use Rattle.output_file.specs.declared.file.LineFile.{Ghosts as FileWords}
+use Rattle.output_file.specs.declared.resumed.ResumedOutlet.{ResumedOutlet}
+use Rattle.station.specs.declared.output.Output.{Output}
+use Rattle.kahn_program.specs.Keeping.{HasNoFailures}
+use Rattle.kahn_program.specs.KeptFiles.{AreInFiles}
+
+module _ {F : Type 0} {file : FileWords F} where
+  -- a further one
+  pub one_more_filed : (outlets : List (ResumedOutlet F file)) (streams : List (List ℤ)) (outlet : ResumedOutlet F file)
+      (stream : List ℤ) → AreInFiles outlets streams → IsInFile stream outlet
+      → AreInFiles (outlets ++ outlet ∷ []) (streams ++ stream ∷ [])
+  one_more_filed [] [] outlet stream so_far next = (next, tt)
+  one_more_filed [] (other ∷ streams) outlet stream so_far next = absurd so_far
+  one_more_filed (other ∷ outlets) [] outlet stream so_far next = absurd so_far
+  one_more_filed (other ∷ outlets) (another ∷ streams) outlet stream so_far next =
+      (so_far.0, one_more_filed outlets streams outlet stream so_far.1 next)
+
+pub no_items : {A : Type 0} (items : List A) → length items ≡ 0 → items ≡ []
+no_items [] none = refl
+no_items (item ∷ items) none = absurd (cc)
+
+-- outlets that can't fail
+pub never_failed : {O : Type 0} (outputs : List (Output O)) → AllByRecursion (HasNoFailures (λ (outlet : O). 0)) outputs
+never_failed [] = tt
+never_failed (output ∷ outputs) = (refl, never_failed outputs)

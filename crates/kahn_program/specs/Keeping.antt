@@ -1,0 +1,26 @@
+-- Where the items of a run's outputs go, beside its report.
+use Rattle.std.specs.Prelude.{◌≡◌, ℕ, ℤ, Bool, true, List, map}
+use Rattle.station.specs.declared.output.Output.{Output}
+use Rattle.kahn_program.specs.declared.failure.Failure.{Failure}
+use Rattle.kahn_program.specs.declared.failure.Failure.TheVariants.{Line, Whole, NotText, Unreadable, Approximation}
+use Rattle.kahn_program.specs.declared.failure.Failure.TheVariants.{NoMemory, State, InUse, Other}
+
+-- its outlet never failed
+abbrev pub HasNoFailures : {O : Type 0} → (O → ℕ) → Output O → Type 0
+HasNoFailures failures output = failures output.outlet ≡ 0
+
+-- what the outlets of these outputs took
+abbrev pub taken_streams : {O : Type 0} → (O → List ℤ) → List (Output O) → List (List ℤ)
+taken_streams {O} taken outputs = map (λ (output : Output O). taken output.outlet) outputs
+
+-- Memory is missing; or, where what outlets take outlasts the run, one of them failed.
+abbrev pub IsKeeperFailure : Bool → Failure → Type 0
+IsKeeperFailure keeps (Line source line number) = ⊥
+IsKeeperFailure keeps (Whole source number) = ⊥
+IsKeeperFailure keeps (NotText source) = ⊥
+IsKeeperFailure keeps (Unreadable source) = ⊥
+IsKeeperFailure keeps (Approximation number) = ⊥
+IsKeeperFailure keeps NoMemory = Unit {0}
+IsKeeperFailure keeps (State number) = keeps ≡ true
+IsKeeperFailure keeps InUse = ⊥
+IsKeeperFailure keeps (Other number) = ⊥

@@ -1,0 +1,150 @@
+//! Outlets over files, which outlast a run.
+
+ghost use Rattle.std.specs.Prelude.{◌≡◌, [], true, IfErr, IfOk, OnOk};
+ghost use Rattle.output_file.specs.Output.{taken_of};
+ghost use Rattle.kahn_program.specs.Keeping.{IsKeeperFailure, taken_streams};
+ghost use Rattle.kahn_program.specs.KeptFiles.{AreInFiles};
+ghost use Rattle.output_file.specs.InFile.{IsInFile};
+
+use crate::failure::Failure;
+use crate::keeper::Keeper;
+use crate::reporting::count_outputs;
+use net_check::Net;
+use outlet::Outlet;
+use output_file::{HeldItems, LineFile, ResumedOutlet};
+use std::alloc::{AllocError, Global};
+use std::mem;
+use world::{OutletMaker, Output, outputs_of};
+
+/// The refusal of a folder that is another network's, or has other inputs, or is damaged.
+pub const OTHER_STATE: u8 = 80;
+
+/// The refusal of a run of which an item differs from the one that a file holds at its place.
+pub const ITEM_DIFFERS: u8 = 81;
+
+/// The refusal of a run of which a file failed.
+pub const FILE_FAILED: u8 = 82;
+
+/// The file of an output, which was just opened, and the items that it holds.
+#[derive(Drop)]
+pub struct HeldFile<F: LineFile> {
+    pub file: F,
+    pub held: HeldItems,
+    pub ghost unasked: { F.asked file ≡ [] },
+}
+
+/// A run's outlets over files, one for each output, in order of the channels.
+#[derive(Drop)]
+pub struct FileKeeper<F: LineFile> {
+    // the last output's first
+    files: Vec<HeldFile<F>>,
+    // those of a run that is over
+    closed: Vec<ResumedOutlet<F>>,
+}
+
+// Makes an outlet over the next file.
+#[derive(Drop)]
+struct FileOutlets<F: LineFile> {
+    alloc: Global,
+    files: Vec<HeldFile<F>>,
+}
+
+impl<F: LineFile> FileKeeper<F> {
+    /// A run's outlets over these files, one for each output, in order of the channels.
+    pub fn new(alloc: Global, mut files: Vec<HeldFile<F>>) -> FileKeeper<F> {
+        files.reverse();
+        FileKeeper {
+            files,
+            closed: Vec::new(alloc),
+        }
+    }
+}
+
+impl<F: LineFile> OutletMaker<ResumedOutlet<F>> for FileOutlets<F> {
+    ghost use Rattle.output_file.specs.Output.{failures_of};
+
+    ghost makes = { λ channel outlet. failures_of outlet ≡ 0 };
+
+    fn make(&mut self, _channel: u8) -> Result<ResumedOutlet<F>, AllocError> {
+        let Some(HeldFile { file, held }) = self.files.pop() else {
+            return Err(AllocError);
+        };
+        ResumedOutlet::new(self.alloc, file, held)
+    }
+}
+
+// An outlet of a run that is over: what it took and its file lacks is put there. Refuses where an item differed from the one
+// that the file held at its place, and then puts nothing; and where a put failed.
+fn put_all<F: LineFile>(outlet: &mut ResumedOutlet<F>) -> Result<(), Failure>
+    ensures kept { OnOk result (IsInFile (taken_of outlet.old) outlet.new) }
+    ensures err { IfErr result (IsKeeperFailure true) }
+{
+    if outlet.first_difference().is_some() {
+        return Err(Failure::State {
+            number: ITEM_DIFFERS,
+        });
+    }
+    match outlet.flush() {
+        Ok(()) => Ok(()),
+        Err(_) => Err(Failure::State {
+            number: FILE_FAILED,
+        }),
+    }
+}
+
+// The outlets of a run that is over, each with its file.
+fn put_each<F: LineFile>(
+    alloc: Global,
+    outputs: Vec<Output<ResumedOutlet<F>>>,
+) -> Result<Vec<ResumedOutlet<F>>, Failure>
+    ensures kept { IfOk result (λ outlets. AreInFiles outlets.items
+        (taken_streams taken_of outputs.items)) }
+    ensures err { IfErr result (IsKeeperFailure true) }
+{
+    let Ok(mut outlets) = Vec::with_capacity(alloc, outputs.len()) else {
+        return Err(Failure::NoMemory);
+    };
+    for output in outputs {
+        let Output { mut outlet, .. } = output;
+        put_all(&mut outlet)?;
+        let Ok(()) = outlets.push(outlet) else {
+            return Err(Failure::NoMemory);
+        };
+    }
+    Ok(outlets)
+}
+
+impl<F: LineFile> Keeper<ResumedOutlet<F>> for FileKeeper<F> {
+    ghost keeps = { true };
+
+    ghost has_kept = { λ keeper streams. AreInFiles keeper.closed.items streams };
+
+    fn open(&mut self, alloc: Global, net: &Net) -> Result<Vec<Output<ResumedOutlet<F>>>, Failure> {
+        if self.files.len() != count_outputs(net) {
+            return Err(Failure::State {
+                number: OTHER_STATE,
+            });
+        }
+        let mut maker = FileOutlets {
+            alloc,
+            files: mem::replace(&mut self.files, Vec::new(alloc)),
+        };
+        match outputs_of(alloc, net, &mut maker) {
+            Ok(outputs) => Ok(outputs),
+            Err(_) => Err(Failure::NoMemory),
+        }
+    }
+
+    fn close(
+        &mut self,
+        alloc: Global,
+        outputs: Vec<Output<ResumedOutlet<F>>>,
+    ) -> Result<(), Failure>
+        ensures kept { OnOk result (AreInFiles self.new.closed.items
+            (taken_streams taken_of outputs.items)) }
+        ensures err { IfErr result (IsKeeperFailure true) }
+    {
+        self.closed = put_each(alloc, outputs)?;
+        Ok(())
+    }
+}
