@@ -17,6 +17,3 @@ pub use crate::file_log::{FileLog, Request};
 pub use crate::host_file::HostFile;
 pub use crate::opening::{OpenFault, create_disk, disk_of, open_disk};
 pub use crate::sector_file::SectorFile;
-
-#[cfg(test)]
-mod tests;

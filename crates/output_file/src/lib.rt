@@ -13,8 +13,6 @@ mod laws;
 mod line_block;
 mod reading;
 mod resumed;
-#[cfg(test)]
-mod tests;
 
 pub use asked::Asked;
 pub use fault::LinesFault;

@@ -2,12 +2,8 @@
 ghost use Rattle.std.specs.Prelude.{◌≡◌, [], IfOk};
 ghost use Rattle.output_file.specs.Asked.{requests_in};
 
-use crate::asked::Asked;
-use crate::fault::LinesFault;
-use crate::file::LineFile;
-use crate::reading::{HeldItems, read_items};
-use crate::resumed::ResumedOutlet;
 use outlet::{Outlet, OutletFault};
+use output_file::{Asked, HeldItems, LineFile, LinesFault, ResumedOutlet, read_items};
 use std::alloc::Global;
 use std::process::Abort;
 use std::test::Fail;

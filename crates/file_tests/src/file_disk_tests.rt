@@ -3,11 +3,9 @@ ghost use Rattle.std.specs.Prelude.{◌≡◌, IfSome};
 ghost use Rattle.file_disk.specs.FileLog.{logged};
 ghost use Rattle.file_disk.specs.History.{Opened};
 
-use crate::disk::FileDisk;
-use crate::file_log::FileLog;
-use crate::host_file::HostFile;
-use crate::opening::{OpenFault, create_disk, disk_of, open_disk};
-use crate::sector_file::SectorFile;
+use file_disk::{
+    FileDisk, FileLog, HostFile, OpenFault, SectorFile, create_disk, disk_of, open_disk,
+};
 use sector_disk::Disk;
 use std::alloc::Global;
 use std::process::Abort;
