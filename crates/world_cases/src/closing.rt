@@ -17,7 +17,7 @@ pub struct Closed {
 /// What is asked of it.
 #[derive(Clone, Copy)]
 pub enum ClosedQuestion {
-    /// The device calls of a node's disk since it was formatted.
+    /// The device calls of a node's disk since it was formatted, or opened again.
     Calls(usize),
     /// The first byte of its gate.
     Gate(usize),

@@ -84,20 +84,30 @@ fn judged_step(
     Ok(compared(alloc, line, &planned.text, &planned.wanted, came)?)
 }
 
-/// The first that is otherwise than a step says, if anything is.
+/// The run in which a step's answer is found: that of another world, where the step opens one.
+fn run_for(alloc: Global, run: Run, step: &Step) -> anyhow::Result<Run> {
+    match step {
+        Step::Reopen => run.reopened(alloc),
+        _ => Ok(run),
+    }
+}
+
+/// The run behind these steps, or behind the first that came out otherwise, with what is otherwise there.
 fn judged_steps(
     alloc: Global,
-    run: &mut Run,
+    run: Run,
     net: &str,
     plan: &Plan,
-) -> anyhow::Result<Option<Difference>> {
+) -> anyhow::Result<(Run, Option<Difference>)> {
+    let mut run = run;
     for planned in &plan.steps {
-        let found = judged_step(alloc, run, net, plan, planned)?;
+        run = run_for(alloc, run, &planned.step)?;
+        let found = judged_step(alloc, &mut run, net, plan, planned)?;
         if found.is_some() {
-            return Ok(found);
+            return Ok((run, found));
         }
     }
-    Ok(None)
+    Ok((run, None))
 }
 
 /// What is otherwise than a question to a closed world says, if anything is.
@@ -142,11 +152,11 @@ fn judged_closed(
 /// What is otherwise with this world, if anything is.
 fn judged_run(
     alloc: Global,
-    mut run: Run,
+    run: Run,
     net: &str,
     plan: &Plan,
 ) -> anyhow::Result<Option<Difference>> {
-    let found = judged_steps(alloc, &mut run, net, plan)?;
+    let (run, found) = judged_steps(alloc, run, net, plan)?;
     if found.is_some() || plan.closing.is_empty() {
         return Ok(found);
     }

@@ -33,6 +33,7 @@
 //! | `turns 1 10` | one node does so alone, so many times |
 //! | `jobs 0 896` | so many jobs are granted to the node, and what comes of each is brought back at once |
 //! | `chance 1 1500` | so many events, each of a node that this number chooses, as `pick` says or of a packet to it |
+//! | `reopen -> done`, `-> done behind refused 20` | the world is closed, and another one is opened over what it left. Where that is refused, it is tried once more with what was handed back. By the other world the same has to have left |
 //! | `room 64 -> set`, `room 63 -> refused` | the room of a channel is set, or is as it was |
 //! | `widen -> 128` | channels get more room, and so much they have then |
 //! | `pick 0 -> grant` | the event that is next for the node |
@@ -48,7 +49,7 @@
 //!
 //! | Line | Meaning |
 //! |---|---|
-//! | `closed disk 0 calls -> 8` | the device calls of the node's disk since it was formatted |
+//! | `closed disk 0 calls -> 8` | the device calls of the node's disk since it was formatted, or opened again |
 //! | `closed disk 0 gate -> 0`, `closed disk 0 header -> 02 00 ..`, `closed disk 0 slot 1 -> 01 ..` | the first byte of its gate; the header in the area that it names, and the bytes in a slot (of one sector), in hexadecimal |
 //! | `closed outputs -> 2 3`, `closed output 2 -> 4 9` | the channels of the outputs, as they come; what has left by one |
 //!
@@ -66,6 +67,7 @@ mod closing;
 mod judging;
 mod opening;
 mod plan;
+mod reopening;
 mod run;
 mod showing;
 mod step;

@@ -4,6 +4,7 @@ use crate::answer::{reply_text, set_word};
 use crate::closing::Closed;
 use crate::opening::{CaseWorld, open_world};
 use crate::plan::{Plan, Settings};
+use crate::reopening::reopened;
 use crate::showing::shown;
 use crate::step::{Brought, Question, Step};
 use crate::stream::Stream;
@@ -26,11 +27,14 @@ pub enum Came {
     Stray { line: usize, left: String },
 }
 
-/// A world, and what came of the jobs that it granted, in order, but for those that were brought back.
+/// A world, and what came of the jobs that it granted, in order, but for those that were brought back. Where it was opened over what an
+/// earlier one left, those of the earlier one come first.
 #[derive(Drop)]
 pub struct Run {
     world: CaseWorld,
     outcomes: Vec<Option<Done>>,
+    /// How it was opened over what an earlier one left, if it was.
+    told: String,
 }
 
 /// What comes of a job.
@@ -110,7 +114,23 @@ impl Run {
         Run {
             world,
             outcomes: Vec::new(alloc),
+            told: String::new(alloc),
         }
+    }
+
+    /// It goes on in another world, over what this one leaves.
+    pub fn reopened(self, alloc: Global) -> anyhow::Result<Run> {
+        let Run {
+            world,
+            outcomes,
+            told: _,
+        } = self;
+        let (world, told) = reopened(alloc, world)?;
+        Ok(Run {
+            world,
+            outcomes,
+            told,
+        })
     }
 
     /// Keeps what comes of a job that was granted.
@@ -177,7 +197,7 @@ impl Run {
 
     /// What it stands on, once it is closed.
     pub fn close(self, alloc: Global) -> Result<Closed, AllocError> {
-        let Run { world, outcomes: _ } = self;
+        let Run { world, .. } = self;
         let (disks, outputs) = world.close(alloc)?;
         Ok(Closed { disks, outputs })
     }
@@ -353,6 +373,7 @@ impl Run {
             Step::SetRoom(items) => Ok(self.set_room(alloc, *items)?),
             Step::Widen => Ok(self.widen(alloc)?),
             Step::Ask(question) => Ok(shown(alloc, &self.world, *question)?),
+            Step::Reopen => Ok(String::from_str(alloc, &self.told)?),
             _ => Ok(String::from_str(alloc, "done")?),
         }
     }

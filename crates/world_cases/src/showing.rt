@@ -34,7 +34,7 @@ fn node_text(alloc: Global, world: &CaseWorld, node: u8) -> Result<String, Alloc
     )
 }
 
-/// The record of a node. One that is down shows none.
+/// The record of a node. One that went down shows none until it comes back.
 fn record_of(world: &CaseWorld, node: u8) -> Option<&Record> {
     let station = world.stations.get(usize::from(node))?;
     match station.node.store.record() {

@@ -39,6 +39,8 @@ pub enum Question {
 pub enum Step {
     /// The world is made.
     Open,
+    /// The world is closed, and another one is opened over what it left.
+    Reopen,
     Event(PlainEvent),
     Install(Brought),
     /// The room of a channel is set.
@@ -63,6 +65,7 @@ impl Step {
     pub fn has_answer(&self) -> bool {
         match self {
             Step::Open
+            | Step::Reopen
             | Step::Event(_)
             | Step::Install(_)
             | Step::SetRoom(_)
@@ -206,6 +209,7 @@ fn question_of(words: &[&str]) -> anyhow::Result<Option<Question>> {
 fn other_step(words: &[&str]) -> anyhow::Result<Option<Step>> {
     let step = match words {
         ["open"] => Step::Open,
+        ["reopen"] => Step::Reopen,
         ["install"] => Step::Install(Brought::Last),
         ["install", job] => Step::Install(Brought::Earlier(size(job)?)),
         ["room", items] => Step::SetRoom(size(items)?),
