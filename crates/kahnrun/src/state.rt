@@ -147,13 +147,7 @@ fn settle_all(
 // The folder in which a folder of this name stands.
 fn home_of(folder: &str) -> &str {
     match folder.trim_end_matches('/').rsplit_once('/') {
-        Some((home, _)) => {
-            if home.is_empty() {
-                "/"
-            } else {
-                home
-            }
-        }
+        Some((home, _)) => { if home.is_empty() { "/" } else { home } }
         None => ".",
     }
 }
