@@ -82,6 +82,15 @@ pub struct Node {
     pub counts: Counts,
 }
 
+// The items that a job of a node would have, which has received so many.
+fn at_hand<'a>(from: Option<u8>, received: u64, inbox: &'a Inbox, inputs: &'a [i64]) -> &'a [i64] {
+    let items = match from {
+        None => &inputs[received as usize..],
+        Some(_) => inbox.log.retained(),
+    };
+    &items[..items.len().min(MOST_JOB_ITEMS)]
+}
+
 impl Node {
     pub fn new(network: &Network, number: u8) -> Node {
         let (kind, source) = network.processes[number as usize];
@@ -196,18 +205,10 @@ impl Node {
         room.min(LARGEST_ROOM / self.ways.len())
     }
 
-    fn at_hand<'a>(&'a self, inputs: &'a [i64]) -> &'a [i64] {
-        let items = match self.from {
-            None => &inputs[self.received as usize..],
-            Some(_) => self.inbox.log.retained(),
-        };
-        &items[..items.len().min(MOST_JOB_ITEMS)]
-    }
-
     fn is_ready(&self, inputs: &[i64], room: usize) -> bool {
         match self.process.next() {
             Next::Begin => true,
-            Next::Get => !self.at_hand(inputs).is_empty(),
+            Next::Get => !at_hand(self.from, self.received, &self.inbox, inputs).is_empty(),
             Next::Put(place) => places(self.share(room), &self.ways[place].log) > 0,
         }
     }
@@ -261,15 +262,11 @@ impl Node {
     /// A job is granted and comes back at once: so its items are read where they lie, and what is put goes where it will lie.
     pub fn run_job(&mut self, inputs: &[i64], room: usize) {
         let share = self.share(room);
-        let Node { process, source: _, from, received, inbox, ways, .. } = self;
-        let items = match from {
-            None => &inputs[*received as usize..],
-            Some(_) => inbox.log.retained(),
-        };
-        let got = process.turn(&items[..items.len().min(MOST_JOB_ITEMS)], ways, share);
-        *received += got as u64;
-        if from.is_some() {
-            inbox.got(got);
+        let items = at_hand(self.from, self.received, &self.inbox, inputs);
+        let got = self.process.turn(items, &mut self.ways, share);
+        self.received += got as u64;
+        if self.from.is_some() {
+            self.inbox.got(got);
         }
         self.turns.granted += 1;
         self.counts.jobs += 1;
