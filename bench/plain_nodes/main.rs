@@ -2,7 +2,9 @@
 // comparison alone.
 //
 // usage: plain_nodes chain COUNT INPUTS | pass COUNT INPUTS | fan COUNT INPUTS | ring COUNT ITEMS | apart COUNT INPUTS | line COUNT INPUTS
-//        (the last two compute long for each item: side by side, each on an input of its own, and one behind the other)
+//        | alone apart COUNT INPUTS | alone line COUNT INPUTS
+//        (`apart` and `line` compute long for each item: side by side, each on an input of its own, and one behind the other. `alone` does the same
+//        work on one thread, without channels)
 
 use std::io::Write;
 use std::sync::mpsc::{Receiver, SyncSender, sync_channel};
@@ -174,8 +176,25 @@ fn line(count: usize, items: Vec<i64>) {
     write_stream("o", &from.into_iter().collect::<Vec<i64>>());
 }
 
+// What `apart` and `line` compute, on this thread.
+fn alone(words: &[String]) {
+    let count: usize = words[1].parse().expect("a count");
+    let inputs = lines_of(&words[2]);
+    if words[0] == "apart" {
+        for (place, items) in inputs.into_iter().take(count).enumerate() {
+            write_stream(&format!("o{place}"), &items.into_iter().map(computed).collect::<Vec<i64>>());
+        }
+        return;
+    }
+    let through = |item: i64| (0..count).fold(item, |item, _| computed(item));
+    write_stream("o", &inputs[0].iter().map(|item| through(*item)).collect::<Vec<i64>>());
+}
+
 fn main() {
     let words: Vec<String> = std::env::args().collect();
+    if words[1] == "alone" {
+        return alone(&words[2..]);
+    }
     let count: usize = words[2].parse().expect("a count");
     match words[1].as_str() {
         "chain" => chain(count, items_of(&words[3])),
