@@ -1,1 +1,2 @@
 pub mod Beginnings
+mod Left
