@@ -1,5 +1,5 @@
 -- With what a history of a run by threads begins.
-use Rattle.std.specs.Prelude.{◌==◌, ℕ, zero, suc, Bool, true, false, if◌then◌else◌, List, [], ◌∷◌}
+use Rattle.std.specs.Prelude.{◌≡◌, ◌==◌, ◌&&◌, ℕ, zero, suc, Bool, true, false, if◌then◌else◌, List, [], ◌∷◌}
 use Rattle.replay.specs.Replay.{Happening, Made, Silent, Widened}
 use Rattle.replay.specs.declared.kept.Maker.{Maker}
 use Rattle.replay.specs.declared.kept.Maker.TheVariants.{Node, Driver}
@@ -12,18 +12,21 @@ abbrev pub first_lines : List ScriptedEvent → ℕ
 first_lines [] = 0
 first_lines (line ∷ rest) = if line.round == 0 then suc (first_lines rest) else 0
 
-abbrev pub IsByDriver : Happening → Type 0
-IsByDriver (Made (Node k) event said) = ⊥
-IsByDriver (Made Driver event said) = Unit {0}
-IsByDriver (Silent reason) = ⊥
-IsByDriver Widened = ⊥
+abbrev pub is_by_driver : Happening → Bool
+is_by_driver (Made (Node k) event said) = false
+is_by_driver (Made Driver event said) = true
+is_by_driver (Silent reason) = false
+is_by_driver Widened = false
+
+abbrev pub begins_by_driver : ℕ → List Happening → Bool
+begins_by_driver zero happened = true
+begins_by_driver (suc lines) [] = false
+begins_by_driver (suc lines) (next ∷ rest) = is_by_driver next && begins_by_driver lines rest
 
 -- The first so many that happened are events of the driver. (So they are those of the script's first lines, in order: a driver's
 -- event is that of the script's next line.)
 abbrev pub BeginsByDriver : ℕ → List Happening → Type 0
-BeginsByDriver zero happened = Unit {0}
-BeginsByDriver (suc lines) [] = ⊥
-BeginsByDriver (suc lines) (next ∷ rest) = IsByDriver next × BeginsByDriver lines rest
+BeginsByDriver lines happened = begins_by_driver lines happened ≡ true
 
 -- Where a run came to its end, the events of the script's lines of round 0 come before all others. (One that was refused or stopped
 -- may have ended before.)
