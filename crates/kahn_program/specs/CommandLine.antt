@@ -30,14 +30,15 @@ by_default text rule = record rule { defaults = text ∷ [] }
 abbrev pub flag : Text → Rule
 flag name = record (new_rule name) { long = Some name; action = Some SetTrue }
 
--- kahnrun [--script FILE] [--state FOLDER] [--rounds N] [--items N] [--room N] [--plain] [--approx N] NET INPUTS
+-- kahnrun [--script FILE] [--state FOLDER] [--sync] [--rounds N] [--items N] [--room N] [--plain] [--approx N] NET INPUTS
 unfoldable pub kahnrun : App
 kahnrun =
     let net = with_rule (new_app (codes "kahnrun")) (required (codes "NET")) in
     let inputs = with_rule net (required (codes "INPUTS")) in
     let script = with_rule inputs (file_option (codes "script")) in
     let state = with_rule script (file_option (codes "state")) in
-    let rounds = with_rule state (by_default (codes "1000") (number (codes "rounds") 1 MAX_ROUNDS)) in
+    let sync = with_rule state (flag (codes "sync")) in
+    let rounds = with_rule sync (by_default (codes "1000") (number (codes "rounds") 1 MAX_ROUNDS)) in
     let items = with_rule rounds (number (codes "items") 0 MAX_ITEMS) in
     let room =
     with_rule items (by_default (codes "4096") (number (codes "room") MIN_ROOM MAX_RETAINED_ITEMS)) in
@@ -66,6 +67,7 @@ pub record IsAsked (rows : List Row) (options : Options) : Type 0 where
   pub inputs : first_of (codes "INPUTS") rows ≡ Some (string_bytes options.inputs)
   pub script : first_of (codes "script") rows ≡ option_map string_bytes options.script
   pub state : first_of (codes "state") rows ≡ option_map string_bytes options.state
+  pub sync : IsFlag (one_of (codes "sync") rows) options.sync
   pub rounds : IsNumber 1 MAX_ROUNDS (one_of (codes "rounds") rows) (Some options.rounds)
   pub items : IsNumber 0 MAX_ITEMS (one_of (codes "items") rows) options.items
   pub room : IsNumber MIN_ROOM MAX_RETAINED_ITEMS (one_of (codes "room") rows) (Some options.room)

@@ -28,6 +28,8 @@ pub struct Options {
     pub script: Option<String>,
     /// The folder in which what left outlasts the run, if there is one.
     pub state: Option<String>,
+    /// What is kept in that folder outlasts a loss of power too.
+    pub sync: bool,
     /// A run ends after so many rounds, complete or not.
     pub rounds: u64,
     /// A run ends where each output has so many items.
@@ -47,7 +49,7 @@ impl Options {
         ensures names { (result.net ≡ net) × (result.inputs ≡ inputs) }
         ensures rounds { result.rounds ≡ DEFAULT_ROUNDS }
         ensures room { result.room ≡ DEFAULT_ROOM }
-        ensures others { (result.script ≡ None) × (result.state ≡ None) × (result.items ≡ None) × (result.plain ≡ false)
+        ensures others { (result.script ≡ None) × (result.state ≡ None) × (result.sync ≡ false) × (result.items ≡ None) × (result.plain ≡ false)
             × (result.approx ≡ None) }
     {
         Options {
@@ -55,6 +57,7 @@ impl Options {
             inputs,
             script: None,
             state: None,
+            sync: false,
             rounds: DEFAULT_ROUNDS,
             items: None,
             room: DEFAULT_ROOM as u64,

@@ -132,7 +132,7 @@ fn flag<'a>(alloc: Global, name: &'a str, help: &'a str) -> Arg<'a>
 }
 
 /// The command line:
-/// `kahnrun [--script FILE] [--state FOLDER] [--rounds N] [--items N] [--room N] [--plain] [--approx N] NET INPUTS`.
+/// `kahnrun [--script FILE] [--state FOLDER] [--sync] [--rounds N] [--items N] [--room N] [--plain] [--approx N] NET INPUTS`.
 fn command<'a>(alloc: Global) -> Result<Command<'a>, AllocError>
     ensures { IfOk result (λ c. app_of c ≡ kahnrun) }
 {
@@ -156,6 +156,11 @@ fn command<'a>(alloc: Global) -> Result<Command<'a>, AllocError>
             "state",
             "FOLDER",
             "Keeps what left in this folder, and goes on where an earlier run ended",
+        ))?
+        .arg(flag(
+            alloc,
+            "sync",
+            "Waits until what the folder keeps outlasts a loss of power too",
         ))?
         .arg(rounds(alloc))?
         .arg(number(
@@ -240,6 +245,7 @@ pub fn options<S: AsStr>(alloc: Global, words: &[S]) -> Result<Options, Error>
         inputs: String::from_str(alloc, inputs)?,
         script: name_given(alloc, &matches, "script")?,
         state: name_given(alloc, &matches, "state")?,
+        sync: matches.get_flag("sync"),
         rounds,
         items: given(&matches, "items", 0, MAX_ITEMS)?,
         room,

@@ -1,4 +1,4 @@
-//! `kahnrun [--script FILE] [--state FOLDER] [--rounds N] [--items N] [--room N] [--plain] [--approx N] NET INPUTS` runs the network of one file on
+//! `kahnrun [--script FILE] [--state FOLDER] [--sync] [--rounds N] [--items N] [--room N] [--plain] [--approx N] NET INPUTS` runs the network of one file on
 //! the inputs of the other, each node on a thread of its own (`--plain`: all on one), lets fail what the script says, and prints
 //! what each output released, and whether the run is complete. With `--approx` it runs nothing, and prints that approximation of
 //! each output's history, and whether it is a solution. With `--state` what left is kept in a folder too, and a further run with
@@ -135,7 +135,7 @@ fn run_kept<R: Threads + Wait + Sync>(
     let Folder {
         files: held,
         lock: _lock,
-    } = open_state(host, alloc, folder, texts, &checked)?;
+    } = open_state(host, alloc, folder, texts, &checked, options.sync)?;
     let mut keeper = FileKeeper::new(alloc, held);
     Ok(run::<ResumedOutlet<HostLines>, _, _, _, _, _, _, _>(
         rt,

@@ -116,6 +116,48 @@ fn fill(
     Ok(())
 }
 
+// Waits until what a file holds, or which files a folder has, stands on the disk.
+fn settle(rt: &HostRuntime, path: &str) -> Result<(), Failure> {
+    let file = match fs::open(rt, path) {
+        Ok(file) => file,
+        Err(error) => return Err(refusal(&error)),
+    };
+    match file.sync_all() {
+        Ok(()) => Ok(()),
+        Err(error) => Err(refusal(&error)),
+    }
+}
+
+// The same of a folder and of all that it was filled with.
+fn settle_all(
+    rt: &HostRuntime,
+    alloc: Global,
+    folder: &str,
+    outputs: &[&str],
+) -> Result<(), Failure> {
+    settle(rt, path_of(alloc, folder, "net")?.as_str())?;
+    settle(rt, path_of(alloc, folder, "inputs")?.as_str())?;
+    for output in outputs {
+        let name = file_name(alloc, output)?;
+        settle(rt, path_of(alloc, folder, name.as_str())?.as_str())?;
+    }
+    settle(rt, folder)
+}
+
+// The folder in which a folder of this name stands.
+fn home_of(folder: &str) -> &str {
+    match folder.trim_end_matches('/').rsplit_once('/') {
+        Some((home, _)) => {
+            if home.is_empty() {
+                "/"
+            } else {
+                home
+            }
+        }
+        None => ".",
+    }
+}
+
 // Makes the folder under another name, which may be left over from a run that was killed, and renames it.
 fn make(
     rt: &HostRuntime,
@@ -123,6 +165,7 @@ fn make(
     folder: &str,
     texts: Texts<'_>,
     outputs: &[&str],
+    sync: bool,
 ) -> Result<(), Failure> {
     let Ok(making) = format!(in alloc; "{folder}.making") else {
         return Err(Failure::NoMemory);
@@ -135,13 +178,17 @@ fn make(
     }
     let _lock = locked(rt, alloc, making.as_str())?;
     fill(rt, alloc, making.as_str(), texts, outputs)?;
-    match fs::rename(rt, making.as_str(), folder) {
-        Ok(()) => Ok(()),
-        Err(error) => {
-            let _ = fs::remove_dir_all(rt, making.as_str());
-            Err(refusal(&error))
-        }
+    if sync {
+        settle_all(rt, alloc, making.as_str(), outputs)?;
     }
+    if let Err(error) = fs::rename(rt, making.as_str(), folder) {
+        let _ = fs::remove_dir_all(rt, making.as_str());
+        return Err(refusal(&error));
+    }
+    if sync {
+        settle(rt, home_of(folder))?;
+    }
+    Ok(())
 }
 
 // Whether the folder is there, and whole.
@@ -206,6 +253,7 @@ fn held(
 fn cut_off(
     alloc: Global,
     held: Vec<(File, HeldItems)>,
+    sync: bool,
 ) -> Result<Vec<HeldFile<HostLines>>, Failure> {
     let Ok(mut files) = Vec::with_capacity(alloc, held.len()) else {
         return Err(Failure::NoMemory);
@@ -215,7 +263,7 @@ fn cut_off(
             return Err(refusal(&error));
         }
         let kept = HeldFile {
-            file: HostLines::new(file),
+            file: HostLines::new(file, sync),
             held,
         };
         if files.push(kept).is_err() {
@@ -227,17 +275,18 @@ fn cut_off(
 
 /// The folder of this name, which is made where it isn't there. It is refused, and nothing in it is changed, where another
 /// run is at work in it (`InUse`), and where it is another network's, has other inputs or is damaged (80). A line that was
-/// cut off is no damage: what stands of it is taken off.
+/// cut off is no damage: what stands of it is taken off. With `sync` it waits for the disk at each step.
 pub fn open_state(
     rt: &HostRuntime,
     alloc: Global,
     folder: &str,
     texts: Texts<'_>,
     net: &Net,
+    sync: bool,
 ) -> Result<Folder, Failure> {
     let outputs = output_names(alloc, net)?;
     if !is_made(rt, alloc, folder)? {
-        make(rt, alloc, folder, texts, outputs.as_slice())?;
+        make(rt, alloc, folder, texts, outputs.as_slice(), sync)?;
     }
     let lock = locked(rt, alloc, folder)?;
     compare(rt, alloc, folder, "net", texts.net)?;
@@ -251,7 +300,7 @@ pub fn open_state(
         }
     }
     Ok(Folder {
-        files: cut_off(alloc, found)?,
+        files: cut_off(alloc, found, sync)?,
         lock,
     })
 }

@@ -17,8 +17,9 @@ returns c =
     c.in_ok-arg-3.ensures.shape c.file_option.ensures.here ∙ ap₂ with_rule inputs c.file_option.ensures.rule in
     let state =
     c.in_ok-arg-4.ensures.shape c.file_option-2.ensures.here ∙ ap₂ with_rule script c.file_option-2.ensures.rule in
-    let rounds = c.in_ok-arg-5.ensures.shape c.rounds.ensures.here ∙ ap₂ with_rule state c.rounds.ensures.rule in
-    let items = c.in_ok-arg-6.ensures.shape c.number.ensures.here ∙ ap₂ with_rule rounds c.number.ensures.rule in
-    let room = c.in_ok-arg-7.ensures.shape c.room.ensures.here ∙ ap₂ with_rule items c.room.ensures.rule in
-    let plain = c.in_ok-arg-8.ensures.shape c.flag.ensures.here ∙ ap₂ with_rule room c.flag.ensures.rule in
+    let sync = c.in_ok-arg-5.ensures.shape c.flag.ensures.here ∙ ap₂ with_rule state c.flag.ensures.rule in
+    let rounds = c.in_ok-arg-6.ensures.shape c.rounds.ensures.here ∙ ap₂ with_rule sync c.rounds.ensures.rule in
+    let items = c.in_ok-arg-7.ensures.shape c.number.ensures.here ∙ ap₂ with_rule rounds c.number.ensures.rule in
+    let room = c.in_ok-arg-8.ensures.shape c.room.ensures.here ∙ ap₂ with_rule items c.room.ensures.rule in
+    let plain = c.in_ok-arg-9.ensures.shape c.flag-2.ensures.here ∙ ap₂ with_rule room c.flag-2.ensures.rule in
     c.in_ok-command.ensures.shape c.number-2.ensures.here ∙ ap₂ with_rule plain c.number-2.ensures.rule

@@ -62,10 +62,15 @@ returns-clause-asked g c =
           (one_of (codes "room") (matches_of kahnrun words)) given) some.is-3
           (subst (λ (t : Option Text). IsNumber MIN_ROOM MAX_RETAINED_ITEMS t c.in_ok-room.field-0)
           (one (codes "room")) room);
+      sync = record {
+        set = λ is_set. c.get_flag.ensures.value (one (codes "sync") ∙ is_set);
+        not_set = λ is_not. c.get_flag.ensures.other (one (codes "sync") ∙ is_not);
+        absent = λ no_text. c.get_flag.ensures.none (one (codes "sync") ∙ no_text);
+      };
       plain = record {
-        set = λ is_set. c.get_flag.ensures.value (one (codes "plain") ∙ is_set);
-        not_set = λ is_not. c.get_flag.ensures.other (one (codes "plain") ∙ is_not);
-        absent = λ no_text. c.get_flag.ensures.none (one (codes "plain") ∙ no_text);
+        set = λ is_set. c.get_flag-2.ensures.value (one (codes "plain") ∙ is_set);
+        not_set = λ is_not. c.get_flag-2.ensures.other (one (codes "plain") ∙ is_not);
+        absent = λ no_text. c.get_flag-2.ensures.none (one (codes "plain") ∙ no_text);
       };
       approx =
           subst (λ (t : Option Text). IsNumber 0 MAX_APPROXIMATION t c.in_ok-given-3.field-0) (one (codes "approx"))
