@@ -1,3 +1,5 @@
 pub mod Sends
 mod Left
 mod Nowhere
+mod Beginnings
+mod FirstLines

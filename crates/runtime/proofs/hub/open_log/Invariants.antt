@@ -3,7 +3,7 @@ use Rattle.std.specs.Vec.{vec_capacity}
 use Rattle.run_log.specs.Numbers.{no_numbers}
 use Rattle.runtime.specs.Seats.{AreOfNodes}
 use Rattle.run_log.specs.SeatCounts.{seat_numbers, seat_parts}
-use Rattle.runtime.proofs.hub.Hub.open.Given as goal
+use Rattle.runtime.proofs.hub.open_log.Given as goal
 
 abbrev pub invariant-loop-node : goal.invariant-loop-node
 invariant-loop-node g l = record {

@@ -4,7 +4,7 @@ use Rattle.std.proofs.lemmas.List.FromFn.{map-range_with_len_more}
 use Rattle.std.specs.List.{range_with_len}
 use Rattle.runtime.specs.Seats.{AreOfNodes}
 use Rattle.runtime.specs.declared.seat.NodeSeat.{NodeSeat}
-use Rattle.runtime.proofs.hub.Hub.open.Goals as goal
+use Rattle.runtime.proofs.hub.open_log.Goals as goal
 
 pub loop-node-preserved : goal.loop-node-preserved
 loop-node-preserved g c =
