@@ -17,11 +17,7 @@ use world::World;
 pub type RunWorld<O> = World<SplitCell<MemDisk>, O>;
 
 /// Where what has left is cut: at so many items, where that is asked for and each output has them.
-pub fn cut<O: Outlet>(
-    channels: &[Channel],
-    world: &RunWorld<O>,
-    items: Option<u64>,
-) -> Option<u64>
+pub fn cut<O: Outlet>(channels: &[Channel], world: &RunWorld<O>, items: Option<u64>) -> Option<u64>
     requires { length channels.now ≤ MAX_CHANNELS }
     ensures { result ≡ cut_at items
         (map (λ channel. released_of channel (world_of world.now).stations)

@@ -255,7 +255,14 @@ impl Network {
         let Ok(outputs) = outputs_in_memory(alloc, &self.net) else {
             return Err(Error::NoMemory);
         };
-        match open_world(alloc, &self.net, inputs, outputs, nodes, DEFAULT_ROOM as u64) {
+        match open_world(
+            alloc,
+            &self.net,
+            inputs,
+            outputs,
+            nodes,
+            DEFAULT_ROOM as u64,
+        ) {
             Ok(world) => Ok(world),
             Err(fault) => Err(fault.into()),
         }
