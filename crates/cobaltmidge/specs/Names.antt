@@ -1,5 +1,6 @@
 -- Inputs and outputs by their names, and the script of a run.
-use Rattle.std.specs.Prelude.{ℕ, Bool, true, false, IsTrue, List, [], Option, Some, None, Vec, Global, slice_get}
+use Rattle.std.specs.Prelude.{ℕ, Bool, true, false, IsTrue, List, [], Option, Some, None, Vec, slice_get}
+use Rattle.std.specs.declared.alloc.Global.{Global}
 use Rattle.net_check.specs.Resolution.{Reads}
 use Rattle.protocol.specs.Node.Common.{Channel, Net, Port, Outside, Process}
 use Rattle.replay.specs.declared.kept.ScriptedEvent.{ScriptedEvent}

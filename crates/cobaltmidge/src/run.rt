@@ -49,7 +49,7 @@ impl<'a> Run<'a> {
     /// A run of this network on these inputs, which are its own (`Network::inputs`; `fits` asks of others).
     pub fn new(network: &'a Network, inputs: Inputs) -> Run<'a>
         requires fitting { Fits (network_of network.now.net.value.program) inputs }
-        ensures same { (result.network ≡ network) × (result.inputs ≡ inputs) }
+        ensures same { (result.network ≡ network.entry) × (result.inputs ≡ inputs) }
         ensures script { result.script ≡ None }
     {
         Run {
@@ -62,8 +62,8 @@ impl<'a> Run<'a> {
 
     /// Lets these events happen, each once its round has come (`Network::script`).
     pub fn script(self, script: Vec<ScriptedEvent>) -> Run<'a>
-        ensures same { (result.network ≡ self.network) × (result.inputs ≡ self.inputs) }
-        ensures settings { result.settings ≡ self.settings }
+        ensures same { (result.network ≡ self.entry.network) × (result.inputs ≡ self.entry.inputs) }
+        ensures settings { result.settings ≡ self.entry.settings }
         ensures script { result.script ≡ Some script }
     {
         Run {
@@ -76,9 +76,9 @@ impl<'a> Run<'a> {
 
     /// Sets all of how it goes at once.
     pub fn settings(self, settings: Settings) -> Run<'a>
-        ensures same { (result.network ≡ self.network) × (result.inputs ≡ self.inputs) }
+        ensures same { (result.network ≡ self.entry.network) × (result.inputs ≡ self.entry.inputs) }
         ensures settings { result.settings ≡ settings }
-        ensures script { result.script ≡ self.script }
+        ensures script { result.script ≡ self.entry.script }
     {
         Run {
             network: self.network,
@@ -90,9 +90,9 @@ impl<'a> Run<'a> {
 
     /// Lets each channel retain so many items at most at first.
     pub fn room(self, room: u64) -> Run<'a>
-        ensures same { (result.network ≡ self.network) × (result.inputs ≡ self.inputs) }
-        ensures settings { result.settings ≡ record self.settings { room = room } }
-        ensures script { result.script ≡ self.script }
+        ensures same { (result.network ≡ self.entry.network) × (result.inputs ≡ self.entry.inputs) }
+        ensures settings { result.settings ≡ record (self.entry.settings) { room = room } }
+        ensures script { result.script ≡ self.entry.script }
     {
         let settings = Settings {
             room,
@@ -103,9 +103,9 @@ impl<'a> Run<'a> {
 
     /// Ends it after so many rounds, complete or not.
     pub fn rounds(self, rounds: u64) -> Run<'a>
-        ensures same { (result.network ≡ self.network) × (result.inputs ≡ self.inputs) }
-        ensures settings { result.settings ≡ record self.settings { rounds = rounds } }
-        ensures script { result.script ≡ self.script }
+        ensures same { (result.network ≡ self.entry.network) × (result.inputs ≡ self.entry.inputs) }
+        ensures settings { result.settings ≡ record (self.entry.settings) { rounds = rounds } }
+        ensures script { result.script ≡ self.entry.script }
     {
         let settings = Settings {
             rounds,
@@ -116,9 +116,9 @@ impl<'a> Run<'a> {
 
     /// Ends it where so many items of each output have left.
     pub fn items(self, items: u64) -> Run<'a>
-        ensures same { (result.network ≡ self.network) × (result.inputs ≡ self.inputs) }
-        ensures settings { result.settings ≡ record self.settings { items = Some items } }
-        ensures script { result.script ≡ self.script }
+        ensures same { (result.network ≡ self.entry.network) × (result.inputs ≡ self.entry.inputs) }
+        ensures settings { result.settings ≡ record (self.entry.settings) { items = Some items } }
+        ensures script { result.script ≡ self.entry.script }
     {
         let settings = Settings {
             items: Some(items),
@@ -129,9 +129,9 @@ impl<'a> Run<'a> {
 
     /// Gives each node a thread of its own, or lets one thread take the turns of all.
     pub fn threads(self, threads: bool) -> Run<'a>
-        ensures same { (result.network ≡ self.network) × (result.inputs ≡ self.inputs) }
-        ensures settings { result.settings ≡ record self.settings { threads = threads } }
-        ensures script { result.script ≡ self.script }
+        ensures same { (result.network ≡ self.entry.network) × (result.inputs ≡ self.entry.inputs) }
+        ensures settings { result.settings ≡ record (self.entry.settings) { threads = threads } }
+        ensures script { result.script ≡ self.entry.script }
     {
         let settings = Settings {
             threads,
@@ -148,16 +148,16 @@ impl<'a> Run<'a> {
     ) -> Result<Finished<'a, ListOutlet>, Error>
         // What has left are prefixes of the outputs' histories in one approximation, and where the run is complete whole, in the
         // least solution.
-        ensures run { IfOk result (λ finished. IsRun (network_of self.network.now.net.value.program)
-            self.inputs (released_streams (network_of self.network.now.net.value.program)
+        ensures run { IfOk result (λ finished. IsRun (network_of self.entry.network.now.net.value.program)
+            self.entry.inputs (released_streams (network_of self.entry.network.now.net.value.program)
             (world_of finished.world).stations) (are_quiet (world_of finished.world))) }
         // How the world came to its end.
-        ensures end { IfOk result (λ finished. IsEnd self.settings
-            (network_of self.network.now.net.value.program) self.inputs (script_of self.script)
+        ensures end { IfOk result (λ finished. IsEnd self.entry.settings
+            (network_of self.entry.network.now.net.value.program) self.entry.inputs (script_of self.entry.script)
             (world_of finished.world)) }
-        ensures network { IfOk result (λ finished. finished.network ≡ self.network) }
+        ensures network { IfOk result (λ finished. finished.network ≡ self.entry.network) }
         // A device failed (20), memory is missing (1), or a count would pass 2^63 - 1 (44).
-        ensures err { IfErr result (IsRunError self.settings.threads) }
+        ensures err { IfErr result (IsRunError self.entry.settings.threads) }
     {
         let Ok(outputs) = outputs_in_memory(alloc, &self.network.net) else {
             return Err(Error::NoMemory);
@@ -177,14 +177,14 @@ impl<'a> Run<'a> {
             ≡ output_channels 0 (network_of self.network.now.net.value.program).channels }
         requires unused { AllByRecursion (IsUnused O.taken) outputs.items }
         requires unfailed { AllByRecursion (HasNoFailures O.failures) outputs.items }
-        ensures run { IfOk result (λ finished. IsRun (network_of self.network.now.net.value.program)
-            self.inputs (released_streams (network_of self.network.now.net.value.program)
+        ensures run { IfOk result (λ finished. IsRun (network_of self.entry.network.now.net.value.program)
+            self.entry.inputs (released_streams (network_of self.entry.network.now.net.value.program)
             (world_of finished.world).stations) (are_quiet (world_of finished.world))) }
-        ensures end { IfOk result (λ finished. IsEnd self.settings
-            (network_of self.network.now.net.value.program) self.inputs (script_of self.script)
+        ensures end { IfOk result (λ finished. IsEnd self.entry.settings
+            (network_of self.entry.network.now.net.value.program) self.entry.inputs (script_of self.entry.script)
             (world_of finished.world)) }
-        ensures network { IfOk result (λ finished. finished.network ≡ self.network) }
-        ensures err { IfErr result (IsRunError self.settings.threads) }
+        ensures network { IfOk result (λ finished. finished.network ≡ self.entry.network) }
+        ensures err { IfErr result (IsRunError self.entry.settings.threads) }
     {
         let Run {
             network,
