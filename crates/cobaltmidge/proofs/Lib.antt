@@ -2,4 +2,4 @@ pub mod Turns
 pub mod Streams
 mod Passing
 mod Next
-mod Named
+pub mod Named

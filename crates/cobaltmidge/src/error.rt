@@ -226,10 +226,17 @@ impl From<RunFault> for Error {
     ghost from_gives = { λ fault e. e ≡ run_error fault };
 
     fn from(fault: RunFault) -> Self {
-        match fault {
-            RunFault::NoMemory => Error::NoMemory,
-            RunFault::Device | RunFault::PastNumber => Error::Run(fault),
-        }
+        run_error(fault)
+    }
+}
+
+/// What a fault of a run comes to.
+pub(crate) fn run_error(fault: RunFault) -> Error
+    ensures { result ≡ run_error fault }
+{
+    match fault {
+        RunFault::NoMemory => Error::NoMemory,
+        _ => Error::Run(fault),
     }
 }
 

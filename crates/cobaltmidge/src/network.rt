@@ -18,7 +18,7 @@ ghost use Rattle.cobaltmidge.specs.declared.error.Error.TheVariants.{NoMemory};
 
 use crate::ending::RunWorld;
 use crate::error::{
-    Error, inputs_error, inputs_text_error, net_error, net_text_error, script_error,
+    Error, inputs_error, inputs_text_error, net_error, net_text_error, run_error, script_error,
 };
 use crate::opening::open_world;
 use crate::scripting::events_of;
@@ -264,7 +264,7 @@ impl Network {
             DEFAULT_ROOM as u64,
         ) {
             Ok(world) => Ok(world),
-            Err(fault) => Err(fault.into()),
+            Err(fault) => Err(run_error(fault)),
         }
     }
 }

@@ -11,7 +11,7 @@ ghost use Rattle.cobaltmidge.specs.Names.{script_of};
 ghost use Rattle.cobaltmidge.specs.Runs.{IsEnd, IsRun, released_streams};
 ghost use Rattle.cobaltmidge.specs.Turning.{HasNoFailures};
 
-use crate::error::Error;
+use crate::error::{Error, run_error};
 use crate::finished::Finished;
 use crate::network::{Network, outputs_in_memory};
 use crate::running::run_network;
@@ -195,7 +195,7 @@ impl<'a> Run<'a> {
         let script = events_or_none(alloc, script);
         match run_network(rt, alloc, settings, &network.net, inputs, outputs, script) {
             Ok(world) => Ok(Finished { network, world }),
-            Err(fault) => Err(fault.into()),
+            Err(fault) => Err(run_error(fault)),
         }
     }
 }
