@@ -11,5 +11,5 @@ pub returns-in-Err-clause-accepted : goal.returns-in-Err-clause-accepted
 returns-in-Err-clause-accepted c =
     λ lines good. c.script_error.ensures ∙ ap script_error (c.in-Err.ensures.only lines good)
 
-pub returns-in-Err-events_of-clause-err : goal.returns-in-Err-events_of-clause-err
-returns-in-Err-events_of-clause-err c = bad_script NoMemory tt refl
+pub returns-clause-err : goal.returns-clause-err
+returns-clause-err c = bad_script NoMemory tt refl
