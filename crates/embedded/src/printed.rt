@@ -1,6 +1,6 @@
 //! A network that is run at once, by an outlet of one's own that prints each item as it leaves; and a text that is refused.
 
-ghost use Rattle.std.specs.Prelude.{◌≡◌, []};
+ghost use Rattle.std.specs.Prelude.{◌≡◌, ℕ};
 
 use cobaltmidge::{Network, Outlet, OutletFault, OutletMaker, Run, outputs_of};
 use std::alloc::AllocError;
@@ -60,7 +60,8 @@ struct Printers<'a> {
 }
 
 impl<'a> OutletMaker<Printed<'a>> for Printers<'a> {
-    ghost makes = { λ channel outlet. Unit {0} };
+    // None of them ever failed, as `Run::run_into` asks.
+    ghost makes = { λ channel outlet. (λ (failures : ℕ). failures ≡ 0) 0 };
 
     fn make(&mut self, _channel: u8) -> Result<Printed<'a>, AllocError> {
         Ok(Printed {

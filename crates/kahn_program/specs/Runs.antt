@@ -1,5 +1,5 @@
 -- The report of a run of a network.
-use Rattle.std.specs.Prelude.{◌≡◌, ◌↔◌, ℕ, Bool, true, false, IsTrue, ℤ}
+use Rattle.std.specs.Prelude.{◌≡◌, ◌↔◌, ℕ, Bool, false, IsTrue, ℤ}
 use Rattle.std.specs.Prelude.{List, Option, Some, None, IfSome, map, take}
 use Rattle.std.specs.Io.KnownBytes.{Appends}
 use Rattle.protocol.specs.Node.Common.{history_of, node_count, network_of, approximation, Net}

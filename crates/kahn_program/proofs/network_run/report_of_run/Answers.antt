@@ -1,14 +1,12 @@
-use Rattle.std.proofs.Common.{◌≡◌, ◌∙◌, inl, not, subst, sym}
+use Rattle.std.proofs.Common.{◌≡◌, ◌∙◌, inl, subst, sym}
 use Rattle.protocol.specs.Node.Common.{network_of, Net}
 use Rattle.protocol.specs.World.Common.{are_quiet}
 use Rattle.world.specs.WholeView.{world_of}
 use Rattle.cobaltmidge.specs.Failing.{IsRunFault}
 use Rattle.cobaltmidge.specs.Runs.{IsEnd, IsRun, released_streams}
 use Rattle.cobaltmidge.specs.declared.settings.Settings.{Settings}
-use Rattle.kahn_program.specs.Asked.{settings_of}
-use Rattle.kahn_program.specs.Runnable.{IsReportless, run_failure}
+use Rattle.kahn_program.specs.Runnable.{IsReportless}
 use Rattle.kahn_program.specs.Runs.{IsToldOf}
-use Rattle.kahn_program.specs.declared.failure.Failure.{Failure}
 use Rattle.kahn_program.proofs.Faults.{fault_is}
 use Rattle.kahn_program.proofs.Released.{report_is}
 use Rattle.kahn_program.proofs.network_run.report_of_run.Goals as goal
