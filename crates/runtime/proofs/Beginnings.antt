@@ -21,7 +21,10 @@ use Rattle.run_log.specs.declared.answer.TurnAnswer.TheVariants as turn
 use Rattle.run_log.specs.declared.history.Line.{Line}
 use Rattle.station.specs.ReplyView.{Reply, reply_view}
 use Rattle.run_log.specs.declared.history.Line.TheVariants as line
-use Rattle.runtime.specs.Beginning.{BeginsByDriver, begins_by_driver, is_by_driver}
+use Rattle.replay.specs.declared.kept.ScriptedEvent.{ScriptedEvent}
+use Rattle.runtime.specs.Beginning.{BeginsByDriver, HasBegun, begins_by_driver, first_lines, is_by_driver}
+use Rattle.runtime.specs.declared.ending.RunEnd.{RunEnd}
+use Rattle.runtime.specs.declared.ending.RunEnd.TheVariants.{Complete, Rounds, Items, Refused, Stopped}
 
 left : (a b : Bool) → (a && b) ≡ true → a ≡ true
 left true b both = refl
@@ -148,3 +151,12 @@ module _ {E Same : Type 0} (lines : ℕ) (before now : List Line) (writes : Bool
       either_way lines before now result (λ (reply : Reply). IsAdded writes maker event (reply_view reply) before now)
       (λ reply added. by_added lines before now begun maker event (reply_view reply)
       (subst (λ (w : Bool). IsAdded w maker event (reply_view reply) before now) writing added)) same begun done refused
+
+-- however a run ended whose history begins so
+pub begun_so : (script : List ScriptedEvent) (happened : List Happening) (end : RunEnd)
+    → BeginsByDriver (first_lines script) happened → HasBegun script happened end
+begun_so script happened Complete begun = begun
+begun_so script happened Rounds begun = begun
+begun_so script happened Items begun = begun
+begun_so script happened (Refused fault) begun = tt
+begun_so script happened Stopped begun = tt
