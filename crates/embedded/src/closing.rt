@@ -4,10 +4,8 @@ use crate::ledger::Weakness;
 use crate::own::{OwnDisk, OwnWorld, open};
 use crate::retrying::run_job;
 use anyhow::bail;
-use proc_step::Done;
-use sector_disk::{Disk, SECTOR_BYTES};
+use cobaltmidge::{Disk, Done, Event, Reply, SECTOR_BYTES};
 use std::alloc::Global;
-use world::{Event, Reply};
 
 /// How many events a world had, whether the next one was refused, and what its disk holds behind them.
 #[derive(Drop)]

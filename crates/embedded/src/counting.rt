@@ -2,7 +2,7 @@
 
 ghost use Rattle.std.specs.Prelude.{◌≡◌, IsErrOf};
 
-use sector_disk::{ArmedFault, Disk, DiskFault};
+use cobaltmidge::{ArmedFault, Disk, DiskFault};
 use std::alloc::AllocError;
 
 /// Hands each call on to a disk, and counts those that the disk made.

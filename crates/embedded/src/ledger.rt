@@ -2,7 +2,7 @@
 
 ghost use Rattle.std.specs.Prelude.{◌≡◌, [], if◌then◌else◌};
 
-use outlet::{Outlet, OutletFault};
+use cobaltmidge::{Outlet, OutletFault};
 use std::alloc::Global;
 
 /// When a ledger fails, or lacks memory: once, at the item that comes next when it has so many.

@@ -1,5 +1,5 @@
-//! Worlds in a program of one's own, which are run one after the other: one over the disk and the outlet that are there (`plain`, which is
-//! to be copied), and some over a disk and outlets of its own (`own`).
+//! Networks in a program of one's own, which are run one after the other: a world over the disk and the outlet that are there (`plain`, which
+//! is to be copied), some over a disk and outlets of its own (`own`), and a run whose items are printed as they leave (`printed`).
 #![tactic(auto)]
 
 mod closing;
@@ -7,9 +7,11 @@ mod counting;
 mod ledger;
 mod own;
 mod plain;
+mod printed;
 mod retrying;
 
 fn main(rt: HostRuntime) -> anyhow::Result<()> {
     plain::run_all(&rt)?;
-    own::run_all(&rt)
+    own::run_all(&rt)?;
+    printed::run_all(&rt, &rt)
 }

@@ -4,22 +4,18 @@
 
 ghost use Rattle.std.specs.Prelude.{◌≡◌, ◌*◌, ◌^◌, ◌<◌, IfOk, length, map};
 ghost use Rattle.std.specs.List.{AllByRecursion};
-ghost use Rattle.protocol.specs.Node.Common.{network_of, SECTOR_BYTES};
-ghost use Rattle.protocol.specs.World.Common.{output_channels};
-ghost use Rattle.world.specs.OpeningWorld.{IsUnused};
+ghost use Rattle.cobaltmidge.specs.Common.{IsUnused, SECTOR_BYTES, network_of, output_channels};
 
 use crate::closing::{closed_after, may_follow};
 use crate::counting::CountingDisk;
 use crate::ledger::{Ledger, Weakness};
 use crate::retrying::{apply, run_job};
-use net_check::{Net, bind, check};
-use net_text::{parse, parse_inputs};
-use outlet::Outlet;
-use sector_disk::MemDisk;
-use slot_cell::SplitCell;
+use cobaltmidge::{
+    Deed, Event, MemDisk, Net, Network, Outlet, Output, Reply, SplitCell, World, list_outputs,
+    node_count,
+};
 use std::alloc::{AllocError, Global};
 use std::sync::Arc;
-use world::{Deed, Event, Output, Reply, World, list_outputs, node_count};
 
 /// The sum of the items so far goes to the first output, and each item to the second.
 const NET: &str = "kahn 1; input i; output total; output same;
@@ -88,14 +84,13 @@ fn own_outputs(alloc: Global, net: &Net, weakness: Weakness) -> anyhow::Result<V
 
 /// The world before its first event.
 pub fn open(alloc: Global, weakness: Weakness) -> anyhow::Result<OwnWorld> {
-    let net = check(alloc, parse(alloc, NET)?)?;
-    anyhow::ensure!(node_count(&net) == 1, "several nodes");
-    let inputs = bind(alloc, &net, parse_inputs(alloc, "i: 1 2 3")?)?;
-    let outputs = own_outputs(alloc, &net, weakness)?;
+    let network = Network::parse(alloc, NET)?;
+    anyhow::ensure!(node_count(&network.net) == 1, "several nodes");
+    let inputs = network.inputs(alloc, "i: 1 2 3")?;
+    let outputs = own_outputs(alloc, &network.net, weakness)?;
     let disks = one_disk(alloc)?;
-    let net = Arc::new(alloc, net)?;
     let inputs = Arc::new(alloc, inputs)?;
-    match World::new(alloc, net, inputs, disks, outputs) {
+    match World::new(alloc, network.net, inputs, disks, outputs) {
         Ok(world) => Ok(world),
         Err(refused) => Err(refused.fault.into()),
     }

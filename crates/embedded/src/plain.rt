@@ -1,30 +1,17 @@
 //! Two running sums in a row, each on a node of its own, event by event. They run once undisturbed, and then again and again with a
 //! crash, of either node before each of those events: what leaves is the same each time.
 
-ghost use Rattle.std.specs.Prelude.{◌≡◌, ◌*◌, ◌^◌, ◌<◌, IfOk, length};
-ghost use Rattle.protocol.specs.Node.Common.{SECTOR_BYTES};
-
-use net_check::{bind, check};
-use net_text::{parse, parse_inputs};
-use outlet::ListOutlet;
-use proc_step::Job;
-use sector_disk::MemDisk;
-use slot_cell::SplitCell;
-use std::alloc::{AllocError, Global};
-use std::sync::Arc;
-use world::{Deed, Event, Reply, SECTORS, World, list_outputs, node_count};
+use cobaltmidge::{Deed, Event, Job, ListOutlet, Network, Reply, RunWorld};
+use std::alloc::Global;
 
 const NET: &str = "kahn 1; input i; chan c; output o;
 process first on 0 { var a; var v; loop { v = get i; a = a + v; put a to c; } }
 process second on 1 { var a; var v; loop { v = get c; a = a + v; put a to o; } }";
 
-/// The output's channel, by the order in which the network's text names its channels.
-const OUTPUT: u8 = 2;
-
 /// A run has at most so many events.
 const EVENTS: u32 = 2000;
 
-type Sums = World<SplitCell<MemDisk>, ListOutlet>;
+type Sums = RunWorld<ListOutlet>;
 
 /// A crash of a node before the run's event of this number.
 #[derive(Clone, Copy)]
@@ -40,36 +27,10 @@ struct Came {
     events: u32,
 }
 
-/// A disk in memory of so many sectors.
-fn empty_disk(alloc: Global, sectors: usize) -> Result<MemDisk, AllocError>
-    requires { SECTOR_BYTES * sectors < 2 ^ 64 }
-{
-    MemDisk::new(alloc, sectors)
-}
-
-/// A disk for each of the two nodes.
-fn two_disks(alloc: Global) -> Result<Vec<MemDisk>, AllocError>
-    ensures { IfOk result (λ disks. length disks.items ≡ 2) }
-{
-    let mut disks = Vec::with_capacity(alloc, 2)?;
-    disks.push(empty_disk(alloc, SECTORS)?)?;
-    disks.push(empty_disk(alloc, SECTORS)?)?;
-    Ok(disks)
-}
-
 /// The two sums on `1 2 3`, with nothing done yet.
-fn open(alloc: Global) -> anyhow::Result<Sums> {
-    let net = check(alloc, parse(alloc, NET)?)?;
-    anyhow::ensure!(node_count(&net) == 2, "not two nodes");
-    let inputs = bind(alloc, &net, parse_inputs(alloc, "i: 1 2 3")?)?;
-    let outputs = list_outputs(alloc, &net)?;
-    let disks = two_disks(alloc)?;
-    let net = Arc::new(alloc, net)?;
-    let inputs = Arc::new(alloc, inputs)?;
-    match World::new(alloc, net, inputs, disks, outputs) {
-        Ok(world) => Ok(world),
-        Err(refused) => Err(refused.fault.into()),
-    }
+fn open(alloc: Global, network: &Network) -> anyhow::Result<Sums> {
+    let inputs = network.inputs(alloc, "i: 1 2 3")?;
+    Ok(network.open(alloc, inputs)?)
 }
 
 /// One event. `World::apply` refuses for want of memory alone.
@@ -118,16 +79,24 @@ fn go_on(alloc: Global, world: &mut Sums, crash: Option<Crash>) -> anyhow::Resul
 }
 
 /// A run from the beginning.
-fn run(alloc: Global, crash: Option<Crash>) -> anyhow::Result<Came> {
-    let mut world = open(alloc)?;
+fn run(alloc: Global, network: &Network, crash: Option<Crash>) -> anyhow::Result<Came> {
+    let Some(output) = network.output("o") else {
+        return Err(anyhow::anyhow!("no output o"));
+    };
+    let mut world = open(alloc, network)?;
     let events = go_on(alloc, &mut world, crash)?;
-    let items = Vec::from_slice(alloc, world.released(OUTPUT))?;
+    let items = Vec::from_slice(alloc, world.released(output))?;
     Ok(Came { items, events })
 }
 
 /// Refuses where something else leaves by a run with this crash than by one without.
-fn leaves_the_same(alloc: Global, calm: &Came, crash: Crash) -> anyhow::Result<()> {
-    let came = run(alloc, Some(crash))?;
+fn leaves_the_same(
+    alloc: Global,
+    network: &Network,
+    calm: &Came,
+    crash: Crash,
+) -> anyhow::Result<()> {
+    let came = run(alloc, network, Some(crash))?;
     anyhow::ensure!(
         came.items == calm.items,
         "a crash of node {} before event {} lets something else leave",
@@ -147,11 +116,12 @@ fn print_items(rt: &HostRuntime, items: &[i64]) -> anyhow::Result<()> {
 /// The undisturbed run, and one for each crash.
 pub fn run_all(rt: &HostRuntime) -> anyhow::Result<()> {
     let alloc = rt.alloc();
-    let calm = run(alloc, None)?;
+    let network = Network::parse(alloc, NET)?;
+    let calm = run(alloc, &network, None)?;
     print_items(rt, &calm.items)?;
     for event in 0..calm.events {
         for node in 0..2 {
-            leaves_the_same(alloc, &calm, Crash { node, event })?;
+            leaves_the_same(alloc, &network, &calm, Crash { node, event })?;
         }
     }
     println!(rt; "with a crash of either node before each event: the same")?;

@@ -2,10 +2,9 @@
 
 use crate::own::OwnWorld;
 use anyhow::bail;
-use proc_step::{Done, Job};
+use cobaltmidge::{Deed, Done, Event, Job, PlainEvent, Reply};
 use std::alloc::Global;
 use std::sync::Arc;
-use world::{Deed, Event, PlainEvent, Reply};
 
 /// What is to be seen of a world from without, with no memory.
 #[derive(Clone, Copy)]

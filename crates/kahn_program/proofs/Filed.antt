@@ -5,7 +5,7 @@ use Rattle.output_file.specs.InFile.{IsInFile}
 use Rattle.output_file.specs.declared.file.LineFile.{Ghosts as FileWords}
 use Rattle.output_file.specs.declared.resumed.ResumedOutlet.{ResumedOutlet}
 use Rattle.station.specs.declared.output.Output.{Output}
-use Rattle.kahn_program.specs.Keeping.{HasNoFailures}
+use Rattle.cobaltmidge.specs.Turning.{HasNoFailures}
 use Rattle.kahn_program.specs.KeptFiles.{AreInFiles}
 
 module _ {F : Type 0} {file : FileWords F} where

@@ -1,5 +1,5 @@
 -- What the outlets of a run took is what has left.
-use Rattle.std.proofs.Common.{◌≡◌, ◌∙◌, ℕ, suc, ◌+◌, ℤ, List, [], ◌∷◌, ◌++◌, map, Some, refl, sym, ap, arith}
+use Rattle.std.proofs.Common.{◌≡◌, ◌∙◌, ℕ, suc, ◌+◌, ℤ, List, [], ◌∷◌, map, Some, refl, sym, ap, arith}
 use Rattle.std.specs.List.{All}
 use Rattle.std.specs.Prelude.{slice_get, IsPermutation}
 use Rattle.std.proofs.lemmas.List.Elements.{All-nil, All-cons, All-head, All-tail, All-append}
@@ -13,7 +13,7 @@ use Rattle.station.specs.declared.output.Output.{Output}
 use Rattle.station.specs.declared.station.Station.{Station}
 use Rattle.world.specs.Closing.{all_outputs}
 use Rattle.kahn_program.specs.Keeping.{taken_streams}
-use Rattle.kahn_program.specs.Runs.{released_streams}
+use Rattle.cobaltmidge.specs.Runs.{released_streams}
 
 -- its outlet took what has left by its channel
 abbrev HasLeft : {O : Type 0} → (O → List ℤ) → WorldView → Output O → Type 0

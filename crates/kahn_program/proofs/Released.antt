@@ -1,85 +1,28 @@
--- What a world's outlets took are the streams of a run.
+-- What a run's streams are printed as.
 use Rattle.std.proofs.Common.{◌≡◌, ◌≢◌, ◌⊎◌, inl, inr, Vec, Global, ℕ, suc, ◌+◌, ◌<◌, Bool, true, false, List, ℤ}
-use Rattle.std.proofs.Common.{[], ◌∷◌, ◌++◌, length, map, drop, get_or, Option, Some, refl, sym, ap, subst, ◌∙◌}
+use Rattle.std.proofs.Common.{[], ◌∷◌, ◌++◌, length, map, drop, get_or, Option, refl, sym, ap, subst, ◌∙◌}
 use Rattle.std.proofs.Common.{append_assoc, arith}
-use Rattle.std.specs.Prelude.{Result, Ok, Err, IfOk, IfSome, slice_get, IsTrue, if◌then◌else◌}
+use Rattle.std.specs.Prelude.{Result, Ok, Err, IfErr, IfOk, IfSome, if◌then◌else◌}
 use Rattle.std.specs.Io.KnownBytes.{Appends}
 use Rattle.std.proofs.Math.Logic.{∥∥₁_map}
 use Rattle.std.proofs.Math.Seq.{drop-cons}
-use Rattle.protocol.specs.Node.Common.{history_of, IsPrefix, Network, network_of, approximation, Channel, Port}
-use Rattle.protocol.specs.Node.Common.{Outside, Process, Net, node_count}
-use Rattle.protocol.specs.World.Common.{goes_outside, output_channels, WorldView, output_of, outputs_of}
-use Rattle.protocol.specs.World.Common.{WorldInvariant, OutputView, are_quiet, StationView, released_of}
-use Rattle.protocol_laws.specs.World.OutputLaws.{channel_there, map_at}
-use Rattle.protocol_laws.specs.World.ShownLaws.{output_shown}
-use Rattle.protocol_laws.specs.World.PrefixLaws.{released_prefix}
-use Rattle.protocol.specs.World.Quiet.{AreWhole}
-use Rattle.kahn_program.specs.Report.{one_if_output, output_count, report_text}
-use Rattle.kahn_program.specs.Readings.{IsNetOf, AreInputsOf}
-use Rattle.kahn_program.specs.Statuses.{status_of_run}
-use Rattle.kahn_program.specs.Turning.{cut_at}
+use Rattle.protocol.specs.Node.Common.{Network, network_of, Channel, Port, Outside, Process, Net, node_count}
+use Rattle.protocol.specs.World.Common.{goes_outside, output_channels, WorldView, are_quiet, released_of}
 use Rattle.fail_script.specs.declared.act.ScriptLine.{ScriptLine}
 use Rattle.replay.specs.declared.kept.ScriptedEvent.{ScriptedEvent}
-use Rattle.kahn_program.specs.Runs.{released_streams, first_items, is_whole, run_text, IsRun, IsEnd, IsReport}
+use Rattle.cobaltmidge.specs.Runs.{released_streams, IsRun, IsEnd}
+use Rattle.cobaltmidge.specs.Scripts.{scripted_of}
+use Rattle.cobaltmidge.specs.Texts.{IsNetOf, AreInputsOf}
+use Rattle.cobaltmidge.specs.Turning.{cut_at}
+use Rattle.kahn_program.specs.Asked.{settings_of}
+use Rattle.kahn_program.specs.Report.{one_if_output, output_count, report_text}
+use Rattle.kahn_program.specs.Readings.{IsReportFailure, IsRunFailure, of_report}
+use Rattle.kahn_program.specs.Runs.{first_items, is_whole, run_text, IsReport}
 use Rattle.kahn_program.specs.Runs.{IsReportOf, IsReported, IsScriptedReport, IsToldOf, HasWritten}
-use Rattle.kahn_program.specs.Scripts.{AreLinesOf, scripted_of}
+use Rattle.kahn_program.specs.Scripts.{AreLinesOf}
+use Rattle.kahn_program.specs.Statuses.{status_of_run}
 use Rattle.kahn_program.specs.declared.asked.Options.{Options}
 use Rattle.kahn_program.specs.declared.failure.Failure.{Failure}
-use Rattle.std.specs.Prelude.{IfErr}
-use Rattle.kahn_program.specs.Readings.{IsReportFailure, IsRunFailure, of_report}
-
--- The streams of a world, each of which the station of its producer's node has
-
-module _ (world : WorldView) (inv : WorldInvariant world) where
-  same_items : (j c : ℕ) (items : List ℤ) → slice_get (output_channels 0 world.net.channels) j ≡ Some c
-      → slice_get (released_streams world.net world.stations) j ≡ Some items → items ≡ released_of c world.stations
-  same_items j c items is there =
-      let at : Some items ≡ Some (released_of c world.stations) =
-      sym there
-      ∙ map_at (λ (channel : ℕ). released_of channel world.stations) (output_channels 0 world.net.channels) j c
-      is in
-      cc
-
-  -- each is of an output of a station
-  streams_are : (P : List ℤ → ℕ → Type 0)
-      → ((i : ℕ) (station : StationView) → slice_get world.stations i ≡ Some station → (j : ℕ) (output : OutputView)
-      → slice_get (outputs_of station.outlets) j ≡ Some output → P output.taken output.channel)
-      → (j c : ℕ) (items : List ℤ) → slice_get (output_channels 0 world.net.channels) j ≡ Some c
-      → slice_get (released_streams world.net world.stations) j ≡ Some items → P items c
-  streams_are P all j c items is there =
-      let entry = channel_there 0 world.net.channels j c is in
-      let sum : c ≡ entry.0 = (let place = entry.2 in omega (arith, place)) in
-      let shown = output_shown world inv c entry.1 (ap (slice_get world.net.channels) sum ∙ entry.3) entry.4 in
-      let one = shown.at.shown in
-      subst (λ (list : List ℤ). P list c) (sym (same_items j c items is there ∙ one.shows))
-      (subst (P one.outlet.taken) one.channel
-      (all shown.home shown.at.station shown.at.here one.place (output_of one.outlet)
-      (map_at output_of shown.at.station.outlets one.place one.outlet one.there)))
-
-length_map : (f : ℕ → List ℤ) (cs : List ℕ) → length (map f cs) ≡ length cs
-length_map f [] = refl
-length_map f (c ∷ cs) = ap suc (length_map f cs)
-
--- what has left a world are the streams of a run
-world_run : (world : WorldView) (complete : Bool) → WorldInvariant world → (IsTrue complete → AreWhole world)
-    → IsRun world.net world.inputs (released_streams world.net world.stations) complete
-world_run world complete inv whole = record {
-  count = length_map (λ (channel : ℕ). released_of channel world.stations) (output_channels 0 world.net.channels);
-  prefix =
-      ∥∥₁_map (released_prefix world inv)
-      (λ a. (
-        a.0,
-        streams_are world inv
-            (λ items c. IsPrefix items (history_of (approximation world.net world.inputs a.0) c)) a.1,
-      ));
-  whole = λ done. ∥∥₁_map (whole done)
-      (λ a. (
-        a.0,
-        a.1,
-        streams_are world inv
-            (λ items c. items ≡ history_of (approximation world.net world.inputs a.0) c) a.2,
-      ));
-}
 
 -- Streams in order of the channels
 
@@ -102,15 +45,6 @@ streams_next f channels k d before now whole within so_far added =
     ∙ (ap (λ (list : List (List ℤ)). before ++ list) (one_listed f (goes_outside (get_or channels k d).consumer) k rest)
     ∙ (ap (λ (list : List Channel). before ++ map f (output_channels k list)) (sym (drop-cons channels k d within))
     ∙ so_far))))
-
--- the same of a world that is of this network and these inputs
-pub run_of : (world : WorldView) (net : Network) (inputs : List (List ℤ)) (complete : Bool) → world.net ≡ net
-    → world.inputs ≡ inputs → WorldInvariant world → (IsTrue complete → AreWhole world)
-    → IsRun net inputs (released_streams net world.stations) complete
-run_of world net inputs complete same_net same_inputs inv whole =
-    subst (λ (n : Network). IsRun n inputs (released_streams n world.stations) complete) same_net
-    (subst (λ (i : List (List ℤ)). IsRun world.net i (released_streams world.net world.stations) complete) same_inputs
-    (world_run world complete inv whole))
 
 -- as many streams as outputs
 pub counted_streams : (f : ℕ → List ℤ) (number : ℕ) (channels : List Channel)
@@ -162,23 +96,20 @@ reported net given items cut streams now text complete told channels where_cut l
     )
 
 -- the report of a run's last world
-pub report_is : (kept : List (List ℤ) → Type 0) (options : Options) (net : Net) (inputs : List (List ℤ)) (script : List ScriptedEvent)
-    (first now : WorldView) (text : List ℕ) (told complete : Bool) → first.net ≡ network_of net.program
-    → first.inputs ≡ inputs
-    → ∥ (now.net ≡ first.net) × (now.inputs ≡ first.inputs) ∥₁ → WorldInvariant now
-    → complete ≡ are_quiet now → (IsTrue complete → AreWhole now)
-    → IsEnd options.plain options (network_of net.program) inputs script now
+pub report_is : (kept : List (List ℤ) → Type 0) (options : Options) (net : Net) (inputs : List (List ℤ))
+    (script : List ScriptedEvent) (now : WorldView) (text : List ℕ) (told : Bool)
+    → ∥ (now.net ≡ network_of net.program) × (now.inputs ≡ inputs) ∥₁
+    → IsEnd (settings_of options) (network_of net.program) inputs script now
+    → IsRun (network_of net.program) inputs (released_streams (network_of net.program) now.stations) (are_quiet now)
     → IsToldOf net options.items now text told → kept (released_streams now.net now.stations)
     → IsReport kept options net inputs script text told
-report_is kept options net inputs script first now text told complete same_net same_inputs same inv quiet whole end told_of
-    has =
+report_is kept options net inputs script now text told same end run told_of has =
     ∥∥₁_map same (λ s. (
       now,
       end,
-      subst (IsRun (network_of net.program) inputs (released_streams (network_of net.program) now.stations)) quiet
-          (run_of now (network_of net.program) inputs complete (s.0 ∙ same_net) (s.1 ∙ same_inputs) inv whole),
+      run,
       told_of,
-      subst (λ (n : Network). kept (released_streams n now.stations)) (s.0 ∙ same_net) has,
+      subst (λ (n : Network). kept (released_streams n now.stations)) s.0 has,
     ))
 
 -- The report that is asked for, of the texts of three readers

@@ -1,13 +1,9 @@
 -- Where the items of a run's outputs go, beside its report.
-use Rattle.std.specs.Prelude.{◌≡◌, ℕ, ℤ, Bool, true, List, map}
+use Rattle.std.specs.Prelude.{◌≡◌, ℤ, Bool, true, List, map}
 use Rattle.station.specs.declared.output.Output.{Output}
 use Rattle.kahn_program.specs.declared.failure.Failure.{Failure}
 use Rattle.kahn_program.specs.declared.failure.Failure.TheVariants.{Line, Whole, NotText, Unreadable, Approximation}
 use Rattle.kahn_program.specs.declared.failure.Failure.TheVariants.{NoMemory, State, InUse, Other}
-
--- its outlet never failed
-abbrev pub HasNoFailures : {O : Type 0} → (O → ℕ) → Output O → Type 0
-HasNoFailures failures output = failures output.outlet ≡ 0
 
 -- what the outlets of these outputs took
 abbrev pub taken_streams : {O : Type 0} → (O → List ℤ) → List (Output O) → List (List ℤ)

@@ -1,3 +1,4 @@
+pub mod Asked
 pub mod CommandLine
 pub mod Failures
 pub mod Keeping
@@ -7,6 +8,4 @@ pub mod Readings
 pub mod Report
 pub mod Statuses
 pub mod Runs
-pub mod Turning
-pub mod Resting
 pub mod Scripts

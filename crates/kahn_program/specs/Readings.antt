@@ -5,18 +5,17 @@ use Rattle.net_text.specs.Faults as text
 use Rattle.net_text.specs.Grammar.{IsTextOf}
 use Rattle.net_text.specs.InputLines.{IsInputsText, IsInputsFault}
 use Rattle.net_text.specs.Texts.{IsParseFault}
-use Rattle.net_text.specs.Names.{NameTree}
 use Rattle.net_text.specs.Trees.{DeclarationTree, InputTree}
 use Rattle.net_text.specs.declared.fault.TextFault.{TextFault}
-use Rattle.net_check.specs.Binding.{Binds, HasInputFault}
+use Rattle.net_check.specs.Binding.{HasInputFault}
 use Rattle.net_check.specs.NetFaults.{HasFault}
-use Rattle.net_check.specs.Resolution.{Resolves}
-use Rattle.protocol.specs.Node.Common.{Network, network_of, IsValid, Net, node_count}
+use Rattle.protocol.specs.Node.Common.{Network, network_of, Net, node_count}
 use Rattle.net_check.specs.declared.fault.NetFault.{NetFault}
 use Rattle.net_check.specs.declared.fault.NetFault.TheVariants as fault
 use Rattle.fail_script.specs.Faults as script
 use Rattle.fail_script.specs.Lines.{IsScriptFault}
 use Rattle.fail_script.specs.declared.fault.ScriptFault.{ScriptFault}
+use Rattle.cobaltmidge.specs.Texts.{IsNetOf, AreInputsOf}
 use Rattle.kahn_program.specs.declared.failure.Failure.{Failure}
 use Rattle.kahn_program.specs.declared.failure.Failure.TheVariants.{Line, Whole, NotText, Unreadable, Approximation}
 use Rattle.kahn_program.specs.declared.failure.Failure.TheVariants.{NoMemory, State, InUse, Other}
@@ -25,35 +24,6 @@ use Rattle.kahn_program.specs.Runnable.{IsApproximationFailure, IsReportless}
 use Rattle.kahn_program.specs.declared.asked.Options.{Options}
 use Rattle.kahn_program.specs.declared.failure.Source.{Source}
 use Rattle.kahn_program.specs.declared.failure.Source.TheVariants as source
-
--- the network that this text describes
-pub record IsNetOf (bytes : List ℕ) (net : Net) : Type 0 where
-  pub tree : List DeclarationTree
-  pub text : IsTextOf tree bytes
-  pub resolved : Resolves tree net.channel_names.items net.process_names.items (network_of net.program)
-
--- the items that this text gives the network's inputs
-pub record AreInputsOf (bytes : List ℕ) (net : Net) (inputs : List (List ℤ)) : Type 0 where
-  pub lines : List InputTree
-  pub text : IsInputsText bytes lines
-  pub bound : Binds net.channel_names.items (network_of net.program) lines inputs
-
--- this text describes a valid network
-pub record IsTextOfNet (bytes : List ℕ) : Type 0 where
-  pub tree : List DeclarationTree
-  pub channels : List NameTree
-  pub processes : List NameTree
-  pub network : Network
-  pub text : IsTextOf tree bytes
-  pub resolved : Resolves tree channels processes network
-  pub valid : IsValid network
-
--- this text gives the network's inputs their items
-pub record IsTextOfInputs (net : Net) (bytes : List ℕ) : Type 0 where
-  pub lines : List InputTree
-  pub lists : List (List ℤ)
-  pub text : IsInputsText bytes lines
-  pub bound : Binds net.channel_names.items (network_of net.program) lines lists
 
 -- a fault with a line is named with it; without one it is want of memory
 abbrev pub at_line : Source → ℕ → Option ℕ → Failure → Failure

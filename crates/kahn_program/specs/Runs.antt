@@ -1,45 +1,20 @@
--- What a run of a network releases, and its report.
-use Rattle.std.specs.Prelude.{◌≡◌, ◌↔◌, ℕ, Bool, true, false, IsTrue, ℤ}
-use Rattle.std.specs.Prelude.{List, Option, Some, None, IfSome, length, map, take, slice_get}
+-- The report of a run of a network.
+use Rattle.std.specs.Prelude.{◌≡◌, ◌↔◌, ℕ, Bool, false, IsTrue, ℤ}
+use Rattle.std.specs.Prelude.{List, Option, Some, None, IfSome, map, take}
 use Rattle.std.specs.Io.KnownBytes.{Appends}
-use Rattle.protocol.specs.Node.Common.{history_of, IsPrefix, node_count, Network, network_of, approximation, Net}
-use Rattle.kahn_net.specs.Common.{IsReached}
+use Rattle.protocol.specs.Node.Common.{history_of, node_count, network_of, approximation, Net}
 use Rattle.kahn_net.specs.Approximations.{IsSolution}
-use Rattle.protocol.specs.World.Common.{output_channels, are_quiet, released_of, StationView, WorldView}
-use Rattle.kahn_program.specs.Readings.{IsNetOf, AreInputsOf}
-use Rattle.kahn_program.specs.Report.{report_text}
+use Rattle.protocol.specs.World.Common.{output_channels, are_quiet, WorldView}
+use Rattle.cobaltmidge.specs.Runs.{IsEnd, IsRun, released_streams}
+use Rattle.cobaltmidge.specs.Scripts.{scripted_of}
+use Rattle.cobaltmidge.specs.Texts.{IsNetOf, AreInputsOf}
+use Rattle.cobaltmidge.specs.Turning.{cut_at}
 use Rattle.fail_script.specs.declared.act.ScriptLine.{ScriptLine}
-use Rattle.run_log.specs.Happened.{HasRun}
 use Rattle.replay.specs.declared.kept.ScriptedEvent.{ScriptedEvent}
-use Rattle.kahn_program.specs.Scripts.{AreLinesOf, scripted_of}
-use Rattle.kahn_program.specs.Turning.{IsRunByTurns, cut_at, first_world, is_over, run_rooms}
+use Rattle.kahn_program.specs.Asked.{settings_of}
+use Rattle.kahn_program.specs.Report.{report_text}
+use Rattle.kahn_program.specs.Scripts.{AreLinesOf}
 use Rattle.kahn_program.specs.declared.asked.Options.{Options}
-
--- what the stations' outlets took, for each of a network's outputs in order
-abbrev pub released_streams : Network → List StationView → List (List ℤ)
-released_streams net stations = map (λ (channel : ℕ). released_of channel stations) (output_channels 0 net.channels)
-
--- each stream is a prefix of its output's history in the n-th approximation
-abbrev pub AreWithin : Network → List (List ℤ) → List (List ℤ) → ℕ → Type 0
-AreWithin net inputs streams n =
-    (j channel : ℕ) (items : List ℤ) → slice_get (output_channels 0 net.channels) j ≡ Some channel
-    → slice_get streams j ≡ Some items
-    → IsPrefix items (history_of (approximation net inputs n) channel)
-
--- each stream is its output's whole history there
-abbrev pub AreAll : Network → List (List ℤ) → List (List ℤ) → ℕ → Type 0
-AreAll net inputs streams n =
-    (j channel : ℕ) (items : List ℤ) → slice_get (output_channels 0 net.channels) j ≡ Some channel
-    → slice_get streams j ≡ Some items
-    → items ≡ history_of (approximation net inputs n) channel
-
--- A run's streams, one for each output in order: prefixes of the histories in one approximation on these inputs; and
--- where the run is complete, whole in one with which the approximations come to rest, which is the network's least
--- solution.
-pub record IsRun (net : Network) (inputs streams : List (List ℤ)) (complete : Bool) : Type 0 where
-  pub count : length streams ≡ length (output_channels 0 net.channels)
-  pub prefix : ∥ ((n : ℕ) × AreWithin net inputs streams n) ∥₁
-  pub whole : IsTrue complete → ∥ ((n : ℕ) × IsReached net inputs n × AreAll net inputs streams n) ∥₁
 
 -- what is printed of a stream, and whether the run is told to be complete: a run whose streams are cut isn't
 abbrev pub first_items : Option ℕ → List ℤ → List ℤ
@@ -56,23 +31,6 @@ run_text net cut released complete =
     report_text net.program.channels.items net.channel_names.items (map (first_items cut) released)
     (is_whole cut complete)
 
--- the world at the end of a run by turns
-abbrev pub IsLast : Options → Network → List (List ℤ) → List ScriptedEvent → WorldView → Type 0
-IsLast options net inputs script now =
-    IsRunByTurns (is_over (output_channels 0 net.channels) options.rounds options.items) (node_count net) script
-    (first_world net inputs options.room) now
-
--- The world at the end of a run by threads: a history, which isn't kept, leads to it, each event of which is one that was next for its node, a
--- turn that came back to its node, or the event of the script's next line.
-abbrev pub IsReplayed : Options → Network → List (List ℤ) → List ScriptedEvent → WorldView → Type 0
-IsReplayed options net inputs script now =
-    HasRun (run_rooms (first_world net inputs options.room).stations) script (first_world net inputs options.room) now
-
--- by turns where they are asked for
-abbrev pub IsEnd : Bool → Options → Network → List (List ℤ) → List ScriptedEvent → WorldView → Type 0
-IsEnd true options net inputs script now = IsLast options net inputs script now
-IsEnd false options net inputs script now = IsReplayed options net inputs script now
-
 -- this is told of a world, cut at so many items where each output has them
 abbrev pub IsToldOf : Net → Option ℕ → WorldView → List ℕ → Bool → Type 0
 IsToldOf net items now text told =
@@ -85,7 +43,7 @@ IsToldOf net items now text told =
 -- each has them, the first ones of each are printed, and the run is partial.
 abbrev pub IsReport : (List (List ℤ) → Type 0) → Options → Net → List (List ℤ) → List ScriptedEvent → List ℕ → Bool → Type 0
 IsReport kept options net inputs script text told =
-    ∥ ((now : WorldView) × IsEnd options.plain options (network_of net.program) inputs script now
+    ∥ ((now : WorldView) × IsEnd (settings_of options) (network_of net.program) inputs script now
     × IsRun (network_of net.program) inputs (released_streams (network_of net.program) now.stations) (are_quiet now)
     × IsToldOf net options.items now text told
     × kept (released_streams (network_of net.program) now.stations)) ∥₁

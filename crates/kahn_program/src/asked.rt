@@ -2,14 +2,14 @@
 
 ghost use Rattle.std.specs.Prelude.{◌≡◌, None, false};
 ghost use Rattle.protocol.specs.declared.limits.TheConstants.{DEFAULT_ROOM};
+ghost use Rattle.cobaltmidge.specs.declared.settings.TheConstants.{DEFAULT_ROUNDS};
+ghost use Rattle.kahn_program.specs.Asked.{settings_of};
 
+use cobaltmidge::{DEFAULT_ROUNDS, Settings};
 use world::DEFAULT_ROOM;
 
 /// The most rounds of a run that may be asked for.
 pub const MAX_ROUNDS: u64 = 1_000_000;
-
-/// The rounds of a run for which the command line names no number.
-pub const DEFAULT_ROUNDS: u64 = 1_000;
 
 /// The most items of each output that may be asked for.
 pub const MAX_ITEMS: u64 = 1_000_000;
@@ -63,6 +63,18 @@ impl Options {
             room: DEFAULT_ROOM as u64,
             plain: false,
             approx: None,
+        }
+    }
+
+    /// How a run goes by them.
+    pub(crate) fn settings(&self) -> Settings
+        ensures { result ≡ settings_of self.now }
+    {
+        Settings {
+            rounds: self.rounds,
+            items: self.items,
+            room: self.room,
+            threads: !self.plain,
         }
     }
 }

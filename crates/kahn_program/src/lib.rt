@@ -3,7 +3,6 @@
 
 mod approximating;
 mod asked;
-mod ending;
 mod failure;
 mod keeper;
 mod kept_files;
@@ -11,13 +10,11 @@ mod network_run;
 mod printing;
 mod reading;
 mod reporting;
-mod resting;
 mod running;
-mod scripting;
-mod turning;
 mod words;
 
-pub use asked::{DEFAULT_ROUNDS, MAX_APPROXIMATION, MAX_ITEMS, MAX_ROUNDS, Options};
+pub use asked::{MAX_APPROXIMATION, MAX_ITEMS, MAX_ROUNDS, Options};
+pub use cobaltmidge::DEFAULT_ROUNDS;
 pub use failure::{Failure, Source};
 pub use keeper::{InMemory, Keeper};
 pub use kept_files::{FILE_FAILED, FileKeeper, HeldFile, ITEM_DIFFERS, OTHER_STATE};

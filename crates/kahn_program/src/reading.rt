@@ -2,7 +2,8 @@
 
 ghost use Rattle.std.specs.Prelude.{◌≡◌, ℕ, Err, Option, IfErr, IfOk, IfSome, IsNone, IsOkUnless, IsUtf8, List, Some, option_and_then, string_bytes};
 ghost use Rattle.protocol.specs.Node.Common.{Fits, network_of};
-ghost use Rattle.kahn_program.specs.Readings.{AreInputsOf, IsInputsFailure, IsInputsTextFailure, IsNetFailure, IsNetOf, IsNetTextFailure, IsOutside, IsReadFailure, IsTextOfInputs, IsTextOfNet, net_failure_of, text_failure_of};
+ghost use Rattle.cobaltmidge.specs.Texts.{AreInputsOf, IsNetOf, IsTextOfInputs, IsTextOfNet};
+ghost use Rattle.kahn_program.specs.Readings.{IsInputsFailure, IsInputsTextFailure, IsNetFailure, IsNetTextFailure, IsOutside, IsReadFailure, net_failure_of, text_failure_of};
 ghost use Rattle.fail_script.specs.Lines.{IsScript};
 ghost use Rattle.fail_script.specs.declared.act.ScriptLine.{ScriptLine as LineValue};
 ghost use Rattle.kahn_program.specs.Readings.{IsScriptFailure, IsScriptTextFailure, script_failure_of};

@@ -14,7 +14,7 @@ use crate::keeper::Keeper;
 use crate::network_run::report_of_run;
 use crate::printing::{print_failure, print_report};
 use crate::reading::{read_inputs, read_net, read_script};
-use crate::scripting::events_of;
+use cobaltmidge::events_of;
 use fail_script::{Script, ScriptLine};
 use net_check::{Inputs, Net};
 use outlet::Outlet;

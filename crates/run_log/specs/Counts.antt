@@ -1,5 +1,6 @@
 -- The numbers of a history.
-use Rattle.std.specs.Prelude.{◌≡◌, ◌⊎◌, ℕ, List, [], ◌∷◌, ◌++◌, sum_by}
+use Rattle.std.specs.Prelude.{◌≡◌, ◌≤◌, ◌⊎◌, ℕ, List, [], ◌∷◌, ◌++◌, Some, slice_get, sum_by}
+use Rattle.kahn_net.specs.declared.limits.TheConstants.{MAX_COUNT}
 use Rattle.replay.specs.Replay as happening
 use Rattle.replay.specs.declared.kept.Silence.{Silence}
 use Rattle.replay.specs.declared.kept.Silence.TheVariants.{Nothing, NotYet, NoMore}
@@ -54,3 +55,11 @@ numbers_in lines stops =
 pub record IsCounted (reason : Silence) (before now : List Line) : Type 0 where
   pub lines : (happenings now ≡ happenings before) ⊎ (happenings now ≡ happenings before ++ happening.Silent reason ∷ [])
   pub counts : (stops : ℕ) → numbers_in now stops ≡ number.counted (kind_of reason) (numbers_in before stops)
+
+-- it was said as often as can be counted that no event was made
+pub record HasFullLine (lines : List Line) : Type 0 where
+  pub place : ℕ
+  pub reason : Silence
+  pub count : ℕ
+  pub said : slice_get lines place ≡ Some (Silent reason count)
+  pub full : MAX_COUNT ≤ count

@@ -1,9 +1,10 @@
 // Answers without an event, counted between the events.
-ghost use Rattle.std.specs.Prelude.{◌≡◌, ◌⊎◌, ◌++◌, ◌∷◌, [], ◌<◌, ◌+◌, ◌-◌, ℕ, true, IfSome, OnErr, OnOk};
+ghost use Rattle.std.specs.Prelude.{◌≡◌, ◌⊎◌, ◌++◌, ◌∷◌, [], ◌<◌, ◌+◌, ◌-◌, ℕ, true, IfErr, IfSome, OnErr, OnOk};
 ghost use Rattle.replay.specs.Replay as happening;
-ghost use Rattle.run_log.specs.Counts.{kind_of, numbers_in, IsCounted};
+ghost use Rattle.run_log.specs.Counts.{kind_of, numbers_in, HasFullLine, IsCounted};
 ghost use Rattle.run_log.specs.Lines.{IsSaidAt, IsWidened, happenings};
 ghost use Rattle.run_log.specs.Numbers.{counted};
+ghost use Rattle.run_log.specs.declared.answer.HubFault.TheVariants.{NoMemory, PastNumber};
 
 use crate::answer::HubFault;
 use crate::history::Line;
@@ -36,6 +37,7 @@ fn raise(lines: &mut Vec<Line>, place: usize, reason: Silence) -> Result<(), Hub
     ensures counts { OnOk result ((stops : ℕ) → numbers_in lines.new.items stops
         ≡ counted (kind_of reason) (numbers_in lines.old.items stops)) }
     ensures refused { OnErr result (lines.new.items ≡ lines.old.items) }
+    ensures full { IfErr result (λ fault. fault ≡ PastNumber → HasFullLine lines.old.items) }
 {
     match &mut lines[place] {
         Line::Made { .. } | Line::Widened => Ok(()),
@@ -57,6 +59,7 @@ fn add_silence(lines: &mut Vec<Line>, reason: Silence) -> Result<(), HubFault>
     ensures counts { OnOk result ((stops : ℕ) → numbers_in lines.new.items stops
         ≡ counted (kind_of reason) (numbers_in lines.old.items stops)) }
     ensures refused { OnErr result (lines.new.items ≡ lines.old.items) }
+    ensures full { IfErr result (λ fault. fault ≡ PastNumber → HasFullLine lines.old.items) }
 {
     if let Some(place) = find_silence(lines, reason) {
         return raise(lines, place, reason);
@@ -71,6 +74,7 @@ fn add_silence(lines: &mut Vec<Line>, reason: Silence) -> Result<(), HubFault>
 fn add_widened(lines: &mut Vec<Line>) -> Result<(), HubFault>
     ensures added { OnOk result (IsWidened lines.old.items lines.new.items) }
     ensures refused { OnErr result (lines.new.items ≡ lines.old.items) }
+    ensures no_memory { IfErr result (λ fault. fault ≡ NoMemory) }
 {
     if lines.push(Line::Widened).is_err() {
         return Err(HubFault::NoMemory);
@@ -86,6 +90,7 @@ pub(crate) fn write_silence(
 ) -> Result<(), HubFault>
     ensures counted { OnOk result (keeps ≡ true → IsCounted reason lines.old.items lines.new.items) }
     ensures refused { OnErr result (lines.new.items ≡ lines.old.items) }
+    ensures full { IfErr result (λ fault. fault ≡ PastNumber → HasFullLine lines.old.items) }
 {
     if keeps {
         add_silence(lines, reason)?;
@@ -97,6 +102,7 @@ pub(crate) fn write_silence(
 pub(crate) fn write_widened(lines: &mut Vec<Line>, keeps: bool) -> Result<(), HubFault>
     ensures added { OnOk result (keeps ≡ true → IsWidened lines.old.items lines.new.items) }
     ensures refused { OnErr result (lines.new.items ≡ lines.old.items) }
+    ensures no_memory { IfErr result (λ fault. fault ≡ NoMemory) }
 {
     if keeps {
         add_widened(lines)?;

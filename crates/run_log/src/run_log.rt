@@ -1,5 +1,5 @@
 // The log of a run, with the world to which it leads.
-ghost use Rattle.std.specs.Prelude.{◌≡◌, ◌||◌, ◌<◌, true, false, length, IfErr, IfOk, IsTrue, OnErr, OnOk};
+ghost use Rattle.std.specs.Prelude.{◌≡◌, ◌||◌, ◌<◌, [], true, false, length, IfErr, IfOk, IsTrue, OnErr, OnOk};
 ghost use Rattle.protocol.specs.World.Common.{event_node, Install, are_quiet, stands_still, IsGrantedAt};
 ghost use Rattle.replay.specs.Armed.{OfWorld, armed_at_first};
 ghost use Rattle.replay.specs.Plain.{run_view};
@@ -12,6 +12,7 @@ ghost use Rattle.run_log.specs.Counts.{kind_of, numbers_in, IsCounted};
 ghost use Rattle.run_log.specs.Added.{IsAdded};
 ghost use Rattle.run_log.specs.Lines.{IsWidened, happenings};
 ghost use Rattle.run_log.specs.declared.answer.FaultAnswer.TheVariants as faults;
+ghost use Rattle.run_log.specs.declared.answer.HubFault.TheVariants.{PastNumber};
 ghost use Rattle.run_log.specs.declared.answer.TurnAnswer.TheVariants as turns;
 ghost use Rattle.run_log.specs.Numbers.{counted, no_numbers};
 ghost use Rattle.run_log.specs.SeatCounts.{run_numbers, seat_numbers, seat_parts};
@@ -108,7 +109,7 @@ fn has_idled<C: SlotCell, O: Outlet>(world: &World<C, O>, node: u8) -> bool
 }
 
 impl<C: SlotCell, O: Outlet, ThisRun: Run> RunLog<C, O, ThisRun> {
-    ghost use Rattle.run_log.specs.RunLogs.{IsSameLog};
+    ghost use Rattle.run_log.specs.RunLogs.{IsFull, IsSameLog};
 
     /// A log in which nothing is written yet, and later only where it keeps what happens.
     pub fn new(
@@ -123,6 +124,7 @@ impl<C: SlotCell, O: Outlet, ThisRun: Run> RunLog<C, O, ThisRun> {
         requires script { script.items ≡ ThisRun.script }
         requires totals { run_numbers totals ≡ no_numbers }
         requires keeps { keeps ≡ ThisRun.keeps }
+        ensures none { result.lines.items ≡ [] }
     {
         RunLog {
             armed,
@@ -159,6 +161,7 @@ impl<C: SlotCell, O: Outlet, ThisRun: Run> RunLog<C, O, ThisRun> {
             (reply_view reply) ∥₁) }
         ensures refused { OnErr result (seat_numbers count.new ≡ seat_numbers count.old) }
         ensures unchanged { OnErr result (IsSameLog self.old self.new) }
+        ensures full { IfErr result (λ held. held.fault ≡ PastNumber → IsFull self.old) }
         ensures handed_back { IfErr result (λ held. held.event ≡ event) }
     {
         if self.totals.made() >= MAX_COUNT {
@@ -209,6 +212,7 @@ impl<C: SlotCell, O: Outlet, ThisRun: Run> RunLog<C, O, ThisRun> {
             (reply_view reply) ∥₁) }
         ensures refused { OnErr result (seat_numbers count.new ≡ seat_numbers count.old) }
         ensures unchanged { OnErr result (IsSameLog self.old self.new) }
+        ensures full { IfErr result (λ fault. fault ≡ PastNumber → IsFull self.old) }
     {
         if self.totals.made() >= MAX_COUNT {
             return Err(HubFault::PastNumber);
@@ -242,6 +246,7 @@ impl<C: SlotCell, O: Outlet, ThisRun: Run> RunLog<C, O, ThisRun> {
         ensures told { OnOk result (∥ IsStillIn ThisRun.rooms ThisRun.script ThisRun.opening ∥₁) }
         ensures refused { OnErr result (seat_numbers count.new ≡ seat_numbers count.old) }
         ensures unchanged { OnErr result (IsSameLog self.old self.new) }
+        ensures full { IfErr result (λ fault. fault ≡ PastNumber → IsFull self.old) }
     {
         if self.totals.made() >= MAX_COUNT {
             return Err(HubFault::PastNumber);
@@ -273,6 +278,7 @@ impl<C: SlotCell, O: Outlet, ThisRun: Run> RunLog<C, O, ThisRun> {
         ensures told { OnOk result (∥ IsSilentIn ThisRun.rooms ThisRun.script ThisRun.opening reason ∥₁) }
         ensures refused { OnErr result (seat_numbers count.new ≡ seat_numbers count.old) }
         ensures unchanged { OnErr result (IsSameLog self.old self.new) }
+        ensures full { IfErr result (λ fault. fault ≡ PastNumber → IsFull self.old) }
     {
         let RunLog {
             lines,
@@ -295,6 +301,7 @@ impl<C: SlotCell, O: Outlet, ThisRun: Run> RunLog<C, O, ThisRun> {
         ensures same { self.new.lines.items ≡ self.old.lines.items }
         ensures refused { OnErr result (seat_numbers count.new ≡ seat_numbers count.old) }
         ensures unchanged { OnErr result (IsSameLog self.old self.new) }
+        ensures full { IfErr result (λ fault. fault ≡ PastNumber → IsFull self.old) }
     {
         if self.stops >= MAX_COUNT {
             return Err(HubFault::PastNumber);
@@ -336,6 +343,7 @@ impl<C: SlotCell, O: Outlet, ThisRun: Run> RunLog<C, O, ThisRun> {
             → IfOk result (λ answer. answer ≡ turns.Stopped) }
         ensures refused { OnErr result (seat_numbers count.new ≡ seat_numbers count.old) }
         ensures unchanged { OnErr result (IsSameLog self.old self.new) }
+        ensures full { IfErr result (λ fault. fault ≡ PastNumber → IsFull self.old) }
     {
         if self.stopped {
             self.be_stopped(count)?;
@@ -379,6 +387,7 @@ impl<C: SlotCell, O: Outlet, ThisRun: Run> RunLog<C, O, ThisRun> {
             (seat_numbers count.new ≡ counted kind.Entry (seat_numbers count.old)) }
         ensures refused { OnErr result (seat_numbers count.new ≡ seat_numbers count.old) }
         ensures unchanged { OnErr result (IsSameLog self.old self.new) }
+        ensures full { IfErr result (λ held. held.fault ≡ PastNumber → IsFull self.old) }
         ensures handed_back { IfErr result (λ held. held.event ≡ event.Install done) }
     {
         self.make(alloc, node, Event::Install(done), count)
@@ -401,6 +410,7 @@ impl<C: SlotCell, O: Outlet, ThisRun: Run> RunLog<C, O, ThisRun> {
             → IfOk result (λ answer. answer ≡ faults.Stopped) }
         ensures refused { OnErr result (seat_numbers count.new ≡ seat_numbers count.old) }
         ensures unchanged { OnErr result (IsSameLog self.old self.new) }
+        ensures full { IfErr result (λ fault. fault ≡ PastNumber → IsFull self.old) }
     {
         if self.stopped {
             self.be_stopped(count)?;
@@ -461,7 +471,8 @@ impl<C: SlotCell, O: Outlet, ThisRun: Run> RunLog<C, O, ThisRun> {
 
     /// From now on no turn and no line of the script makes an event. What comes of a job that is out may still come back.
     pub fn stop(&mut self)
-        ensures { self.new.stopped ≡ true }
+        ensures stopped { self.new.stopped ≡ true }
+        ensures same { self.new.lines ≡ self.old.lines }
     {
         self.stopped = true;
     }
@@ -470,6 +481,7 @@ impl<C: SlotCell, O: Outlet, ThisRun: Run> RunLog<C, O, ThisRun> {
     fn is_complete(&mut self) -> bool
         ensures quiet { result ≡ are_quiet (world_of self.old.armed.world) }
         ensures same { (self.new.armed ≡ self.old.armed) × (self.new.stopped ≡ self.old.stopped) }
+        ensures same_lines { self.new.lines ≡ self.old.lines }
     {
         if self.incomplete {
             return false;
@@ -485,6 +497,7 @@ impl<C: SlotCell, O: Outlet, ThisRun: Run> RunLog<C, O, ThisRun> {
         ensures complete { result.complete ≡ are_quiet (world_of self.old.armed.world) }
         ensures stopped { (result.stopped ≡ self.new.stopped)
             × (self.new.stopped ≡ self.old.stopped || result.complete) }
+        ensures same { self.new.lines ≡ self.old.lines }
     {
         let complete = self.is_complete();
         self.stopped = self.stopped || complete;
@@ -501,6 +514,7 @@ impl<C: SlotCell, O: Outlet, ThisRun: Run> RunLog<C, O, ThisRun> {
         ensures run { HasRun ThisRun.rooms ThisRun.script ThisRun.opening (world_of result.0) }
         ensures leads { ThisRun.keeps ≡ true → LeadsTo ThisRun.rooms ThisRun.script ThisRun.opening
             (happenings result.1.lines.items) (world_of result.0) }
+        ensures lines { result.1.lines ≡ self.lines }
         ensures numbers { seat_parts all.old ≡ ThisRun.seats → ThisRun.keeps ≡ true
             → numbers_in result.1.lines.items result.1.stops ≡ seat_numbers all.old }
     {

@@ -1,3 +1,6 @@
 pub mod Sends
 mod Left
 mod Nowhere
+mod Beginnings
+mod FirstLines
+mod Completeness

@@ -1,8 +1,10 @@
 -- Why a run ended.
-use Rattle.std.specs.Prelude.{◌≡◌, ◌≤◌, ℕ, ℤ, true, List, length, map, nat_le, Some}
+use Rattle.std.specs.Prelude.{◌≡◌, ◌≤◌, ℕ, ℤ, Bool, true, List, length, map, nat_le, Some}
 use Rattle.std.specs.List.{list_all}
 use Rattle.protocol.specs.World.Common.{are_quiet, output_channels, released_of, WorldView}
-use Rattle.protocol.specs.Node.Common.{Channel}
+use Rattle.protocol.specs.Node.Common.{Channel, RecordView}
+use Rattle.replay.specs.declared.kept.ScriptedEvent.{ScriptedEvent}
+use Rattle.run_log.specs.Happened.{HasRun}
 use Rattle.runtime.specs.declared.driving.Bounds.{Bounds}
 use Rattle.runtime.specs.declared.ending.RunEnd.{RunEnd}
 use Rattle.runtime.specs.declared.ending.RunEnd.TheVariants.{Complete, Rounds, Items, Refused, Stopped}
@@ -18,3 +20,8 @@ IsOver channels bounds world Items =
     (map (λ (channel : ℕ). released_of channel world.stations) (output_channels 0 channels)) ≡ true)
 IsOver channels bounds world (Refused fault) = Unit {0}
 IsOver channels bounds world Stopped = Unit {0}
+
+-- A history of a run leads to a world in which nothing is left to do.
+abbrev pub HasBeenComplete : List (RecordView → Bool) → List ScriptedEvent → WorldView → Type 0
+HasBeenComplete fits script opening =
+    ∥ ((world : WorldView) × HasRun fits script opening world × (are_quiet world ≡ true)) ∥₁

@@ -1,4 +1,7 @@
 // What the driver's thread does at the hub.
+ghost use Rattle.std.specs.Prelude.{◌≡◌, [], true, IfOk};
+ghost use Rattle.run_log.specs.RunLogs.{happened_in};
+ghost use Rattle.runtime.specs.Beginning.{first_lines, BeginsByDriver};
 
 use crate::hub::Hub;
 use crate::seat::DriverSeat;
@@ -6,7 +9,8 @@ use crate::waking::{Seen, Until};
 use kahn_net::{Channel, Port};
 use marks::{Marks, MarksName, Seat};
 use outlet::Outlet;
-use run_log::{FaultAnswer, HubFault, Run};
+use replay::ScriptedEvent;
+use run_log::{FaultAnswer, HubFault, Run, RunLog};
 use slot_cell::SlotCell;
 use std::alloc::Global;
 use std::sync::Wait;
@@ -41,20 +45,36 @@ fn have_left<ItsMarks: MarksName>(
     true
 }
 
-/// The events of the lines that are due before the nodes begin.
-pub(crate) fn begin<C: SlotCell, O: Outlet, ThisRun: Run, R: Wait>(
-    rt: &R,
-    alloc: Global,
-    hub: &Hub<C, O, ThisRun>,
-    seat: &mut DriverSeat<ThisRun>,
-) -> Result<(), HubFault> {
-    for _ in rt.forever() {
-        match hub.fault(rt, alloc, seat)? {
-            FaultAnswer::Reply(_) => {}
-            _ => return Ok(()),
+/// How many lines at a script's head are of round 0.
+pub(crate) fn first_lines(script: &[ScriptedEvent]) -> usize
+    ensures { result ≡ first_lines script.now }
+{
+    for (number, line) in script.iter().enumerate() {
+        if line.round > 0 {
+            return number;
         }
     }
-    unreachable!()
+    script.len()
+}
+
+/// Makes the events of the script's first lines, so many, in a log in which nothing is written yet. Whether each was made.
+pub(crate) fn begin<C: SlotCell, O: Outlet, ThisRun: Run>(
+    alloc: Global,
+    log: &mut RunLog<C, O, ThisRun>,
+    seat: &mut DriverSeat<ThisRun>,
+    lines: usize,
+) -> Result<bool, HubFault>
+    requires none { happened_in log.old ≡ [] }
+    ensures begun { IfOk result (λ begun. begun ≡ true → ThisRun.keeps ≡ true
+        → BeginsByDriver lines (happened_in log.new)) }
+{
+    for _line in 0..lines {
+        match seat.fault(alloc, log)? {
+            FaultAnswer::Reply(_) => {}
+            FaultAnswer::NotYet | FaultAnswer::NoMore | FaultAnswer::Stopped => return Ok(false),
+        }
+    }
+    Ok(true)
 }
 
 // What the driver waits for behind a line: the round of the next one, the last round, and where items are asked for, each that leaves.

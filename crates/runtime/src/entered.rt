@@ -119,16 +119,7 @@ impl<'hub, C: SlotCell, O: Outlet, ThisRun: Run> Entered<'hub, C, O, ThisRun> {
         ensures refused { OnErr result
             (seat_numbers seat.new.count ≡ seat_numbers seat.old.count) }
     {
-        let DriverSeat { made, count } = seat;
-        if *made >= MAX_COUNT {
-            return Err(HubFault::PastNumber);
-        }
-        let answer = self.locked.log.fault(alloc, count)?;
-        match &answer {
-            FaultAnswer::Reply(_) => *made += 1,
-            FaultAnswer::NotYet | FaultAnswer::NoMore | FaultAnswer::Stopped => {}
-        }
-        Ok(answer)
+        seat.fault(alloc, &mut self.locked.log)
     }
 
     /// The round.

@@ -9,7 +9,10 @@ ghost use Rattle.run_log.specs.LedgerNames.{HaveParts, names_of};
 ghost use Rattle.run_log.specs.Counts.{numbers_in};
 ghost use Rattle.run_log.specs.Happened.{HasRun};
 ghost use Rattle.run_log.specs.Lines.{happenings};
+ghost use Rattle.run_log.specs.RunLogs.{happened_in};
+ghost use Rattle.runtime.specs.Beginning.{first_lines, BeginsByDriver};
 ghost use Rattle.run_log.specs.Numbers.{added, counted};
+ghost use Rattle.runtime.specs.Ending.{HasBeenComplete};
 ghost use Rattle.runtime.specs.Seats.{AreOfNodes, numbers_of_seats};
 ghost use Rattle.run_log.specs.SeatCounts.{seat_numbers};
 ghost use Rattle.run_log.specs.declared.seat_count.Counted.TheVariants as kind;
@@ -44,9 +47,9 @@ pub struct Hub<C: SlotCell, O: Outlet, ThisRun: Run> {
 /// What a hub asks memory for before it takes a world.
 #[derive(Drop)]
 pub(crate) struct HubParts<ThisRun: Run> {
-    deliveries: Vec<u64>,
-    sleepers: Sleepers,
-    seats: Vec<NodeSeat<ThisRun>>,
+    pub deliveries: Vec<u64>,
+    pub sleepers: Sleepers,
+    pub seats: Vec<NodeSeat<ThisRun>>,
 }
 
 impl<ThisRun: Run> HubParts<ThisRun> {
@@ -66,6 +69,46 @@ impl<ThisRun: Run> HubParts<ThisRun> {
             seats: Vec::with_capacity(alloc, usize::from(nodes))?,
         })
     }
+}
+
+/// The log of a run, with a seat for each of so many nodes, by number, and the driver's, over what it asks memory for: so a world
+/// isn't lost for want of memory.
+pub(crate) fn open_log<C: SlotCell, O: Outlet, ThisRun: Run>(
+    alloc: Global,
+    world: World<C, O>,
+    deliveries: Vec<u64>,
+    script: Vec<ScriptedEvent>,
+    nodes: u8,
+    ledgers: UnusedLedgers,
+    seats: Vec<NodeSeat<ThisRun>>,
+    keeps: bool,
+) -> (
+    RunLog<C, O, ThisRun>,
+    Vec<NodeSeat<ThisRun>>,
+    DriverSeat<ThisRun>,
+)
+    requires opening { world_of world ≡ ThisRun.opening }
+    requires rooms { rooms world.stations.items ≡ ThisRun.rooms }
+    requires script { script.items ≡ ThisRun.script }
+    requires names { names_of ledgers ≡ ThisRun.names }
+    requires parts { HaveParts ledgers ThisRun.seats }
+    requires seats { ThisRun.seats ≡ nodes + 1 }
+    requires deliveries { deliveries.items ≡ replicate (vec_len world.stations) 0 }
+    requires none { seats.items ≡ [] }
+    requires room { nodes ≤ vec_capacity seats }
+    requires keeps { keeps ≡ ThisRun.keeps }
+    ensures none { happened_in result.0 ≡ [] }
+    ensures seats { vec_len result.1 ≡ nodes }
+    ensures numbered { AreOfNodes nodes result.1.items }
+{
+    let mut seats = seats;
+    let armed = ArmedWorld::over(alloc, world, deliveries);
+    let (totals, mut all) = ledgers.open::<ThisRun>();
+    for node in 0..nodes {
+        seats.push_reserved(node_seat(node, all.split_off()));
+    }
+    let log = RunLog::new(alloc, armed, script, totals, keeps);
+    (log, seats, driver_seat(all))
 }
 
 impl<C: SlotCell, O: Outlet, ThisRun: Run> Hub<C, O, ThisRun> {
@@ -95,59 +138,38 @@ impl<C: SlotCell, O: Outlet, ThisRun: Run> Hub<C, O, ThisRun> {
         ensures seats { IfOk result (λ hub. vec_len hub.1 ≡ nodes) }
         ensures numbered { IfOk result (λ hub. AreOfNodes nodes hub.1.items) }
     {
-        let parts = HubParts::new(alloc, world.stations.len(), nodes)?;
-        Ok(Hub::open(alloc, world, script, nodes, ledgers, parts, true))
-    }
-
-    /// The same with what it asks memory for, which was made before: so a world isn't lost for want of memory. It may keep no history.
-    pub(crate) fn open(
-        alloc: Global,
-        world: World<C, O>,
-        script: Vec<ScriptedEvent>,
-        nodes: u8,
-        ledgers: UnusedLedgers,
-        parts: HubParts<ThisRun>,
-        keeps: bool,
-    ) -> (
-        Hub<C, O, ThisRun>,
-        Vec<NodeSeat<ThisRun>>,
-        DriverSeat<ThisRun>,
-    )
-        requires opening { world_of world ≡ ThisRun.opening }
-        requires rooms { rooms world.stations.items ≡ ThisRun.rooms }
-        requires script { script.items ≡ ThisRun.script }
-        requires names { names_of ledgers ≡ ThisRun.names }
-        requires parts { HaveParts ledgers ThisRun.seats }
-        requires seats { ThisRun.seats ≡ nodes + 1 }
-        requires deliveries { parts.deliveries.items ≡ replicate (vec_len world.stations) 0 }
-        requires none { parts.seats.items ≡ [] }
-        requires room { nodes ≤ vec_capacity parts.seats }
-        requires keeps { keeps ≡ ThisRun.keeps }
-        ensures seats { vec_len result.1 ≡ nodes }
-        ensures numbered { AreOfNodes nodes result.1.items }
-    {
         let HubParts {
             deliveries,
             sleepers,
-            mut seats,
-        } = parts;
-        let armed = ArmedWorld::over(alloc, world, deliveries);
-        let (totals, mut all) = ledgers.open::<ThisRun>();
-        for node in 0..nodes {
-            seats.push_reserved(node_seat(node, all.split_off()));
-        }
-        let hub = Hub {
+            seats,
+        } = HubParts::new(alloc, world.stations.len(), nodes)?;
+        let (log, seats, driver) = open_log(
+            alloc, world, deliveries, script, nodes, ledgers, seats, true,
+        );
+        Ok((Hub::over(log, sleepers, false), seats, driver))
+    }
+
+    /// A hub over a log, of which it says whether it begins with the script's lines of round 0.
+    pub(crate) fn over(
+        log: RunLog<C, O, ThisRun>,
+        sleepers: Sleepers,
+        begun: bool,
+    ) -> Hub<C, O, ThisRun>
+        requires begun { begun ≡ true → ThisRun.keeps ≡ true
+            → BeginsByDriver (first_lines ThisRun.script) (happened_in log) }
+    {
+        Hub {
             locked: Mutex::new(Locked {
-                log: RunLog::<C, O, ThisRun>::new(alloc, armed, script, totals, keeps),
+                log,
                 left: 0,
                 until: Until {
                     round: 0,
                     left: None,
                 },
+                begun,
             }),
             sleepers,
-        };
-        (hub, seats, driver_seat(all))
+        }
     }
 
     /// The lock, for calls in a row.
@@ -258,7 +280,10 @@ impl<C: SlotCell, O: Outlet, ThisRun: Run> Hub<C, O, ThisRun> {
     }
 
     /// How the run stands. The hub is stopped where nothing is left to do.
-    pub fn status<R: Wait>(&self, rt: &R) -> Status {
+    pub fn status<R: Wait>(&self, rt: &R) -> Status
+        // It was so of a world to which a history of this run leads.
+        ensures { result.complete ≡ true → HasBeenComplete ThisRun.rooms ThisRun.script ThisRun.opening }
+    {
         let status = self.locked.lock(rt).log.status();
         if status.stopped {
             self.sleepers.wake(Woken::all());
@@ -292,9 +317,29 @@ impl<C: SlotCell, O: Outlet, ThisRun: Run> Hub<C, O, ThisRun> {
             → numbers_in result.1.lines.items result.1.stops
             ≡ added (numbers_of_seats seats.items) (seat_numbers driver.count) }
     {
+        let (world, history, _begun) = self.close_begun(seats, driver);
+        (world, history)
+    }
+
+    /// The same, and whether the run began with the script's lines of round 0.
+    pub(crate) fn close_begun(
+        self,
+        seats: Vec<NodeSeat<ThisRun>>,
+        driver: DriverSeat<ThisRun>,
+    ) -> (World<C, O>, History, bool)
+        ensures run { HasRun ThisRun.rooms ThisRun.script ThisRun.opening (world_of result.0) }
+        ensures leads { ThisRun.keeps ≡ true → LeadsTo ThisRun.rooms ThisRun.script ThisRun.opening
+            (happenings result.1.lines.items) (world_of result.0) }
+        ensures numbers { vec_len seats + 1 ≡ ThisRun.seats → ThisRun.keeps ≡ true
+            → numbers_in result.1.lines.items result.1.stops
+            ≡ added (numbers_of_seats seats.items) (seat_numbers driver.count) }
+        ensures begun { result.2 ≡ true → ThisRun.keeps ≡ true
+            → BeginsByDriver (first_lines ThisRun.script) (happenings result.1.lines.items) }
+    {
         let Hub { locked, .. } = self;
-        let Locked { log, .. } = locked.into_inner();
+        let Locked { log, begun, .. } = locked.into_inner();
         let mut all = driver.with_all(seats);
-        log.close(&mut all)
+        let (world, history) = log.close(&mut all);
+        (world, history, begun)
     }
 }

@@ -1,18 +1,19 @@
 // A run by threads, from its world to its history.
-ghost use Rattle.std.specs.Prelude.{◌≡◌, ◌+◌, ◌≤◌, true, length};
+ghost use Rattle.std.specs.Prelude.{◌≡◌, ◌+◌, ◌≤◌, true, length, Ok};
 ghost use Rattle.marks.specs.Seats.{table_of};
 ghost use Rattle.protocol.specs.Node.Common.{MAX_CHANNELS, network_of};
 ghost use Rattle.replay.specs.Replay.{LeadsTo};
 ghost use Rattle.run_log.specs.LedgerNames.{HaveParts, names_of};
 ghost use Rattle.run_log.specs.Happened.{HasRun};
 ghost use Rattle.run_log.specs.Lines.{happenings};
+ghost use Rattle.runtime.specs.Beginning.{HasBegun};
 ghost use Rattle.runtime.specs.Ending.{IsOver};
 ghost use Rattle.world.specs.WholeView.{world_of};
 ghost use Rattle.world.specs.WorldView.{rooms};
 
-use crate::driving::Bounds;
 use crate::ending::{Ended, RunEnd, end_of};
-use crate::hub::{Hub, HubParts};
+use crate::driving::{Bounds, begin, first_lines};
+use crate::hub::{Hub, HubParts, open_log};
 use crate::job_watch::JobWatch;
 use crate::seat::NodeSeat;
 use crate::threads::{DriverSeats, Joined, NodeSeats, SharedRun, run_threads};
@@ -43,6 +44,27 @@ fn list_seats<ThisRun: RunLedgers, ItsMarks: MarksName>(
         }
     }
     Ok(node_seats)
+}
+
+// Whether the lines of round 0 were all passed.
+fn has_begun(begun: &Result<bool, HubFault>) -> bool
+    ensures { result ≡ true → begun.now ≡ Ok true }
+{
+    match begun {
+        Ok(begun) => *begun,
+        Err(_) => false,
+    }
+}
+
+// The seats of each node, where the lines of round 0 could be passed.
+fn listed<ThisRun: RunLedgers, ItsMarks: MarksName>(
+    alloc: Global,
+    begun: Result<bool, HubFault>,
+    seats: Vec<NodeSeat<ThisRun>>,
+    marks_seats: Vec<Seat<ItsMarks>>,
+) -> Result<Vec<NodeSeats<ThisRun, ItsMarks>>, HubFault> {
+    begun?;
+    list_seats(alloc, seats, marks_seats)
 }
 
 // The run of this hub's name and these marks'.
@@ -79,6 +101,8 @@ fn play<
     ensures leads { ThisRun.keeps ≡ true → LeadsTo ThisRun.rooms ThisRun.script ThisRun.opening
         (happenings result.history.lines.items) (world_of result.world) }
     ensures over { IsOver channels.now bounds (world_of result.world) result.end }
+    ensures begun { ThisRun.keeps ≡ true
+        → HasBegun ThisRun.script (happenings result.history.lines.items) result.end }
 {
     let Ok(parts) = HubParts::new(alloc, world.stations.len(), nodes) else {
         return Ended::unbegun(alloc, world, HubFault::NoMemory);
@@ -89,15 +113,23 @@ fn play<
     let Some(driver_marks) = marks_seats.pop() else {
         return Ended::unbegun(alloc, world, HubFault::NoMemory);
     };
-    let (hub, seats, driver) = Hub::<C, O, ThisRun>::open(
-        alloc, world, script, nodes, ledgers, parts, keeps,
+    let HubParts {
+        deliveries,
+        sleepers,
+        seats,
+    } = parts;
+    let lines = first_lines(&script);
+    let (mut log, seats, mut driver) = open_log::<C, O, ThisRun>(
+        alloc, world, deliveries, script, nodes, ledgers, seats, keeps,
     );
+    let begun = begin(alloc, &mut log, &mut driver, lines);
+    let hub = Hub::over(log, sleepers, has_begun(&begun));
     let shared = SharedRun { hub, marks };
     let mut driver_seats = DriverSeats {
         seat: driver,
         marks: driver_marks,
     };
-    let Joined { seats, end } = match list_seats(alloc, seats, marks_seats) {
+    let Joined { seats, end } = match listed(alloc, begun, seats, marks_seats) {
         Ok(node_seats) => run_threads(
             rt,
             alloc,
@@ -115,8 +147,10 @@ fn play<
     };
     let SharedRun { hub, .. } = shared;
     let DriverSeats { seat, .. } = driver_seats;
-    let (world, history) = hub.close(seats, seat);
+    let (world, history, begun) = hub.close_begun(seats, seat);
     let end = match end {
+        // (It has begun. What came out of the lock is known by its type alone, which doesn't say so.)
+        Ok(()) if !begun => RunEnd::Stopped,
         Ok(()) => end_of(channels, &world, bounds),
         Err(fault) => RunEnd::Refused(fault),
     };
@@ -151,6 +185,9 @@ pub fn run_world<
         (happenings result.history.lines.items) (world_of result.world) }
     ensures over { IsOver (network_of world.net.value.program).channels bounds (world_of result.world)
         result.end }
+    // Where the run came to its end, the events of the script's lines of round 0 come before all others.
+    ensures begun { keeps_history ≡ true
+        → HasBegun script.items (happenings result.history.lines.items) result.end }
 {
     let Ok(net) = Arc::try_clone(&world.net) else {
         return Ended::unbegun(alloc, world, HubFault::NoMemory);

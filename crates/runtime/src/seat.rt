@@ -1,9 +1,14 @@
 // Seats: the right to act for a node, or for the script.
-ghost use Rattle.std.specs.Prelude.{◌≡◌, ◌+◌, vec_len};
-ghost use Rattle.run_log.specs.Numbers.{added, no_numbers};
+ghost use Rattle.std.specs.Prelude.{◌≡◌, ◌+◌, IfOk, OnErr, vec_len};
+ghost use Rattle.run_log.specs.Answers.{fault_kind, IsFaultWritten, TellsFault};
+ghost use Rattle.run_log.specs.Numbers.{added, counted, no_numbers};
 ghost use Rattle.run_log.specs.SeatCounts.{seat_numbers, seat_parts};
 
-use run_log::{RunLedgers, SeatCount};
+use kahn_net::MAX_COUNT;
+use outlet::Outlet;
+use run_log::{FaultAnswer, HubFault, Run, RunLedgers, RunLog, SeatCount};
+use slot_cell::SlotCell;
+use std::alloc::Global;
 
 /// The seat of a node: who has it takes the node's turns.
 #[derive(Drop)]
@@ -87,5 +92,34 @@ impl<ThisRun: RunLedgers> DriverSeat<ThisRun> {
             all.merge(count);
         }
         all
+    }
+}
+
+impl<ThisRun: Run> DriverSeat<ThisRun> {
+    /// The event of the script's next line, `NotYet`, `NoMore` or `Stopped`.
+    pub(crate) fn fault<C: SlotCell, O: Outlet>(
+        &mut self,
+        alloc: Global,
+        log: &mut RunLog<C, O, ThisRun>,
+    ) -> Result<FaultAnswer, HubFault>
+        ensures counted { IfOk result (λ answer. seat_numbers self.new.count
+            ≡ counted (fault_kind answer) (seat_numbers self.old.count)) }
+        ensures written { IfOk result
+            (IsFaultWritten log.old.keeps log.old.lines.items log.new.lines.items) }
+        ensures told { IfOk result (TellsFault ThisRun.rooms ThisRun.script ThisRun.opening) }
+        ensures refused { OnErr result
+            (seat_numbers self.new.count ≡ seat_numbers self.old.count) }
+        ensures unchanged { OnErr result (log.new.lines.items ≡ log.old.lines.items) }
+    {
+        let DriverSeat { made, count } = self;
+        if *made >= MAX_COUNT {
+            return Err(HubFault::PastNumber);
+        }
+        let answer = log.fault(alloc, count)?;
+        match &answer {
+            FaultAnswer::Reply(_) => *made += 1,
+            FaultAnswer::NotYet | FaultAnswer::NoMore | FaultAnswer::Stopped => {}
+        }
+        Ok(answer)
     }
 }

@@ -2,7 +2,7 @@
 ghost use Rattle.std.specs.Prelude.{◌≡◌, vec_len, OnOk};
 ghost use denote.Param.Send.{IsSend};
 
-use crate::driving::{Bounds, begin, drive};
+use crate::driving::{Bounds, drive};
 use crate::hub::Hub;
 use crate::job_watch::JobWatch;
 use crate::seat::{DriverSeat, NodeSeat};
@@ -151,8 +151,7 @@ pub struct Joined<ThisRun: RunLedgers> {
     pub end: Result<(), HubFault>,
 }
 
-/// Lets each node work on a thread of its own, and drives on the thread that calls, once the lines that are due at first are
-/// passed. Where no call is refused all seats come back, and the hub is stopped. Refuses for want of memory, also where a thread
+/// Lets each node work on a thread of its own, and drives on the thread that calls. Where no call is refused all seats come back, and the hub is stopped. Refuses for want of memory, also where a thread
 /// can't be made, and where a seat's call was refused.
 pub fn run_threads<
     C: SlotCell + Send,
@@ -176,7 +175,7 @@ pub fn run_threads<
     let count = seats.len();
     let mut back = Vec::new(alloc);
     let mut running = Vec::new(alloc);
-    let mut end = begin(rt, alloc, &shared.hub, &mut driver.seat);
+    let mut end = Ok(());
     if back.reserve(count).is_err() || running.reserve(count).is_err() {
         end = Err(HubFault::NoMemory);
     }

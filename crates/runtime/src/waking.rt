@@ -1,4 +1,7 @@
 // What threads wait for, and who is woken.
+ghost use Rattle.std.specs.Prelude.{◌≡◌, true};
+ghost use Rattle.run_log.specs.RunLogs.{happened_in};
+ghost use Rattle.runtime.specs.Beginning.{first_lines, BeginsByDriver};
 
 use outlet::Outlet;
 use run_log::{Moment, Run, RunLog};
@@ -31,6 +34,10 @@ pub(crate) struct Locked<C: SlotCell, O: Outlet, ThisRun: Run> {
     pub left: u64,
     // What the driver waited for last.
     pub until: Until,
+    // Whether the run began with the script's lines of round 0.
+    pub begun: bool,
+    pub ghost begins: { begun ≡ true → ThisRun.keeps ≡ true
+        → BeginsByDriver (first_lines ThisRun.script) (happened_in log) },
 }
 
 /// Whom a change wakes.

@@ -1,5 +1,4 @@
-use Rattle.std.proofs.Common.{◌∙◌, ℕ, ℤ, List, ap, length, subst, sym}
-use Rattle.std.specs.Prelude.{IsTrue}
+use Rattle.std.proofs.Common.{◌∙◌, ℕ, ℤ, List, ap, length}
 use Rattle.protocol.specs.World.Common.{released_of}
 use Rattle.world.specs.WholeView.{world_of}
 use Rattle.kahn_program.specs.Report.{output_count, report_text}
@@ -18,12 +17,9 @@ pub returns : goal.returns
 returns g c =
     let net = c.args.net.now in
     let told = c.is_whole-complete.result in
-    record {
-      told = reported net c.as_slice-channels.result.now c.args.items c.cut-cut.result c.in_ok-streams.streams.items
-          (world_of c.args.world.now) c.in_ok-bytes.bytes.items c.complete.result told
-          c.as_slice-channels.ensures.value c.cut-cut.ensures c.in_ok-streams.ensures c.is_whole-complete.ensures
-          (c.in_ok-bytes.ensures
-          ∙ ap (λ (l : List (List ℤ)). report_text net.program.channels.items net.channel_names.items l told)
-          c.deref.ensures.value) c.complete.ensures.quiet;
-      whole = λ quiet. c.complete.ensures.whole (subst IsTrue (sym c.complete.ensures.quiet) quiet);
-    }
+    reported net c.as_slice-channels.result.now c.args.items c.cut-cut.result c.in_ok-streams.streams.items
+    (world_of c.args.world.now) c.in_ok-bytes.bytes.items c.complete.result told
+    c.as_slice-channels.ensures.value c.cut-cut.ensures c.in_ok-streams.ensures c.is_whole-complete.ensures
+    (c.in_ok-bytes.ensures
+    ∙ ap (λ (l : List (List ℤ)). report_text net.program.channels.items net.channel_names.items l told)
+    c.deref.ensures.value) c.complete.ensures.quiet

@@ -1,6 +1,7 @@
 use Rattle.std.proofs.Common.{rules, ◌≡◌, ℕ, List, Option, inl, sym, subst, option_and_then}
 use Rattle.std.proofs.lemmas.Result.{IfErr-weaker, err_from_is_err_and}
-use Rattle.kahn_program.specs.Readings.{IsInputsFailure, IsInputsTextFailure, IsOutside, IsTextOfInputs, inputs_unread}
+use Rattle.cobaltmidge.specs.Texts.{IsTextOfInputs}
+use Rattle.kahn_program.specs.Readings.{IsInputsFailure, IsInputsTextFailure, IsOutside, inputs_unread}
 use Rattle.kahn_program.specs.Readings.{inputs_refused}
 use Rattle.kahn_program.specs.declared.failure.Failure.TheVariants.{NoMemory}
 use Rattle.kahn_program.specs.declared.failure.Source.TheVariants as source

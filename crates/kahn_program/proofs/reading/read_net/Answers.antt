@@ -1,6 +1,7 @@
 use Rattle.std.proofs.Common.{rules, ◌≡◌, ℕ, List, Option, inl, sym, subst, option_and_then}
 use Rattle.std.proofs.lemmas.Result.{IfErr-weaker, err_from_is_err_and}
-use Rattle.kahn_program.specs.Readings.{IsNetFailure, IsNetTextFailure, IsOutside, IsTextOfNet, net_unread, net_refused}
+use Rattle.cobaltmidge.specs.Texts.{IsTextOfNet}
+use Rattle.kahn_program.specs.Readings.{IsNetFailure, IsNetTextFailure, IsOutside, net_unread, net_refused}
 use Rattle.kahn_program.specs.declared.failure.Failure.TheVariants.{NoMemory}
 use Rattle.kahn_program.specs.declared.failure.Source.TheVariants as source
 use Rattle.kahn_program.proofs.Known.{are_known, of_known, outside_of}

@@ -1,6 +1,10 @@
 -- where the run didn't begin nothing is written, and the world is the one that was handed in
+use Rattle.std.proofs.Common.{rules}
+use Rattle.run_log.specs.Lines.{happenings}
+use Rattle.runtime.proofs.Beginnings.{begun_so}
 use Rattle.runtime.proofs.Nowhere.{leads_nowhere, runs_nowhere}
 use Rattle.runtime.proofs.playing.play.Goals as goal
+use Rattle.runtime.proofs.playing.play.Goals.{in-Ok-end, in-Ok-2, in-Err-end}
 
 pub returns-in_default-clause-leads : goal.returns-in_default-clause-leads
 returns-in_default-clause-leads g c = λ kept.
@@ -22,3 +26,12 @@ returns-in_default-pop-clause-leads g c = λ kept.
 
 pub returns-in_default-pop-clause-run : goal.returns-in_default-pop-clause-run
 returns-in_default-pop-clause-run g c = runs_nowhere _ _ _ _ (rw c.unbegun-in_default-pop.ensures.same c.requires.opening)
+
+-- one that ended well began with the lines of round 0, and of the others nothing is said
+pub returns-clause-begun : goal.returns-clause-begun
+returns-clause-begun g c = λ keeps. elim c.match-end.branch [
+  | in-Ok-end w ↦ rw w.end-is tt
+  | in-Ok-2 w ↦ begun_so g.ThisRun.Run.script (happenings c.close_begun-world.result.1.lines.items) c.match-end.end
+      (c.close_begun-world.ensures.begun (search rules) keeps)
+  | in-Err-end w ↦ rw w.end-is tt
+]

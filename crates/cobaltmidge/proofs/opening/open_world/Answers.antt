@@ -1,0 +1,41 @@
+use Rattle.std.proofs.Common.{◌∙◌, ℕ, ap, refl, subst, sym}
+use Rattle.std.specs.Prelude.{replicate}
+use Rattle.protocol.specs.Node.Common.{network_of, Net, sectors_of}
+use Rattle.protocol.specs.World.Common.{output_channels, with_room}
+use Rattle.world.specs.WholeView.{world_of}
+use Rattle.world.specs.WorldView.{capacities}
+use Rattle.cobaltmidge.specs.Failing.{IsRunFault}
+use Rattle.cobaltmidge.proofs.Turns.{opens_first, rooms_given, run_refused}
+use Rattle.cobaltmidge.proofs.opening.open_world.Goals as goal
+
+pub returns-in-Err-clause-err : goal.returns-in-Err-clause-err
+returns-in-Err-clause-err g c = λ threads.
+    let share = c.in-Ok-try_clone.share in
+    let disks = c.in-Ok-empty_disks.disks.items in
+    subst (IsRunFault threads) (sym c.store_fault.ensures)
+    (run_refused threads sectors_of (network_of share.value.program) 0 disks c.in-Err.refused.fault share.value.valid
+    c.in-Ok-empty_disks.ensures.sectors c.in-Err.ensures.refused.why
+    (λ is. record {
+      disks = disks;
+      backs = c.in-Err.refused.disks.items;
+      sectors = c.in-Ok-empty_disks.ensures.sectors;
+      failed = c.in-Err.ensures.refused.handed_back.failed is;
+    }))
+
+pub returns-clause-first : goal.returns-clause-first
+returns-clause-first g c =
+    let net = network_of c.args.net.now.value.program in
+    let opened = world_of c.in-Ok-new.world in
+    opens_first _ _ net _ c.args.inputs _ c.args.room c.args.outputs.items
+    (world_of c.set_room.new.self) opened (ap (λ (n : Net). network_of n.program) c.in-Ok-try_clone.ensures)
+    c.in-Ok.ensures.ok _
+    (c.in-Ok-empty_disks.ensures.unfailed ∙ ap (λ (n : ℕ). replicate n 0) c.requires.nodes)
+    (c.in-Ok-set_room.ensures.set ∙ ap (λ (n : ℕ). with_room n opened) c.nearest_room.ensures)
+    c.in-Ok-new.ensures.made.opening
+    c.requires.listed c.requires.unused c.requires.unfailed
+
+pub returns-clause-room : goal.returns-clause-room
+returns-clause-room g c =
+    rooms_given sectors_of c.in-Ok-empty_disks.disks.items _
+    (ap (λ stations. capacities stations.items) c.set_room.ensures.same.2 ∙ c.in-Ok-new.ensures.made.room)
+    c.in-Ok-empty_disks.ensures.sectors

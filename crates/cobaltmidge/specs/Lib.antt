@@ -1,0 +1,9 @@
+pub mod Common
+pub mod Failing
+pub mod Texts
+pub mod Errors
+pub mod Names
+pub mod Turning
+pub mod Resting
+pub mod Runs
+pub mod Scripts

@@ -1,0 +1,55 @@
+-- What a run of a network releases, and how it came to its end.
+use Rattle.std.specs.Prelude.{◌≡◌, ℕ, Bool, true, false, IsTrue, ℤ, List, Some, length, map, slice_get}
+use Rattle.protocol.specs.Node.Common.{history_of, IsPrefix, node_count, Network, approximation}
+use Rattle.kahn_net.specs.Common.{IsReached}
+use Rattle.protocol.specs.World.Common.{output_channels, released_of, StationView, WorldView}
+use Rattle.run_log.specs.Happened.{HasRun}
+use Rattle.replay.specs.declared.kept.ScriptedEvent.{ScriptedEvent}
+use Rattle.cobaltmidge.specs.Turning.{IsRunByTurns, first_world, is_over, run_rooms}
+use Rattle.cobaltmidge.specs.declared.settings.Settings.{Settings}
+
+-- what the stations' outlets took, for each of a network's outputs in order
+abbrev pub released_streams : Network → List StationView → List (List ℤ)
+released_streams net stations = map (λ (channel : ℕ). released_of channel stations) (output_channels 0 net.channels)
+
+-- each stream is a prefix of its output's history in the n-th approximation
+abbrev pub AreWithin : Network → List (List ℤ) → List (List ℤ) → ℕ → Type 0
+AreWithin net inputs streams n =
+    (j channel : ℕ) (items : List ℤ) → slice_get (output_channels 0 net.channels) j ≡ Some channel
+    → slice_get streams j ≡ Some items
+    → IsPrefix items (history_of (approximation net inputs n) channel)
+
+-- each stream is its output's whole history there
+abbrev pub AreAll : Network → List (List ℤ) → List (List ℤ) → ℕ → Type 0
+AreAll net inputs streams n =
+    (j channel : ℕ) (items : List ℤ) → slice_get (output_channels 0 net.channels) j ≡ Some channel
+    → slice_get streams j ≡ Some items
+    → items ≡ history_of (approximation net inputs n) channel
+
+-- A run's streams, one for each output in order: prefixes of the histories in one approximation on these inputs; and
+-- where the run is complete, whole in one with which the approximations come to rest, which is the network's least
+-- solution.
+pub record IsRun (net : Network) (inputs streams : List (List ℤ)) (complete : Bool) : Type 0 where
+  pub count : length streams ≡ length (output_channels 0 net.channels)
+  pub prefix : ∥ ((n : ℕ) × AreWithin net inputs streams n) ∥₁
+  pub whole : IsTrue complete → ∥ ((n : ℕ) × IsReached net inputs n × AreAll net inputs streams n) ∥₁
+
+-- the world at the end of a run by turns
+abbrev pub IsLast : Settings → Network → List (List ℤ) → List ScriptedEvent → WorldView → Type 0
+IsLast settings net inputs script now =
+    IsRunByTurns (is_over (output_channels 0 net.channels) settings.rounds settings.items) (node_count net) script
+    (first_world net inputs settings.room) now
+
+-- The world at the end of a run by threads: a history, which isn't kept, leads to it, each event of which is one that was next for its node, a
+-- turn that came back to its node, or the event of the script's next line.
+abbrev pub IsReplayed : Settings → Network → List (List ℤ) → List ScriptedEvent → WorldView → Type 0
+IsReplayed settings net inputs script now =
+    HasRun (run_rooms (first_world net inputs settings.room).stations) script (first_world net inputs settings.room) now
+
+abbrev pub IsEndBy : Bool → Settings → Network → List (List ℤ) → List ScriptedEvent → WorldView → Type 0
+IsEndBy true settings net inputs script now = IsReplayed settings net inputs script now
+IsEndBy false settings net inputs script now = IsLast settings net inputs script now
+
+-- by threads where they are asked for, and else by turns
+abbrev pub IsEnd : Settings → Network → List (List ℤ) → List ScriptedEvent → WorldView → Type 0
+IsEnd settings net inputs script now = IsEndBy settings.threads settings net inputs script now

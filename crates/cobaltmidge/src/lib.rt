@@ -1,0 +1,45 @@
+//! All that a program needs to run Kahn process networks whose nodes crash and recover, by one import.
+//!
+//! `Network::parse` reads a network, `Run` runs it, and `Finished` has what left. Whoever wants each event opens a `World`
+//! (`Network::open`), and applies one event after another.
+#![tactic(auto)]
+
+mod disks;
+mod ending;
+mod error;
+mod fault;
+mod finished;
+mod network;
+mod opening;
+mod resting;
+mod run;
+mod running;
+mod scripting;
+mod settings;
+mod turning;
+
+pub use ending::{RunWorld, cut};
+pub use error::Error;
+pub use fail_script::{Act, Script, ScriptFault, ScriptLine, parse_script};
+pub use fault::RunFault;
+pub use finished::Finished;
+pub use kahn_net::{Channel, Port};
+pub use net_check::{Inputs, Net, NetFault, bind, check, fits};
+pub use net_text::{TextFault, parse, parse_inputs};
+pub use network::Network;
+pub use outlet::{ListOutlet, Outlet, OutletFault};
+pub use proc_step::{Done, Job};
+pub use replay::{ArmedCrash, RunEvent, ScriptedEvent};
+pub use run::Run;
+pub use run_log::ArmedWorld;
+pub use running::run_network;
+pub use runtime::{Bounds, Ended, History, HubFault, JobWatch, NoWatch, RunEnd, run_world};
+pub use scripting::events_of;
+pub use sector_disk::{ArmedFault, Disk, DiskFault, MemDisk, SECTOR_BYTES};
+pub use settings::{DEFAULT_ROUNDS, Settings};
+pub use slot_cell::{SlotCell, SplitCell};
+pub use wire::{Change, Rule};
+pub use world::{
+    DEFAULT_ROOM, Deed, Event, Freed, MIN_ROOM, OpeningRefused, OutletMaker, Output, PlainEvent,
+    Refused, Reply, SECTORS, World, list_outputs, node_count, outputs_of,
+};

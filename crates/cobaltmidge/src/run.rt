@@ -1,0 +1,201 @@
+//! A run of a network, to be set and then started.
+
+ghost use Rattle.std.specs.Prelude.{◌≡◌, None, Some, map, IfErr, IfOk};
+ghost use Rattle.std.specs.List.{AllByRecursion};
+ghost use Rattle.protocol.specs.Node.Common.{Fits, network_of};
+ghost use Rattle.protocol.specs.World.Common.{are_quiet, output_channels};
+ghost use Rattle.world.specs.OpeningWorld.{IsUnused};
+ghost use Rattle.world.specs.WholeView.{world_of};
+ghost use Rattle.cobaltmidge.specs.Errors.{IsRunError};
+ghost use Rattle.cobaltmidge.specs.Names.{script_of};
+ghost use Rattle.cobaltmidge.specs.Runs.{IsEnd, IsRun, released_streams};
+ghost use Rattle.cobaltmidge.specs.Turning.{HasNoFailures};
+
+use crate::error::{Error, run_error};
+use crate::finished::Finished;
+use crate::network::{Network, outputs_in_memory};
+use crate::running::run_network;
+use crate::settings::Settings;
+use net_check::Inputs;
+use outlet::{ListOutlet, Outlet};
+use replay::ScriptedEvent;
+use std::alloc::Global;
+use std::sync::Wait;
+use std::thread::Threads;
+use world::Output;
+
+/// A run of a network on its inputs, to be set and then started: by turns on one thread, for 1,000 rounds at most, with no failure,
+/// unless it is told otherwise.
+#[derive(Drop)]
+pub struct Run<'a> {
+    pub network: &'a Network,
+    pub inputs: Inputs,
+    pub script: Option<Vec<ScriptedEvent>>,
+    pub settings: Settings,
+    pub ghost fitting: { Fits (network_of network.now.net.value.program) inputs },
+}
+
+// The events of a script, if there is one.
+fn events_or_none(alloc: Global, script: Option<Vec<ScriptedEvent>>) -> Vec<ScriptedEvent>
+    ensures { result.items ≡ script_of script }
+{
+    match script {
+        Some(script) => script,
+        None => Vec::new(alloc),
+    }
+}
+
+impl<'a> Run<'a> {
+    /// A run of this network on these inputs, which are its own (`Network::inputs`; `fits` asks of others).
+    pub fn new(network: &'a Network, inputs: Inputs) -> Run<'a>
+        requires fitting { Fits (network_of network.now.net.value.program) inputs }
+        ensures same { (result.network ≡ network.entry) × (result.inputs ≡ inputs) }
+        ensures script { result.script ≡ None }
+    {
+        Run {
+            network,
+            inputs,
+            script: None,
+            settings: Settings::new(),
+        }
+    }
+
+    /// Lets these events happen, each once its round has come (`Network::script`).
+    pub fn script(self, script: Vec<ScriptedEvent>) -> Run<'a>
+        ensures same { (result.network ≡ self.entry.network) × (result.inputs ≡ self.entry.inputs) }
+        ensures settings { result.settings ≡ self.entry.settings }
+        ensures script { result.script ≡ Some script }
+    {
+        Run {
+            network: self.network,
+            inputs: self.inputs,
+            script: Some(script),
+            settings: self.settings,
+        }
+    }
+
+    /// Sets all of how it goes at once.
+    pub fn settings(self, settings: Settings) -> Run<'a>
+        ensures same { (result.network ≡ self.entry.network) × (result.inputs ≡ self.entry.inputs) }
+        ensures settings { result.settings ≡ settings }
+        ensures script { result.script ≡ self.entry.script }
+    {
+        Run {
+            network: self.network,
+            inputs: self.inputs,
+            script: self.script,
+            settings,
+        }
+    }
+
+    /// Lets each channel retain so many items at most at first.
+    pub fn room(self, room: u64) -> Run<'a>
+        ensures same { (result.network ≡ self.entry.network) × (result.inputs ≡ self.entry.inputs) }
+        ensures settings { result.settings ≡ record (self.entry.settings) { room = room } }
+        ensures script { result.script ≡ self.entry.script }
+    {
+        let settings = Settings {
+            room,
+            ..self.settings
+        };
+        self.settings(settings)
+    }
+
+    /// Ends it after so many rounds, complete or not.
+    pub fn rounds(self, rounds: u64) -> Run<'a>
+        ensures same { (result.network ≡ self.entry.network) × (result.inputs ≡ self.entry.inputs) }
+        ensures settings { result.settings ≡ record (self.entry.settings) { rounds = rounds } }
+        ensures script { result.script ≡ self.entry.script }
+    {
+        let settings = Settings {
+            rounds,
+            ..self.settings
+        };
+        self.settings(settings)
+    }
+
+    /// Ends it where so many items of each output have left.
+    pub fn items(self, items: u64) -> Run<'a>
+        ensures same { (result.network ≡ self.entry.network) × (result.inputs ≡ self.entry.inputs) }
+        ensures settings { result.settings ≡ record (self.entry.settings) { items = Some items } }
+        ensures script { result.script ≡ self.entry.script }
+    {
+        let settings = Settings {
+            items: Some(items),
+            ..self.settings
+        };
+        self.settings(settings)
+    }
+
+    /// Gives each node a thread of its own, or lets one thread take the turns of all.
+    pub fn threads(self, threads: bool) -> Run<'a>
+        ensures same { (result.network ≡ self.entry.network) × (result.inputs ≡ self.entry.inputs) }
+        ensures settings { result.settings ≡ record (self.entry.settings) { threads = threads } }
+        ensures script { result.script ≡ self.entry.script }
+    {
+        let settings = Settings {
+            threads,
+            ..self.settings
+        };
+        self.settings(settings)
+    }
+
+    /// Runs it until nothing is left to do, the rounds are over, or each output has the items that are asked for.
+    pub fn run<R: Threads + Wait + Sync>(
+        self,
+        rt: &R,
+        alloc: Global,
+    ) -> Result<Finished<'a, ListOutlet>, Error>
+        // What has left are prefixes of the outputs' histories in one approximation, and where the run is complete whole, in the
+        // least solution.
+        ensures run { IfOk result (λ finished. IsRun (network_of self.entry.network.now.net.value.program)
+            self.entry.inputs (released_streams (network_of self.entry.network.now.net.value.program)
+            (world_of finished.world).stations) (are_quiet (world_of finished.world))) }
+        // How the world came to its end.
+        ensures end { IfOk result (λ finished. IsEnd self.entry.settings
+            (network_of self.entry.network.now.net.value.program) self.entry.inputs (script_of self.entry.script)
+            (world_of finished.world)) }
+        ensures network { IfOk result (λ finished. finished.network ≡ self.entry.network) }
+        // A device failed (20), memory is missing (1), or a count would pass 2^63 - 1 (44).
+        ensures err { IfErr result (IsRunError self.entry.settings.threads) }
+    {
+        let Ok(outputs) = outputs_in_memory(alloc, &self.network.net) else {
+            return Err(Error::NoMemory);
+        };
+        self.run_into(rt, alloc, outputs)
+    }
+
+    /// Runs it so, and lets the items leave by these outlets, each of which took nothing yet (`outputs_of` has one made for each
+    /// output).
+    pub fn run_into<O: Outlet + Send, R: Threads + Wait + Sync>(
+        self,
+        rt: &R,
+        alloc: Global,
+        outputs: Vec<Output<O>>,
+    ) -> Result<Finished<'a, O>, Error>
+        requires listed { map (λ output. output.channel) outputs.items
+            ≡ output_channels 0 (network_of self.network.now.net.value.program).channels }
+        requires unused { AllByRecursion (IsUnused O.taken) outputs.items }
+        requires unfailed { AllByRecursion (HasNoFailures O.failures) outputs.items }
+        ensures run { IfOk result (λ finished. IsRun (network_of self.entry.network.now.net.value.program)
+            self.entry.inputs (released_streams (network_of self.entry.network.now.net.value.program)
+            (world_of finished.world).stations) (are_quiet (world_of finished.world))) }
+        ensures end { IfOk result (λ finished. IsEnd self.entry.settings
+            (network_of self.entry.network.now.net.value.program) self.entry.inputs (script_of self.entry.script)
+            (world_of finished.world)) }
+        ensures network { IfOk result (λ finished. finished.network ≡ self.entry.network) }
+        ensures err { IfErr result (IsRunError self.entry.settings.threads) }
+    {
+        let Run {
+            network,
+            inputs,
+            script,
+            settings,
+        } = self;
+        let script = events_or_none(alloc, script);
+        match run_network(rt, alloc, settings, &network.net, inputs, outputs, script) {
+            Ok(world) => Ok(Finished { network, world }),
+            Err(fault) => Err(run_error(fault)),
+        }
+    }
+}
