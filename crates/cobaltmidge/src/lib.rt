@@ -22,6 +22,7 @@ pub use ending::{RunWorld, cut};
 pub use error::Error;
 pub use fail_script::{Act, Script, ScriptFault, ScriptLine, parse_script};
 pub use fault::RunFault;
+pub use file_disk::{FileDisk, HostFile, OpenFault, SectorFile, create_disk, open_disk};
 pub use finished::Finished;
 pub use kahn_net::{Channel, Port};
 pub use net_check::{Inputs, Net, NetFault, bind, check, fits};
