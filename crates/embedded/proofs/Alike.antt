@@ -1,13 +1,9 @@
 -- Disks that hold what those of a world hold were left as they were.
-use Rattle.std.proofs.Common.{◌≡◌, ℕ, ℤ, List, [], ◌∷◌, ◌++◌, length, refl, sym, ap, subst, ◌∙◌, arith}
+use Rattle.std.proofs.Common.{◌≡◌, ℕ, ℤ, List, [], ◌∷◌, ◌++◌, refl, sym, ap, subst, ◌∙◌, arith}
 use Rattle.std.specs.List.{AllByRecursion, AllZip}
-use Rattle.cobaltmidge.specs.Common.{AreLeft, HoldsRecord, Network, Output, RecordView, Spells, WasLeft, Whole, outputs_view}
+use Rattle.cobaltmidge.specs.Common.{AreLeft, HoldsRecord, Network, Output, RecordView, Spells, WasLeft, outputs_view}
 use Rattle.cobaltmidge.specs.Common.{record_on, record_spelled, records_on, whole_on}
 use Rattle.embedded.specs.Alike.{HoldsTheSame}
-
-pub none_there : {X : Type 0} (xs : List X) → length xs ≡ 0 → xs ≡ []
-none_there [] none = refl
-none_there (x ∷ xs) none = absurd (omega (arith, none))
 
 -- what holds of two lists place by place holds with one more in each
 pub one_more : {X Y : Type 0} (P : X → Y → Type 0) (xs : List X) (ys : List Y) (x : X) (y : Y) → AllZip P xs ys → P x y
@@ -33,9 +29,12 @@ module _ {E D : Type 0} (was_size : E → ℕ) (was_content : E → List ℕ) (m
   held_too other disk same held = record {
     long = let many = same.as_many in let long = held.long in omega (arith, many, long);
     alone = λ left might. subst (λ (kept : RecordView). ∥ Spells kept left ∥₁) (sym (same_record other disk same))
-        (held.alone left (was_content other, stays other,
-        ap (λ (n : ℕ). whole_on n (was_content other)) (sym same.as_many)
-        ∙ (ap (whole_on (size disk)) (sym same.same ∙ sym (same.settled might.0 might.1)) ∙ might.2)));
+        (held.alone left (
+          was_content other,
+          stays other,
+          ap (λ (n : ℕ). whole_on n (was_content other)) (sym same.as_many)
+              ∙ (ap (whole_on (size disk)) (sym same.same ∙ sym (same.settled might.0 might.1)) ∙ might.2),
+        ));
   }
 
   all_held : (others : List E) (disks : List D)

@@ -246,7 +246,11 @@ fn run_in(rt: &HostRuntime, folder: &str) -> anyhow::Result<()> {
     let items = begin(rt, folder)?;
     print_items(rt, "left when the files are closed", items.as_slice())?;
     let mut world = resume(rt, folder, items.as_slice())?;
-    print_items(rt, "left when they are opened again", world.released(OUTPUT))?;
+    print_items(
+        rt,
+        "left when they are opened again",
+        world.released(OUTPUT),
+    )?;
     go_on(rt.alloc(), &mut world, usize::MAX)?;
     print_items(rt, "left at the end", world.released(OUTPUT))
 }

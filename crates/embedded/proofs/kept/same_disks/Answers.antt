@@ -8,8 +8,8 @@ loop-other-preserved g c =
     let so_far = c.loop-other.invariant in
     let before = c.loop-other.yielded in (
       rw c.in_ok-push.ensures.items
-      (one_more _ before c.loop-other.same.items c.in-Some.other c.in-Some-2.disk so_far.0
-      (rw c.in-Some-2.is at c.in_ok-disk.ensures)),
+          (one_more _ before c.loop-other.same.items c.in-Some.other c.in-Some-2.disk so_far.0
+          (rw c.in-Some-2.is at c.in_ok-disk.ensures)),
       append_assoc before (c.in-Some.other ∷ []) (into_iter_items c.next.new.self)
           ∙ (ap (λ others. before ++ others) (sym c.in-Some.ensures.steps.0) ∙ so_far.1),
     )
