@@ -13,6 +13,7 @@ mod job_watch;
 mod playing;
 mod seat;
 mod threads;
+mod turning;
 mod waking;
 mod working;
 
@@ -28,5 +29,6 @@ pub use run_log::{
 };
 pub use seat::{DriverSeat, NodeSeat};
 pub use threads::{DriverSeats, Joined, NodeSeats, SharedRun, run_threads};
+pub use turning::run_world_by_turns;
 pub use waking::{Seen, Until};
 pub use working::work;
