@@ -1,5 +1,7 @@
 -- What an event that was made several times was answered, one time after another.
-use Rattle.std.proofs.Common.{◌≡◌, refl, ap, ℕ, ◌+◌, Bool, true, false, if◌then◌else◌}
+use Rattle.std.proofs.Common.{◌≡◌, refl, ap, ℕ, ◌+◌, ◌++◌, Bool, true, false, if◌then◌else◌, arith}
+use Rattle.std.specs.Prelude.{codes}
+use Rattle.std.specs.Fmt.{decimal}
 use Rattle.protocol.specs.declared.reply.Reply.TheVariants as reply
 use Rattle.replay.specs.Replies.{KeptReply}
 use Rattle.run_log.specs.Lines.{nth_answer}
@@ -18,7 +20,9 @@ nth_words true n reply.Sent = refl
 nth_words true n reply.Started = refl
 nth_words true n reply.Decided = refl
 nth_words true n (reply.Refused refusal) = refl
-nth_words true n (reply.Released left) = refl
+nth_words true n (reply.Released left) =
+    let same : left.number + n ≡ left.number + n + 0 = omega arith in
+    ap (λ (m : ℕ). codes "released " ++ decimal left.output ++ codes " " ++ decimal m) same
 nth_words true n reply.OutletFailed = refl
 nth_words true n reply.Crashed = refl
 nth_words true n reply.Recovered = refl

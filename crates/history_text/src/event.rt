@@ -164,10 +164,7 @@ pub enum EventWords {
     /// All of one that carries no turn.
     Plain(RunEvent),
     /// Of a turn that came back the node and the process.
-    Install {
-        node: u8,
-        process: usize,
-    },
+    Install { node: u8, process: usize },
 }
 
 impl EventWords {

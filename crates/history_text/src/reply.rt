@@ -1,10 +1,17 @@
 // An answer, in words.
-ghost use Rattle.std.specs.Prelude.{Some};
+ghost use Rattle.std.specs.Prelude.{◌≡◌, ◌+◌, Some};
 ghost use Rattle.history_text.specs.Replies.{reply_text};
 
 use protocol::Leaving;
 use replay::KeptReply;
 use std::fmt;
+
+// The number of the item that left so many places behind the one of this number.
+fn number_behind(number: u64, later: u64) -> u128
+    ensures { result ≡ number + later }
+{
+    u128::from(number) + u128::from(later)
+}
 
 /// An answer: of an item that left, the one so many places behind.
 #[derive(Clone, Copy)]
@@ -31,7 +38,7 @@ impl fmt::Display for ReplyWords {
                 write!(f, "refused {number}")
             }
             KeptReply::Released(Leaving { output, number }) => {
-                let number = u128::from(number) + u128::from(self.later);
+                let number = number_behind(number, self.later);
                 write!(f, "released {output} {number}")
             }
             KeptReply::OutletFailed => f.write_str("outlet failed"),
