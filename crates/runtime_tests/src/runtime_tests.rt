@@ -52,11 +52,11 @@ const OUTPUT_OF_KAHN: u8 = 5;
 // No run here takes so many rounds of the seats.
 const ROUNDS: u32 = 100_000;
 
-type SumWorld = World<SplitCell<MemDisk>, ListOutlet>;
+pub type SumWorld = World<SplitCell<MemDisk>, ListOutlet>;
 
 type SumHub<ThisRun> = Hub<SplitCell<MemDisk>, ListOutlet, ThisRun>;
 
-type SumArmed = ArmedWorld<SplitCell<MemDisk>, ListOutlet>;
+pub type SumArmed = ArmedWorld<SplitCell<MemDisk>, ListOutlet>;
 
 pub fn net_of(alloc: Global, text: &str) -> Result<Net, Fail> {
     Ok(check(alloc, parse(alloc, text)?)?)
@@ -102,7 +102,7 @@ fn open_world(alloc: Global, text: &str, inputs: &str) -> Result<SumWorld, Fail>
     }
 }
 
-fn sum_world(alloc: Global) -> Result<SumWorld, Fail> {
+pub fn sum_world(alloc: Global) -> Result<SumWorld, Fail> {
     open_world(alloc, SUM_ON_TWO_NODES, "i: 1 2 3")
 }
 
@@ -112,7 +112,7 @@ fn at_node(node: u8, deed: Deed) -> RunEvent {
 }
 
 /// The first packet from node 0 is lost, and in round 1 node 1 crashes.
-fn script(alloc: Global) -> Result<Vec<ScriptedEvent>, Fail> {
+pub fn script(alloc: Global) -> Result<Vec<ScriptedEvent>, Fail> {
     let rule = Rule {
         from: 0,
         to: 1,
@@ -226,7 +226,7 @@ struct Ended {
 }
 
 // Whether the whole stream left, and nothing is left to do.
-fn has_all(world: &SumWorld) -> bool {
+pub fn has_all(world: &SumWorld) -> bool {
     world.complete() && world.released(OUTPUT) == [1, 3, 6].as_slice()
 }
 
@@ -488,7 +488,7 @@ fn a_script_on_one_thread(rt: HostRuntime) -> Result<(), Fail> {
 }
 
 // Makes the events of a history once more, on a world that is new, and tells how many were made and answered as they were then.
-fn replay(alloc: Global, armed: &mut SumArmed, history: &History) -> Option<u64> {
+pub fn replay(alloc: Global, armed: &mut SumArmed, history: &History) -> Option<u64> {
     let mut made: u64 = 0;
     for line in &history.lines {
         if let Line::Made {
@@ -566,7 +566,7 @@ fn bytes_of(alloc: Global, disk: &mut MemDisk, sectors: usize) -> Option<Vec<u8>
 }
 
 // Whether the disks of two worlds hold the same.
-fn have_same_disks(alloc: Global, one: SumWorld, other: SumWorld) -> bool {
+pub fn have_same_disks(alloc: Global, one: SumWorld, other: SumWorld) -> bool {
     let Ok((mut ones, _outputs)) = one.close(alloc) else {
         return false;
     };
@@ -583,7 +583,7 @@ fn have_same_disks(alloc: Global, one: SumWorld, other: SumWorld) -> bool {
 }
 
 // Whether two worlds look alike, and nothing is left to do in the first.
-fn are_alike(one: &SumWorld, other: &SumWorld) -> bool {
+pub fn are_alike(one: &SumWorld, other: &SumWorld) -> bool {
     one.released(OUTPUT) == other.released(OUTPUT) && one.round() == other.round() && one.complete()
 }
 
