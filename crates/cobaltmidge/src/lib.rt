@@ -4,6 +4,7 @@
 //! (`Network::open`), and applies one event after another.
 #![tactic(auto)]
 
+mod column;
 mod disks;
 mod ending;
 mod error;
