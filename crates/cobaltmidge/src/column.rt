@@ -153,10 +153,11 @@ fn bad_column(alloc: Global, line: &str) -> Result<usize, AllocError> {
     let mut good = 0;
     let mut bad = line_after(line.len());
     for _ in 0..usize::BITS {
-        let middle = good / 2 + bad / 2 + (good % 2 + bad % 2) / 2;
-        if middle == good {
+        let half = bad.saturating_sub(good) / 2;
+        if half == 0 {
             return Ok(bad);
         }
+        let middle = good.wrapping_add(half);
         if may_go_on(alloc, line, middle)? {
             good = middle;
         } else {
