@@ -20,14 +20,14 @@ use replay::{ArmedCrash, KeptReply, Maker, RunEvent, ScriptedEvent, Silence};
 use run_log::{ArmedWorld, keep_reply};
 use runtime::{
     Bounds, DriverSeat, DriverSeats, Entry, FaultAnswer, History, Hub, JobWatch, Joined, KeptEvent,
-    Line, NoWatch, NodeSeat, NodeSeats, Run, RunEnd, SharedRun, TurnAnswer, UnusedLedgers,
-    run_threads, run_world, work,
+    Line, NoWatch, NodeSeat, NodeSeats, Run, RunEnd, RunHandle, RunWatch, SharedRun, TurnAnswer,
+    UnusedLedgers, run_threads, run_world, work,
 };
 use sector_disk::{ArmedFault, Disk, MemDisk, SECTOR_BYTES};
 use slot_cell::{SlotCell, SplitCell};
 use std::alloc::{AllocError, Global};
 use std::marker::Brand;
-use std::sync::atomic::AtomicBool;
+use std::sync::atomic::{AtomicBool, AtomicU64};
 use std::sync::atomic::Ordering::SeqCst;
 use std::sync::{Arc, Wait};
 use std::test::Fail;
@@ -339,15 +339,36 @@ fn list_seats<ThisRun: Run, ItsMarks: MarksName>(
     Some((node_seats, DriverSeats { seat, marks }))
 }
 
-// A run with a thread for each node; the thread that calls is the driver's.
+// Passes so many lines of the script. Whether each was an event.
+fn pass_lines<ThisRun: Run, R: Wait>(
+    rt: &R,
+    alloc: Global,
+    hub: &SumHub<ThisRun>,
+    driver: &mut DriverSeat<ThisRun>,
+    lines: usize,
+) -> bool {
+    for _line in 0..lines {
+        match hub.fault(rt, alloc, driver) {
+            Ok(FaultAnswer::Reply(_)) => {}
+            _ => return false,
+        }
+    }
+    true
+}
+
+// A run with a thread for each node, of whose jobs a watch is told; the thread that calls is the driver's. So many lines of the script
+// are passed before.
 fn play_by_threads<
     ThisRun: Run + Send + Sync,
     ItsMarks: MarksName + Send + Sync,
+    W: JobWatch + Sync,
     R: Threads + Wait + Sync,
 >(
     rt: &R,
     alloc: Global,
     channels: &[Channel],
+    watch: &W,
+    lines: usize,
     world: SumWorld,
     script: Vec<ScriptedEvent>,
     ledgers: UnusedLedgers,
@@ -363,7 +384,8 @@ fn play_by_threads<
     requires table { table_of opened ≡ ItsMarks.table }
 {
     let (marks, marks_seats) = opened.named::<ItsMarks>(alloc)?;
-    let (hub, seats, seat) = SumHub::<ThisRun>::new(alloc, world, script, NODES, ledgers)?;
+    let (hub, seats, mut seat) = SumHub::<ThisRun>::new(alloc, world, script, NODES, ledgers)?;
+    let passed = pass_lines(rt, alloc, &hub, &mut seat, lines);
     let shared = SharedRun { hub, marks };
     let Some((node_seats, mut driver_seats)) = list_seats(alloc, seats, seat, marks_seats) else {
         return Err(Fail::new("no seats"));
@@ -375,10 +397,10 @@ fn play_by_threads<
         node_seats,
         &mut driver_seats,
         channels,
-        &NoWatch,
+        watch,
         BOUNDS,
     );
-    let went = end.is_ok();
+    let went = passed && end.is_ok();
     let DriverSeats { seat, .. } = driver_seats;
     let SharedRun { hub, .. } = shared;
     let made = made_by_seats(back.as_slice(), &seat);
@@ -403,17 +425,21 @@ fn play_sum<R: Threads + Wait + Sync>(
     play_in_turns::<Brand, R>(rt, alloc, world, script, ledgers)
 }
 
-fn play_sum_by_threads<R: Threads + Wait + Sync>(
+fn play_sum_by_threads<W: JobWatch + Sync, R: Threads + Wait + Sync>(
     rt: &R,
     alloc: Global,
+    watch: &W,
     script: Vec<ScriptedEvent>,
+    lines: usize,
 ) -> Result<Ended, Fail> {
     let net = net_of(alloc, SUM_ON_TWO_NODES)?;
     let opened = Opened::new(alloc, &net)?;
     let world = sum_world(alloc)?;
     let ledgers = UnusedLedgers::new(u64::from(NODES) + 1);
     let channels = net.program.channels.as_slice();
-    play_by_threads::<Brand, Brand, R>(rt, alloc, channels, world, script, ledgers, opened)
+    play_by_threads::<Brand, Brand, W, R>(
+        rt, alloc, channels, watch, lines, world, script, ledgers, opened,
+    )
 }
 
 // Whether a line says that no event came for this reason.
@@ -599,7 +625,7 @@ fn is_replayed(alloc: Global, ended: Ended) -> Result<bool, Fail> {
 #[test]
 fn a_script_with_a_thread_for_each_node(rt: HostRuntime) -> Result<(), Fail> {
     let alloc = rt.alloc();
-    let ended = play_sum_by_threads(&rt, alloc, script(alloc)?)?;
+    let ended = play_sum_by_threads(&rt, alloc, &NoWatch, script(alloc)?, 0)?;
     let came = ended.came();
     let replayed = is_replayed(alloc, ended)?;
     assert!(rt; is_whole(&came));
@@ -710,8 +736,18 @@ fn answered(history: &History, reply: KeptReply) -> u64 {
     count
 }
 
+// What is asked of a run with this history.
+fn went_by(whole: bool, history: &History) -> Went {
+    Went {
+        whole,
+        led: led_by_driver(history),
+        crashed: answered(history, KeptReply::Crashed),
+        down: answered(history, KeptReply::Down),
+    }
+}
+
 // What a run of the sum with a thread for each node came to, by this script and this watch.
-fn run_sum<W: JobWatch + Sync, R: Threads + Wait + Sync>(
+fn run_sum<W: RunWatch + Sync, R: Threads + Wait + Sync>(
     rt: &R,
     alloc: Global,
     script: Vec<ScriptedEvent>,
@@ -720,12 +756,8 @@ fn run_sum<W: JobWatch + Sync, R: Threads + Wait + Sync>(
     let world = sum_world(alloc)?;
     let ended = run_world(rt, alloc, world, script, watch, BOUNDS, true);
     let is_complete = ended.end == RunEnd::Complete;
-    Ok(Went {
-        whole: is_complete && has_all(&ended.world),
-        led: led_by_driver(&ended.history),
-        crashed: answered(&ended.history, KeptReply::Crashed),
-        down: answered(&ended.history, KeptReply::Down),
-    })
+    let whole = is_complete && has_all(&ended.world);
+    Ok(went_by(whole, &ended.history))
 }
 
 // A line of round 0.
@@ -734,22 +766,24 @@ fn at_first(alloc: Global, event: RunEvent) -> Result<Vec<ScriptedEvent>, Fail> 
     Ok(lines)
 }
 
-// Runs by this script with node 0's first job held up. Node 1's first one was taken in meanwhile.
+// Runs by this script, so many lines of which are passed before, with node 0's first job held up. Node 1's first one was taken in
+// meanwhile.
 fn holds_up<R: Threads + Wait + Sync>(
     rt: &R,
     alloc: Global,
     script: Vec<ScriptedEvent>,
+    lines: usize,
 ) -> Result<Went, Fail> {
     let watch = HoldingWatch::new(1);
-    let mut went = run_sum(rt, alloc, script, &watch)?;
-    went.whole = went.whole && watch.has_held();
-    Ok(went)
+    let ended = play_sum_by_threads(rt, alloc, &watch, script, lines)?;
+    let whole = ended.went && has_all(&ended.world) && watch.has_held();
+    Ok(went_by(whole, &ended.history))
 }
 
 #[test]
 fn jobs_run_side_by_side(rt: HostRuntime) -> Result<(), Fail> {
     let alloc = rt.alloc();
-    assert!(rt; holds_up(&rt, alloc, Vec::new(alloc))?.whole);
+    assert!(rt; holds_up(&rt, alloc, Vec::new(alloc), 0)?.whole);
     // While node 0 is held up nothing is sent to node 1, so that this crash comes behind node 1's first job.
     let crash = RunEvent::ArmCrash(ArmedCrash {
         node: 1,
@@ -757,7 +791,7 @@ fn jobs_run_side_by_side(rt: HostRuntime) -> Result<(), Fail> {
         fill: 0,
         rounds: 1,
     });
-    let went = holds_up(&rt, alloc, at_first(alloc, crash)?)?;
+    let went = holds_up(&rt, alloc, at_first(alloc, crash)?, 1)?;
     assert!(rt; went.whole);
     assert!(rt; went.led == 1);
     assert!(rt; went.crashed == 1);
@@ -823,6 +857,108 @@ fn a_run_ends_at_the_items_that_are_asked_for(rt: HostRuntime) -> Result<(), Fai
         return Err(Fail::new("other items"));
     };
     assert!(rt; round < 10_000);
+    Ok(())
+}
+
+// A watch that reads an output's mark whenever there is news, and stops the run once so many items have left.
+#[derive(Drop)]
+struct ReadingWatch {
+    output: u8,
+    stop_at: u64,
+    last: AtomicU64,
+    fell: AtomicBool,
+}
+
+impl ReadingWatch {
+    fn new(output: u8, stop_at: u64) -> ReadingWatch {
+        ReadingWatch {
+            output,
+            stop_at,
+            last: AtomicU64::new(0),
+            fell: AtomicBool::new(false),
+        }
+    }
+
+    fn note(&self, left: u64) {
+        if left < self.last.load(SeqCst) {
+            self.fell.store(true, SeqCst);
+        }
+        self.last.store(left, SeqCst);
+    }
+
+    // Whether it read this last, and never less than before.
+    fn has_read(&self, left: usize) -> bool {
+        self.last.load(SeqCst) == left as u64 && !self.fell.load(SeqCst)
+    }
+}
+
+impl RunWatch for ReadingWatch {
+    fn watch<H: RunHandle, R: Wait>(&self, rt: &R, run: &mut H) {
+        for _ in rt.forever() {
+            let goes_on = run.wait_for_news(rt);
+            let left = run.left(self.output);
+            self.note(left);
+            if !goes_on {
+                break;
+            }
+            if left >= self.stop_at {
+                run.stop(rt);
+            }
+        }
+    }
+}
+
+// No bound ends it for a long while.
+const MANY_ROUNDS: Bounds = Bounds {
+    rounds: 20_000,
+    items: None,
+};
+
+// Whether the items are 0 and 1 in turn.
+fn are_in_turn(items: &[i64]) -> bool {
+    let mut next = 0;
+    for item in items {
+        if *item != next {
+            return false;
+        }
+        next = if next == 0 { 1 } else { 0 };
+    }
+    true
+}
+
+// The round in which a watch stopped Kahn's example, if what had left by then was right, and the watch had read how many.
+fn stopped_in<R: Threads + Wait + Sync>(rt: &R, alloc: Global) -> Result<Option<u64>, Fail> {
+    let watch = ReadingWatch::new(OUTPUT_OF_KAHN, 4);
+    let world = open_world(alloc, KAHN, "")?;
+    let script = Vec::new(alloc);
+    let ended = run_world(rt, alloc, world, script, &watch, MANY_ROUNDS, false);
+    let left = ended.world.released(OUTPUT_OF_KAHN);
+    let is_right = left.len() >= 4 && are_in_turn(left) && watch.has_read(left.len());
+    if ended.end == RunEnd::Stopped && is_right {
+        Ok(Some(ended.world.round()))
+    } else {
+        Ok(None)
+    }
+}
+
+#[test]
+fn a_watch_stops_a_run(rt: HostRuntime) -> Result<(), Fail> {
+    let alloc = rt.alloc();
+    let Some(round) = stopped_in(&rt, alloc)? else {
+        return Err(Fail::new("not stopped, or other items"));
+    };
+    assert!(rt; round < 10_000);
+    Ok(())
+}
+
+#[test]
+fn a_watch_reads_all_that_left(rt: HostRuntime) -> Result<(), Fail> {
+    let alloc = rt.alloc();
+    // No output has so many items, so it stops nothing.
+    let watch = ReadingWatch::new(OUTPUT, u64::MAX);
+    let went = run_sum(&rt, alloc, Vec::new(alloc), &watch)?;
+    assert!(rt; went.whole);
+    assert!(rt; watch.has_read(3));
     Ok(())
 }
 
