@@ -29,7 +29,7 @@ use std::alloc::{AllocError, Global};
 use std::marker::Brand;
 use std::sync::atomic::{AtomicBool, AtomicU64};
 use std::sync::atomic::Ordering::SeqCst;
-use std::sync::{Arc, Wait};
+use std::sync::{Arc, Condvar, Mutex, Wait};
 use std::test::Fail;
 use std::thread;
 use std::thread::Threads;
@@ -634,57 +634,79 @@ fn a_script_with_a_thread_for_each_node(rt: HostRuntime) -> Result<(), Fail> {
     Ok(())
 }
 
+// How far a watch has come: a job is held up, and it was let go of.
+#[derive(Clone, Copy)]
+struct Holding {
+    held: bool,
+    let_go: bool,
+}
+
 // A watch that holds node 0's first job up until what came of a job of this node was taken in, or until it is told to let go.
 #[derive(Drop)]
 struct HoldingWatch {
     let_go_by: u8,
-    held: AtomicBool,
-    came: AtomicBool,
-    gave_up: AtomicBool,
+    holding: Mutex<Holding>,
+    changed: Condvar,
 }
 
 impl HoldingWatch {
     fn new(let_go_by: u8) -> HoldingWatch {
         HoldingWatch {
             let_go_by,
-            held: AtomicBool::new(false),
-            came: AtomicBool::new(false),
-            gave_up: AtomicBool::new(false),
+            holding: Mutex::new(Holding {
+                held: false,
+                let_go: false,
+            }),
+            changed: Condvar::new(),
         }
     }
 
-    // Whether it held a job up, and let go in time.
-    fn has_held(&self) -> bool {
-        self.held.load(SeqCst) && self.came.load(SeqCst) && !self.gave_up.load(SeqCst)
-    }
-}
-
-const POLLS: u32 = 1_000_000;
-
-// Waits until this is so, if it is so in time.
-fn wait_for(that: &AtomicBool) -> bool {
-    for _poll in 0..POLLS {
-        if that.load(SeqCst) {
-            return true;
+    // Holds up who calls, until it is told to let go.
+    fn hold<R: Wait>(&self, rt: &R) {
+        let mut holding = self.holding.lock(rt);
+        holding.held = true;
+        self.changed.notify_all();
+        for _ in rt.forever() {
+            if holding.let_go {
+                break;
+            }
+            holding = self.changed.wait(rt, holding);
         }
-        thread::yield_now();
     }
-    false
+
+    fn let_go<R: Wait>(&self, rt: &R) {
+        self.holding.lock(rt).let_go = true;
+        self.changed.notify_all();
+    }
+
+    // Waits until a job is held up.
+    fn wait_until_held<R: Wait>(&self, rt: &R) {
+        let mut holding = self.holding.lock(rt);
+        for _ in rt.forever() {
+            if holding.held {
+                break;
+            }
+            holding = self.changed.wait(rt, holding);
+        }
+    }
+
+    // Whether it held a job up, and let go of it.
+    fn has_held<R: Wait>(&self, rt: &R) -> bool {
+        let holding = self.holding.lock(rt);
+        holding.held && holding.let_go
+    }
 }
 
 impl JobWatch for HoldingWatch {
-    fn before_run(&self, node: u8, nth: u64) {
+    fn before_run<R: Wait>(&self, rt: &R, node: u8, nth: u64) {
         if node == 0 && nth == 0 {
-            self.held.store(true, SeqCst);
-            if !wait_for(&self.came) {
-                self.gave_up.store(true, SeqCst);
-            }
+            self.hold(rt);
         }
     }
 
-    fn after_install(&self, node: u8, _nth: u64) {
+    fn after_install<R: Wait>(&self, rt: &R, node: u8, _nth: u64) {
         if node == self.let_go_by {
-            self.came.store(true, SeqCst);
+            self.let_go(rt);
         }
     }
 }
@@ -776,7 +798,7 @@ fn holds_up<R: Threads + Wait + Sync>(
 ) -> Result<Went, Fail> {
     let watch = HoldingWatch::new(1);
     let ended = play_sum_by_threads(rt, alloc, &watch, script, lines)?;
-    let whole = ended.went && has_all(&ended.world) && watch.has_held();
+    let whole = ended.went && has_all(&ended.world) && watch.has_held(rt);
     Ok(went_by(whole, &ended.history))
 }
 
@@ -962,44 +984,26 @@ fn a_watch_reads_all_that_left(rt: HostRuntime) -> Result<(), Fail> {
     Ok(())
 }
 
-// Takes a node's turns until the hub is stopped, which it is once nothing is left to do. Whether it came to that.
-fn take_turns<C: SlotCell, O: Outlet, ThisRun: Run, R: Wait>(
-    rt: &R,
-    alloc: Global,
-    hub: &Hub<C, O, ThisRun>,
-    seat: &mut NodeSeat<ThisRun>,
-) -> bool {
-    for _turn in 0..POLLS {
-        if hub.status(rt).stopped {
-            return true;
-        }
-        if !go(rt, alloc, hub, seat) {
-            return false;
-        }
-        thread::yield_now();
-    }
-    false
-}
-
-// Lets node 0 crash by the script's line while its first job is held up, and takes the turns of node 1. Whether the node crashed, and all
-// came to its end.
-fn strike<C: SlotCell, O: Outlet, ThisRun: Run, R: Wait>(
+// Lets node 0 crash by the script's line while its first job is held up, and then works for node 1 until nothing is left to do. Whether
+// the node crashed, and no call was refused.
+fn strike<C: SlotCell, O: Outlet, ThisRun: Run, ItsMarks: MarksName, R: Wait>(
     rt: &R,
     alloc: Global,
     hub: &Hub<C, O, ThisRun>,
     watch: &HoldingWatch,
     seat: &mut NodeSeat<ThisRun>,
+    marks: &Marks<ItsMarks>,
+    marks_seat: &mut Seat<ItsMarks>,
     driver: &mut DriverSeat<ThisRun>,
 ) -> bool {
-    let held = wait_for(&watch.held);
+    watch.wait_until_held(rt);
     let struck = match hub.fault(rt, alloc, driver) {
-        Ok(FaultAnswer::Reply(Reply::Crashed)) => held,
+        Ok(FaultAnswer::Reply(Reply::Crashed)) => true,
         _ => false,
     };
-    watch.came.store(true, SeqCst);
-    let ended = take_turns(rt, alloc, hub, seat);
-    hub.stop(rt);
-    struck && ended
+    watch.let_go(rt);
+    let worked = work(rt, alloc, hub, seat, marks, marks_seat, &NoWatch).is_ok();
+    struck && worked
 }
 
 // Node 0 works on a thread of its own, held up by a watch; the thread that calls is the driver's and node 1's.
@@ -1016,14 +1020,15 @@ fn crash_while_held<
     marks: &Marks<ItsMarks>,
     watch: &HoldingWatch,
     zero: &mut NodeSeat<ThisRun>,
-    marks_seat: &mut Seat<ItsMarks>,
+    marks_of_zero: &mut Seat<ItsMarks>,
     one: &mut NodeSeat<ThisRun>,
+    marks_of_one: &mut Seat<ItsMarks>,
     driver: &mut DriverSeat<ThisRun>,
 ) -> bool {
     let (worked, struck) = thread::join(
         rt,
-        || work(rt, alloc, hub, zero, marks, marks_seat, watch).is_ok(),
-        || strike(rt, alloc, hub, watch, one, driver),
+        || work(rt, alloc, hub, zero, marks, marks_of_zero, watch).is_ok(),
+        || strike(rt, alloc, hub, watch, one, marks, marks_of_one, driver),
     );
     worked && struck
 }
@@ -1051,15 +1056,18 @@ fn play_with_crash<
     requires keeps { ThisRun.keeps ≡ true }
     requires table { table_of opened ≡ ItsMarks.table }
 {
-    let (marks, marks_seats) = opened.named::<ItsMarks>(alloc)?;
+    let (marks, mut marks_seats) = opened.named::<ItsMarks>(alloc)?;
+    // The last one is the driver's.
+    drop(marks_seats.pop());
     let (hub, mut seats, mut driver) = SumHub::<ThisRun>::new(
         alloc, world, script, NODES, ledgers,
     )?;
     let (Some(mut one), Some(mut zero)) = (seats.pop(), seats.pop()) else {
         return Err(Fail::new("no seats"));
     };
-    let Some(mut marks_seat) = marks_seats.into_iter().next() else {
-        return Err(Fail::new("no seat of marks"));
+    let (Some(mut marks_of_one), Some(mut marks_of_zero)) = (marks_seats.pop(), marks_seats.pop())
+    else {
+        return Err(Fail::new("no seats of marks"));
     };
     let crashed = crash_while_held(
         rt,
@@ -1068,8 +1076,9 @@ fn play_with_crash<
         &marks,
         watch,
         &mut zero,
-        &mut marks_seat,
+        &mut marks_of_zero,
         &mut one,
+        &mut marks_of_one,
         &mut driver,
     );
     seats.push(zero)?;
@@ -1110,7 +1119,7 @@ fn a_crash_while_a_job_is_out(rt: HostRuntime) -> Result<(), Fail> {
     let discarded = answered(&ended.history, KeptReply::Discarded);
     drop(ended);
     assert!(rt; is_whole(&came));
-    assert!(rt; watch.has_held());
+    assert!(rt; watch.has_held(&rt));
     assert!(rt; discarded == 1);
     Ok(())
 }
