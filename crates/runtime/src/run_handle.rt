@@ -21,8 +21,8 @@ pub trait RunHandle {
     /// The numbers of items that left by a channel, in order, as far as this was told.
     ghost told: { Self → ℕ → List ℕ };
 
-    /// How many items have left by an output, as its node last said: 0 where none has left in this run, and where the channel is
-    /// no output. Never less than what this read there before. It waits for nobody. Once the run is over, it is all that has left.
+    /// How many items have left by an output, as its node last said: 0 where the channel is no output, and as long as none has left
+    /// in this run. It is never less than what this read there before, and rises no more once the run is over. It waits for nobody.
     fn left(&mut self, channel: u8) -> u64
         ensures no_output { owner_at (owners self.old) channel ≡ None → result ≡ 0 }
         ensures was_raised { (result ≡ 0) ⊎ Contains (told self.new channel) result }

@@ -726,6 +726,8 @@ struct Went {
     // How many nodes crashed at the end of a delivery, and how often a device took its node down.
     crashed: u64,
     down: u64,
+    // The round in which it ended.
+    round: u64,
 }
 
 // How many events the driver made before anybody else made one.
@@ -758,13 +760,14 @@ fn answered(history: &History, reply: KeptReply) -> u64 {
     count
 }
 
-// What is asked of a run with this history.
-fn went_by(whole: bool, history: &History) -> Went {
+// What is asked of a run that ended in this round, with this history.
+fn went_by(whole: bool, round: u64, history: &History) -> Went {
     Went {
         whole,
         led: led_by_driver(history),
         crashed: answered(history, KeptReply::Crashed),
         down: answered(history, KeptReply::Down),
+        round,
     }
 }
 
@@ -779,7 +782,8 @@ fn run_sum<W: RunWatch + Sync, R: Threads + Wait + Sync>(
     let ended = run_world(rt, alloc, world, script, watch, BOUNDS, true);
     let is_complete = ended.end == RunEnd::Complete;
     let whole = is_complete && has_all(&ended.world);
-    Ok(went_by(whole, &ended.history))
+    let round = ended.world.round();
+    Ok(went_by(whole, round, &ended.history))
 }
 
 // A line of round 0.
@@ -799,7 +803,8 @@ fn holds_up<R: Threads + Wait + Sync>(
     let watch = HoldingWatch::new(1);
     let ended = play_sum_by_threads(rt, alloc, &watch, script, lines)?;
     let whole = ended.went && has_all(&ended.world) && watch.has_held(rt);
-    Ok(went_by(whole, &ended.history))
+    let round = ended.world.round();
+    Ok(went_by(whole, round, &ended.history))
 }
 
 #[test]
@@ -889,6 +894,9 @@ struct ReadingWatch {
     stop_at: u64,
     last: AtomicU64,
     fell: AtomicBool,
+    // The round, and whether the run was over, when it was last waited for news.
+    round: AtomicU64,
+    over: AtomicBool,
 }
 
 impl ReadingWatch {
@@ -898,6 +906,8 @@ impl ReadingWatch {
             stop_at,
             last: AtomicU64::new(0),
             fell: AtomicBool::new(false),
+            round: AtomicU64::new(0),
+            over: AtomicBool::new(false),
         }
     }
 
@@ -908,9 +918,13 @@ impl ReadingWatch {
         self.last.store(left, SeqCst);
     }
 
-    // Whether it read this last, and never less than before.
+    // Whether it read this last, once the run was over, and never less than before.
     fn has_read(&self, left: usize) -> bool {
-        self.last.load(SeqCst) == left as u64 && !self.fell.load(SeqCst)
+        self.over.load(SeqCst) && self.last.load(SeqCst) == left as u64 && !self.fell.load(SeqCst)
+    }
+
+    fn last_round(&self) -> u64 {
+        self.round.load(SeqCst)
     }
 }
 
@@ -927,6 +941,8 @@ impl RunWatch for ReadingWatch {
                 run.stop(rt);
             }
         }
+        self.round.store(run.round(rt), SeqCst);
+        self.over.store(run.is_over(rt), SeqCst);
     }
 }
 
@@ -981,6 +997,7 @@ fn a_watch_reads_all_that_left(rt: HostRuntime) -> Result<(), Fail> {
     let went = run_sum(&rt, alloc, Vec::new(alloc), &watch)?;
     assert!(rt; went.whole);
     assert!(rt; watch.has_read(3));
+    assert!(rt; watch.last_round() == went.round);
     Ok(())
 }
 
