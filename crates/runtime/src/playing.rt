@@ -11,8 +11,8 @@ ghost use Rattle.runtime.specs.Ending.{IsOver};
 ghost use Rattle.world.specs.WholeView.{world_of};
 ghost use Rattle.world.specs.WorldView.{rooms};
 
-use crate::ending::{Ended, RunEnd, end_of};
 use crate::driving::{Bounds, begin, first_lines};
+use crate::ending::{Ended, RunEnd, end_of};
 use crate::hub::{Hub, HubParts, open_log};
 use crate::run_watch::RunWatch;
 use crate::seat::NodeSeat;

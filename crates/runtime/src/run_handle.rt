@@ -60,9 +60,13 @@ pub(crate) struct Watched<'run, C: SlotCell, O: Outlet, ThisRun: Run, ItsMarks: 
     seen: Option<Seen>,
 }
 
-impl<'run, C: SlotCell, O: Outlet, ThisRun: Run, ItsMarks: MarksName>
-    Watched<'run, C, O, ThisRun, ItsMarks>
-{
+impl<'run, C: SlotCell, O: Outlet, ThisRun: Run, ItsMarks: MarksName> Watched<
+    'run,
+    C,
+    O,
+    ThisRun,
+    ItsMarks,
+> {
     pub(crate) fn new(
         shared: &'run SharedRun<C, O, ThisRun, ItsMarks>,
         seat: Seat<ItsMarks>,
@@ -76,8 +80,7 @@ impl<'run, C: SlotCell, O: Outlet, ThisRun: Run, ItsMarks: MarksName>
 }
 
 impl<C: SlotCell, O: Outlet, ThisRun: Run, ItsMarks: MarksName> RunHandle
-    for Watched<'_, C, O, ThisRun, ItsMarks>
-{
+    for Watched<'_, C, O, ThisRun, ItsMarks> {
     ghost use Rattle.marks.specs.Seats.{known, owners_of};
 
     ghost owners = { λ run. owners_of run.shared.now.marks };

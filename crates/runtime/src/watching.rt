@@ -77,8 +77,6 @@ pub(crate) fn run_watched<
     if watch.watches() {
         run_beside(rt, alloc, shared, seats, driver, channels, watch, bounds)
     } else {
-        run_threads(
-            rt, alloc, shared, seats, driver, channels, &NoWatch, bounds,
-        )
+        run_threads(rt, alloc, shared, seats, driver, channels, &NoWatch, bounds)
     }
 }
