@@ -213,8 +213,8 @@ impl<C: SlotCell, O: Outlet, ThisRun: Run> Hub<C, O, ThisRun> {
         Entered::new(locked, &self.sleepers)
     }
 
-    // The lock, once the hub stands otherwise than it stood when who watches was told so, or the run is stopped; at once where
-    // nothing was told yet. One watch alone waits by this.
+    // The lock, once the hub stands otherwise than who watches the run was told last, or the run is stopped; at once where it was told
+    // nothing yet. One watch alone may wait by this, since what it was told stands under the lock.
     pub(crate) fn enter_watch<R: Wait>(
         &self,
         rt: &R,

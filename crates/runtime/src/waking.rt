@@ -34,7 +34,7 @@ pub(crate) struct Locked<C: SlotCell, O: Outlet, ThisRun: Run> {
     pub left: u64,
     // What the driver waited for last.
     pub until: Until,
-    // How the hub stood when who watches the run was last told, if that waits for news.
+    // How the hub stands as far as who watches the run was told, if anybody was.
     pub told: Option<Seen>,
     // Whether the run began with the script's lines of round 0.
     pub begun: bool,
@@ -97,12 +97,12 @@ impl<C: SlotCell, O: Outlet, ThisRun: Run> Locked<C, O, ThisRun> {
         self.log.is_stopped() || has_left || self.log.moment().round >= self.until.round
     }
 
-    /// Whether the hub stands otherwise than when it stood so, or the run is stopped.
+    /// Whether the hub stands otherwise than somebody was told, or the run is stopped.
     pub fn has_news(&self, told: Seen) -> bool {
         self.log.is_stopped() || self.seen() != told
     }
 
-    // Whether there is news for who watches the run, if that waits for any.
+    // Whether there is news for who watches the run, if anybody was told how the hub stands.
     fn wakes_watch(&self) -> bool {
         match self.told {
             Some(told) => self.has_news(told),
