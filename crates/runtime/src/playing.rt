@@ -48,7 +48,7 @@ fn list_seats<ThisRun: RunLedgers, ItsMarks: MarksName>(
 }
 
 // Whether the lines of round 0 were all passed.
-fn has_begun(begun: &Result<bool, HubFault>) -> bool
+pub(crate) fn has_begun(begun: &Result<bool, HubFault>) -> bool
     ensures { result ≡ true → begun.now ≡ Ok true }
 {
     match begun {
