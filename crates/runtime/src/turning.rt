@@ -23,7 +23,9 @@ use kahn_net::Channel;
 use outlet::Outlet;
 use proc_step::Job;
 use replay::ScriptedEvent;
-use run_log::{ArmedWorld, HubFault, Run, RunLog, SeatCount, TurnAnswer, UnusedLedgers, no_deliveries};
+use run_log::{
+    ArmedWorld, HubFault, Run, RunLog, SeatCount, TurnAnswer, UnusedLedgers, no_deliveries,
+};
 use slot_cell::SlotCell;
 use std::alloc::Global;
 use std::marker::Brand;
