@@ -4,6 +4,7 @@
 //! (`Network::open`), and applies one event after another.
 #![tactic(auto)]
 
+mod column;
 mod disks;
 mod ending;
 mod error;
@@ -33,7 +34,9 @@ pub use replay::{ArmedCrash, RunEvent, ScriptedEvent};
 pub use run::Run;
 pub use run_log::ArmedWorld;
 pub use running::run_network;
-pub use runtime::{Bounds, Ended, History, HubFault, JobWatch, NoWatch, RunEnd, run_world};
+pub use runtime::{
+    Bounds, Ended, History, HubFault, NoWatch, RunEnd, RunHandle, RunWatch, run_world,
+};
 pub use scripting::events_of;
 pub use sector_disk::{ArmedFault, Disk, DiskFault, MemDisk, SECTOR_BYTES};
 pub use settings::{DEFAULT_ROUNDS, Settings};
