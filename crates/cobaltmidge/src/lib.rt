@@ -23,7 +23,9 @@ pub use ending::{RunWorld, cut};
 pub use error::Error;
 pub use fail_script::{Act, Script, ScriptFault, ScriptLine, parse_script};
 pub use fault::RunFault;
+pub use file_disk::{FileDisk, HostFile, OpenFault, SectorFile, create_disk, open_disk};
 pub use finished::Finished;
+pub use history_text::write_history;
 pub use kahn_net::{Channel, Port};
 pub use net_check::{Inputs, Net, NetFault, bind, check, fits};
 pub use net_text::{TextFault, parse, parse_inputs};
@@ -36,6 +38,7 @@ pub use run_log::ArmedWorld;
 pub use running::run_network;
 pub use runtime::{
     Bounds, Ended, History, HubFault, NoWatch, RunEnd, RunHandle, RunWatch, run_world,
+    run_world_by_turns,
 };
 pub use scripting::events_of;
 pub use sector_disk::{ArmedFault, Disk, DiskFault, MemDisk, SECTOR_BYTES};
