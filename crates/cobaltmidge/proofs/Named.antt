@@ -1,5 +1,5 @@
 -- A name is one channel's.
-use Rattle.std.proofs.Common.{◌≡◌, ◌∙◌, ap, subst, sym, Bool, false, ℕ, List, Option, slice_get}
+use Rattle.std.proofs.Common.{◌≡◌, ◌∙◌, ap, sym, Bool, false, ℕ, List, Option, slice_get}
 use Rattle.std.specs.Prelude.{IsTrue}
 use Rattle.std.proofs.lemmas.Bool.{false≢true}
 use Rattle.net_check.specs.Resolution.{AllDifferent, Reads}

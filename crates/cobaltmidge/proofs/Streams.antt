@@ -1,6 +1,6 @@
 -- What a world's outlets took are the streams of a run.
 use Rattle.std.proofs.Common.{◌≡◌, ◌∙◌, arith, ap, length, map, subst, suc, sym, refl, Bool, List, [], ◌∷◌, Some, ℕ, ℤ}
-use Rattle.std.specs.Prelude.{Result, Ok, Err, IfOk, IsTrue, slice_get}
+use Rattle.std.specs.Prelude.{IsTrue, slice_get}
 use Rattle.std.proofs.Math.Logic.{∥∥₁_elim, ∥∥₁_map, ∥∥₁_prop}
 use Rattle.protocol.specs.Node.Common.{history_of, IsPrefix, Network, approximation}
 use Rattle.protocol.specs.World.Common.{output_channels, WorldView, output_of, outputs_of, are_quiet}

@@ -41,7 +41,7 @@ use Rattle.cobaltmidge.specs.Turning.{HasNoFailures, IsRunRoom, IsRunStep, Progr
 use Rattle.cobaltmidge.specs.Turning.{next_event, progress, run_rooms, unused_outlet}
 use Rattle.run_log.specs.declared.answer.HubFault.{HubFault}
 use Rattle.run_log.specs.declared.answer.HubFault.TheVariants as hub
-use Rattle.cobaltmidge.specs.Failing.{HasFailedAtOnce, IsRunFault, hub_fault, store_fault}
+use Rattle.cobaltmidge.specs.Failing.{HasFailedAtOnce, IsRunFault, store_fault}
 use Rattle.cobaltmidge.specs.declared.fault.RunFault.{RunFault}
 use Rattle.cobaltmidge.specs.Runs.{IsEndBy, IsReplayed}
 use Rattle.cobaltmidge.specs.declared.settings.Settings.{Settings}
@@ -142,14 +142,6 @@ run_refused {D} threads sectors net number (d ∷ disks) fault valid all (inl re
     at NotHeld why failed = absurd why
     at Unsettled why failed = absurd why
     at Spent why failed = absurd why
-
--- why the hub refuses
-hub_refused : (fault : HubFault) → IsRunFault true (hub_fault fault)
-hub_refused hub.NoMemory = tt
-hub_refused hub.PastNumber = refl
-
-pub hub_refused_so : (refusal : RunFault) (fault : HubFault) → refusal ≡ hub_fault fault → IsRunFault true refusal
-hub_refused_so refusal fault same = subst (IsRunFault true) (sym same) (hub_refused fault)
 
 -- one line more
 pub more_lines : (script : List ScriptedEvent) (lines : ℕ) (first before now : Progress) (event : Option RunEvent)

@@ -128,3 +128,21 @@ error_number (InputsText fault) = text.number_of fault
 error_number (Inputs fault) = net.number_of fault
 error_number (Script fault) = script.number_of fault
 error_number (Run fault) = run_fault_number fault
+
+abbrev pub error_line : Error → Option ℕ
+error_line NoMemory = None
+error_line (NetText fault) = text.line_of fault
+error_line (Net fault) = net.line_of fault
+error_line (InputsText fault) = text.line_of fault
+error_line (Inputs fault) = net.line_of fault
+error_line (Script fault) = script.line_of fault
+error_line (Run fault) = None
+
+abbrev pub error_words : Error → List ℕ
+error_words NoMemory = codes "no memory"
+error_words (NetText fault) = text_words fault
+error_words (Net fault) = net_words fault
+error_words (InputsText fault) = text_words fault
+error_words (Inputs fault) = net_words fault
+error_words (Script fault) = script_words fault
+error_words (Run fault) = run_words fault

@@ -5,7 +5,7 @@ ghost use Rattle.net_text.specs.Faults as text;
 ghost use Rattle.net_check.specs.Faults as net;
 ghost use Rattle.fail_script.specs.Faults as script;
 ghost use Rattle.cobaltmidge.specs.Failing.{run_fault_number};
-ghost use Rattle.cobaltmidge.specs.Errors.{error_number, error_text, inputs_error, inputs_text_error, net_error, net_text_error};
+ghost use Rattle.cobaltmidge.specs.Errors.{error_line, error_number, error_text, error_words, inputs_error, inputs_text_error, net_error, net_text_error};
 ghost use Rattle.cobaltmidge.specs.Errors.{net_words, refusal_text, run_words, script_words, script_error, text_words};
 ghost use Rattle.cobaltmidge.specs.Errors.{run_error};
 ghost use Rattle.cobaltmidge.specs.declared.error.Error.TheVariants.{NoMemory};
@@ -202,6 +202,31 @@ impl Error {
             Error::Net(fault) | Error::Inputs(fault) => fault.number(),
             Error::Script(fault) => fault.number(),
             Error::Run(fault) => fault.number(),
+        }
+    }
+
+    /// The line of the text that is refused, from 1, where one is.
+    pub fn line(self) -> Option<usize>
+        ensures { result ≡ error_line self }
+    {
+        match self {
+            Error::NoMemory | Error::Run(_) => None,
+            Error::NetText(fault) | Error::InputsText(fault) => fault.line(),
+            Error::Net(fault) | Error::Inputs(fault) => fault.line(),
+            Error::Script(fault) => fault.line(),
+        }
+    }
+
+    /// Why, in words.
+    pub fn words(self) -> &'static str
+        ensures { result.now ≡ error_words self }
+    {
+        match self {
+            Error::NoMemory => "no memory",
+            Error::NetText(fault) | Error::InputsText(fault) => text_words(fault),
+            Error::Net(fault) | Error::Inputs(fault) => net_words(fault),
+            Error::Script(fault) => script_words(fault),
+            Error::Run(fault) => run_words(fault),
         }
     }
 }

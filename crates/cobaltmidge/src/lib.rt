@@ -4,6 +4,7 @@
 //! (`Network::open`), and applies one event after another.
 #![tactic(auto)]
 
+mod column;
 mod disks;
 mod ending;
 mod error;
@@ -24,6 +25,7 @@ pub use fail_script::{Act, Script, ScriptFault, ScriptLine, parse_script};
 pub use fault::RunFault;
 pub use file_disk::{FileDisk, HostFile, OpenFault, SectorFile, create_disk, open_disk};
 pub use finished::Finished;
+pub use history_text::write_history;
 pub use kahn_net::{Channel, Port};
 pub use net_check::{Inputs, Net, NetFault, bind, check, fits};
 pub use net_text::{TextFault, parse, parse_inputs};
@@ -34,7 +36,10 @@ pub use replay::{ArmedCrash, RunEvent, ScriptedEvent};
 pub use run::Run;
 pub use run_log::ArmedWorld;
 pub use running::run_network;
-pub use runtime::{Bounds, Ended, History, HubFault, JobWatch, NoWatch, RunEnd, run_world};
+pub use runtime::{
+    Bounds, Ended, History, HubFault, NoWatch, RunEnd, RunHandle, RunWatch, run_world,
+    run_world_by_turns,
+};
 pub use scripting::events_of;
 pub use sector_disk::{ArmedFault, Disk, DiskFault, MemDisk, SECTOR_BYTES};
 pub use settings::{DEFAULT_ROUNDS, Settings};

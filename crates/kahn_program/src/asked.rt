@@ -41,6 +41,8 @@ pub struct Options {
     pub plain: bool,
     /// The approximation that is printed in place of a run.
     pub approx: Option<u64>,
+    /// Where a text is refused, a second line says at which column, and in words.
+    pub explain: bool,
 }
 
 impl Options {
@@ -50,7 +52,7 @@ impl Options {
         ensures rounds { result.rounds ≡ DEFAULT_ROUNDS }
         ensures room { result.room ≡ DEFAULT_ROOM }
         ensures others { (result.script ≡ None) × (result.state ≡ None) × (result.sync ≡ false) × (result.items ≡ None) × (result.plain ≡ false)
-            × (result.approx ≡ None) }
+            × (result.approx ≡ None) × (result.explain ≡ false) }
     {
         Options {
             net,
@@ -63,6 +65,7 @@ impl Options {
             room: DEFAULT_ROOM as u64,
             plain: false,
             approx: None,
+            explain: false,
         }
     }
 

@@ -132,7 +132,7 @@ fn flag<'a>(alloc: Global, name: &'a str, help: &'a str) -> Arg<'a>
 }
 
 /// The command line:
-/// `kahnrun [--script FILE] [--state FOLDER] [--sync] [--rounds N] [--items N] [--room N] [--plain] [--approx N] NET INPUTS`.
+/// `kahnrun [--script FILE] [--state FOLDER] [--sync] [--rounds N] [--items N] [--room N] [--plain] [--approx N] [--explain] NET INPUTS`.
 fn command<'a>(alloc: Global) -> Result<Command<'a>, AllocError>
     ensures { IfOk result (λ c. app_of c ≡ kahnrun) }
 {
@@ -182,6 +182,11 @@ fn command<'a>(alloc: Global) -> Result<Command<'a>, AllocError>
             0,
             MAX_APPROXIMATION,
             "Runs nothing, and prints this approximation of the outputs",
+        ))?
+        .arg(flag(
+            alloc,
+            "explain",
+            "Says of a refused text at which column, and in words, on a second line",
         ))?;
     Ok(command)
 }
@@ -251,6 +256,7 @@ pub fn options<S: AsStr>(alloc: Global, words: &[S]) -> Result<Options, Error>
         room,
         plain: matches.get_flag("plain"),
         approx: given(&matches, "approx", 0, MAX_APPROXIMATION)?,
+        explain: matches.get_flag("explain"),
     })
 }
 

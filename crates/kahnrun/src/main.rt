@@ -1,9 +1,11 @@
-//! `kahnrun [--script FILE] [--state FOLDER] [--sync] [--rounds N] [--items N] [--room N] [--plain] [--approx N] NET INPUTS` runs the network of one file on
+//! `kahnrun [--script FILE] [--state FOLDER] [--sync] [--rounds N] [--items N] [--room N] [--plain] [--approx N] [--explain] NET INPUTS` runs the network of one file on
 //! the inputs of the other, each node on a thread of its own (`--plain`: all on one), lets fail what the script says, and prints
 //! what each output released, and whether the run is complete. With `--approx` it runs nothing, and prints that approximation of
 //! each output's history, and whether it is a solution. With `--state` what left is kept in a folder too, and a further run with
 //! that folder goes on where this one ended, however it did: it begins anew, compares what leaves with what the folder has, and
 //! keeps only what is new.
+//!
+//! With `--explain` a second line says of a text that is refused at which column, and in words.
 //!
 //! The exit status is 0 where the last line is `complete`, 3 where it is `partial`, 2 where a text or the command line is
 //! refused (or help is asked for), and 1 for any other failure, as where a line can't be written.
@@ -12,7 +14,10 @@
 use clap::Error;
 use clap::error::ErrorKind;
 
+mod explaining;
 mod state;
+
+use explaining::explain;
 
 use kahn_program::{
     Failure, FileKeeper, InMemory, Options, Source, not_text, options, print_failure, read_net, run,
@@ -28,6 +33,9 @@ use std::rt::Env;
 use std::sync::Wait;
 use std::thread::Threads;
 use std::{env, fs, io};
+
+/// The exit status where a text or the command line is refused.
+const REFUSED: u8 = 2;
 
 /// The words of the command line, the program's name first.
 fn words<R: Env + AllocGlobal>(rt: &R) -> io::Result<Vec<String>> {
@@ -56,7 +64,7 @@ fn refused(rt: &HostRuntime, error: &Error) -> u8 {
         return no_memory(rt);
     }
     let _ = error.print(rt);
-    2
+    REFUSED
 }
 
 /// What the command line asks for, or the exit status where it is refused.
@@ -96,18 +104,48 @@ fn open_all(rt: &HostRuntime, options: &Options) -> Result<Files, AllocError> {
     })
 }
 
-// What a file holds.
-fn bytes_of(alloc: Global, file: Option<File>, source: Source) -> Result<Vec<u8>, Failure> {
+/// The texts that a command line names, each where it could be read.
+#[derive(Drop)]
+struct Given {
+    net: Option<Vec<u8>>,
+    inputs: Option<Vec<u8>>,
+    script: Option<Vec<u8>>,
+}
+
+// What a file holds, where it can be read. Refuses for want of memory alone.
+fn bytes_of(alloc: Global, file: Option<File>) -> Result<Option<Vec<u8>>, AllocError> {
     let Some(mut file) = file else {
-        return Err(Failure::Unreadable(source));
+        return Ok(None);
     };
     let mut bytes = Vec::new(alloc);
     match file.read_to_end(&mut bytes) {
-        Ok(_) => Ok(bytes),
+        Ok(_) => Ok(Some(bytes)),
         Err(error) => match error.kind() {
-            io::ErrorKind::OutOfMemory => Err(Failure::NoMemory),
-            _ => Err(Failure::Unreadable(source)),
+            io::ErrorKind::OutOfMemory => Err(AllocError),
+            _ => Ok(None),
         },
+    }
+}
+
+// All that the files hold.
+fn read_all(alloc: Global, files: Files) -> Result<Given, AllocError> {
+    let Files {
+        net,
+        inputs,
+        script,
+    } = files;
+    Ok(Given {
+        net: bytes_of(alloc, net)?,
+        inputs: bytes_of(alloc, inputs)?,
+        script: bytes_of(alloc, script)?,
+    })
+}
+
+// What was read, as a reader of its own.
+fn reader(bytes: &Option<Vec<u8>>) -> Option<&[u8]> {
+    match bytes {
+        Some(bytes) => Some(bytes.as_slice()),
+        None => None,
     }
 }
 
@@ -117,21 +155,17 @@ fn run_kept<R: Threads + Wait + Sync>(
     host: &HostRuntime,
     alloc: Global,
     options: &Options,
-    files: Files,
+    given: &Given,
     folder: &str,
 ) -> Result<u8, Failure> {
-    let Files {
-        net,
-        inputs,
-        script,
-    } = files;
-    let net = bytes_of(alloc, net, Source::Net)?;
-    let inputs = bytes_of(alloc, inputs, Source::Inputs)?;
-    let texts = Texts {
-        net: net.as_slice(),
-        inputs: inputs.as_slice(),
+    let Some(net) = reader(&given.net) else {
+        return Err(Failure::Unreadable(Source::Net));
     };
-    let checked = read_net(alloc, Some(texts.net))?;
+    let Some(inputs) = reader(&given.inputs) else {
+        return Err(Failure::Unreadable(Source::Inputs));
+    };
+    let checked = read_net(alloc, Some(net))?;
+    let texts = Texts { net, inputs };
     let Folder {
         files: held,
         lock: _lock,
@@ -141,13 +175,58 @@ fn run_kept<R: Threads + Wait + Sync>(
         rt,
         alloc,
         options,
-        Some(texts.net),
-        Some(texts.inputs),
-        script,
+        Some(net),
+        Some(inputs),
+        reader(&given.script),
         &mut keeper,
         &mut host.stdout(),
         &mut host.stderr(),
     ))
+}
+
+// What is asked for, of texts that were read before, and the exit status that comes of it.
+fn run_given<R: Threads + Wait + Sync>(
+    rt: &R,
+    host: &HostRuntime,
+    alloc: Global,
+    options: &Options,
+    given: &Given,
+) -> u8 {
+    if let (Some(folder), None) = (&options.state, options.approx) {
+        return match run_kept(rt, host, alloc, options, given, folder.as_str()) {
+            Ok(status) => status,
+            Err(failure) => print_failure(failure, &mut host.stderr()),
+        };
+    }
+    run::<ListOutlet, _, _, _, _, _, _, _>(
+        rt,
+        alloc,
+        options,
+        reader(&given.net),
+        reader(&given.inputs),
+        reader(&given.script),
+        &mut InMemory,
+        &mut host.stdout(),
+        &mut host.stderr(),
+    )
+}
+
+// The same, of files that are read first, since their texts are needed behind the run or before it.
+fn run_read<R: Threads + Wait + Sync>(
+    rt: &R,
+    host: &HostRuntime,
+    alloc: Global,
+    options: &Options,
+    files: Files,
+) -> u8 {
+    let Ok(given) = read_all(alloc, files) else {
+        return no_memory(host);
+    };
+    let status = run_given(rt, host, alloc, options, &given);
+    if options.explain && status == REFUSED {
+        explain(host, alloc, options, &given);
+    }
+    status
 }
 
 fn main(rt: HostRuntime) -> ExitCode {
@@ -159,13 +238,8 @@ fn main(rt: HostRuntime) -> ExitCode {
     let Ok(files) = open_all(&rt, &options) else {
         return ExitCode::from(no_memory(&rt));
     };
-    if let (Some(folder), None) = (&options.state, options.approx) {
-        return ExitCode::from(
-            match run_kept(&rt, &rt, alloc, &options, files, folder.as_str()) {
-                Ok(status) => status,
-                Err(failure) => print_failure(failure, &mut rt.stderr()),
-            },
-        );
+    if options.explain || options.state.is_some() {
+        return ExitCode::from(run_read(&rt, &rt, alloc, &options, files));
     }
     let Files {
         net,

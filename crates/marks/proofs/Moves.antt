@@ -5,12 +5,12 @@ use Rattle.std.proofs.Common.{append-nil, arith, zero, suc, replicate, get_or-se
 use Rattle.std.specs.Prelude.{Option, Some, None, is_some, IsSome, slice_set}
 use Rattle.std.specs.List.{Contains}
 use Rattle.std.proofs.Math.ListN.{length-set}
-use Rattle.std.proofs.lemmas.List.{length-replicate, length-map, set-get_or}
+use Rattle.std.proofs.lemmas.List.{length-append, length-replicate, length-map, set-get_or}
 use mathlib.Core.Option.{some, some-injective, some-ne-none}
 use mathlib.Core.Logic.{dite}
 use native.Mathlib.Decide.{ℕ_discrete, dec_le}
 use lib.ListN.{get_elem?}
-use Rattle.atomic_table.specs.Table.{Me, Allows, Splits, keeps, opening}
+use Rattle.atomic_table.specs.Table.{Me, Allows, Enters, Splits, keeps, opening}
 use Rattle.atomic_table.proofs.Lists.{at_set, set_here}
 use Rattle.marks.specs.declared.view.View.{View}
 use Rattle.marks.specs.Owners.{owner_at, IsOutputOf}
@@ -97,11 +97,15 @@ seated_set : (owners : List (Option ℕ)) (raised raised' : ℕ → List ℕ) (v
     → AreSeated owners raised views → AreSeated owners raised' (set views id w)
 seated_set owners raised raised' views id v w at node dealt same s =
     let from = back views id v w at node dealt in record {
+      some_seat = (let l = length-set views id w in let h = s.some_seat in omega arith);
       driver = λ x e. let b = from 0 x e in b.2 ∙ s.driver b.0 b.1;
-      later = λ x y j e f ne. let b = from 0 x e in let d = from j y f in let l = s.later b.0 d.0 j b.1 d.1 ne in
-          let q = b.3 in let less = l.2 in (l.0, d.2 ∙ l.1, omega arith);
-      apart = λ i j x y e f n. let b = from i x e in let d = from j y f in
-          s.apart i j b.0 d.0 b.1 d.1 (sym b.2 ∙ (n ∙ d.2));
+      later = λ x y j e f ne. let b = from 0 x e in let d = from j y f in ⊎_elim
+          (λ (none : d.0.node ≡ None). inl (d.2 ∙ none))
+          (λ (l : (m : ℕ) × (d.0.node ≡ Some m) × (m < b.0.dealt)). let q = b.3 in let less = l.2 in
+          inr (l.0, d.2 ∙ l.1, omega arith))
+          (s.later b.0 d.0 j b.1 d.1 ne);
+      apart = λ i j x y e f m n o. let b = from i x e in let d = from j y f in
+          s.apart i j b.0 d.0 b.1 d.1 m (sym b.2 ∙ n) (sym d.2 ∙ o);
       not_dealt = λ x c k e own le. let b = from 0 x e in let q = b.3 in let le' : b.0.dealt ≤ k = omega arith in
           same b.0 c k b.1 own le' ∙ s.not_dealt b.0 c k b.1 own le';
     }
@@ -186,7 +190,7 @@ raises owners slots id c n me (some_one, own) s k _ at _ =
             (λ (t : (j ≡ id) × (w ≡ u)). subst (λ z. KnowsRaises owners raised' z) (w-is ∙ t.1)
             (knows_all owners k.raised raised' v c lt else f))
             (λ (t : (j ≢ id) × (get_elem? s.views j ≡ some u)). knows_less owners k.raised raised' u c else
-            (n ∷ [], here) (λ k' own'' theirs. t.0 (k.seated.apart j id u v t.1 at (theirs ∙ (sym own'' ∙ own))))
+            (n ∷ [], here) (λ k' own'' theirs. t.0 (k.seated.apart j id u v t.1 at k' theirs (sym own ∙ own'')))
             (k.views j u t.1))
             (at_set s.views id j w u e);
         seated = seated_set owners k.raised raised' s.views id v w at refl refl
@@ -195,8 +199,11 @@ raises owners slots id c n me (some_one, own) s k _ at _ =
             dite (ℕ_discrete id 0)
             (λ zero'. no_node node
             (sym (k.seated.driver v (subst (λ (z : ℕ). get_elem? s.views z ≡ some v) zero' at)) ∙ mine))
-            (λ ne. let l = k.seated.later x v id e at ne in let less = l.2 in let q : l.0 ≡ node =
-            same_node l.0 node (sym l.1 ∙ mine) in absurd (omega arith))))
+            (λ ne. ⊎_elim
+            (λ (none : v.node ≡ None). no_node node (sym none ∙ mine))
+            (λ (l : (m : ℕ) × (v.node ≡ Some m) × (m < x.dealt)). let less = l.2 in let q : l.0 ≡ node =
+            same_node l.0 node (sym l.1 ∙ mine) in absurd (omega arith))
+            (k.seated.later x v id e at ne))))
             k.seated;
       },
       record {
@@ -282,9 +289,10 @@ opens owners words is =
         whole = λ c k own mine. nothing_first n c;
       });
       seated = record {
+        some_seat = omega arith;
         driver = λ v e. sym (ap (λ (z : View). z.node) (only 0 v e).1);
         later = λ v w j e f ne. absurd (ne (only j w f).0);
-        apart = λ i j v w e f _. (only i v e).0 ∙ sym (only j w f).0;
+        apart = λ i j v w e f _ _ _. (only i v e).0 ∙ sym (only j w f).0;
         not_dealt = λ _ _ _ _ _ _. refl;
       };
     }
@@ -323,8 +331,11 @@ deals owners v s k at =
     dite (ℕ_discrete j 0)
     (λ z. let g : get_elem? s.views 0 ≡ some o.0 = subst (λ n. get_elem? s.views n ≡ some o.0) z o.1 in
     no_node v.dealt (sym (k.seated.driver o.0 g) ∙ theirs))
-    (λ ne. let l = k.seated.later v o.0 j at o.1 ne in let less = l.2 in let q : l.0 ≡ v.dealt =
-    same_node l.0 v.dealt (sym l.1 ∙ theirs) in absurd (omega arith)) in
+    (λ ne. ⊎_elim
+    (λ (none : o.0.node ≡ None). no_node v.dealt (sym none ∙ theirs))
+    (λ (l : (m : ℕ) × (o.0.node ≡ Some m) × (m < v.dealt)). let less = l.2 in let q : l.0 ≡ v.dealt =
+    same_node l.0 v.dealt (sym l.1 ∙ theirs) in absurd (omega arith))
+    (k.seated.later v o.0 j at o.1 ne)) in
     record {
       raised = k.raised;
       words = k.words;
@@ -343,21 +354,25 @@ deals owners v s k at =
           }))
           (at_end vs (dealt v) u j e);
       seated = record {
+        some_seat = (let l = length-append vs (dealt v ∷ []) in omega arith);
         driver = λ x e. let h = at_root x e in sym (ap (λ (z : View). z.node) h) ∙ node-is;
         later = λ x w j e g ne. let h = at_root x e in let b : v.dealt + 1 ≡ x.dealt = ap (λ (z : View). z.dealt) h in
             ⊎_elim
-            (λ t. let o = old j w t.1 in let l = k.seated.later v o.0 j at o.1 ne in let less = l.2 in
-            (l.0, o.2 ∙ l.1, omega arith))
-            (λ t. (v.dealt, sym (ap (λ (z : View). z.node) t.1), omega arith))
+            (λ t. let o = old j w t.1 in ⊎_elim
+            (λ (none : o.0.node ≡ None). inl (o.2 ∙ none))
+            (λ (l : (m : ℕ) × (o.0.node ≡ Some m) × (m < v.dealt)). let less = l.2 in
+            inr (l.0, o.2 ∙ l.1, omega arith))
+            (k.seated.later v o.0 j at o.1 ne))
+            (λ t. inr (v.dealt, sym (ap (λ (z : View). z.node) t.1), omega arith))
             (at_end vs (dealt v) w j g);
-        apart = λ i j x w e g same. ⊎_elim
+        apart = λ i j x w e g m n o'. ⊎_elim
             (λ t. ⊎_elim
             (λ r. let o = old i x t.1 in let p = old j w r.1 in
-            k.seated.apart i j o.0 p.0 o.1 p.1 (sym o.2 ∙ (same ∙ p.2)))
-            (λ r. absurd (new i x t.1 (same ∙ sym (ap (λ (z : View). z.node) r.1))))
+            k.seated.apart i j o.0 p.0 o.1 p.1 m (sym o.2 ∙ n) (sym p.2 ∙ o'))
+            (λ r. absurd (new i x t.1 (n ∙ (sym o' ∙ sym (ap (λ (z : View). z.node) r.1)))))
             (at_end vs (dealt v) w j g))
             (λ t. ⊎_elim
-            (λ r. absurd (new j w r.1 (sym same ∙ sym (ap (λ (z : View). z.node) t.1))))
+            (λ r. absurd (new j w r.1 (o' ∙ (sym n ∙ sym (ap (λ (z : View). z.node) t.1)))))
             (λ r. t.0 ∙ sym r.0)
             (at_end vs (dealt v) w j g))
             (at_end vs (dealt v) x i e);
@@ -369,3 +384,46 @@ deals owners v s k at =
     is_there : (l : List View) (a : View) → get_elem? l 0 ≡ some a → 0 < length l
     is_there [] a e = absurd (some-ne-none a (sym e))
     is_there (x ∷ xs) a e = omega arith
+
+-- a seat comes that only reads
+pub enters : (owners : List (Option ℕ)) (slots : ℕ)
+    → Enters {S = Unit {0}} (λ s. HoldsOfMarks owners s) slots 0 (λ found w. w ≡ first_view owners)
+enters owners slots s k _ _ =
+    let n = length owners in
+    let reader = first_view owners in
+    let there = k.seated.some_seat in
+    -- the driver's seat stays the first one
+    let first : (x : View) → get_elem? (s.views ++ reader ∷ []) 0 ≡ some x → get_elem? s.views 0 ≡ some x =
+    λ x e. ⊎_elim (λ t. t.1) (λ t. let h = t.0 in absurd (omega arith)) (at_end s.views reader x 0 e) in (
+      reader,
+      record {
+        raised = k.raised;
+        words = k.words;
+        room = k.room;
+        views = λ j u e. ⊎_elim
+            (λ t. k.views j u t.1)
+            (λ t. subst (λ z. KnowsRaises owners k.raised z) t.1 (record {
+              channels = length-replicate n [];
+              begins = λ c l. (k.raised c, ap (λ z. z ++ k.raised c) (sym (nothing_first n c)));
+              whole = λ c node own mine. absurd (no_node node mine);
+            }))
+            (at_end s.views reader u j e);
+        seated = record {
+          some_seat = (let l = length-append s.views (reader ∷ []) in omega arith);
+          driver = λ x e. k.seated.driver x (first x e);
+          later = λ x w j e g ne. ⊎_elim
+              (λ t. k.seated.later x w j (first x e) t.1 ne)
+              (λ t. inl (sym (ap (λ (z : View). z.node) t.1)))
+              (at_end s.views reader w j g);
+          apart = λ i j x w e g m n' o. ⊎_elim
+              (λ t. ⊎_elim
+              (λ r. k.seated.apart i j x w t.1 r.1 m n' o)
+              (λ r. absurd (no_node m (ap (λ (z : View). z.node) r.1 ∙ o)))
+              (at_end s.views reader w j g))
+              (λ t. absurd (no_node m (ap (λ (z : View). z.node) t.1 ∙ n')))
+              (at_end s.views reader x i e);
+          not_dealt = λ x c node e own le. k.seated.not_dealt x c node (first x e) own le;
+        };
+      },
+      refl,
+    )

@@ -1,5 +1,5 @@
 -- The rule of a table of marks: whatever holds between any two steps.
-use Rattle.std.specs.Prelude.{◌≡◌, ◌≢◌, ℕ, ◌+◌, ◌≤◌, ◌<◌, List, [], map, length, replicate, slice_index}
+use Rattle.std.specs.Prelude.{◌≡◌, ◌≢◌, ℕ, ◌+◌, ◌≤◌, ◌<◌, ◌⊎◌, List, [], map, length, replicate, slice_index}
 use Rattle.std.specs.Prelude.{Option, Some, None}
 use mathlib.Core.Option.{some}
 use lib.ListN.{get_elem?}
@@ -16,14 +16,15 @@ pub record KnowsRaises (owners : List (Option ℕ)) (raised : ℕ → List ℕ) 
   pub whole : (channel node : ℕ) → owner_at owners channel ≡ Some node → view.node ≡ Some node
       → known_of view channel ≡ raised channel
 
--- The first seat is the driver's and has dealt the seats of the nodes from 0 on. No two seats are of one node, and
--- nothing was raised for a node whose seat isn't dealt yet.
+-- The first seat is the driver's and has dealt the seats of the nodes from 0 on. Any other seat is one of these, or of no
+-- node: then it only reads. No two seats are of one node, and nothing was raised for a node whose seat isn't dealt yet.
 pub record AreSeated (owners : List (Option ℕ)) (raised : ℕ → List ℕ) (views : List View) : Type 0 where
+  pub some_seat : 0 < length views
   pub driver : (view : View) → get_elem? views 0 ≡ some view → view.node ≡ None
   pub later : (first view : View) (place : ℕ) → get_elem? views 0 ≡ some first → get_elem? views place ≡ some view
-      → place ≢ 0 → (node : ℕ) × (view.node ≡ Some node) × (node < first.dealt)
+      → place ≢ 0 → (view.node ≡ None) ⊎ ((node : ℕ) × (view.node ≡ Some node) × (node < first.dealt))
   pub apart : (i j : ℕ) (one other : View) → get_elem? views i ≡ some one → get_elem? views j ≡ some other
-      → one.node ≡ other.node → i ≡ j
+      → (node : ℕ) → one.node ≡ Some node → other.node ≡ Some node → i ≡ j
   pub not_dealt : (first : View) (channel node : ℕ) → get_elem? views 0 ≡ some first
       → owner_at owners channel ≡ Some node → first.dealt ≤ node → raised channel ≡ []
 
@@ -36,7 +37,7 @@ pub record HoldsOfMarks (owners : List (Option ℕ)) (table : State (Unit {0}) V
   pub views : (place : ℕ) (view : View) → get_elem? table.views place ≡ some view → KnowsRaises owners raised view
   pub seated : AreSeated owners raised table.views
 
--- what the driver's seat knows first
+-- what the driver's seat knows first, and each seat that only reads
 abbrev pub first_view : List (Option ℕ) → View
 first_view owners = record { node = None; dealt = 0; known = replicate (length owners) [] }
 

@@ -6,7 +6,7 @@ ghost use Rattle.marks.specs.Known.{known_of};
 
 use crate::owners::{count_nodes, list_owners};
 use crate::seat::{MarksName, Seat};
-use crate::view::{Dealing, Raising, Reading, Rising, View};
+use crate::view::{Dealing, Entering, Raising, Reading, Rising, View};
 use atomic_table::Table;
 use net_check::Net;
 use std::alloc::{AllocError, Global};
@@ -138,6 +138,15 @@ impl<N: MarksName> Marks<N> {
         self.table
             .shared
             .fetch_max::<Raising>(&mut seat.seat, usize::from(freed.output), freed.number);
+    }
+
+    /// A further seat, which only reads: it is of no node, and knows of no raise yet. It takes no memory.
+    pub fn reader(&self) -> Seat<N>
+        ensures node { node_of result ≡ None }
+        ensures fresh { (channel : ℕ) → known result channel ≡ [] }
+    {
+        let (_word, seat) = self.table.shared.load_new_seat::<Entering>(0);
+        Seat::of_table(seat, None)
     }
 
     /// Reads the mark of a channel: 0 where the channel is no output, and else 0 or a number that the seat of the output's

@@ -22,7 +22,8 @@ impl MarksName for Brand {
 }
 
 /// A place at the marks: whoever has it reads each of them, and raises those of the outputs of one node, its own. There is
-/// one seat of a node, so what is raised for an output comes from one thread at a time.
+/// one seat of a node, so what is raised for an output comes from one thread at a time. The driver's is of no node, and so is
+/// each seat that only reads.
 #[derive(Drop)]
 pub struct Seat<N: MarksName> {
     pub(crate) seat: atomic_table::Seat<(), View>,
@@ -49,7 +50,7 @@ impl<N: MarksName> Seat<N> {
         }
     }
 
-    /// The node whose outputs the seat raises; none is the driver's, which raises no output.
+    /// The node whose outputs the seat raises. None is the driver's, or that of a seat that only reads: it raises no output.
     pub fn node(&self) -> Option<u8>
         ensures { result ≡ node_of self.now }
     {

@@ -5,7 +5,7 @@ use std::collections::LinkedList;
 
 /// What a seat knows, for proofs alone: no value of it is made.
 pub struct View {
-    /// The seat's node; none is the driver's.
+    /// The seat's node; none is the driver's, or that of a seat that only reads.
     pub node: Option<u8>,
     /// How many seats of nodes it has dealt; only the driver's seat deals.
     pub dealt: u64,
@@ -40,6 +40,15 @@ impl Play<(), View> for Reading {
     ghost use Rattle.marks.specs.Known.{HasRead};
 
     ghost then = { λ step before found after. HasRead before.0 step.word found after.0 };
+}
+
+/// A seat comes that only reads. It knows what the driver's knew at first.
+pub struct Entering;
+
+impl Play<(), View> for Entering {
+    ghost use Rattle.std.specs.Prelude.{◌≡◌};
+
+    ghost then = { λ step before found after. after.0 ≡ before.0 };
 }
 
 /// The driver's seat deals the seat of the next node.

@@ -462,6 +462,13 @@ impl<C: SlotCell, O: Outlet, ThisRun: Run> RunLog<C, O, ThisRun> {
         self.stopped
     }
 
+    /// The world to which the log leads.
+    pub fn world(&self) -> &World<C, O>
+        ensures { result.now ≡ self.now.armed.world }
+    {
+        &self.armed.world
+    }
+
     /// How many events were made.
     pub fn made(&self) -> u64
         ensures { result ≡ (run_numbers self.now.totals).entries }

@@ -105,10 +105,11 @@ one_event lines before now event answer all added =
     let longer : length (happenings now) ≡ length (happenings before) + 1 =
     ap (length {A = Happening}) is ∙ length-append (happenings before) _ in
     let many : length (happenings before) ≡ lines = all.0 in
-    let counted : length (happenings now) ≡ lines + 1 = omega (arith, longer, many) in
-    (counted,
-    subst (λ (n : ℕ). BeginsByDriver n (happenings now)) next
-    (subst (BeginsByDriver (suc lines)) (sym is) (one_more lines (happenings before) _ all.0 all.1 refl)))
+    let counted : length (happenings now) ≡ lines + 1 = omega (arith, longer, many) in (
+      counted,
+      subst (λ (n : ℕ). BeginsByDriver n (happenings now)) next
+          (subst (BeginsByDriver (suc lines)) (sym is) (one_more lines (happenings before) _ all.0 all.1 refl)),
+    )
 
 -- one more line was passed
 pub passes : (writes : Bool) (lines : ℕ) (before now : List Line) (answer : FaultAnswer) (reply : Reply) → writes ≡ true

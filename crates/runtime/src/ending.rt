@@ -27,7 +27,7 @@ pub enum RunEnd {
     Items,
     /// A call was refused.
     Refused(HubFault),
-    /// The hub was stopped before any of these.
+    /// The run was stopped before any of these, by who watches it or by a call of `Hub::stop`.
     Stopped,
 }
 

@@ -122,6 +122,11 @@ impl<'hub, C: SlotCell, O: Outlet, ThisRun: Run> Entered<'hub, C, O, ThisRun> {
         seat.fault(alloc, &mut self.locked.log)
     }
 
+    /// How the hub stands.
+    pub fn seen(&self) -> Seen {
+        self.locked.seen()
+    }
+
     /// The round.
     pub fn round(&self) -> u64 {
         self.locked.log.moment().round

@@ -166,6 +166,7 @@ impl<C: SlotCell, O: Outlet, ThisRun: Run> Hub<C, O, ThisRun> {
                     round: 0,
                     left: None,
                 },
+                told: None,
                 begun,
             }),
             sleepers,
@@ -208,6 +209,26 @@ impl<C: SlotCell, O: Outlet, ThisRun: Run> Hub<C, O, ThisRun> {
                 break;
             }
             locked = self.sleepers.driver().wait(rt, locked);
+        }
+        Entered::new(locked, &self.sleepers)
+    }
+
+    // The lock, once the hub stands otherwise than who watches the run was told last, or the run is stopped; at once where it was told
+    // nothing yet. One watch alone may wait by this, since what it was told stands under the lock.
+    pub(crate) fn enter_watch<R: Wait>(
+        &self,
+        rt: &R,
+        told: Option<Seen>,
+    ) -> Entered<'_, C, O, ThisRun> {
+        let mut locked = self.locked.lock(rt);
+        locked.told = told;
+        if let Some(told) = told {
+            for _ in rt.forever() {
+                if locked.has_news(told) {
+                    break;
+                }
+                locked = self.sleepers.watch().wait(rt, locked);
+            }
         }
         Entered::new(locked, &self.sleepers)
     }

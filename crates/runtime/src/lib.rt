@@ -11,9 +11,13 @@ mod entered;
 mod hub;
 mod job_watch;
 mod playing;
+mod run_handle;
+mod run_watch;
 mod seat;
 mod threads;
+mod turning;
 mod waking;
+mod watching;
 mod working;
 
 pub use driving::{Bounds, drive};
@@ -22,11 +26,14 @@ pub use entered::Entered;
 pub use hub::Hub;
 pub use job_watch::{JobWatch, NoWatch};
 pub use playing::run_world;
+pub use run_handle::RunHandle;
 pub use run_log::{
     Entry, FaultAnswer, HeldBack, History, HubFault, KeptEvent, Line, Moment, Run, RunLedgers,
     Status, TurnAnswer, UnusedLedgers,
 };
+pub use run_watch::RunWatch;
 pub use seat::{DriverSeat, NodeSeat};
 pub use threads::{DriverSeats, Joined, NodeSeats, SharedRun, run_threads};
+pub use turning::run_world_by_turns;
 pub use waking::{Seen, Until};
 pub use working::work;

@@ -11,12 +11,13 @@ ghost use Rattle.runtime.specs.Ending.{IsOver};
 ghost use Rattle.world.specs.WholeView.{world_of};
 ghost use Rattle.world.specs.WorldView.{rooms};
 
-use crate::ending::{Ended, RunEnd, end_of};
 use crate::driving::{Bounds, begin, first_lines};
+use crate::ending::{Ended, RunEnd, end_of};
 use crate::hub::{Hub, HubParts, open_log};
-use crate::job_watch::JobWatch;
+use crate::run_watch::RunWatch;
 use crate::seat::NodeSeat;
-use crate::threads::{DriverSeats, Joined, NodeSeats, SharedRun, run_threads};
+use crate::threads::{DriverSeats, Joined, NodeSeats, SharedRun};
+use crate::watching::run_watched;
 use kahn_net::Channel;
 use marks::{MarksName, Opened, Seat};
 use outlet::Outlet;
@@ -47,7 +48,7 @@ fn list_seats<ThisRun: RunLedgers, ItsMarks: MarksName>(
 }
 
 // Whether the lines of round 0 were all passed.
-fn has_begun(begun: &Result<bool, HubFault>) -> bool
+pub(crate) fn has_begun(begun: &Result<bool, HubFault>) -> bool
     ensures { result ≡ true → begun.now ≡ Ok true }
 {
     match begun {
@@ -73,7 +74,7 @@ fn play<
     O: Outlet + Send,
     ThisRun: Run + Send + Sync,
     ItsMarks: MarksName + Send + Sync,
-    W: JobWatch + Sync,
+    W: RunWatch + Sync,
     R: Threads + Wait + Sync,
 >(
     rt: &R,
@@ -130,7 +131,7 @@ fn play<
         marks: driver_marks,
     };
     let Joined { seats, end } = match listed(alloc, begun, seats, marks_seats) {
-        Ok(node_seats) => run_threads(
+        Ok(node_seats) => run_watched(
             rt,
             alloc,
             &shared,
@@ -162,13 +163,14 @@ fn play<
 }
 
 /// Runs a world with a thread for each node, and one, which calls, for the script, until nothing is left to do or it comes to its
-/// bounds. The world comes back in each case, with the history that leads to it from the one that was handed in, and why the run
-/// ended. Where no history is to be kept there is none in memory, and it comes back empty. The run is refused for want of memory
-/// (1), also where a thread can't be made, and where a count would pass 2^63 - 1 (44).
+/// bounds, or is stopped by who watches it (`RunWatch`; `&NoWatch` where nobody does). It returns once the watch has. The world
+/// comes back in each case, with the history that leads to it from the one that was handed in, and why the run ended. Where no
+/// history is to be kept there is none in memory, and it comes back empty. The run is refused for want of memory (1), also where a
+/// node's thread can't be made, and where a count would pass 2^63 - 1 (44). One that is refused before it begins isn't watched.
 pub fn run_world<
     C: SlotCell + Send,
     O: Outlet + Send,
-    W: JobWatch + Sync,
+    W: RunWatch + Sync,
     R: Threads + Wait + Sync,
 >(
     rt: &R,

@@ -151,8 +151,8 @@ pub struct Joined<ThisRun: RunLedgers> {
     pub end: Result<(), HubFault>,
 }
 
-/// Lets each node work on a thread of its own, and drives on the thread that calls. Where no call is refused all seats come back, and the hub is stopped. Refuses for want of memory, also where a thread
-/// can't be made, and where a seat's call was refused.
+/// Lets each node work on a thread of its own, and drives on the thread that calls. It ends with the hub stopped. Where no call is
+/// refused all seats come back. Refuses for want of memory, also where a thread can't be made, and where a seat's call was refused.
 pub fn run_threads<
     C: SlotCell + Send,
     O: Outlet + Send,
@@ -180,6 +180,7 @@ pub fn run_threads<
         end = Err(HubFault::NoMemory);
     }
     if end.is_err() {
+        shared.hub.stop(rt);
         return Joined { seats: back, end };
     }
     thread::scope(

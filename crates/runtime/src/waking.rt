@@ -34,6 +34,8 @@ pub(crate) struct Locked<C: SlotCell, O: Outlet, ThisRun: Run> {
     pub left: u64,
     // What the driver waited for last.
     pub until: Until,
+    // How the hub stands as far as who watches the run was told, if anybody was.
+    pub told: Option<Seen>,
     // Whether the run began with the script's lines of round 0.
     pub begun: bool,
     pub ghost begins: { begun ≡ true → ThisRun.keeps ≡ true
@@ -45,13 +47,15 @@ pub(crate) struct Locked<C: SlotCell, O: Outlet, ThisRun: Run> {
 pub(crate) struct Woken {
     nodes: [bool; NODES],
     driver: bool,
+    watch: bool,
 }
 
-/// Where threads sleep: one place for each node, and the driver's.
+/// Where threads sleep: one place for each node, the driver's, and that of who watches the run.
 #[derive(Drop)]
 pub(crate) struct Sleepers {
     nodes: Vec<Condvar>,
     driver: Condvar,
+    watch: Condvar,
 }
 
 impl<C: SlotCell, O: Outlet, ThisRun: Run> Locked<C, O, ThisRun> {
@@ -93,6 +97,19 @@ impl<C: SlotCell, O: Outlet, ThisRun: Run> Locked<C, O, ThisRun> {
         self.log.is_stopped() || has_left || self.log.moment().round >= self.until.round
     }
 
+    /// Whether the hub stands otherwise than somebody was told, or the run is stopped.
+    pub fn has_news(&self, told: Seen) -> bool {
+        self.log.is_stopped() || self.seen() != told
+    }
+
+    // Whether there is news for who watches the run, if anybody was told how the hub stands.
+    fn wakes_watch(&self) -> bool {
+        match self.told {
+            Some(told) => self.has_news(told),
+            None => false,
+        }
+    }
+
     // The nodes for which a packet is due.
     fn receivers(&self) -> [bool; NODES] {
         let mut nodes = [false; NODES];
@@ -119,6 +136,7 @@ impl<C: SlotCell, O: Outlet, ThisRun: Run> Locked<C, O, ThisRun> {
                 self.receivers()
             },
             driver: self.wakes_driver(),
+            watch: self.wakes_watch(),
         }
     }
 }
@@ -129,12 +147,13 @@ impl Woken {
         Woken {
             nodes: [true; NODES],
             driver: true,
+            watch: true,
         }
     }
 }
 
 impl Sleepers {
-    /// Places for so many nodes, and the driver's. Refuses for want of memory alone.
+    /// Places for so many nodes, the driver, and who watches. Refuses for want of memory alone.
     pub fn new(alloc: Global, nodes: u8) -> Result<Sleepers, AllocError> {
         let mut places = Vec::with_capacity(alloc, usize::from(nodes))?;
         for _ in 0..nodes {
@@ -143,6 +162,7 @@ impl Sleepers {
         Ok(Sleepers {
             nodes: places,
             driver: Condvar::new(),
+            watch: Condvar::new(),
         })
     }
 
@@ -156,6 +176,11 @@ impl Sleepers {
         &self.driver
     }
 
+    /// That of who watches the run.
+    pub fn watch(&self) -> &Condvar {
+        &self.watch
+    }
+
     /// Wakes who is to be woken. Nobody is to hold the lock meanwhile, or they wait for it at once.
     pub fn wake(&self, woken: Woken) {
         for (node, place) in self.nodes.iter().enumerate() {
@@ -165,6 +190,9 @@ impl Sleepers {
         }
         if woken.driver {
             self.driver.notify_all();
+        }
+        if woken.watch {
+            self.watch.notify_all();
         }
     }
 }

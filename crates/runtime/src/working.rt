@@ -40,13 +40,13 @@ fn run_job<C: SlotCell, O: Outlet, ThisRun: Run, W: JobWatch, R: Wait>(
     ensures node { seat.new.node ≡ seat.old.node }
 {
     let node = seat.node();
-    watch.before_run(node, nth);
+    watch.before_run(rt, node, nth);
     let Ok(done) = Job::run(job, alloc) else {
         return Err(HubFault::NoMemory);
     };
     match hub.install(rt, alloc, seat, done) {
         Ok(_) => {
-            watch.after_install(node, nth);
+            watch.after_install(rt, node, nth);
             Ok(())
         }
         Err(held) => Err(held.fault),

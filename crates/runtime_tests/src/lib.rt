@@ -7,3 +7,5 @@ mod marks_tests;
 mod poor_tests;
 #[cfg(test)]
 mod runtime_tests;
+#[cfg(test)]
+mod turning_tests;

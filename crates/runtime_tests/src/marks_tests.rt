@@ -172,6 +172,21 @@ fn reads<ItsMarks: MarksName>(
     }
 }
 
+// Asserts that a seat which comes now is of no node, and reads what was raised.
+fn a_reader_reads<ItsMarks: MarksName>(
+    rt: &impl Abort,
+    alloc: Global,
+    marks: &Marks<ItsMarks>,
+    a: u64,
+    b: u64,
+) -> Result<(), Fail> {
+    let mut reader = marks.reader();
+    assert!(rt; is_at(&reader, None));
+    fits_alone(rt, alloc, marks, &reader, None)?;
+    reads(rt, marks, &mut reader, a, b);
+    Ok(())
+}
+
 // Asserts of each seat which outputs fit it.
 fn each_fits<ItsMarks: MarksName>(
     rt: &impl Abort,
@@ -219,7 +234,7 @@ fn raised_and_read<ItsMarks: MarksName + Send + Sync, R: Threads + Sync + Abort>
     assert!(rt; raise(marks, &mut seats.zero, freed(alloc, OUTPUT_OF_0, 5)?));
     reads(rt, marks, &mut seats.driver, 5, 4);
     reads(rt, marks, &mut seats.one, 5, 4);
-    Ok(())
+    a_reader_reads(rt, alloc, marks, 5, 4)
 }
 
 // The marks of a network, and what is asserted of them.

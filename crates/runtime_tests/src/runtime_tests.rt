@@ -20,16 +20,16 @@ use replay::{ArmedCrash, KeptReply, Maker, RunEvent, ScriptedEvent, Silence};
 use run_log::{ArmedWorld, keep_reply};
 use runtime::{
     Bounds, DriverSeat, DriverSeats, Entry, FaultAnswer, History, Hub, JobWatch, Joined, KeptEvent,
-    Line, NoWatch, NodeSeat, NodeSeats, Run, RunEnd, SharedRun, TurnAnswer, UnusedLedgers,
-    run_threads, run_world, work,
+    Line, NoWatch, NodeSeat, NodeSeats, Run, RunEnd, RunHandle, RunWatch, SharedRun, TurnAnswer,
+    UnusedLedgers, run_threads, run_world, work,
 };
 use sector_disk::{ArmedFault, Disk, MemDisk, SECTOR_BYTES};
 use slot_cell::{SlotCell, SplitCell};
 use std::alloc::{AllocError, Global};
 use std::marker::Brand;
-use std::sync::atomic::AtomicBool;
 use std::sync::atomic::Ordering::SeqCst;
-use std::sync::{Arc, Wait};
+use std::sync::atomic::{AtomicBool, AtomicU64};
+use std::sync::{Arc, Condvar, Mutex, Wait};
 use std::test::Fail;
 use std::thread;
 use std::thread::Threads;
@@ -52,11 +52,11 @@ const OUTPUT_OF_KAHN: u8 = 5;
 // No run here takes so many rounds of the seats.
 const ROUNDS: u32 = 100_000;
 
-type SumWorld = World<SplitCell<MemDisk>, ListOutlet>;
+pub type SumWorld = World<SplitCell<MemDisk>, ListOutlet>;
 
 type SumHub<ThisRun> = Hub<SplitCell<MemDisk>, ListOutlet, ThisRun>;
 
-type SumArmed = ArmedWorld<SplitCell<MemDisk>, ListOutlet>;
+pub type SumArmed = ArmedWorld<SplitCell<MemDisk>, ListOutlet>;
 
 pub fn net_of(alloc: Global, text: &str) -> Result<Net, Fail> {
     Ok(check(alloc, parse(alloc, text)?)?)
@@ -102,7 +102,7 @@ fn open_world(alloc: Global, text: &str, inputs: &str) -> Result<SumWorld, Fail>
     }
 }
 
-fn sum_world(alloc: Global) -> Result<SumWorld, Fail> {
+pub fn sum_world(alloc: Global) -> Result<SumWorld, Fail> {
     open_world(alloc, SUM_ON_TWO_NODES, "i: 1 2 3")
 }
 
@@ -112,7 +112,7 @@ fn at_node(node: u8, deed: Deed) -> RunEvent {
 }
 
 /// The first packet from node 0 is lost, and in round 1 node 1 crashes.
-fn script(alloc: Global) -> Result<Vec<ScriptedEvent>, Fail> {
+pub fn script(alloc: Global) -> Result<Vec<ScriptedEvent>, Fail> {
     let rule = Rule {
         from: 0,
         to: 1,
@@ -226,7 +226,7 @@ struct Ended {
 }
 
 // Whether the whole stream left, and nothing is left to do.
-fn has_all(world: &SumWorld) -> bool {
+pub fn has_all(world: &SumWorld) -> bool {
     world.complete() && world.released(OUTPUT) == [1, 3, 6].as_slice()
 }
 
@@ -339,15 +339,36 @@ fn list_seats<ThisRun: Run, ItsMarks: MarksName>(
     Some((node_seats, DriverSeats { seat, marks }))
 }
 
-// A run with a thread for each node; the thread that calls is the driver's.
+// Passes so many lines of the script. Whether each was an event.
+fn pass_lines<ThisRun: Run, R: Wait>(
+    rt: &R,
+    alloc: Global,
+    hub: &SumHub<ThisRun>,
+    driver: &mut DriverSeat<ThisRun>,
+    lines: usize,
+) -> bool {
+    for _line in 0..lines {
+        match hub.fault(rt, alloc, driver) {
+            Ok(FaultAnswer::Reply(_)) => {}
+            _ => return false,
+        }
+    }
+    true
+}
+
+// A run with a thread for each node, of whose jobs a watch is told; the thread that calls is the driver's. So many lines of the script
+// are passed before.
 fn play_by_threads<
     ThisRun: Run + Send + Sync,
     ItsMarks: MarksName + Send + Sync,
+    W: JobWatch + Sync,
     R: Threads + Wait + Sync,
 >(
     rt: &R,
     alloc: Global,
     channels: &[Channel],
+    watch: &W,
+    lines: usize,
     world: SumWorld,
     script: Vec<ScriptedEvent>,
     ledgers: UnusedLedgers,
@@ -363,7 +384,8 @@ fn play_by_threads<
     requires table { table_of opened ≡ ItsMarks.table }
 {
     let (marks, marks_seats) = opened.named::<ItsMarks>(alloc)?;
-    let (hub, seats, seat) = SumHub::<ThisRun>::new(alloc, world, script, NODES, ledgers)?;
+    let (hub, seats, mut seat) = SumHub::<ThisRun>::new(alloc, world, script, NODES, ledgers)?;
+    let passed = pass_lines(rt, alloc, &hub, &mut seat, lines);
     let shared = SharedRun { hub, marks };
     let Some((node_seats, mut driver_seats)) = list_seats(alloc, seats, seat, marks_seats) else {
         return Err(Fail::new("no seats"));
@@ -375,10 +397,10 @@ fn play_by_threads<
         node_seats,
         &mut driver_seats,
         channels,
-        &NoWatch,
+        watch,
         BOUNDS,
     );
-    let went = end.is_ok();
+    let went = passed && end.is_ok();
     let DriverSeats { seat, .. } = driver_seats;
     let SharedRun { hub, .. } = shared;
     let made = made_by_seats(back.as_slice(), &seat);
@@ -403,17 +425,21 @@ fn play_sum<R: Threads + Wait + Sync>(
     play_in_turns::<Brand, R>(rt, alloc, world, script, ledgers)
 }
 
-fn play_sum_by_threads<R: Threads + Wait + Sync>(
+fn play_sum_by_threads<W: JobWatch + Sync, R: Threads + Wait + Sync>(
     rt: &R,
     alloc: Global,
+    watch: &W,
     script: Vec<ScriptedEvent>,
+    lines: usize,
 ) -> Result<Ended, Fail> {
     let net = net_of(alloc, SUM_ON_TWO_NODES)?;
     let opened = Opened::new(alloc, &net)?;
     let world = sum_world(alloc)?;
     let ledgers = UnusedLedgers::new(u64::from(NODES) + 1);
     let channels = net.program.channels.as_slice();
-    play_by_threads::<Brand, Brand, R>(rt, alloc, channels, world, script, ledgers, opened)
+    play_by_threads::<Brand, Brand, W, R>(
+        rt, alloc, channels, watch, lines, world, script, ledgers, opened,
+    )
 }
 
 // Whether a line says that no event came for this reason.
@@ -488,7 +514,7 @@ fn a_script_on_one_thread(rt: HostRuntime) -> Result<(), Fail> {
 }
 
 // Makes the events of a history once more, on a world that is new, and tells how many were made and answered as they were then.
-fn replay(alloc: Global, armed: &mut SumArmed, history: &History) -> Option<u64> {
+pub fn replay(alloc: Global, armed: &mut SumArmed, history: &History) -> Option<u64> {
     let mut made: u64 = 0;
     for line in &history.lines {
         if let Line::Made {
@@ -566,7 +592,7 @@ fn bytes_of(alloc: Global, disk: &mut MemDisk, sectors: usize) -> Option<Vec<u8>
 }
 
 // Whether the disks of two worlds hold the same.
-fn have_same_disks(alloc: Global, one: SumWorld, other: SumWorld) -> bool {
+pub fn have_same_disks(alloc: Global, one: SumWorld, other: SumWorld) -> bool {
     let Ok((mut ones, _outputs)) = one.close(alloc) else {
         return false;
     };
@@ -583,7 +609,7 @@ fn have_same_disks(alloc: Global, one: SumWorld, other: SumWorld) -> bool {
 }
 
 // Whether two worlds look alike, and nothing is left to do in the first.
-fn are_alike(one: &SumWorld, other: &SumWorld) -> bool {
+pub fn are_alike(one: &SumWorld, other: &SumWorld) -> bool {
     one.released(OUTPUT) == other.released(OUTPUT) && one.round() == other.round() && one.complete()
 }
 
@@ -599,7 +625,7 @@ fn is_replayed(alloc: Global, ended: Ended) -> Result<bool, Fail> {
 #[test]
 fn a_script_with_a_thread_for_each_node(rt: HostRuntime) -> Result<(), Fail> {
     let alloc = rt.alloc();
-    let ended = play_sum_by_threads(&rt, alloc, script(alloc)?)?;
+    let ended = play_sum_by_threads(&rt, alloc, &NoWatch, script(alloc)?, 0)?;
     let came = ended.came();
     let replayed = is_replayed(alloc, ended)?;
     assert!(rt; is_whole(&came));
@@ -608,57 +634,79 @@ fn a_script_with_a_thread_for_each_node(rt: HostRuntime) -> Result<(), Fail> {
     Ok(())
 }
 
+// How far a watch has come: a job is held up, and it was let go of.
+#[derive(Clone, Copy)]
+struct Holding {
+    held: bool,
+    let_go: bool,
+}
+
 // A watch that holds node 0's first job up until what came of a job of this node was taken in, or until it is told to let go.
 #[derive(Drop)]
 struct HoldingWatch {
     let_go_by: u8,
-    held: AtomicBool,
-    came: AtomicBool,
-    gave_up: AtomicBool,
+    holding: Mutex<Holding>,
+    changed: Condvar,
 }
 
 impl HoldingWatch {
     fn new(let_go_by: u8) -> HoldingWatch {
         HoldingWatch {
             let_go_by,
-            held: AtomicBool::new(false),
-            came: AtomicBool::new(false),
-            gave_up: AtomicBool::new(false),
+            holding: Mutex::new(Holding {
+                held: false,
+                let_go: false,
+            }),
+            changed: Condvar::new(),
         }
     }
 
-    // Whether it held a job up, and let go in time.
-    fn has_held(&self) -> bool {
-        self.held.load(SeqCst) && self.came.load(SeqCst) && !self.gave_up.load(SeqCst)
-    }
-}
-
-const POLLS: u32 = 1_000_000;
-
-// Waits until this is so, if it is so in time.
-fn wait_for(that: &AtomicBool) -> bool {
-    for _poll in 0..POLLS {
-        if that.load(SeqCst) {
-            return true;
+    // Holds up who calls, until it is told to let go.
+    fn hold<R: Wait>(&self, rt: &R) {
+        let mut holding = self.holding.lock(rt);
+        holding.held = true;
+        self.changed.notify_all();
+        for _ in rt.forever() {
+            if holding.let_go {
+                break;
+            }
+            holding = self.changed.wait(rt, holding);
         }
-        thread::yield_now();
     }
-    false
+
+    fn let_go<R: Wait>(&self, rt: &R) {
+        self.holding.lock(rt).let_go = true;
+        self.changed.notify_all();
+    }
+
+    // Waits until a job is held up.
+    fn wait_until_held<R: Wait>(&self, rt: &R) {
+        let mut holding = self.holding.lock(rt);
+        for _ in rt.forever() {
+            if holding.held {
+                break;
+            }
+            holding = self.changed.wait(rt, holding);
+        }
+    }
+
+    // Whether it held a job up, and let go of it.
+    fn has_held<R: Wait>(&self, rt: &R) -> bool {
+        let holding = self.holding.lock(rt);
+        holding.held && holding.let_go
+    }
 }
 
 impl JobWatch for HoldingWatch {
-    fn before_run(&self, node: u8, nth: u64) {
+    fn before_run<R: Wait>(&self, rt: &R, node: u8, nth: u64) {
         if node == 0 && nth == 0 {
-            self.held.store(true, SeqCst);
-            if !wait_for(&self.came) {
-                self.gave_up.store(true, SeqCst);
-            }
+            self.hold(rt);
         }
     }
 
-    fn after_install(&self, node: u8, _nth: u64) {
+    fn after_install<R: Wait>(&self, rt: &R, node: u8, _nth: u64) {
         if node == self.let_go_by {
-            self.came.store(true, SeqCst);
+            self.let_go(rt);
         }
     }
 }
@@ -678,6 +726,8 @@ struct Went {
     // How many nodes crashed at the end of a delivery, and how often a device took its node down.
     crashed: u64,
     down: u64,
+    // The round in which it ended.
+    round: u64,
 }
 
 // How many events the driver made before anybody else made one.
@@ -710,8 +760,19 @@ fn answered(history: &History, reply: KeptReply) -> u64 {
     count
 }
 
+// What is asked of a run that ended in this round, with this history.
+fn went_by(whole: bool, round: u64, history: &History) -> Went {
+    Went {
+        whole,
+        led: led_by_driver(history),
+        crashed: answered(history, KeptReply::Crashed),
+        down: answered(history, KeptReply::Down),
+        round,
+    }
+}
+
 // What a run of the sum with a thread for each node came to, by this script and this watch.
-fn run_sum<W: JobWatch + Sync, R: Threads + Wait + Sync>(
+fn run_sum<W: RunWatch + Sync, R: Threads + Wait + Sync>(
     rt: &R,
     alloc: Global,
     script: Vec<ScriptedEvent>,
@@ -720,12 +781,9 @@ fn run_sum<W: JobWatch + Sync, R: Threads + Wait + Sync>(
     let world = sum_world(alloc)?;
     let ended = run_world(rt, alloc, world, script, watch, BOUNDS, true);
     let is_complete = ended.end == RunEnd::Complete;
-    Ok(Went {
-        whole: is_complete && has_all(&ended.world),
-        led: led_by_driver(&ended.history),
-        crashed: answered(&ended.history, KeptReply::Crashed),
-        down: answered(&ended.history, KeptReply::Down),
-    })
+    let whole = is_complete && has_all(&ended.world);
+    let round = ended.world.round();
+    Ok(went_by(whole, round, &ended.history))
 }
 
 // A line of round 0.
@@ -734,22 +792,25 @@ fn at_first(alloc: Global, event: RunEvent) -> Result<Vec<ScriptedEvent>, Fail> 
     Ok(lines)
 }
 
-// Runs by this script with node 0's first job held up. Node 1's first one was taken in meanwhile.
+// Runs by this script, so many lines of which are passed before, with node 0's first job held up. Node 1's first one was taken in
+// meanwhile.
 fn holds_up<R: Threads + Wait + Sync>(
     rt: &R,
     alloc: Global,
     script: Vec<ScriptedEvent>,
+    lines: usize,
 ) -> Result<Went, Fail> {
     let watch = HoldingWatch::new(1);
-    let mut went = run_sum(rt, alloc, script, &watch)?;
-    went.whole = went.whole && watch.has_held();
-    Ok(went)
+    let ended = play_sum_by_threads(rt, alloc, &watch, script, lines)?;
+    let whole = ended.went && has_all(&ended.world) && watch.has_held(rt);
+    let round = ended.world.round();
+    Ok(went_by(whole, round, &ended.history))
 }
 
 #[test]
 fn jobs_run_side_by_side(rt: HostRuntime) -> Result<(), Fail> {
     let alloc = rt.alloc();
-    assert!(rt; holds_up(&rt, alloc, Vec::new(alloc))?.whole);
+    assert!(rt; holds_up(&rt, alloc, Vec::new(alloc), 0)?.whole);
     // While node 0 is held up nothing is sent to node 1, so that this crash comes behind node 1's first job.
     let crash = RunEvent::ArmCrash(ArmedCrash {
         node: 1,
@@ -757,7 +818,7 @@ fn jobs_run_side_by_side(rt: HostRuntime) -> Result<(), Fail> {
         fill: 0,
         rounds: 1,
     });
-    let went = holds_up(&rt, alloc, at_first(alloc, crash)?)?;
+    let went = holds_up(&rt, alloc, at_first(alloc, crash)?, 1)?;
     assert!(rt; went.whole);
     assert!(rt; went.led == 1);
     assert!(rt; went.crashed == 1);
@@ -826,44 +887,134 @@ fn a_run_ends_at_the_items_that_are_asked_for(rt: HostRuntime) -> Result<(), Fai
     Ok(())
 }
 
-// Takes a node's turns until the hub is stopped, which it is once nothing is left to do. Whether it came to that.
-fn take_turns<C: SlotCell, O: Outlet, ThisRun: Run, R: Wait>(
-    rt: &R,
-    alloc: Global,
-    hub: &Hub<C, O, ThisRun>,
-    seat: &mut NodeSeat<ThisRun>,
-) -> bool {
-    for _turn in 0..POLLS {
-        if hub.status(rt).stopped {
-            return true;
-        }
-        if !go(rt, alloc, hub, seat) {
-            return false;
-        }
-        thread::yield_now();
-    }
-    false
+// A watch that reads an output's mark whenever there is news, and stops the run once so many items have left.
+#[derive(Drop)]
+struct ReadingWatch {
+    output: u8,
+    stop_at: u64,
+    last: AtomicU64,
+    fell: AtomicBool,
+    // The round, and whether the run was over, when it was last waited for news.
+    round: AtomicU64,
+    over: AtomicBool,
 }
 
-// Lets node 0 crash by the script's line while its first job is held up, and takes the turns of node 1. Whether the node crashed, and all
-// came to its end.
-fn strike<C: SlotCell, O: Outlet, ThisRun: Run, R: Wait>(
+impl ReadingWatch {
+    fn new(output: u8, stop_at: u64) -> ReadingWatch {
+        ReadingWatch {
+            output,
+            stop_at,
+            last: AtomicU64::new(0),
+            fell: AtomicBool::new(false),
+            round: AtomicU64::new(0),
+            over: AtomicBool::new(false),
+        }
+    }
+
+    fn note(&self, left: u64) {
+        if left < self.last.load(SeqCst) {
+            self.fell.store(true, SeqCst);
+        }
+        self.last.store(left, SeqCst);
+    }
+
+    // Whether it read this last, once the run was over, and never less than before.
+    fn has_read(&self, left: usize) -> bool {
+        self.over.load(SeqCst) && self.last.load(SeqCst) == left as u64 && !self.fell.load(SeqCst)
+    }
+
+    fn last_round(&self) -> u64 {
+        self.round.load(SeqCst)
+    }
+}
+
+impl RunWatch for ReadingWatch {
+    fn watch<H: RunHandle, R: Wait>(&self, rt: &R, run: &mut H) {
+        for _ in rt.forever() {
+            let goes_on = run.wait_for_news(rt);
+            let left = run.left(self.output);
+            self.note(left);
+            if !goes_on {
+                break;
+            }
+            if left >= self.stop_at {
+                run.stop(rt);
+            }
+        }
+        self.round.store(run.round(rt), SeqCst);
+        self.over.store(run.is_over(rt), SeqCst);
+    }
+}
+
+// A run that ends by these bounds takes longer than a test may.
+const MANY_ROUNDS: Bounds = Bounds {
+    rounds: 1_000_000,
+    items: None,
+};
+
+// Whether the items are 0 and 1 in turn.
+fn are_in_turn(items: &[i64]) -> bool {
+    let mut next = 0;
+    for item in items {
+        if *item != next {
+            return false;
+        }
+        next = if next == 0 { 1 } else { 0 };
+    }
+    true
+}
+
+// Whether a watch that read four items of Kahn's example stopped it, what had left by then was right, and the watch read last how many
+// that was.
+fn is_stopped_at_four<R: Threads + Wait + Sync>(rt: &R, alloc: Global) -> Result<bool, Fail> {
+    let watch = ReadingWatch::new(OUTPUT_OF_KAHN, 4);
+    let world = open_world(alloc, KAHN, "")?;
+    let script = Vec::new(alloc);
+    let ended = run_world(rt, alloc, world, script, &watch, MANY_ROUNDS, false);
+    let left = ended.world.released(OUTPUT_OF_KAHN);
+    let is_right = left.len() >= 4 && are_in_turn(left) && watch.has_read(left.len());
+    Ok(ended.end == RunEnd::Stopped && is_right)
+}
+
+#[test]
+fn a_watch_stops_a_run(rt: HostRuntime) -> Result<(), Fail> {
+    let alloc = rt.alloc();
+    assert!(rt; is_stopped_at_four(&rt, alloc)?);
+    Ok(())
+}
+
+#[test]
+fn a_watch_reads_all_that_left(rt: HostRuntime) -> Result<(), Fail> {
+    let alloc = rt.alloc();
+    // No output has so many items, so it stops nothing.
+    let watch = ReadingWatch::new(OUTPUT, u64::MAX);
+    let went = run_sum(&rt, alloc, Vec::new(alloc), &watch)?;
+    assert!(rt; went.whole);
+    assert!(rt; watch.has_read(3));
+    assert!(rt; watch.last_round() == went.round);
+    Ok(())
+}
+
+// Lets node 0 crash by the script's line while its first job is held up, and then works for node 1 until nothing is left to do. Whether
+// the node crashed, and no call was refused.
+fn strike<C: SlotCell, O: Outlet, ThisRun: Run, ItsMarks: MarksName, R: Wait>(
     rt: &R,
     alloc: Global,
     hub: &Hub<C, O, ThisRun>,
     watch: &HoldingWatch,
     seat: &mut NodeSeat<ThisRun>,
+    marks: &Marks<ItsMarks>,
+    marks_seat: &mut Seat<ItsMarks>,
     driver: &mut DriverSeat<ThisRun>,
 ) -> bool {
-    let held = wait_for(&watch.held);
+    watch.wait_until_held(rt);
     let struck = match hub.fault(rt, alloc, driver) {
-        Ok(FaultAnswer::Reply(Reply::Crashed)) => held,
+        Ok(FaultAnswer::Reply(Reply::Crashed)) => true,
         _ => false,
     };
-    watch.came.store(true, SeqCst);
-    let ended = take_turns(rt, alloc, hub, seat);
-    hub.stop(rt);
-    struck && ended
+    watch.let_go(rt);
+    let worked = work(rt, alloc, hub, seat, marks, marks_seat, &NoWatch).is_ok();
+    struck && worked
 }
 
 // Node 0 works on a thread of its own, held up by a watch; the thread that calls is the driver's and node 1's.
@@ -880,14 +1031,15 @@ fn crash_while_held<
     marks: &Marks<ItsMarks>,
     watch: &HoldingWatch,
     zero: &mut NodeSeat<ThisRun>,
-    marks_seat: &mut Seat<ItsMarks>,
+    marks_of_zero: &mut Seat<ItsMarks>,
     one: &mut NodeSeat<ThisRun>,
+    marks_of_one: &mut Seat<ItsMarks>,
     driver: &mut DriverSeat<ThisRun>,
 ) -> bool {
     let (worked, struck) = thread::join(
         rt,
-        || work(rt, alloc, hub, zero, marks, marks_seat, watch).is_ok(),
-        || strike(rt, alloc, hub, watch, one, driver),
+        || work(rt, alloc, hub, zero, marks, marks_of_zero, watch).is_ok(),
+        || strike(rt, alloc, hub, watch, one, marks, marks_of_one, driver),
     );
     worked && struck
 }
@@ -915,15 +1067,18 @@ fn play_with_crash<
     requires keeps { ThisRun.keeps ≡ true }
     requires table { table_of opened ≡ ItsMarks.table }
 {
-    let (marks, marks_seats) = opened.named::<ItsMarks>(alloc)?;
+    let (marks, mut marks_seats) = opened.named::<ItsMarks>(alloc)?;
+    // The last one is the driver's.
+    drop(marks_seats.pop());
     let (hub, mut seats, mut driver) = SumHub::<ThisRun>::new(
         alloc, world, script, NODES, ledgers,
     )?;
     let (Some(mut one), Some(mut zero)) = (seats.pop(), seats.pop()) else {
         return Err(Fail::new("no seats"));
     };
-    let Some(mut marks_seat) = marks_seats.into_iter().next() else {
-        return Err(Fail::new("no seat of marks"));
+    let (Some(mut marks_of_one), Some(mut marks_of_zero)) = (marks_seats.pop(), marks_seats.pop())
+    else {
+        return Err(Fail::new("no seats of marks"));
     };
     let crashed = crash_while_held(
         rt,
@@ -932,8 +1087,9 @@ fn play_with_crash<
         &marks,
         watch,
         &mut zero,
-        &mut marks_seat,
+        &mut marks_of_zero,
         &mut one,
+        &mut marks_of_one,
         &mut driver,
     );
     seats.push(zero)?;
@@ -974,7 +1130,7 @@ fn a_crash_while_a_job_is_out(rt: HostRuntime) -> Result<(), Fail> {
     let discarded = answered(&ended.history, KeptReply::Discarded);
     drop(ended);
     assert!(rt; is_whole(&came));
-    assert!(rt; watch.has_held());
+    assert!(rt; watch.has_held(&rt));
     assert!(rt; discarded == 1);
     Ok(())
 }

@@ -1,7 +1,7 @@
-use Rattle.std.proofs.Common.{◌∙◌, ℕ, ap, refl, subst, sym}
+use Rattle.std.proofs.Common.{◌∙◌, ℕ, ap, subst, sym}
 use Rattle.std.specs.Prelude.{replicate}
 use Rattle.protocol.specs.Node.Common.{network_of, Net, sectors_of}
-use Rattle.protocol.specs.World.Common.{output_channels, with_room}
+use Rattle.protocol.specs.World.Common.{with_room}
 use Rattle.world.specs.WholeView.{world_of}
 use Rattle.world.specs.WorldView.{capacities}
 use Rattle.cobaltmidge.specs.Failing.{IsRunFault}

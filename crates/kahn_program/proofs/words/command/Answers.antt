@@ -22,4 +22,6 @@ returns c =
     let items = c.in_ok-arg-7.ensures.shape c.number.ensures.here ∙ ap₂ with_rule rounds c.number.ensures.rule in
     let room = c.in_ok-arg-8.ensures.shape c.room.ensures.here ∙ ap₂ with_rule items c.room.ensures.rule in
     let plain = c.in_ok-arg-9.ensures.shape c.flag-2.ensures.here ∙ ap₂ with_rule room c.flag-2.ensures.rule in
-    c.in_ok-command.ensures.shape c.number-2.ensures.here ∙ ap₂ with_rule plain c.number-2.ensures.rule
+    let approx =
+    c.in_ok-arg-10.ensures.shape c.number-2.ensures.here ∙ ap₂ with_rule plain c.number-2.ensures.rule in
+    c.in_ok-command.ensures.shape c.flag-3.ensures.here ∙ ap₂ with_rule approx c.flag-3.ensures.rule

@@ -75,4 +75,9 @@ returns-clause-asked g c =
       approx =
           subst (λ (t : Option Text). IsNumber 0 MAX_APPROXIMATION t c.in_ok-given-3.field-0) (one (codes "approx"))
           approx;
+      explain = record {
+        set = λ is_set. c.get_flag-3.ensures.value (one (codes "explain") ∙ is_set);
+        not_set = λ is_not. c.get_flag-3.ensures.other (one (codes "explain") ∙ is_not);
+        absent = λ no_text. c.get_flag-3.ensures.none (one (codes "explain") ∙ no_text);
+      };
     }

@@ -1,0 +1,4 @@
+mod Writes
+mod Nth
+mod Names
+mod Lines

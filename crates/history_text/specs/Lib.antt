@@ -1,0 +1,4 @@
+pub mod Events
+pub mod Replies
+pub mod Headers
+pub mod Histories

@@ -1,0 +1,27 @@
+use denote.Param.Send.{sendable}
+use Rattle.std.proofs.Crossing.{crosses}
+use Rattle.ckpt_store.proofs.store.Store.TheSendSync.{the_field_send as store_t}
+use Rattle.wire.proofs.wire.Wire.TheSendSync.{the_send as wire_s}
+use Rattle.station.proofs.output.Output.TheSendSync.{the_field_send as output_t}
+use Rattle.protocol.proofs.round_turns.RoundTurns.TheSendSync.{the_field_send as turns_t}
+use Rattle.net_check.proofs.inputs.Inputs.TheSendSync.{the_send as inputs_s, the_sync as inputs_y}
+use Rattle.marks.proofs.marks.Marks.TheSendSync.{the_field_sync as marks_z}
+use Rattle.marks.proofs.seat.Seat.TheSendSync.{the_send as marks_seat_s}
+use Rattle.replay.proofs.kept.ArmedCrash.TheSendSync.{the_send as crash_s}
+use Rattle.replay.proofs.kept.ScriptedEvent.TheSendSync.{the_send as script_s}
+use Rattle.run_log.proofs.seat_count.RunCount.TheSendSync.{the_field_send as totals_t}
+use Rattle.runtime.proofs.Sends.{line_send, net_send, net_sync, state_field_send}
+use Rattle.runtime.proofs.watching.run_beside.Goals as goal
+
+-- what who watches takes along may cross threads
+pub join-_watched-requires-send-F : goal.join-_watched-requires-send-F
+join-_watched-requires-send-F g c κs within =
+    let s = c.type_bounds.send-C in
+    let o = c.type_bounds.send-O in
+    let a = c.type_bounds.send-ThisRun in
+    let b = c.type_bounds.sync-ThisRun in
+    let d = c.type_bounds.send-ItsMarks in
+    let e = c.type_bounds.sync-ItsMarks in
+    let h = c.type_bounds.sync-W in
+    let r = c.type_bounds.sync-R in
+    search (sendable, crosses, state_field_send, net_send, net_sync, store_t, wire_s, output_t, turns_t, inputs_s, inputs_y, marks_z, crash_s, line_send, script_s, totals_t, marks_seat_s) depth 100 fits 1000000

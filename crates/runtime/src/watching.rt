@@ -1,0 +1,82 @@
+// The threads of a run, and who watches it beside them.
+ghost use denote.Param.Send.{IsSend};
+
+use crate::driving::Bounds;
+use crate::job_watch::NoWatch;
+use crate::run_handle::Watched;
+use crate::run_watch::RunWatch;
+use crate::threads::{DriverSeats, Joined, NodeSeats, SharedRun, run_threads};
+use kahn_net::Channel;
+use marks::{MarksName, Seat};
+use outlet::Outlet;
+use run_log::Run;
+use slot_cell::SlotCell;
+use std::alloc::Global;
+use std::sync::Wait;
+use std::thread;
+use std::thread::Threads;
+
+// Watches from this thread, by a seat of the marks.
+fn watch_at<C: SlotCell, O: Outlet, ThisRun: Run, ItsMarks: MarksName, W: RunWatch, R: Wait>(
+    rt: &R,
+    shared: &SharedRun<C, O, ThisRun, ItsMarks>,
+    seat: Seat<ItsMarks>,
+    watch: &W,
+) {
+    let mut run = Watched::new(shared, seat);
+    watch.watch(rt, &mut run);
+}
+
+// The threads of a run, and one more for who watches it. (Where none can be made for it, it watches once the others are joined.)
+fn run_beside<
+    C: SlotCell + Send,
+    O: Outlet + Send,
+    ThisRun: Run + Send + Sync,
+    ItsMarks: MarksName + Send + Sync,
+    W: RunWatch + Sync,
+    R: Threads + Wait + Sync,
+>(
+    rt: &R,
+    alloc: Global,
+    shared: &SharedRun<C, O, ThisRun, ItsMarks>,
+    seats: Vec<NodeSeats<ThisRun, ItsMarks>>,
+    driver: &mut DriverSeats<ThisRun, ItsMarks>,
+    channels: &[Channel],
+    watch: &W,
+    bounds: Bounds,
+) -> Joined<ThisRun> {
+    let reader = shared.marks.reader();
+    let (_watched, joined) = thread::join(
+        rt,
+        || watch_at(rt, shared, reader, watch),
+        || -> Joined<ThisRun>
+            requires { IsSend C.row × IsSend O.row × IsSend ThisRun.row × IsSend ItsMarks.row }
+        { run_threads(rt, alloc, shared, seats, driver, channels, &NoWatch, bounds) },
+    );
+    joined
+}
+
+/// The threads of a run, as `run_threads` has them, and beside them who watches it.
+pub(crate) fn run_watched<
+    C: SlotCell + Send,
+    O: Outlet + Send,
+    ThisRun: Run + Send + Sync,
+    ItsMarks: MarksName + Send + Sync,
+    W: RunWatch + Sync,
+    R: Threads + Wait + Sync,
+>(
+    rt: &R,
+    alloc: Global,
+    shared: &SharedRun<C, O, ThisRun, ItsMarks>,
+    seats: Vec<NodeSeats<ThisRun, ItsMarks>>,
+    driver: &mut DriverSeats<ThisRun, ItsMarks>,
+    channels: &[Channel],
+    watch: &W,
+    bounds: Bounds,
+) -> Joined<ThisRun> {
+    if watch.watches() {
+        run_beside(rt, alloc, shared, seats, driver, channels, watch, bounds)
+    } else {
+        run_threads(rt, alloc, shared, seats, driver, channels, &NoWatch, bounds)
+    }
+}

@@ -1,0 +1,60 @@
+//! A run by turns on the thread that calls, and its history as a text.
+
+use crate::runtime_tests::{
+    SUM_ON_TWO_NODES, SumArmed, SumWorld, are_alike, has_all, have_same_disks, net_of, replay,
+    script, sum_world,
+};
+use history_text::write_history;
+use runtime::{Bounds, Ended, History, RunEnd, run_world_by_turns};
+use std::alloc::Global;
+use std::test::Fail;
+
+// How many lines the text has before its events: one for the form, three for channels and two for processes.
+const HEADER_LINES: u64 = 6;
+
+// How many lines the text of a history has.
+fn lines_of(alloc: Global, history: &History) -> Result<u64, Fail> {
+    let net = net_of(alloc, SUM_ON_TWO_NODES)?;
+    let mut text = Vec::new(alloc);
+    if write_history(&mut text, &net, history).is_err() {
+        return Err(Fail::new("no text"));
+    }
+    let mut lines: u64 = 0;
+    for byte in &text {
+        if *byte == b'\n' {
+            lines = lines.saturating_add(1);
+        }
+    }
+    Ok(lines)
+}
+
+// Whether the history leads a new world, by the same answers, to one that is like the run's, and each event has a line of the text.
+fn is_replayed(alloc: Global, history: &History, world: SumWorld) -> Result<bool, Fail> {
+    let mut armed = SumArmed::new(alloc, sum_world(alloc)?)?;
+    let Some(made) = replay(alloc, &mut armed, history) else {
+        return Ok(false);
+    };
+    let again = armed.world;
+    let is_like = has_all(&world) && are_alike(&again, &world);
+    let has_lines = lines_of(alloc, history)? == made.saturating_add(HEADER_LINES);
+    Ok(is_like && has_lines && have_same_disks(alloc, again, world))
+}
+
+#[test]
+fn a_run_by_turns(rt: HostRuntime) -> Result<(), Fail> {
+    let alloc = rt.alloc();
+    let bounds = Bounds {
+        rounds: 100,
+        items: None,
+    };
+    let ended = run_world_by_turns(alloc, sum_world(alloc)?, script(alloc)?, bounds, true);
+    let Ended {
+        world,
+        history,
+        end,
+    } = ended;
+    let replayed = is_replayed(alloc, &history, world)?;
+    assert!(rt; end == RunEnd::Complete);
+    assert!(rt; replayed);
+    Ok(())
+}
