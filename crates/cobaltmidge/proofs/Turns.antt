@@ -39,10 +39,7 @@ use Rattle.station.specs.declared.station.Station.{Station}
 use Rattle.cobaltmidge.specs.Turning.{turn_node, CameTo, first_world, Follows, HavePassed, IsDriven, IsWholeTurn}
 use Rattle.cobaltmidge.specs.Turning.{HasNoFailures, IsRunRoom, IsRunStep, Progress, line_before, nearest_room}
 use Rattle.cobaltmidge.specs.Turning.{next_event, progress, run_rooms, unused_outlet}
-use Rattle.run_log.specs.declared.answer.HubFault.{HubFault}
-use Rattle.run_log.specs.declared.answer.HubFault.TheVariants as hub
 use Rattle.cobaltmidge.specs.Failing.{HasFailedAtOnce, IsRunFault, store_fault}
-use Rattle.cobaltmidge.specs.declared.fault.RunFault.{RunFault}
 use Rattle.cobaltmidge.specs.Runs.{IsEndBy, IsReplayed}
 use Rattle.cobaltmidge.specs.declared.settings.Settings.{Settings}
 

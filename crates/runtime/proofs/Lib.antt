@@ -2,5 +2,4 @@ pub mod Sends
 mod Left
 mod Nowhere
 mod Beginnings
-mod FirstLines
 mod Completeness

@@ -1,7 +1,6 @@
 -- With what a history of a run by threads begins.
 use Rattle.std.specs.Prelude.{◌≡◌, ◌==◌, ◌&&◌, ℕ, zero, suc, Bool, true, false, if◌then◌else◌, List, [], ◌∷◌}
 use Rattle.replay.specs.Replay.{Happening, Made, Silent, Widened}
-use Rattle.replay.specs.declared.kept.Maker.{Maker}
 use Rattle.replay.specs.declared.kept.Maker.TheVariants.{Node, Driver}
 use Rattle.replay.specs.declared.kept.ScriptedEvent.{ScriptedEvent}
 use Rattle.runtime.specs.declared.ending.RunEnd.{RunEnd}
