@@ -1,5 +1,5 @@
 // A run by turns on one thread, from its world to its history.
-ghost use Rattle.std.specs.Prelude.{◌≡◌, ◌≤◌, true, length, IfOk};
+ghost use Rattle.std.specs.Prelude.{◌≡◌, ◌≤◌, true, length, replicate, vec_len, IfOk};
 ghost use Rattle.node_memory.specs.JobView.{shared_view};
 ghost use Rattle.protocol.specs.Node.Common.{MAX_CHANNELS, network_of};
 ghost use Rattle.protocol.specs.World.Common.{node_in};
@@ -24,7 +24,7 @@ use outlet::Outlet;
 use proc_step::Job;
 use replay::ScriptedEvent;
 use run_log::{
-    ArmedWorld, HubFault, Run, RunLog, SeatCount, TurnAnswer, UnusedLedgers, no_deliveries,
+    ArmedWorld, History, HubFault, Run, RunLog, SeatCount, TurnAnswer, UnusedLedgers, no_deliveries,
 };
 use slot_cell::SlotCell;
 use std::alloc::Global;
@@ -82,6 +82,57 @@ impl<C: SlotCell, O: Outlet, ThisRun: Run> Table<C, O, ThisRun> {
             TurnAnswer::Widened | TurnAnswer::Nothing | TurnAnswer::Stopped => Ok(()),
         }
     }
+
+    // The world, the history that leads to it, if one was kept, and whether the run began with the script's lines of round 0.
+    fn close_begun(self) -> (World<C, O>, History, bool)
+        ensures run { HasRun ThisRun.rooms ThisRun.script ThisRun.opening (world_of result.0) }
+        ensures leads { ThisRun.keeps ≡ true → LeadsTo ThisRun.rooms ThisRun.script ThisRun.opening
+            (happenings result.1.lines.items) (world_of result.0) }
+        ensures begun { result.2 ≡ true → ThisRun.keeps ≡ true
+            → BeginsByDriver (first_lines ThisRun.script) (happenings result.1.lines.items) }
+    {
+        let Table {
+            log,
+            mut count,
+            begun,
+        } = self;
+        let (world, history) = log.close(&mut count);
+        (world, history, begun)
+    }
+}
+
+// A log in which the script's lines of round 0 are passed, or why they couldn't be.
+fn open_table<C: SlotCell, O: Outlet, ThisRun: Run>(
+    alloc: Global,
+    world: World<C, O>,
+    deliveries: Vec<u64>,
+    script: Vec<ScriptedEvent>,
+    ledgers: UnusedLedgers,
+    keeps: bool,
+) -> (Table<C, O, ThisRun>, Result<bool, HubFault>)
+    requires opening { world_of world ≡ ThisRun.opening }
+    requires rooms { rooms world.stations.items ≡ ThisRun.rooms }
+    requires script { script.items ≡ ThisRun.script }
+    requires names { names_of ledgers ≡ ThisRun.names }
+    requires parts { HaveParts ledgers ThisRun.seats }
+    requires seats { ThisRun.seats ≡ 1 }
+    requires deliveries { deliveries.items ≡ replicate (vec_len world.stations) 0 }
+    requires keeps { keeps ≡ ThisRun.keeps }
+{
+    let lines = first_lines(&script);
+    let armed = ArmedWorld::over(alloc, world, deliveries);
+    let (totals, all) = ledgers.open::<ThisRun>();
+    let mut log = RunLog::new(alloc, armed, script, totals, keeps);
+    let mut driver = driver_seat(all);
+    let begun = begin(alloc, &mut log, &mut driver, lines);
+    let has_begun = has_begun(&begun);
+    let DriverSeat { count, .. } = driver;
+    let table = Table {
+        log,
+        count,
+        begun: has_begun,
+    };
+    (table, begun)
 }
 
 // The node whose turn comes behind one of this node.
@@ -128,6 +179,23 @@ fn take_turns<C: SlotCell, O: Outlet, ThisRun: Run>(
     Ok(())
 }
 
+// Goes on from there, if no line was refused.
+fn go_on<C: SlotCell, O: Outlet, ThisRun: Run>(
+    alloc: Global,
+    table: &mut Table<C, O, ThisRun>,
+    begun: Result<bool, HubFault>,
+    channels: &[Channel],
+    bounds: Bounds,
+    nodes: u8,
+) -> Result<(), HubFault>
+    requires few { length channels.now ≤ MAX_CHANNELS }
+{
+    match begun {
+        Ok(_) => take_turns(alloc, table, channels, bounds, nodes),
+        Err(fault) => Err(fault),
+    }
+}
+
 // The run of this log's name.
 fn play_by_turns<C: SlotCell, O: Outlet, ThisRun: Run>(
     alloc: Global,
@@ -157,29 +225,11 @@ fn play_by_turns<C: SlotCell, O: Outlet, ThisRun: Run>(
     let Ok(deliveries) = no_deliveries(alloc, world.stations.len()) else {
         return Ended::unbegun(alloc, world, HubFault::NoMemory);
     };
-    let lines = first_lines(&script);
-    let armed = ArmedWorld::over(alloc, world, deliveries);
-    let (totals, all) = ledgers.open::<ThisRun>();
-    let mut log = RunLog::new(alloc, armed, script, totals, keeps);
-    let mut driver = driver_seat(all);
-    let begun = begin(alloc, &mut log, &mut driver, lines);
-    let has_begun = has_begun(&begun);
-    let DriverSeat { count, .. } = driver;
-    let mut table = Table {
-        log,
-        count,
-        begun: has_begun,
-    };
-    let end = match begun {
-        Ok(_) => take_turns(alloc, &mut table, channels, bounds, nodes),
-        Err(fault) => Err(fault),
-    };
-    let Table {
-        log,
-        mut count,
-        begun,
-    } = table;
-    let (world, history) = log.close(&mut count);
+    let (mut table, begun) = open_table::<C, O, ThisRun>(
+        alloc, world, deliveries, script, ledgers, keeps,
+    );
+    let end = go_on(alloc, &mut table, begun, channels, bounds, nodes);
+    let (world, history, begun) = table.close_begun();
     let end = match end {
         // (It has begun, where no call was refused.)
         Ok(()) if !begun => RunEnd::Stopped,
@@ -190,6 +240,14 @@ fn play_by_turns<C: SlotCell, O: Outlet, ThisRun: Run>(
         world,
         history,
         end,
+    }
+}
+
+// How many nodes take turns. (A network has at most 16.)
+fn node_number(stations: usize) -> u8 {
+    match u8::try_from(stations) {
+        Ok(nodes) => nodes,
+        Err(_) => u8::MAX,
     }
 }
 
@@ -216,8 +274,7 @@ pub fn run_world_by_turns<C: SlotCell, O: Outlet>(
     let Ok(net) = Arc::try_clone(&world.net) else {
         return Ended::unbegun(alloc, world, HubFault::NoMemory);
     };
-    // (A network has at most 16 nodes.)
-    let nodes = world.stations.len() as u8;
+    let nodes = node_number(world.stations.len());
     let channels = net.program.channels.as_slice();
     play_by_turns::<C, O, Brand>(
         alloc,
