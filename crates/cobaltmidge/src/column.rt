@@ -142,9 +142,11 @@ fn may_go_on(alloc: Global, line: &str, len: usize) -> Result<bool, AllocError> 
     let Some((front, _)) = line.split_at_checked(len) else {
         return Ok(false);
     };
-    Ok(is_line_with(alloc, front, "")?
-        || is_line_with(alloc, front, ":")?
-        || is_line_with(alloc, front, "1")?)
+    Ok(
+        is_line_with(alloc, front, "")?
+            || is_line_with(alloc, front, ":")?
+            || is_line_with(alloc, front, "1")?,
+    )
 }
 
 // The column of the first byte with which a line of an inputs text can't go on, or that behind its last byte. (Each beginning of a good

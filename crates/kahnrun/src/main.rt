@@ -18,7 +18,6 @@ mod explaining;
 mod state;
 
 use explaining::explain;
-
 use kahn_program::{
     Failure, FileKeeper, InMemory, Options, Source, not_text, options, print_failure, read_net, run,
 };

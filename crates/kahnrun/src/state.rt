@@ -179,9 +179,6 @@ fn make(
         let _ = fs::remove_dir_all(rt, making.as_str());
         return Err(refusal(&error));
     }
-    if sync {
-        settle(rt, home_of(folder))?;
-    }
     Ok(())
 }
 
@@ -269,7 +266,8 @@ fn cut_off(
 
 /// The folder of this name, which is made where it isn't there. It is refused, and nothing in it is changed, where another
 /// run is at work in it (`InUse`), and where it is another network's, has other inputs or is damaged (80). A line that was
-/// cut off is no damage: what stands of it is taken off. With `sync` it waits for the disk at each step.
+/// cut off is no damage: what stands of it is taken off. With `sync` it waits for the disk at each step; also for what it
+/// finds, since a run that didn't sync, or was killed before it could, may have left that in the host's memory alone.
 pub fn open_state(
     rt: &HostRuntime,
     alloc: Global,
@@ -285,6 +283,10 @@ pub fn open_state(
     let lock = locked(rt, alloc, folder)?;
     compare(rt, alloc, folder, "net", texts.net)?;
     compare(rt, alloc, folder, "inputs", texts.inputs)?;
+    if sync {
+        settle_all(rt, alloc, folder, outputs.as_slice())?;
+        settle(rt, home_of(folder))?;
+    }
     let Ok(mut found) = Vec::with_capacity(alloc, outputs.len()) else {
         return Err(Failure::NoMemory);
     };

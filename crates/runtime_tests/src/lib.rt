@@ -2,10 +2,10 @@
 #![tactic(auto)]
 
 #[cfg(test)]
+mod history_tests;
+#[cfg(test)]
 mod marks_tests;
 #[cfg(test)]
 mod poor_tests;
 #[cfg(test)]
 mod runtime_tests;
-#[cfg(test)]
-mod turning_tests;

@@ -14,8 +14,8 @@ use Rattle.runtime.proofs.Sends.{line_send, net_send, net_sync, state_field_send
 use Rattle.runtime.proofs.watching.run_beside.Goals as goal
 
 -- what who watches takes along may cross threads
-pub join-_watched-requires-send-F : goal.join-_watched-requires-send-F
-join-_watched-requires-send-F g c κs within =
+pub join-watched-requires-send-F : goal.join-watched-requires-send-F
+join-watched-requires-send-F g c κs within =
     let s = c.type_bounds.send-C in
     let o = c.type_bounds.send-O in
     let a = c.type_bounds.send-ThisRun in

@@ -1,11 +1,11 @@
-//! A run by turns on the thread that calls, and its history as a text.
+//! The histories of a run by threads and of one by turns, as texts.
 
 use crate::runtime_tests::{
-    SUM_ON_TWO_NODES, SumArmed, SumWorld, are_alike, has_all, have_same_disks, net_of, replay,
-    script, sum_world,
+    BOUNDS, SUM_ON_TWO_NODES, SumArmed, SumWorld, are_alike, has_all, have_same_disks, net_of,
+    replay, script, sum_world,
 };
 use history_text::write_history;
-use runtime::{Bounds, Ended, History, RunEnd, run_world_by_turns};
+use runtime::{Ended, History, NoWatch, RunEnd, run_world, run_world_by_turns};
 use std::alloc::Global;
 use std::test::Fail;
 
@@ -41,18 +41,36 @@ fn is_replayed(alloc: Global, history: &History, world: SumWorld) -> Result<bool
 }
 
 #[test]
-fn a_run_by_turns(rt: HostRuntime) -> Result<(), Fail> {
+fn a_history_as_a_text(rt: HostRuntime) -> Result<(), Fail> {
     let alloc = rt.alloc();
-    let bounds = Bounds {
-        rounds: 100,
-        items: None,
-    };
-    let ended = run_world_by_turns(alloc, sum_world(alloc)?, script(alloc)?, bounds, true);
+    let ended = run_world(
+        &rt,
+        alloc,
+        sum_world(alloc)?,
+        script(alloc)?,
+        &NoWatch,
+        BOUNDS,
+        true,
+    );
     let Ended {
         world,
         history,
         end,
     } = ended;
+    let replayed = is_replayed(alloc, &history, world)?;
+    assert!(rt; end == RunEnd::Complete);
+    assert!(rt; replayed);
+    Ok(())
+}
+
+#[test]
+fn a_run_by_turns(rt: HostRuntime) -> Result<(), Fail> {
+    let alloc = rt.alloc();
+    let Ended {
+        world,
+        history,
+        end,
+    } = run_world_by_turns(alloc, sum_world(alloc)?, script(alloc)?, BOUNDS, true);
     let replayed = is_replayed(alloc, &history, world)?;
     assert!(rt; end == RunEnd::Complete);
     assert!(rt; replayed);
