@@ -25,6 +25,7 @@ use Rattle.world.specs.OpeningWorld.{IsUnused}
 use Rattle.station.specs.StationView.{outlet_view, outlet_views}
 use Rattle.protocol.specs.declared.limits.TheConstants.{DEFAULT_ROOM}
 use Rattle.replay.specs.Armed.{ArmedEvent, ArmedView, IsArmedStep}
+use Rattle.replay.specs.Replay.{Happening, LeadsTo}
 use Rattle.run_log.specs.Happened.{HasRun}
 use Rattle.replay.specs.declared.kept.ScriptedEvent.{ScriptedEvent}
 use Rattle.replay.specs.declared.kept.RunEvent.{RunEvent}
@@ -40,7 +41,7 @@ use Rattle.cobaltmidge.specs.Turning.{turn_node, CameTo, first_world, Follows, H
 use Rattle.cobaltmidge.specs.Turning.{HasNoFailures, IsRunRoom, IsRunStep, Progress, line_before, nearest_room}
 use Rattle.cobaltmidge.specs.Turning.{next_event, progress, run_rooms, unused_outlet}
 use Rattle.cobaltmidge.specs.Failing.{HasFailedAtOnce, IsRunFault, store_fault}
-use Rattle.cobaltmidge.specs.Runs.{IsEndBy, IsReplayed}
+use Rattle.cobaltmidge.specs.Runs.{IsEndBy, IsHistory, IsReplayed}
 use Rattle.cobaltmidge.specs.declared.settings.Settings.{Settings}
 
 -- where no job was granted nothing follows
@@ -242,14 +243,37 @@ replayed_world taken failures stations settings net inputs script first now room
     (subst (λ (fits : List (RecordView → Bool)). HasRun fits script first now)
     (rooms_are taken failures stations room ∙ ap run_rooms (sym same)) run)
 
+-- The same of one of which the history is kept
+pub kept_world : {C O : Type 0} {cell : CellWords C} {slots : SlotWords C} (taken : O → List ℤ) (failures : O → ℕ)
+    (stations : List (Station C O slots cell)) (settings : Settings) (net : Network) (inputs : List (List ℤ))
+    (script : List ScriptedEvent) (happened : List Happening) (first now : WorldView)
+    → AllByRecursion IsRunRoom (capacities stations)
+    → first.stations ≡ map (station_view taken failures) stations → first ≡ first_world net inputs settings.room
+    → LeadsTo (rooms stations) script first happened now → IsHistory settings net inputs script happened now
+kept_world taken failures stations settings net inputs script happened first now room same opened leads =
+    subst (λ (w : WorldView). LeadsTo (run_rooms w.stations) script w happened now) opened
+    (subst (λ (fits : List (RecordView → Bool)). LeadsTo fits script first happened now)
+    (rooms_are taken failures stations room ∙ ap run_rooms (sym same)) leads)
+
 -- the end of a run by threads
-pub by_threads_ends : {T E : Type 0} (view : T → WorldView) (threads : Bool) (settings : Settings) (net : Network)
-    (inputs : List (List ℤ)) (script : List ScriptedEvent) (result : Result T E) → threads ≡ true
-    → IfOk result (λ now. IsReplayed settings net inputs script (view now))
-    → IfOk result (λ now. IsEndBy threads settings net inputs script (view now))
-by_threads_ends view threads settings net inputs script (Err e) asked replayed = tt
-by_threads_ends view threads settings net inputs script (Ok now) asked replayed =
-    subst (λ (t : Bool). IsEndBy t settings net inputs script (view now)) (sym asked) replayed
+pub by_threads_ends : {T E : Type 0} (view : T → WorldView) (told : T → List Happening) (history threads : Bool)
+    (settings : Settings) (net : Network) (inputs : List (List ℤ)) (script : List ScriptedEvent) (result : Result T E)
+    → threads ≡ true → IfOk result (λ now. IsReplayed settings net inputs script (view now))
+    → (history ≡ true → IfOk result (λ now. IsHistory settings net inputs script (told now) (view now)))
+    → IfOk result (λ now. IsEndBy history threads settings net inputs script (told now) (view now))
+by_threads_ends view told history threads settings net inputs script (Err e) asked replayed kept = tt
+by_threads_ends view told true threads settings net inputs script (Ok now) asked replayed kept = kept refl
+by_threads_ends view told false threads settings net inputs script (Ok now) asked replayed kept =
+    subst (λ (t : Bool). IsEndBy false t settings net inputs script (told now) (view now)) (sym asked) replayed
+
+-- that of a run of which the history is kept
+pub by_kept_ends : {T E : Type 0} (view : T → WorldView) (told : T → List Happening) (history threads : Bool)
+    (settings : Settings) (net : Network) (inputs : List (List ℤ)) (script : List ScriptedEvent) (result : Result T E)
+    → history ≡ true → IfOk result (λ now. IsHistory settings net inputs script (told now) (view now))
+    → IfOk result (λ now. IsEndBy history threads settings net inputs script (told now) (view now))
+by_kept_ends view told history threads settings net inputs script (Err e) asked kept = tt
+by_kept_ends view told true threads settings net inputs script (Ok now) asked kept = kept
+by_kept_ends view told false threads settings net inputs script (Ok now) asked kept = absurd (cc)
 
 pub if_ok_then : {T E : Type 0} (P Q : T → Type 0) (result : Result T E) → ((value : T) → P value → Q value)
     → IfOk result P → IfOk result Q

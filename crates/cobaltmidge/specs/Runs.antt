@@ -3,6 +3,7 @@ use Rattle.std.specs.Prelude.{◌≡◌, ℕ, Bool, true, false, IsTrue, ℤ, Li
 use Rattle.protocol.specs.Node.Common.{history_of, IsPrefix, node_count, Network, approximation}
 use Rattle.kahn_net.specs.Common.{IsReached}
 use Rattle.protocol.specs.World.Common.{output_channels, released_of, StationView, WorldView}
+use Rattle.replay.specs.Replay.{Happening, LeadsTo}
 use Rattle.run_log.specs.Happened.{HasRun}
 use Rattle.replay.specs.declared.kept.ScriptedEvent.{ScriptedEvent}
 use Rattle.cobaltmidge.specs.Turning.{IsRunByTurns, first_world, is_over, run_rooms}
@@ -40,16 +41,24 @@ IsLast settings net inputs script now =
     IsRunByTurns (is_over (output_channels 0 net.channels) settings.rounds settings.items) (node_count net) script
     (first_world net inputs settings.room) now
 
--- The world at the end of a run by threads: a history, which isn't kept, leads to it, each event of which is one that was next for its node, a
--- turn that came back to its node, or the event of the script's next line.
+-- The world at the end of a run of which this is the history: it leads there from the opening world. Each event of it is one that was next for
+-- its node, a turn that came back to its node, or the event of the script's next line.
+abbrev pub IsHistory : Settings → Network → List (List ℤ) → List ScriptedEvent → List Happening → WorldView → Type 0
+IsHistory settings net inputs script happened now =
+    LeadsTo (run_rooms (first_world net inputs settings.room).stations) script (first_world net inputs settings.room) happened
+    now
+
+-- The world at the end of a run by threads of which no history is kept: there is one, which leads to it.
 abbrev pub IsReplayed : Settings → Network → List (List ℤ) → List ScriptedEvent → WorldView → Type 0
 IsReplayed settings net inputs script now =
     HasRun (run_rooms (first_world net inputs settings.room).stations) script (first_world net inputs settings.room) now
 
-abbrev pub IsEndBy : Bool → Settings → Network → List (List ℤ) → List ScriptedEvent → WorldView → Type 0
-IsEndBy true settings net inputs script now = IsReplayed settings net inputs script now
-IsEndBy false settings net inputs script now = IsLast settings net inputs script now
+abbrev pub IsEndBy : Bool → Bool → Settings → Network → List (List ℤ) → List ScriptedEvent → List Happening → WorldView → Type 0
+IsEndBy true threads settings net inputs script happened now = IsHistory settings net inputs script happened now
+IsEndBy false true settings net inputs script happened now = IsReplayed settings net inputs script now
+IsEndBy false false settings net inputs script happened now = IsLast settings net inputs script now
 
--- by threads where they are asked for, and else by turns
-abbrev pub IsEnd : Settings → Network → List (List ℤ) → List ScriptedEvent → WorldView → Type 0
-IsEnd settings net inputs script now = IsEndBy settings.threads settings net inputs script now
+-- how a run comes to its end: as its history says, where it is kept; else by threads where they are asked for, or by turns
+abbrev pub IsEnd : Settings → Network → List (List ℤ) → List ScriptedEvent → List Happening → WorldView → Type 0
+IsEnd settings net inputs script happened now =
+    IsEndBy settings.history settings.threads settings net inputs script happened now

@@ -16,7 +16,7 @@ pub enum RunFault {
     /// Refusal 20: a disk failed while the world was made.
     #[error("a disk failed while the world was made")]
     Device,
-    /// Refusal 44: each node has a thread, and a count of the history would pass 2^63 - 1.
+    /// Refusal 44: each node has a thread, or the history is kept, and a count of it would pass 2^63 - 1.
     #[error("a count of the history would pass 2^63 - 1")]
     PastNumber,
 }

@@ -9,6 +9,7 @@ ghost use Rattle.cobaltmidge.specs.Names.{IsOutputNamed};
 use crate::ending::RunWorld;
 use crate::network::Network;
 use outlet::Outlet;
+use run_log::History;
 
 /// What a run came to: the world at its end, of which what left is the same for good. `World::apply` would go on from there, and
 /// `World::close` hands out disks and outlets.
@@ -16,6 +17,8 @@ use outlet::Outlet;
 pub struct Finished<'a, O: Outlet> {
     pub network: &'a Network,
     pub world: RunWorld<O>,
+    /// What happened, where that was to be kept (`Run::history`), and else nothing. `write_history` makes a text of it.
+    pub history: History,
 }
 
 impl<'a, O: Outlet> Finished<'a, O> {

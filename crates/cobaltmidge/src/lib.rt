@@ -37,7 +37,8 @@ pub use run::Run;
 pub use run_log::ArmedWorld;
 pub use running::run_network;
 pub use runtime::{
-    Bounds, Ended, History, HubFault, NoWatch, RunEnd, RunHandle, RunWatch, run_world,
+    Bounds, Ended, History, HubFault, NoWatch, RunEnd, RunHandle, RunWatch, TurnWatch, run_world,
+    run_world_by_turns,
 };
 pub use scripting::events_of;
 pub use sector_disk::{ArmedFault, Disk, DiskFault, MemDisk, SECTOR_BYTES};

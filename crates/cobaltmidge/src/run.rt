@@ -4,9 +4,11 @@ ghost use Rattle.std.specs.Prelude.{◌≡◌, None, Some, map, IfErr, IfOk};
 ghost use Rattle.std.specs.List.{AllByRecursion};
 ghost use Rattle.protocol.specs.Node.Common.{Fits, network_of};
 ghost use Rattle.protocol.specs.World.Common.{are_quiet, output_channels};
+ghost use Rattle.run_log.specs.Lines.{happenings};
 ghost use Rattle.world.specs.OpeningWorld.{IsUnused};
 ghost use Rattle.world.specs.WholeView.{world_of};
 ghost use Rattle.cobaltmidge.specs.Errors.{IsRunError};
+ghost use Rattle.cobaltmidge.specs.Failing.{is_counted};
 ghost use Rattle.cobaltmidge.specs.Names.{script_of};
 ghost use Rattle.cobaltmidge.specs.Runs.{IsEnd, IsRun, released_streams};
 ghost use Rattle.cobaltmidge.specs.Turning.{HasNoFailures};
@@ -19,6 +21,7 @@ use crate::settings::Settings;
 use net_check::Inputs;
 use outlet::{ListOutlet, Outlet};
 use replay::ScriptedEvent;
+use runtime::NoWatch;
 use std::alloc::Global;
 use std::sync::Wait;
 use std::thread::Threads;
@@ -140,6 +143,19 @@ impl<'a> Run<'a> {
         self.settings(settings)
     }
 
+    /// Keeps what happens (`Finished::history`), or lets it go.
+    pub fn history(self, history: bool) -> Run<'a>
+        ensures same { (result.network ≡ self.entry.network) × (result.inputs ≡ self.entry.inputs) }
+        ensures settings { result.settings ≡ record (self.entry.settings) { history = history } }
+        ensures script { result.script ≡ self.entry.script }
+    {
+        let settings = Settings {
+            history,
+            ..self.settings
+        };
+        self.settings(settings)
+    }
+
     /// Runs it until nothing is left to do, the rounds are over, or each output has the items that are asked for.
     pub fn run<R: Threads + Wait + Sync>(
         self,
@@ -154,10 +170,10 @@ impl<'a> Run<'a> {
         // How the world came to its end.
         ensures end { IfOk result (λ finished. IsEnd self.entry.settings
             (network_of self.entry.network.now.net.value.program) self.entry.inputs (script_of self.entry.script)
-            (world_of finished.world)) }
+            (happenings finished.history.lines.items) (world_of finished.world)) }
         ensures network { IfOk result (λ finished. finished.network ≡ self.entry.network) }
-        // A device failed (20), memory is missing (1), or a count would pass 2^63 - 1 (44).
-        ensures err { IfErr result (IsRunError self.entry.settings.threads) }
+        // A device failed (20), memory is missing (1), or what is counted would pass 2^63 - 1 (44).
+        ensures err { IfErr result (IsRunError (is_counted self.entry.settings)) }
     {
         let Ok(outputs) = outputs_in_memory(alloc, &self.network.net) else {
             return Err(Error::NoMemory);
@@ -182,9 +198,9 @@ impl<'a> Run<'a> {
             (world_of finished.world).stations) (are_quiet (world_of finished.world))) }
         ensures end { IfOk result (λ finished. IsEnd self.entry.settings
             (network_of self.entry.network.now.net.value.program) self.entry.inputs (script_of self.entry.script)
-            (world_of finished.world)) }
+            (happenings finished.history.lines.items) (world_of finished.world)) }
         ensures network { IfOk result (λ finished. finished.network ≡ self.entry.network) }
-        ensures err { IfErr result (IsRunError self.entry.settings.threads) }
+        ensures err { IfErr result (IsRunError (is_counted self.entry.settings)) }
     {
         let Run {
             network,
@@ -193,8 +209,21 @@ impl<'a> Run<'a> {
             settings,
         } = self;
         let script = events_or_none(alloc, script);
-        match run_network(rt, alloc, settings, &network.net, inputs, outputs, script) {
-            Ok(world) => Ok(Finished { network, world }),
+        match run_network(
+            rt,
+            alloc,
+            settings,
+            &network.net,
+            inputs,
+            outputs,
+            script,
+            &mut NoWatch,
+        ) {
+            Ok((world, history)) => Ok(Finished {
+                network,
+                world,
+                history,
+            }),
             Err(fault) => Err(run_error(fault)),
         }
     }

@@ -4,11 +4,13 @@ ghost use Rattle.std.specs.Prelude.{◌≡◌, ◌≤◌, ℤ, true, List, map, 
 ghost use Rattle.std.specs.List.{AllByRecursion};
 ghost use Rattle.protocol.specs.Node.Common.{Fits, node_count, network_of, MAX_NODES};
 ghost use Rattle.protocol.specs.World.Common.{are_quiet, output_channels};
+ghost use Rattle.replay.specs.Replay.{LeadsTo};
 ghost use Rattle.run_log.specs.Happened.{HasRun};
+ghost use Rattle.run_log.specs.Lines.{happenings};
 ghost use Rattle.world.specs.WholeView.{world_of};
 ghost use Rattle.world.specs.WorldView.{capacities, rooms};
 ghost use Rattle.world.specs.OpeningWorld.{IsUnused};
-ghost use Rattle.cobaltmidge.specs.Failing.{IsRunFault};
+ghost use Rattle.cobaltmidge.specs.Failing.{IsRunFault, is_counted};
 ghost use Rattle.cobaltmidge.specs.Runs.{IsEnd, IsRun, released_streams};
 ghost use Rattle.cobaltmidge.specs.Turning.{HasNoFailures, IsRunRoom, first_world};
 
@@ -20,74 +22,128 @@ use crate::turning::run_by_turns;
 use net_check::{Inputs, Net};
 use outlet::Outlet;
 use replay::ScriptedEvent;
-use runtime::{Bounds, Ended, NoWatch, RunEnd, run_world};
+use runtime::{Bounds, Ended, History, RunEnd, RunWatch, TurnWatch, run_world, run_world_by_turns};
+use sector_disk::MemDisk;
+use slot_cell::SplitCell;
 use std::alloc::Global;
 use std::sync::{Arc, Wait};
 use std::thread::Threads;
 use world::{Output, node_count};
 
+/// What is given back where no history is kept.
+fn no_history(alloc: Global) -> History {
+    History {
+        lines: Vec::new(alloc),
+        stops: 0,
+    }
+}
+
+/// The end of a run, and what happened; or why it was refused.
+fn came_to<O: Outlet>(
+    ended: Ended<SplitCell<MemDisk>, O>,
+) -> Result<(RunWorld<O>, History), RunFault>
+    ensures same { IfOk result (λ now. (now.0 ≡ ended.world) × (now.1 ≡ ended.history)) }
+    ensures err { IfErr result (IsRunFault true) }
+{
+    let Ended {
+        world,
+        history,
+        end,
+    } = ended;
+    match end {
+        RunEnd::Refused(fault) => Err(hub_fault(fault)),
+        RunEnd::Complete | RunEnd::Rounds | RunEnd::Items | RunEnd::Stopped => Ok((world, history)),
+    }
+}
+
 /// Runs a world by a thread for each node.
-fn run_by_threads<O: Outlet + Send, R: Threads + Wait + Sync>(
+fn run_by_threads<O: Outlet + Send, W: RunWatch + Sync, R: Threads + Wait + Sync>(
     rt: &R,
     alloc: Global,
     world: RunWorld<O>,
     script: Vec<ScriptedEvent>,
+    watch: &W,
     bounds: Bounds,
-) -> Result<RunWorld<O>, RunFault>
+    keeps_history: bool,
+) -> Result<(RunWorld<O>, History), RunFault>
     ensures run { IfOk result (λ now. HasRun (rooms world.stations.items) script.items (world_of world)
-        (world_of now)) }
+        (world_of now.0)) }
+    ensures leads { keeps_history ≡ true → IfOk result (λ now. LeadsTo (rooms world.stations.items) script.items
+        (world_of world) (happenings now.1.lines.items) (world_of now.0)) }
     ensures err { IfErr result (IsRunFault true) }
 {
-    let Ended { world, end, .. } = run_world(rt, alloc, world, script, &NoWatch, bounds, false);
-    match end {
-        RunEnd::Refused(fault) => Err(hub_fault(fault)),
-        RunEnd::Complete | RunEnd::Rounds | RunEnd::Items | RunEnd::Stopped => Ok(world),
-    }
+    came_to(run_world(rt, alloc, world, script, watch, bounds, keeps_history))
+}
+
+/// Runs a world by turns, and keeps what happens.
+fn run_by_kept_turns<O: Outlet, W: TurnWatch>(
+    alloc: Global,
+    world: RunWorld<O>,
+    script: Vec<ScriptedEvent>,
+    watch: &mut W,
+    bounds: Bounds,
+) -> Result<(RunWorld<O>, History), RunFault>
+    ensures run { IfOk result (λ now. HasRun (rooms world.stations.items) script.items (world_of world)
+        (world_of now.0)) }
+    ensures leads { IfOk result (λ now. LeadsTo (rooms world.stations.items) script.items (world_of world)
+        (happenings now.1.lines.items) (world_of now.0)) }
+    ensures err { IfErr result (IsRunFault true) }
+{
+    came_to(run_world_by_turns(alloc, world, script, watch, bounds, true))
 }
 
 /// Runs a world to its end, by turns or by threads as the settings say.
-fn run_to_end<O: Outlet + Send, R: Threads + Wait + Sync>(
+fn run_to_end<O: Outlet + Send, W: RunWatch + TurnWatch + Sync, R: Threads + Wait + Sync>(
     rt: &R,
     alloc: Global,
     settings: Settings,
     net: &Net,
     world: RunWorld<O>,
     script: Vec<ScriptedEvent>,
+    watch: &mut W,
     nodes: usize,
-) -> Result<RunWorld<O>, RunFault>
+) -> Result<(RunWorld<O>, History), RunFault>
     requires nodes { nodes ≡ node_count (network_of net.now.program) }
     requires few { nodes ≤ MAX_NODES }
     requires room { AllByRecursion IsRunRoom (capacities world.stations.items) }
     ensures end { (inputs : List (List ℤ)) → world_of world ≡ first_world (network_of net.now.program) inputs settings.room
-        → IfOk result (λ now. IsEnd settings (network_of net.now.program) inputs script.items (world_of now)) }
-    ensures same { IfOk result (λ now. ∥ ((world_of now).net ≡ (world_of world).net)
-        × ((world_of now).inputs ≡ (world_of world).inputs) ∥₁) }
-    ensures err { IfErr result (IsRunFault settings.threads) }
+        → IfOk result (λ now. IsEnd settings (network_of net.now.program) inputs script.items
+        (happenings now.1.lines.items) (world_of now.0)) }
+    ensures same { IfOk result (λ now. ∥ ((world_of now.0).net ≡ (world_of world).net)
+        × ((world_of now.0).inputs ≡ (world_of world).inputs) ∥₁) }
+    ensures err { IfErr result (IsRunFault (is_counted settings)) }
 {
+    let bounds = Bounds {
+        rounds: settings.rounds,
+        items: settings.items,
+    };
     if settings.threads {
-        let bounds = Bounds {
-            rounds: settings.rounds,
-            items: settings.items,
-        };
-        return run_by_threads(rt, alloc, world, script, bounds);
+        return run_by_threads(rt, alloc, world, script, &*watch, bounds, settings.history);
     }
-    match run_by_turns(
+    if settings.history {
+        return run_by_kept_turns(alloc, world, script, watch, bounds);
+    }
+    let ran = run_by_turns(
         alloc,
         net.program.channels.as_slice(),
         world,
         &script,
+        watch,
         nodes,
         settings.rounds,
         settings.items,
-    ) {
-        Ok(world) => Ok(world),
+    );
+    watch.over();
+    match ran {
+        Ok(world) => Ok((world, no_history(alloc))),
         Err(_) => Err(RunFault::NoMemory),
     }
 }
 
 /// Runs a network on its inputs by the events of a script, as the settings say, until nothing is left to do, the rounds are over, or
-/// each output has the items that are asked for: by these outlets, each of which took nothing yet. Gives the world at its end.
-pub fn run_network<O: Outlet + Send, R: Threads + Wait + Sync>(
+/// each output has the items that are asked for: by these outlets, each of which took nothing yet. Gives the world at its end, and what
+/// happened, where that is to be kept. `watch` looks at the run meanwhile (`&mut NoWatch` where nobody does).
+pub fn run_network<O: Outlet + Send, W: RunWatch + TurnWatch + Sync, R: Threads + Wait + Sync>(
     rt: &R,
     alloc: Global,
     settings: Settings,
@@ -95,7 +151,8 @@ pub fn run_network<O: Outlet + Send, R: Threads + Wait + Sync>(
     inputs: Inputs,
     outputs: Vec<Output<O>>,
     script: Vec<ScriptedEvent>,
-) -> Result<RunWorld<O>, RunFault>
+    watch: &mut W,
+) -> Result<(RunWorld<O>, History), RunFault>
     requires fitting { Fits (network_of net.now.value.program) inputs }
     requires listed { map (λ output. output.channel) outputs.items
         ≡ output_channels 0 (network_of net.now.value.program).channels }
@@ -104,17 +161,17 @@ pub fn run_network<O: Outlet + Send, R: Threads + Wait + Sync>(
     // What has left are prefixes of the outputs' histories in one approximation, and where nothing is left to do whole, in the least
     // solution.
     ensures run { IfOk result (λ now. IsRun (network_of net.now.value.program) inputs
-        (released_streams (network_of net.now.value.program) (world_of now).stations)
-        (are_quiet (world_of now))) }
+        (released_streams (network_of net.now.value.program) (world_of now.0).stations)
+        (are_quiet (world_of now.0))) }
     // How the world came to its end.
     ensures end { IfOk result (λ now. IsEnd settings (network_of net.now.value.program) inputs
-        script.items (world_of now)) }
-    ensures same { IfOk result (λ now. ∥ ((world_of now).net ≡ network_of net.now.value.program)
-        × ((world_of now).inputs ≡ inputs) ∥₁) }
+        script.items (happenings now.1.lines.items) (world_of now.0)) }
+    ensures same { IfOk result (λ now. ∥ ((world_of now.0).net ≡ network_of net.now.value.program)
+        × ((world_of now.0).inputs ≡ inputs) ∥₁) }
     // A device failed (20), memory is missing (1), or a count would pass 2^63 - 1 (44).
-    ensures err { IfErr result (IsRunFault settings.threads) }
+    ensures err { IfErr result (IsRunFault (is_counted settings)) }
 {
     let nodes = node_count(net);
     let world = open_world(alloc, net, inputs, outputs, nodes, settings.room)?;
-    run_to_end(rt, alloc, settings, net, world, script, nodes)
+    run_to_end(rt, alloc, settings, net, world, script, watch, nodes)
 }

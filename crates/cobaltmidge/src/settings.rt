@@ -20,20 +20,23 @@ pub struct Settings {
     pub room: u64,
     /// Each node has a thread of its own. Else one thread takes the turns of all.
     pub threads: bool,
+    /// What happens is kept. Else the history of the run comes back empty.
+    pub history: bool,
 }
 
 impl Settings {
-    /// 1,000 rounds, a room of 4,096 items, and turns on one thread.
+    /// 1,000 rounds, a room of 4,096 items, turns on one thread, and no history.
     pub fn new() -> Settings
         ensures rounds { result.rounds ≡ DEFAULT_ROUNDS }
         ensures room { result.room ≡ DEFAULT_ROOM }
-        ensures others { (result.items ≡ None) × (result.threads ≡ false) }
+        ensures others { (result.items ≡ None) × (result.threads ≡ false) × (result.history ≡ false) }
     {
         Settings {
             rounds: DEFAULT_ROUNDS,
             items: None,
             room: DEFAULT_ROOM as u64,
             threads: false,
+            history: false,
         }
     }
 }

@@ -20,6 +20,7 @@ use outlet::Outlet;
 use proc_step::Job;
 use replay::{RunEvent, ScriptedEvent};
 use run_log::ArmedWorld;
+use runtime::TurnWatch;
 use sector_disk::MemDisk;
 use slot_cell::SplitCell;
 use std::alloc::{AllocError, Global};
@@ -261,13 +262,22 @@ fn is_same(nothing: bool, passed: usize, now: usize) -> bool
     nothing && now == passed
 }
 
+/// Lets somebody look at the run before a turn of node 0.
+fn look_before<O: Outlet, W: TurnWatch>(watch: &mut W, world: &RunWorld<O>, node: u8) {
+    if node != 0 {
+        return;
+    }
+    watch.look(world);
+}
+
 /// Takes turns until the run is over: of the nodes, so many, one after another.
-fn take_turns<O: Outlet>(
+fn take_turns<O: Outlet, W: TurnWatch>(
     alloc: Global,
     channels: &[Channel],
     armed: &mut RunArmed<O>,
     script: &[ScriptedEvent],
     begun: usize,
+    watch: &mut W,
     nodes: usize,
     rounds: u64,
     items: Option<u64>,
@@ -288,6 +298,7 @@ fn take_turns<O: Outlet>(
     // Whether the run is known to go on, since nothing happened behind the last time that it was asked.
     let mut goes_on = false;
     for _turn in 0..MAX_TURNS {
+        look_before(watch, &armed.world, node);
         if is_over_now(
             goes_on,
             channels,
@@ -311,11 +322,12 @@ fn take_turns<O: Outlet>(
 
 /// Runs a world by turns, until nothing is left to do, the rounds are over, or all streams have the items that are asked for.
 /// Refuses for want of memory alone.
-pub(crate) fn run_by_turns<O: Outlet>(
+pub(crate) fn run_by_turns<O: Outlet, W: TurnWatch>(
     alloc: Global,
     channels: &[Channel],
     world: RunWorld<O>,
     script: &[ScriptedEvent],
+    watch: &mut W,
     nodes: usize,
     rounds: u64,
     items: Option<u64>,
@@ -330,7 +342,7 @@ pub(crate) fn run_by_turns<O: Outlet>(
     let mut armed = ArmedWorld::new(alloc, world)?;
     let begun = begin(alloc, &mut armed, script)?;
     take_turns(
-        alloc, channels, &mut armed, script, begun, nodes, rounds, items,
+        alloc, channels, &mut armed, script, begun, watch, nodes, rounds, items,
     )?;
     Ok(armed.world)
 }

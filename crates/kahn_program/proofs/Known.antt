@@ -4,7 +4,7 @@ use Rattle.std.specs.Prelude.{IfSome, IsUtf8}
 use Rattle.kahn_program.specs.Readings.{IsOutside, IsReadFailure}
 use Rattle.kahn_program.specs.declared.failure.Failure.{Failure}
 use Rattle.kahn_program.specs.declared.failure.Failure.TheVariants.{Line, Whole, NotText, Unreadable, Approximation}
-use Rattle.kahn_program.specs.declared.failure.Failure.TheVariants.{NoMemory, State, InUse, Other}
+use Rattle.kahn_program.specs.declared.failure.Failure.TheVariants.{NoMemory, State, InUse, Unwritten, Other}
 use Rattle.kahn_program.specs.declared.failure.Source.{Source}
 
 -- what holds of the bytes that were read holds of the known ones
@@ -30,4 +30,5 @@ outside_of source known bytes (Approximation number) is utf8 h = absurd h
 outside_of source known bytes NoMemory is utf8 h = inl refl
 outside_of source known bytes (State number) is utf8 h = absurd h
 outside_of source known bytes InUse is utf8 h = absurd h
+outside_of source known bytes Unwritten is utf8 h = absurd h
 outside_of source known bytes (Other number) is utf8 h = absurd h

@@ -1,5 +1,5 @@
 -- How a run goes by what the command line asks for.
-use Rattle.std.specs.Prelude.{not}
+use Rattle.std.specs.Prelude.{is_some, not}
 use Rattle.cobaltmidge.specs.declared.settings.Settings.{Settings}
 use Rattle.kahn_program.specs.declared.asked.Options.{Options}
 
@@ -9,4 +9,5 @@ settings_of options = record {
   items = options.items;
   room = options.room;
   threads = not options.plain;
+  history = is_some options.history;
 }

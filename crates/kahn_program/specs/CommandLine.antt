@@ -30,7 +30,8 @@ by_default text rule = record rule { defaults = text ∷ [] }
 abbrev pub flag : Text → Rule
 flag name = record (new_rule name) { long = Some name; action = Some SetTrue }
 
--- kahnrun [--script FILE] [--state FOLDER] [--sync] [--rounds N] [--items N] [--room N] [--plain] [--approx N] [--explain] NET INPUTS
+-- kahnrun [--script FILE] [--state FOLDER] [--sync] [--rounds N] [--items N] [--room N] [--plain] [--approx N] [--explain] [--history FILE] [--quiet]
+-- NET INPUTS
 unfoldable pub kahnrun : App
 kahnrun =
     let net = with_rule (new_app (codes "kahnrun")) (required (codes "NET")) in
@@ -44,7 +45,9 @@ kahnrun =
     with_rule items (by_default (codes "4096") (number (codes "room") MIN_ROOM MAX_RETAINED_ITEMS)) in
     let plain = with_rule room (flag (codes "plain")) in
     let approx = with_rule plain (number (codes "approx") 0 MAX_APPROXIMATION) in
-    with_rule approx (flag (codes "explain"))
+    let explain = with_rule approx (flag (codes "explain")) in
+    let history = with_rule explain (file_option (codes "history")) in
+    with_rule history (flag (codes "quiet"))
 
 -- what an option's text gives: a number within these bounds, which the text writes in decimal, or none where the option
 -- has no text
@@ -75,3 +78,5 @@ pub record IsAsked (rows : List Row) (options : Options) : Type 0 where
   pub plain : IsFlag (one_of (codes "plain") rows) options.plain
   pub approx : IsNumber 0 MAX_APPROXIMATION (one_of (codes "approx") rows) options.approx
   pub explain : IsFlag (one_of (codes "explain") rows) options.explain
+  pub history : first_of (codes "history") rows ≡ option_map string_bytes options.history
+  pub quiet : IsFlag (one_of (codes "quiet") rows) options.quiet

@@ -5,7 +5,7 @@ use Rattle.kahn_program.specs.declared.failure.Source.{Source}
 use Rattle.kahn_program.specs.declared.failure.Source.TheVariants.{Net, Inputs, Script}
 use Rattle.kahn_program.specs.declared.failure.Failure.{Failure}
 use Rattle.kahn_program.specs.declared.failure.Failure.TheVariants.{Line, Whole, NotText, Unreadable, Approximation}
-use Rattle.kahn_program.specs.declared.failure.Failure.TheVariants.{NoMemory, State, InUse, Other}
+use Rattle.kahn_program.specs.declared.failure.Failure.TheVariants.{NoMemory, State, InUse, Unwritten, Other}
 
 abbrev pub source_text : Source → List ℕ
 source_text Net = codes "net"
@@ -22,6 +22,7 @@ failure_text (Approximation number) = codes "approx: refusal " ++ decimal number
 failure_text NoMemory = codes "no memory"
 failure_text (State number) = codes "state: refusal " ++ decimal number
 failure_text InUse = codes "state: in use"
+failure_text Unwritten = codes "history: cannot be written"
 failure_text (Other number) = codes "refusal " ++ decimal number
 
 -- and the line feed behind it
@@ -38,4 +39,5 @@ status_of (Approximation number) = 1
 status_of NoMemory = 1
 status_of (State number) = 1
 status_of InUse = 1
+status_of Unwritten = 1
 status_of (Other number) = 1

@@ -3,7 +3,7 @@ use Rattle.std.specs.Prelude.{◌≡◌, ℤ, Bool, true, List, map}
 use Rattle.station.specs.declared.output.Output.{Output}
 use Rattle.kahn_program.specs.declared.failure.Failure.{Failure}
 use Rattle.kahn_program.specs.declared.failure.Failure.TheVariants.{Line, Whole, NotText, Unreadable, Approximation}
-use Rattle.kahn_program.specs.declared.failure.Failure.TheVariants.{NoMemory, State, InUse, Other}
+use Rattle.kahn_program.specs.declared.failure.Failure.TheVariants.{NoMemory, State, InUse, Unwritten, Other}
 
 -- what the outlets of these outputs took
 abbrev pub taken_streams : {O : Type 0} → (O → List ℤ) → List (Output O) → List (List ℤ)
@@ -19,4 +19,5 @@ IsKeeperFailure keeps (Approximation number) = ⊥
 IsKeeperFailure keeps NoMemory = Unit {0}
 IsKeeperFailure keeps (State number) = keeps ≡ true
 IsKeeperFailure keeps InUse = ⊥
+IsKeeperFailure keeps Unwritten = ⊥
 IsKeeperFailure keeps (Other number) = ⊥

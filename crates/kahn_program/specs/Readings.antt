@@ -18,7 +18,7 @@ use Rattle.fail_script.specs.declared.fault.ScriptFault.{ScriptFault}
 use Rattle.cobaltmidge.specs.Texts.{IsNetOf, AreInputsOf}
 use Rattle.kahn_program.specs.declared.failure.Failure.{Failure}
 use Rattle.kahn_program.specs.declared.failure.Failure.TheVariants.{Line, Whole, NotText, Unreadable, Approximation}
-use Rattle.kahn_program.specs.declared.failure.Failure.TheVariants.{NoMemory, State, InUse, Other}
+use Rattle.kahn_program.specs.declared.failure.Failure.TheVariants.{NoMemory, State, InUse, Unwritten, Other}
 use Rattle.kahn_program.specs.Failures.{failure_line, status_of}
 use Rattle.kahn_program.specs.Runnable.{IsApproximationFailure, IsReportless}
 use Rattle.kahn_program.specs.declared.asked.Options.{Options}
@@ -55,6 +55,7 @@ IsReadFailure source known (Unreadable other) = other ≡ source
 IsReadFailure source known NoMemory = Unit {0}
 IsReadFailure source known (State number) = ⊥
 IsReadFailure source known InUse = ⊥
+IsReadFailure source known Unwritten = ⊥
 IsReadFailure source known (Line other line number) = ⊥
 IsReadFailure source known (Whole other number) = ⊥
 IsReadFailure source known (Approximation number) = ⊥
@@ -113,7 +114,7 @@ IsScriptFailureOf options nodes script_bytes failure =
 -- why there is no report of this approximation, or of a run: its script is refused, or the run fails
 abbrev pub IsRunOrScriptFailure : Bool → Options → Network → Option (List ℕ) → Failure → Type 0
 IsRunOrScriptFailure keeps options net script_bytes failure =
-    IsScriptFailureOf options (node_count net) script_bytes failure ⊎ IsReportless options.plain keeps failure
+    IsScriptFailureOf options (node_count net) script_bytes failure ⊎ IsReportless options keeps failure
 
 abbrev pub IsReportFailureOf : Option ℕ → Bool → Options → Network → List (List ℤ) → Option (List ℕ) → Failure → Type 0
 IsReportFailureOf (Some n) keeps options net inputs script_bytes failure = IsApproximationFailure net inputs n failure

@@ -1,16 +1,18 @@
 -- Why a network on its inputs comes to no report.
-use Rattle.std.specs.Prelude.{◌≡◌, ◌⊎◌, ℕ, ℤ, Bool, false, List}
+use Rattle.std.specs.Prelude.{◌≡◌, ◌⊎◌, ℕ, ℤ, Bool, true, IsTrue, List, is_some}
 use Rattle.protocol.specs.Node.Common.{Network}
 use Rattle.stream_eq.specs.Limits.{HasLongHistory}
 use Rattle.ckpt_store.specs.StoreFault.{refusal_number}
 use Rattle.ckpt_store.specs.declared.fault.StoreFault.TheVariants as fault
-use Rattle.cobaltmidge.specs.Failing.{HasFailedAtOnce}
+use Rattle.cobaltmidge.specs.Failing.{HasFailedAtOnce, is_counted}
 use Rattle.cobaltmidge.specs.declared.fault.RunFault.{RunFault}
 use Rattle.cobaltmidge.specs.declared.fault.RunFault.TheVariants as run_fault
 use Rattle.kahn_program.specs.declared.failure.Failure.{Failure}
+use Rattle.kahn_program.specs.Asked.{settings_of}
 use Rattle.kahn_program.specs.Keeping.{IsKeeperFailure}
+use Rattle.kahn_program.specs.declared.asked.Options.{Options}
 use Rattle.kahn_program.specs.declared.failure.Failure.TheVariants.{Line, Whole, NotText, Unreadable, Approximation}
-use Rattle.kahn_program.specs.declared.failure.Failure.TheVariants.{NoMemory, State, InUse, Other}
+use Rattle.kahn_program.specs.declared.failure.Failure.TheVariants.{NoMemory, State, InUse, Unwritten, Other}
 
 -- an approximation up to the n-th has too long a history, or memory is missing
 abbrev pub IsApproximationFailure : Network → List (List ℤ) → ℕ → Failure → Type 0
@@ -23,21 +25,27 @@ run_failure run_fault.NoMemory = NoMemory
 run_failure run_fault.Device = Other (refusal_number fault.Device)
 run_failure run_fault.PastNumber = Other (refusal_number fault.Spent)
 
--- Why a run comes to no report: memory is missing, also for a thread; a disk failed while its world was made (20); or, where
--- each node has a thread, a count of the history would pass 2^63 - 1 (44).
+-- Why a run comes to no report: memory is missing, also for a thread; a disk failed while its world was made (20); or, where what
+-- happens is counted, a count would pass 2^63 - 1 (44).
 abbrev pub IsStoreFailure : Bool → Failure → Type 0
-IsStoreFailure plain (Line source line number) = ⊥
-IsStoreFailure plain (Whole source number) = ⊥
-IsStoreFailure plain (NotText source) = ⊥
-IsStoreFailure plain (Unreadable source) = ⊥
-IsStoreFailure plain (Approximation number) = ⊥
-IsStoreFailure plain NoMemory = Unit {0}
-IsStoreFailure plain (State number) = ⊥
-IsStoreFailure plain InUse = ⊥
-IsStoreFailure plain (Other number) =
+IsStoreFailure counted (Line source line number) = ⊥
+IsStoreFailure counted (Whole source number) = ⊥
+IsStoreFailure counted (NotText source) = ⊥
+IsStoreFailure counted (Unreadable source) = ⊥
+IsStoreFailure counted (Approximation number) = ⊥
+IsStoreFailure counted NoMemory = Unit {0}
+IsStoreFailure counted (State number) = ⊥
+IsStoreFailure counted InUse = ⊥
+IsStoreFailure counted Unwritten = ⊥
+IsStoreFailure counted (Other number) =
     ((number ≡ refusal_number fault.Device) × ∥ HasFailedAtOnce ∥₁)
-    ⊎ ((number ≡ refusal_number fault.Spent) × (plain ≡ false))
+    ⊎ ((number ≡ refusal_number fault.Spent) × (counted ≡ true))
 
--- the same, or what outlasts the run is refused, or failed
-abbrev pub IsReportless : Bool → Bool → Failure → Type 0
-IsReportless plain keeps failure = IsStoreFailure plain failure ⊎ IsKeeperFailure keeps failure
+-- what happened is to be written, and can't be, or memory is missing for it
+abbrev pub IsUnwritten : Options → Failure → Type 0
+IsUnwritten options failure = (failure ≡ NoMemory) ⊎ ((failure ≡ Unwritten) × IsTrue (is_some options.history))
+
+-- one of these; or what outlasts the run is refused, or failed
+abbrev pub IsReportless : Options → Bool → Failure → Type 0
+IsReportless options keeps failure =
+    IsStoreFailure (is_counted (settings_of options)) failure ⊎ (IsKeeperFailure keeps failure ⊎ IsUnwritten options failure)

@@ -1,5 +1,5 @@
 -- The report of a run of a network.
-use Rattle.std.specs.Prelude.{◌≡◌, ◌↔◌, ℕ, Bool, false, IsTrue, ℤ}
+use Rattle.std.specs.Prelude.{◌≡◌, ◌↔◌, ℕ, Bool, true, false, IsTrue, ℤ, is_some}
 use Rattle.std.specs.Prelude.{List, Option, Some, None, IfSome, map, take}
 use Rattle.std.specs.Io.KnownBytes.{Appends}
 use Rattle.protocol.specs.Node.Common.{history_of, node_count, network_of, approximation, Net}
@@ -10,6 +10,8 @@ use Rattle.cobaltmidge.specs.Scripts.{scripted_of}
 use Rattle.cobaltmidge.specs.Texts.{IsNetOf, AreInputsOf}
 use Rattle.cobaltmidge.specs.Turning.{cut_at}
 use Rattle.fail_script.specs.declared.act.ScriptLine.{ScriptLine}
+use Rattle.history_text.specs.Histories.{history_text}
+use Rattle.replay.specs.Replay.{Happening}
 use Rattle.replay.specs.declared.kept.ScriptedEvent.{ScriptedEvent}
 use Rattle.kahn_program.specs.Asked.{settings_of}
 use Rattle.kahn_program.specs.Report.{report_text}
@@ -38,22 +40,30 @@ IsToldOf net items now text told =
     × (text ≡ run_text net (cut_at items (released_streams (network_of net.program) now.stations))
     (released_streams (network_of net.program) now.stations) (are_quiet now))
 
+-- a text is written, where it is asked for
+abbrev pub IsWrittenIf : Bool → (List ℕ → Type 0) → List ℕ → Type 0
+IsWrittenIf true wrote text = wrote text
+IsWrittenIf false wrote text = Unit {0}
+
 -- A text is the report of a run of this network on these inputs, by the events of this script, and tells whether it is
 -- complete: of what has left in the world at its end, which is kept too. Where so many items of each output were asked for, and
--- each has them, the first ones of each are printed, and the run is partial.
-abbrev pub IsReport : (List (List ℤ) → Type 0) → Options → Net → List (List ℤ) → List ScriptedEvent → List ℕ → Bool → Type 0
-IsReport kept options net inputs script text told =
-    ∥ ((now : WorldView) × IsEnd (settings_of options) (network_of net.program) inputs script now
+-- each has them, the first ones of each are printed, and the run is partial. Where a history is asked for, what happened on the way
+-- to that world is written too.
+abbrev pub IsReport : (List (List ℤ) → Type 0) → (List ℕ → Type 0) → Options → Net → List (List ℤ) → List ScriptedEvent → List ℕ → Bool → Type 0
+IsReport kept wrote options net inputs script text told =
+    ∥ ((now : WorldView) × (happened : List Happening)
+    × IsEnd (settings_of options) (network_of net.program) inputs script happened now
     × IsRun (network_of net.program) inputs (released_streams (network_of net.program) now.stations) (are_quiet now)
     × IsToldOf net options.items now text told
-    × kept (released_streams (network_of net.program) now.stations)) ∥₁
+    × kept (released_streams (network_of net.program) now.stations)
+    × IsWrittenIf (is_some options.history) wrote (history_text net happened)) ∥₁
 
 -- the same by the script of a reader with these bytes, where they are known, if a script is asked for
-abbrev pub IsScriptedReport : (List (List ℤ) → Type 0) → Options → Net → List (List ℤ) → Option (List ℕ) → List ℕ → Bool → Type 0
-IsScriptedReport kept options net inputs script_bytes text told =
+abbrev pub IsScriptedReport : (List (List ℤ) → Type 0) → (List ℕ → Type 0) → Options → Net → List (List ℤ) → Option (List ℕ) → List ℕ → Bool → Type 0
+IsScriptedReport kept wrote options net inputs script_bytes text told =
     (lines : List ScriptLine)
     × AreLinesOf options.script (node_count (network_of net.program)) script_bytes lines
-    × IsReport kept options net inputs (map scripted_of lines) text told
+    × IsReport kept wrote options net inputs (map scripted_of lines) text told
 
 -- A text is the report of the n-th approximation on these inputs: each output's whole history there. It tells
 -- `complete` exactly where that approximation is a solution.
@@ -65,28 +75,28 @@ pub record IsApproximated (net : Net) (inputs : List (List ℤ)) (n : ℕ) (text
       ↔ IsSolution (network_of net.program) inputs (approximation (network_of net.program) inputs n)
 
 -- a text is the report that is asked for: of an approximation, or of a run
-abbrev pub IsReportBy : Option ℕ → (List (List ℤ) → Type 0) → Options → Net → List (List ℤ) → Option (List ℕ) → List ℕ → Bool
+abbrev pub IsReportBy : Option ℕ → (List (List ℤ) → Type 0) → (List ℕ → Type 0) → Options → Net → List (List ℤ) → Option (List ℕ) → List ℕ → Bool
     → Type 0
-IsReportBy (Some n) kept options net inputs script_bytes text told = IsApproximated net inputs n text told
-IsReportBy None kept options net inputs script_bytes text told =
-    IsScriptedReport kept options net inputs script_bytes text told
+IsReportBy (Some n) kept wrote options net inputs script_bytes text told = IsApproximated net inputs n text told
+IsReportBy None kept wrote options net inputs script_bytes text told =
+    IsScriptedReport kept wrote options net inputs script_bytes text told
 
-abbrev pub IsReportOf : (List (List ℤ) → Type 0) → Options → Net → List (List ℤ) → Option (List ℕ) → List ℕ → Bool → Type 0
-IsReportOf kept options net inputs script_bytes text told =
-    IsReportBy options.approx kept options net inputs script_bytes text told
+abbrev pub IsReportOf : (List (List ℤ) → Type 0) → (List ℕ → Type 0) → Options → Net → List (List ℤ) → Option (List ℕ) → List ℕ → Bool → Type 0
+IsReportOf kept wrote options net inputs script_bytes text told =
+    IsReportBy options.approx kept wrote options net inputs script_bytes text told
 
 -- The same of the network that a reader with these bytes describes, on the inputs that another gives, where the bytes
 -- are known.
-abbrev pub IsReported : (List (List ℤ) → Type 0) → Options → Option (List ℕ) → Option (List ℕ) → Option (List ℕ) → List ℕ → Bool
+abbrev pub IsReported : (List (List ℤ) → Type 0) → (List ℕ → Type 0) → Options → Option (List ℕ) → Option (List ℕ) → Option (List ℕ) → List ℕ → Bool
     → Type 0
-IsReported kept options net_bytes input_bytes script_bytes text told =
+IsReported kept wrote options net_bytes input_bytes script_bytes text told =
     ∥ ((net : Net) × (inputs : List (List ℤ)) × IfSome net_bytes (λ bytes. IsNetOf bytes net)
     × IfSome input_bytes (λ bytes. AreInputsOf bytes net inputs)
-    × IsReportOf kept options net inputs script_bytes text told) ∥₁
+    × IsReportOf kept wrote options net inputs script_bytes text told) ∥₁
 
 -- and such a text was written
-abbrev pub HasWritten : (List (List ℤ) → Type 0) → Options → Option (List ℕ) → Option (List ℕ) → Option (List ℕ)
+abbrev pub HasWritten : (List (List ℤ) → Type 0) → (List ℕ → Type 0) → Options → Option (List ℕ) → Option (List ℕ) → Option (List ℕ)
     → Option (List ℕ) → Option (List ℕ) → Bool → Type 0
-HasWritten kept options net_bytes input_bytes script_bytes before after told =
-    ∥ ((text : List ℕ) × IsReported kept options net_bytes input_bytes script_bytes text told
+HasWritten kept wrote options net_bytes input_bytes script_bytes before after told =
+    ∥ ((text : List ℕ) × IsReported kept wrote options net_bytes input_bytes script_bytes text told
     × Appends before after text) ∥₁

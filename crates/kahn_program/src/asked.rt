@@ -43,6 +43,10 @@ pub struct Options {
     pub approx: Option<u64>,
     /// Where a text is refused, a second line says at which column, and in words.
     pub explain: bool,
+    /// The file into which what happens in a run is written, if it is.
+    pub history: Option<String>,
+    /// Nothing says how far a run has come.
+    pub quiet: bool,
 }
 
 impl Options {
@@ -52,7 +56,7 @@ impl Options {
         ensures rounds { result.rounds ≡ DEFAULT_ROUNDS }
         ensures room { result.room ≡ DEFAULT_ROOM }
         ensures others { (result.script ≡ None) × (result.state ≡ None) × (result.sync ≡ false) × (result.items ≡ None) × (result.plain ≡ false)
-            × (result.approx ≡ None) × (result.explain ≡ false) }
+            × (result.approx ≡ None) × (result.explain ≡ false) × (result.history ≡ None) × (result.quiet ≡ false) }
     {
         Options {
             net,
@@ -66,6 +70,8 @@ impl Options {
             plain: false,
             approx: None,
             explain: false,
+            history: None,
+            quiet: false,
         }
     }
 
@@ -78,6 +84,7 @@ impl Options {
             items: self.items,
             room: self.room,
             threads: !self.plain,
+            history: self.history.is_some(),
         }
     }
 }

@@ -43,6 +43,8 @@ pub enum Failure {
     },
     /// Another run is at work where what left is kept.
     InUse,
+    /// What happened can't be written.
+    Unwritten,
     /// A refusal that is no text's.
     Other {
         number: u8,
@@ -78,6 +80,7 @@ impl fmt::Display for Failure {
             Failure::NoMemory => f.write_str("no memory"),
             Failure::State { number } => write!(f, "state: refusal {number}"),
             Failure::InUse => f.write_str("state: in use"),
+            Failure::Unwritten => f.write_str("history: cannot be written"),
             Failure::Other { number } => write!(f, "refusal {number}"),
         }
     }
@@ -95,6 +98,7 @@ impl Failure {
             | Failure::NoMemory
             | Failure::State { .. }
             | Failure::InUse
+            | Failure::Unwritten
             | Failure::Other { .. } => 1,
         }
     }

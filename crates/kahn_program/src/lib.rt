@@ -14,7 +14,7 @@ mod running;
 mod words;
 
 pub use asked::{MAX_APPROXIMATION, MAX_ITEMS, MAX_ROUNDS, Options};
-pub use cobaltmidge::DEFAULT_ROUNDS;
+pub use cobaltmidge::{DEFAULT_ROUNDS, NoWatch, RunWatch, TurnWatch};
 pub use failure::{Failure, Source};
 pub use keeper::{InMemory, Keeper};
 pub use kept_files::{FILE_FAILED, FileKeeper, HeldFile, ITEM_DIFFERS, OTHER_STATE};

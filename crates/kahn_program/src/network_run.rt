@@ -1,24 +1,31 @@
 //! A network's run, and its report.
 
-ghost use Rattle.std.specs.Prelude.{◌≡◌, ◌≤◌, ◌++◌, ◌∷◌, [], if◌then◌else◌, length, map, IfErr, IfOk, OnOk};
+ghost use Rattle.std.specs.Prelude.{◌≡◌, ◌⊎◌, ◌≤◌, ◌++◌, ◌∷◌, [], false, if◌then◌else◌, is_some, length, map, IfErr, IfOk, OnOk};
+ghost use Rattle.std.specs.Io.KnownBytes.{Appends};
 ghost use Rattle.protocol.specs.Node.Common.{Fits, network_of, MAX_CHANNELS};
 ghost use Rattle.protocol.specs.World.Common.{released_of, goes_outside, output_channels};
+ghost use Rattle.history_text.specs.Histories.{history_text};
+ghost use Rattle.run_log.specs.Lines.{happenings};
 ghost use Rattle.world.specs.WholeView.{world_of};
 ghost use Rattle.cobaltmidge.specs.Runs.{released_streams};
 ghost use Rattle.kahn_program.specs.Keeping.{IsKeeperFailure};
-ghost use Rattle.kahn_program.specs.Runnable.{IsReportless, run_failure};
-ghost use Rattle.kahn_program.specs.Runs.{IsReport, IsToldOf, first_items, is_whole};
+ghost use Rattle.kahn_program.specs.Runnable.{IsReportless, IsUnwritten, run_failure};
+ghost use Rattle.kahn_program.specs.Runs.{IsReport, IsToldOf, IsWrittenIf, first_items, is_whole};
+ghost use Rattle.kahn_program.specs.declared.failure.Failure.TheVariants.{NoMemory, Unwritten};
 
 use crate::asked::Options;
 use crate::failure::Failure;
 use crate::keeper::Keeper;
 use crate::reporting::{Stream, report};
-use cobaltmidge::{RunFault, RunWorld, cut, run_network};
+use cobaltmidge::{
+    History, RunFault, RunWatch, RunWorld, TurnWatch, cut, run_network, write_history,
+};
 use kahn_net::{Channel, Port};
 use net_check::{Inputs, Net};
 use outlet::Outlet;
 use replay::ScriptedEvent;
 use std::alloc::{AllocError, Global};
+use std::io::{self, Write};
 use std::sync::{Arc, Wait};
 use std::thread::Threads;
 
@@ -132,9 +139,57 @@ fn close_outputs<O: Outlet, K: Keeper<O>>(
     keeper.close(alloc, outputs)
 }
 
+/// What a failed write comes to.
+fn unwritten(error: &io::Error) -> Failure
+    ensures { (result ≡ NoMemory) ⊎ (result ≡ Unwritten) }
+{
+    match error.kind() {
+        io::ErrorKind::OutOfMemory => Failure::NoMemory,
+        _ => Failure::Unwritten,
+    }
+}
+
+/// Writes what happened, and flushes it.
+fn write_all<H: Write>(net: &Net, happened: &History, history: &mut H) -> io::Result<()>
+    ensures written { OnOk result (Appends (H.contents history.old) (H.contents history.new)
+        (history_text net.now (happenings happened.now.lines.items))) }
+{
+    write_history(history, net, happened)?;
+    history.flush()
+}
+
+/// Writes what happened, where that is asked for.
+fn tell_history<H: Write>(
+    options: &Options,
+    net: &Net,
+    happened: &History,
+    history: &mut H,
+) -> Result<(), Failure>
+    ensures written { OnOk result (IsWrittenIf (is_some options.now.history)
+        (Appends (H.contents history.old) (H.contents history.new))
+        (history_text net.now (happenings happened.now.lines.items))) }
+    ensures unasked { is_some options.now.history ≡ false → history.new ≡ history.old }
+    ensures err { IfErr result (IsUnwritten options.now) }
+{
+    if options.history.is_none() {
+        return Ok(());
+    }
+    match write_all(net, happened, history) {
+        Ok(()) => Ok(()),
+        Err(error) => Err(unwritten(&error)),
+    }
+}
+
 /// Runs a network on its inputs by the events of a script, as the options say, until nothing is left to do, the rounds are over,
-/// or each output has the items that are asked for. Gives the whole report, and whether the run is complete.
-pub fn report_of_run<O: Outlet + Send, K: Keeper<O>, R: Threads + Wait + Sync>(
+/// or each output has the items that are asked for. Gives the whole report, and whether the run is complete. What happened is written
+/// too, where that is asked for.
+pub fn report_of_run<
+    O: Outlet + Send,
+    K: Keeper<O>,
+    H: Write,
+    P: RunWatch + TurnWatch + Sync,
+    R: Threads + Wait + Sync,
+>(
     rt: &R,
     alloc: Global,
     options: &Options,
@@ -142,25 +197,39 @@ pub fn report_of_run<O: Outlet + Send, K: Keeper<O>, R: Threads + Wait + Sync>(
     inputs: Inputs,
     script: Vec<ScriptedEvent>,
     keeper: &mut K,
+    history: &mut H,
+    watch: &mut P,
 ) -> Result<(Vec<u8>, bool), Failure>
     requires fitting { Fits (network_of net.program) inputs }
     ensures ok { IfOk result
-        (λ report. IsReport (K.has_kept keeper.new) options.now net inputs script.items
-        report.0.items report.1) }
-    // A device failed (20), memory is missing (1), a count would pass 2^63 - 1 (44), or what outlasts the run failed.
-    ensures err { IfErr result (IsReportless options.now.plain K.keeps) }
+        (λ report. IsReport (K.has_kept keeper.new) (Appends (H.contents history.old) (H.contents history.new))
+        options.now net inputs script.items report.0.items report.1) }
+    ensures unasked { is_some options.now.history ≡ false → history.new ≡ history.old }
+    // A device failed (20), memory is missing (1), a count would pass 2^63 - 1 (44), what outlasts the run failed, or what happened
+    // can't be written.
+    ensures err { IfErr result (IsReportless options.now K.keeps) }
 {
     let outputs = keeper.open(alloc, &net)?;
     let Ok(net) = Arc::new(alloc, net) else {
         return Err(Failure::NoMemory);
     };
-    let world = match run_network(rt, alloc, options.settings(), &net, inputs, outputs, script) {
-        Ok(world) => world,
+    let (world, happened) = match run_network(
+        rt,
+        alloc,
+        options.settings(),
+        &net,
+        inputs,
+        outputs,
+        script,
+        watch,
+    ) {
+        Ok(ran) => ran,
         Err(fault) => return Err(run_failure(fault)),
     };
     let Ok(report) = report_of_world(alloc, &net, &world, options.items) else {
         return Err(Failure::NoMemory);
     };
     close_outputs(alloc, world, keeper)?;
+    tell_history(options, &net, &happened, history)?;
     Ok(report)
 }

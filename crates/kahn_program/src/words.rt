@@ -132,7 +132,7 @@ fn flag<'a>(alloc: Global, name: &'a str, help: &'a str) -> Arg<'a>
 }
 
 /// The command line:
-/// `kahnrun [--script FILE] [--state FOLDER] [--sync] [--rounds N] [--items N] [--room N] [--plain] [--approx N] [--explain] NET INPUTS`.
+/// `kahnrun [--script FILE] [--state FOLDER] [--sync] [--rounds N] [--items N] [--room N] [--plain] [--approx N] [--explain] [--history FILE] [--quiet] NET INPUTS`.
 fn command<'a>(alloc: Global) -> Result<Command<'a>, AllocError>
     ensures { IfOk result (λ c. app_of c ≡ kahnrun) }
 {
@@ -187,6 +187,17 @@ fn command<'a>(alloc: Global) -> Result<Command<'a>, AllocError>
             alloc,
             "explain",
             "Says of a refused text at which column, and in words, on a second line",
+        ))?
+        .arg(file_option(
+            alloc,
+            "history",
+            "FILE",
+            "Writes what happens in the run into this file, a line for each event",
+        ))?
+        .arg(flag(
+            alloc,
+            "quiet",
+            "Never shows on a terminal how far the run has come",
         ))?;
     Ok(command)
 }
@@ -257,6 +268,8 @@ pub fn options<S: AsStr>(alloc: Global, words: &[S]) -> Result<Options, Error>
         plain: matches.get_flag("plain"),
         approx: given(&matches, "approx", 0, MAX_APPROXIMATION)?,
         explain: matches.get_flag("explain"),
+        history: name_given(alloc, &matches, "history")?,
+        quiet: matches.get_flag("quiet"),
     })
 }
 

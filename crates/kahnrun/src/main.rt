@@ -1,11 +1,13 @@
-//! `kahnrun [--script FILE] [--state FOLDER] [--sync] [--rounds N] [--items N] [--room N] [--plain] [--approx N] [--explain] NET INPUTS` runs the network of one file on
+//! `kahnrun [--script FILE] [--state FOLDER] [--sync] [--rounds N] [--items N] [--room N] [--plain] [--approx N] [--explain] [--history FILE] [--quiet] NET INPUTS` runs the network of one file on
 //! the inputs of the other, each node on a thread of its own (`--plain`: all on one), lets fail what the script says, and prints
 //! what each output released, and whether the run is complete. With `--approx` it runs nothing, and prints that approximation of
 //! each output's history, and whether it is a solution. With `--state` what left is kept in a folder too, and a further run with
 //! that folder goes on where this one ended, however it did: it begins anew, compares what leaves with what the folder has, and
 //! keeps only what is new.
 //!
-//! With `--explain` a second line says of a text that is refused at which column, and in words.
+//! With `--explain` a second line says of a text that is refused at which column, and in words. With `--history` what happens in the run
+//! is written into a file, a line for each event. On a terminal a line says how far a run of more than a second has come, if it isn't to
+//! be `--quiet`.
 //!
 //! The exit status is 0 where the last line is `complete`, 3 where it is `partial`, 2 where a text or the command line is
 //! refused (or help is asked for), and 1 for any other failure, as where a line can't be written.
@@ -15,14 +17,18 @@ use clap::Error;
 use clap::error::ErrorKind;
 
 mod explaining;
+mod history_file;
+mod progress;
 mod state;
 
 use explaining::explain;
+use history_file::open_history;
 use kahn_program::{
     Failure, FileKeeper, InMemory, Options, Source, not_text, options, print_failure, read_net, run,
 };
 use outlet::ListOutlet;
 use output_file::{HostLines, ResumedOutlet};
+use progress::Progress;
 use state::{Folder, Texts, open_state};
 use std::alloc::{AllocError, Global};
 use std::fs::File;
@@ -31,6 +37,7 @@ use std::process::ExitCode;
 use std::rt::Env;
 use std::sync::Wait;
 use std::thread::Threads;
+use std::time::Clock;
 use std::{env, fs, io};
 
 /// The exit status where a text or the command line is refused.
@@ -149,7 +156,7 @@ fn reader(bytes: &Option<Vec<u8>>) -> Option<&[u8]> {
 }
 
 // A run of which what left is kept in a folder.
-fn run_kept<R: Threads + Wait + Sync>(
+fn run_kept<R: Threads + Wait + Clock + Sync>(
     rt: &R,
     host: &HostRuntime,
     alloc: Global,
@@ -170,7 +177,8 @@ fn run_kept<R: Threads + Wait + Sync>(
         lock: _lock,
     } = open_state(host, alloc, folder, texts, &checked, options.sync)?;
     let mut keeper = FileKeeper::new(alloc, held);
-    Ok(run::<ResumedOutlet<HostLines>, _, _, _, _, _, _, _>(
+    let mut history = open_history(host, alloc, options)?;
+    Ok(run::<ResumedOutlet<HostLines>, _, _, _, _, _, _, _, _, _>(
         rt,
         alloc,
         options,
@@ -178,13 +186,15 @@ fn run_kept<R: Threads + Wait + Sync>(
         Some(inputs),
         reader(&given.script),
         &mut keeper,
+        &mut history,
+        &mut Progress::new(rt, host, options),
         &mut host.stdout(),
         &mut host.stderr(),
     ))
 }
 
 // What is asked for, of texts that were read before, and the exit status that comes of it.
-fn run_given<R: Threads + Wait + Sync>(
+fn run_given<R: Threads + Wait + Clock + Sync>(
     rt: &R,
     host: &HostRuntime,
     alloc: Global,
@@ -197,21 +207,48 @@ fn run_given<R: Threads + Wait + Sync>(
             Err(failure) => print_failure(failure, &mut host.stderr()),
         };
     }
-    run::<ListOutlet, _, _, _, _, _, _, _>(
+    run_in_memory(
         rt,
+        host,
         alloc,
         options,
         reader(&given.net),
         reader(&given.inputs),
         reader(&given.script),
+    )
+}
+
+// A run of which what left is kept in memory, and the exit status that comes of it.
+fn run_in_memory<N: Read + Drop, R: Threads + Wait + Clock + Sync>(
+    rt: &R,
+    host: &HostRuntime,
+    alloc: Global,
+    options: &Options,
+    net: Option<N>,
+    inputs: Option<N>,
+    script: Option<N>,
+) -> u8 {
+    let mut history = match open_history(host, alloc, options) {
+        Ok(history) => history,
+        Err(failure) => return print_failure(failure, &mut host.stderr()),
+    };
+    run::<ListOutlet, _, _, _, _, _, _, _, _, _>(
+        rt,
+        alloc,
+        options,
+        net,
+        inputs,
+        script,
         &mut InMemory,
+        &mut history,
+        &mut Progress::new(rt, host, options),
         &mut host.stdout(),
         &mut host.stderr(),
     )
 }
 
 // The same, of files that are read first, since their texts are needed behind the run or before it.
-fn run_read<R: Threads + Wait + Sync>(
+fn run_read<R: Threads + Wait + Clock + Sync>(
     rt: &R,
     host: &HostRuntime,
     alloc: Global,
@@ -245,15 +282,5 @@ fn main(rt: HostRuntime) -> ExitCode {
         inputs,
         script,
     } = files;
-    ExitCode::from(run::<ListOutlet, _, _, _, _, _, _, _>(
-        &rt,
-        alloc,
-        &options,
-        net,
-        inputs,
-        script,
-        &mut InMemory,
-        &mut rt.stdout(),
-        &mut rt.stderr(),
-    ))
+    ExitCode::from(run_in_memory(&rt, &rt, alloc, &options, net, inputs, script))
 }

@@ -34,7 +34,8 @@ use run_log::{
 };
 use slot_cell::SlotCell;
 use std::alloc::{AllocError, Global};
-use std::sync::{Mutex, Wait};
+use std::sync::{CondvarTimeouts, Mutex, Wait};
+use std::time::{Clock, Duration};
 use world::{Reply, World};
 
 /// A world with its history, under one lock, and where those sleep who wait for it.
@@ -229,6 +230,20 @@ impl<C: SlotCell, O: Outlet, ThisRun: Run> Hub<C, O, ThisRun> {
                 }
                 locked = self.sleepers.watch().wait(rt, locked);
             }
+        }
+        Entered::new(locked, &self.sleepers)
+    }
+
+    // The lock, once the run is stopped, or at most so much later. (It may come earlier.)
+    pub(crate) fn enter_end<R: Wait + Clock>(
+        &self,
+        rt: &R,
+        at_most: Duration,
+    ) -> Entered<'_, C, O, ThisRun> {
+        let mut locked = self.locked.lock(rt);
+        if !locked.log.is_stopped() {
+            let (woken, _timed_out) = self.sleepers.watch().wait_timeout(rt, locked, at_most);
+            locked = woken;
         }
         Entered::new(locked, &self.sleepers)
     }

@@ -15,6 +15,8 @@ mod run_handle;
 mod run_watch;
 mod seat;
 mod threads;
+mod turn_watch;
+mod turning;
 mod waking;
 mod watching;
 mod working;
@@ -33,5 +35,7 @@ pub use run_log::{
 pub use run_watch::RunWatch;
 pub use seat::{DriverSeat, NodeSeat};
 pub use threads::{DriverSeats, Joined, NodeSeats, SharedRun, run_threads};
+pub use turn_watch::TurnWatch;
+pub use turning::run_world_by_turns;
 pub use waking::{Seen, Until};
 pub use working::work;

@@ -20,6 +20,7 @@ use crate::threads::{DriverSeats, Joined, NodeSeats, SharedRun};
 use crate::watching::run_watched;
 use kahn_net::Channel;
 use marks::{MarksName, Opened, Seat};
+use net_check::Net;
 use outlet::Outlet;
 use replay::ScriptedEvent;
 use run_log::{HubFault, Run, RunLedgers, UnusedLedgers};
@@ -79,6 +80,7 @@ fn play<
 >(
     rt: &R,
     alloc: Global,
+    net: &Net,
     channels: &[Channel],
     world: World<C, O>,
     script: Vec<ScriptedEvent>,
@@ -138,6 +140,7 @@ fn play<
             node_seats,
             &mut driver_seats,
             channels,
+            net,
             watch,
             bounds,
         ),
@@ -204,6 +207,7 @@ pub fn run_world<
     play::<C, O, Brand, Brand, W, R>(
         rt,
         alloc,
+        &net,
         channels,
         world,
         script,

@@ -3,10 +3,12 @@
 use crate::threads::SharedRun;
 use crate::waking::Seen;
 use marks::{MarksName, Seat};
+use net_check::Net;
 use outlet::Outlet;
 use run_log::Run;
 use slot_cell::SlotCell;
 use std::sync::Wait;
+use std::time::{Clock, Duration};
 
 /// A run that goes on: whoever has this reads how many items have left, and may stop the run.
 pub trait RunHandle {
@@ -35,6 +37,9 @@ pub trait RunHandle {
             → told self.new other ≡ told self.old other }
         ensures same { owners self.new ≡ owners self.old };
 
+    /// The network.
+    fn net(&self) -> &Net;
+
     /// The round.
     fn round<R: Wait>(&self, rt: &R) -> u64;
 
@@ -49,6 +54,9 @@ pub trait RunHandle {
     fn wait_for_news<R: Wait>(&mut self, rt: &R) -> bool
         ensures others { (channel : ℕ) → told self.new channel ≡ told self.old channel }
         ensures same { owners self.new ≡ owners self.old };
+
+    /// Sleeps until the run is over, and at most so long. It may wake earlier. Whether the run goes on.
+    fn wait_for_end<R: Wait + Clock>(&self, rt: &R, at_most: Duration) -> bool;
 }
 
 /// The threads' run, with a seat that reads its marks.
@@ -56,6 +64,7 @@ pub trait RunHandle {
 pub(crate) struct Watched<'run, C: SlotCell, O: Outlet, ThisRun: Run, ItsMarks: MarksName> {
     shared: &'run SharedRun<C, O, ThisRun, ItsMarks>,
     seat: Seat<ItsMarks>,
+    net: &'run Net,
     // How the hub stood when it was last waited for news.
     seen: Option<Seen>,
 }
@@ -70,10 +79,12 @@ impl<'run, C: SlotCell, O: Outlet, ThisRun: Run, ItsMarks: MarksName> Watched<
     pub(crate) fn new(
         shared: &'run SharedRun<C, O, ThisRun, ItsMarks>,
         seat: Seat<ItsMarks>,
+        net: &'run Net,
     ) -> Watched<'run, C, O, ThisRun, ItsMarks> {
         Watched {
             shared,
             seat,
+            net,
             seen: None,
         }
     }
@@ -90,6 +101,10 @@ impl<C: SlotCell, O: Outlet, ThisRun: Run, ItsMarks: MarksName> RunHandle
     fn left(&mut self, channel: u8) -> u64 {
         let shared = self.shared;
         shared.marks.read(&mut self.seat, channel)
+    }
+
+    fn net(&self) -> &Net {
+        self.net
     }
 
     fn round<R: Wait>(&self, rt: &R) -> u64 {
@@ -112,5 +127,9 @@ impl<C: SlotCell, O: Outlet, ThisRun: Run, ItsMarks: MarksName> RunHandle
         drop(entered);
         self.seen = Some(seen);
         goes_on
+    }
+
+    fn wait_for_end<R: Wait + Clock>(&self, rt: &R, at_most: Duration) -> bool {
+        !self.shared.hub.enter_end(rt, at_most).is_stopped()
     }
 }

@@ -102,11 +102,11 @@ impl<C: SlotCell, O: Outlet, ThisRun: Run> Locked<C, O, ThisRun> {
         self.log.is_stopped() || self.seen() != told
     }
 
-    // Whether there is news for who watches the run, if anybody was told how the hub stands.
+    // Whether there is news for who watches the run: that it is stopped, or what was to be told to them, if anybody asked.
     fn wakes_watch(&self) -> bool {
         match self.told {
             Some(told) => self.has_news(told),
-            None => false,
+            None => self.log.is_stopped(),
         }
     }
 

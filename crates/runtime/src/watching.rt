@@ -8,6 +8,7 @@ use crate::run_watch::RunWatch;
 use crate::threads::{DriverSeats, Joined, NodeSeats, SharedRun, run_threads};
 use kahn_net::Channel;
 use marks::{MarksName, Seat};
+use net_check::Net;
 use outlet::Outlet;
 use run_log::Run;
 use slot_cell::SlotCell;
@@ -21,9 +22,10 @@ fn watch_at<C: SlotCell, O: Outlet, ThisRun: Run, ItsMarks: MarksName, W: RunWat
     rt: &R,
     shared: &SharedRun<C, O, ThisRun, ItsMarks>,
     seat: Seat<ItsMarks>,
+    net: &Net,
     watch: &W,
 ) {
-    let mut run = Watched::new(shared, seat);
+    let mut run = Watched::new(shared, seat, net);
     watch.watch(rt, &mut run);
 }
 
@@ -42,13 +44,14 @@ fn run_beside<
     seats: Vec<NodeSeats<ThisRun, ItsMarks>>,
     driver: &mut DriverSeats<ThisRun, ItsMarks>,
     channels: &[Channel],
+    net: &Net,
     watch: &W,
     bounds: Bounds,
 ) -> Joined<ThisRun> {
     let reader = shared.marks.reader();
     let (_watched, joined) = thread::join(
         rt,
-        || watch_at(rt, shared, reader, watch),
+        || watch_at(rt, shared, reader, net, watch),
         || -> Joined<ThisRun>
             requires { IsSend C.row × IsSend O.row × IsSend ThisRun.row × IsSend ItsMarks.row }
         { run_threads(rt, alloc, shared, seats, driver, channels, &NoWatch, bounds) },
@@ -71,11 +74,14 @@ pub(crate) fn run_watched<
     seats: Vec<NodeSeats<ThisRun, ItsMarks>>,
     driver: &mut DriverSeats<ThisRun, ItsMarks>,
     channels: &[Channel],
+    net: &Net,
     watch: &W,
     bounds: Bounds,
 ) -> Joined<ThisRun> {
     if watch.watches() {
-        run_beside(rt, alloc, shared, seats, driver, channels, watch, bounds)
+        run_beside(
+            rt, alloc, shared, seats, driver, channels, net, watch, bounds,
+        )
     } else {
         run_threads(rt, alloc, shared, seats, driver, channels, &NoWatch, bounds)
     }

@@ -1,11 +1,11 @@
-//! The history of a run by threads, as a text.
+//! The histories of a run by threads and of one by turns, as texts.
 
 use crate::runtime_tests::{
     BOUNDS, SUM_ON_TWO_NODES, SumArmed, SumWorld, are_alike, has_all, have_same_disks, net_of,
     replay, script, sum_world,
 };
 use history_text::write_history;
-use runtime::{Ended, History, NoWatch, RunEnd, run_world};
+use runtime::{Ended, History, NoWatch, RunEnd, run_world, run_world_by_turns};
 use std::alloc::Global;
 use std::test::Fail;
 
@@ -57,6 +57,27 @@ fn a_history_as_a_text(rt: HostRuntime) -> Result<(), Fail> {
         history,
         end,
     } = ended;
+    let replayed = is_replayed(alloc, &history, world)?;
+    assert!(rt; end == RunEnd::Complete);
+    assert!(rt; replayed);
+    Ok(())
+}
+
+#[test]
+fn a_run_by_turns(rt: HostRuntime) -> Result<(), Fail> {
+    let alloc = rt.alloc();
+    let Ended {
+        world,
+        history,
+        end,
+    } = run_world_by_turns(
+        alloc,
+        sum_world(alloc)?,
+        script(alloc)?,
+        &mut NoWatch,
+        BOUNDS,
+        true,
+    );
     let replayed = is_replayed(alloc, &history, world)?;
     assert!(rt; end == RunEnd::Complete);
     assert!(rt; replayed);

@@ -9,7 +9,7 @@ use crate::texts::text_of;
 use clap::Error;
 use clap::error::ErrorKind;
 use fail_script::{Script, parse_script};
-use kahn_program::{Failure, InMemory, Options, not_text, options, print_failure, run};
+use kahn_program::{Failure, InMemory, NoWatch, Options, not_text, options, print_failure, run};
 use net_text::{Token, tokens};
 use outlet::ListOutlet;
 use std::alloc::{AllocError, Global};
@@ -35,7 +35,8 @@ fn run_by<R: Threads + Wait + Sync>(
 ) -> Outcome {
     let mut out = plan.out.writer(alloc);
     let mut err = plan.err.writer(alloc);
-    let status = run::<ListOutlet, _, _, _, _, _, _, _>(
+    let mut happened: Vec<u8> = Vec::new(alloc);
+    let status = run::<ListOutlet, _, _, _, _, _, _, _, _, _>(
         rt,
         alloc,
         options,
@@ -43,6 +44,8 @@ fn run_by<R: Threads + Wait + Sync>(
         plan.inputs.reader(),
         plan.script.reader(),
         &mut InMemory,
+        &mut happened,
+        &mut NoWatch,
         &mut out,
         &mut err,
     );

@@ -2,11 +2,16 @@ use Rattle.std.proofs.Common.{◌≡◌, ◌∙◌, inl, subst, sym}
 use Rattle.protocol.specs.Node.Common.{network_of, Net}
 use Rattle.protocol.specs.World.Common.{are_quiet}
 use Rattle.world.specs.WholeView.{world_of}
-use Rattle.cobaltmidge.specs.Failing.{IsRunFault}
+use Rattle.std.specs.Prelude.{is_some}
+use Rattle.std.specs.Io.KnownBytes.{Appends}
+use Rattle.history_text.specs.Histories.{history_text}
+use Rattle.run_log.specs.Lines.{happenings}
+use Rattle.cobaltmidge.specs.Failing.{IsRunFault, is_counted}
 use Rattle.cobaltmidge.specs.Runs.{IsEnd, IsRun, released_streams}
 use Rattle.cobaltmidge.specs.declared.settings.Settings.{Settings}
 use Rattle.kahn_program.specs.Runnable.{IsReportless}
-use Rattle.kahn_program.specs.Runs.{IsToldOf}
+use Rattle.kahn_program.specs.Asked.{settings_of}
+use Rattle.kahn_program.specs.Runs.{IsToldOf, IsWrittenIf}
 use Rattle.kahn_program.proofs.Faults.{fault_is}
 use Rattle.kahn_program.proofs.Released.{report_is}
 use Rattle.kahn_program.proofs.network_run.report_of_run.Goals as goal
@@ -14,9 +19,9 @@ use Rattle.kahn_program.proofs.network_run.report_of_run.Goals as goal
 pub returns-in-Err-clause-err : goal.returns-in-Err-clause-err
 returns-in-Err-clause-err g c =
     let options = c.args.options.now in
-    subst (IsReportless options.plain g.K.Keeper.keeps) (sym c.run_failure.ensures)
-    (inl (fault_is options.plain c.in-Err.fault
-    (subst (λ (s : Settings). IsRunFault s.threads c.in-Err.fault) c.settings.ensures c.in-Err.ensures.err)))
+    subst (IsReportless options g.K.Keeper.keeps) (sym c.run_failure.ensures)
+    (inl (fault_is (is_counted (settings_of options)) c.in-Err.fault
+    (subst (λ (s : Settings). IsRunFault (is_counted s) c.in-Err.fault) c.settings.ensures c.in-Err.ensures.err)))
 
 pub returns-clause-ok : goal.returns-clause-ok
 returns-clause-ok g c =
@@ -25,17 +30,22 @@ returns-clause-ok g c =
     let inputs = c.args.inputs in
     let script = c.args.script.items in
     let made : c.in-Ok.net.value ≡ net = c.in-Ok.ensures.ok in
-    let world = c.in-Ok-run_network.world in
-    let now = world_of world in
+    let now = world_of c.in-Ok-run_network.world in
+    let happened = happenings c.in-Ok-run_network.happened.lines.items in
     let told = c.in-Ok-report_of_world.report in
     let seen : c.deref.result.now ≡ net = c.deref.ensures ∙ made in
-    report_is (g.K.Keeper.has_kept c.close_outputs.new.keeper) options net inputs script now told.0.items told.1
+    report_is (g.K.Keeper.has_kept c.close_outputs.new.keeper)
+    (Appends (g.H.Write.contents c.args.history) (g.H.Write.contents c.tell_history.new.history)) options net inputs script
+    happened now told.0.items told.1
     (subst (λ (n : Net). ∥ (now.net ≡ network_of n.program) × (now.inputs ≡ inputs) ∥₁) made
     c.in-Ok-run_network.ensures.same)
-    (subst (λ (s : Settings). IsEnd s (network_of net.program) inputs script now) c.settings.ensures
-    (subst (λ (n : Net). IsEnd c.settings.result (network_of n.program) inputs script now) made
+    (subst (λ (s : Settings). IsEnd s (network_of net.program) inputs script happened now) c.settings.ensures
+    (subst (λ (n : Net). IsEnd c.settings.result (network_of n.program) inputs script happened now) made
     c.in-Ok-run_network.ensures.end))
     (subst (λ (n : Net). IsRun (network_of n.program) inputs (released_streams (network_of n.program) now.stations)
     (are_quiet now)) made c.in-Ok-run_network.ensures.run)
     (subst (λ (n : Net). IsToldOf n options.items now told.0.items told.1) seen c.in-Ok-report_of_world.ensures)
     c.in_ok-close_outputs.ensures.kept
+    (subst (λ (n : Net). IsWrittenIf (is_some options.history)
+    (Appends (g.H.Write.contents c.args.history) (g.H.Write.contents c.tell_history.new.history))
+    (history_text n happened)) (c.deref-2.ensures ∙ made) c.in_ok-tell_history.ensures.written)

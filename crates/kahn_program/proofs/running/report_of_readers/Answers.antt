@@ -1,11 +1,13 @@
 use Rattle.std.proofs.lemmas.Result.{err_from_is_err_and}
+use Rattle.std.specs.Io.KnownBytes.{Appends}
 use Rattle.kahn_program.specs.Readings.{of_net, of_inputs}
 use Rattle.kahn_program.proofs.Released.{run_of_readers, failed_run}
 use Rattle.kahn_program.proofs.running.report_of_readers.Goals as goal
 
 pub returns-clause-ok : goal.returns-clause-ok
 returns-clause-ok g c =
-    run_of_readers (g.K.Keeper.has_kept c.report_of.new.keeper) _ _ _ _ _ _ _ c.in_ok-net.ensures.net c.in_ok-inputs.ensures.inputs c.report_of.ensures.ok
+    run_of_readers (g.K.Keeper.has_kept c.report_of.new.keeper)
+    (Appends (g.H.Write.contents c.args.history) (g.H.Write.contents c.report_of.new.history)) _ _ _ _ _ _ _ c.in_ok-net.ensures.net c.in_ok-inputs.ensures.inputs c.report_of.ensures.ok
 
 pub returns-in_err-net-clause-err : goal.returns-in_err-net-clause-err
 returns-in_err-net-clause-err g c =

@@ -24,4 +24,8 @@ returns c =
     let plain = c.in_ok-arg-9.ensures.shape c.flag-2.ensures.here ∙ ap₂ with_rule room c.flag-2.ensures.rule in
     let approx =
     c.in_ok-arg-10.ensures.shape c.number-2.ensures.here ∙ ap₂ with_rule plain c.number-2.ensures.rule in
-    c.in_ok-command.ensures.shape c.flag-3.ensures.here ∙ ap₂ with_rule approx c.flag-3.ensures.rule
+    let explain =
+    c.in_ok-arg-11.ensures.shape c.flag-3.ensures.here ∙ ap₂ with_rule approx c.flag-3.ensures.rule in
+    let history =
+    c.in_ok-arg-12.ensures.shape c.file_option-3.ensures.here ∙ ap₂ with_rule explain c.file_option-3.ensures.rule in
+    c.in_ok-command.ensures.shape c.flag-4.ensures.here ∙ ap₂ with_rule history c.flag-4.ensures.rule

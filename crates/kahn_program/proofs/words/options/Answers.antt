@@ -80,4 +80,10 @@ returns-clause-asked g c =
         not_set = λ is_not. c.get_flag-3.ensures.other (one (codes "explain") ∙ is_not);
         absent = λ no_text. c.get_flag-3.ensures.none (one (codes "explain") ∙ no_text);
       };
+      history = text (codes "history") ∙ c.in_ok-name_given-3.ensures;
+      quiet = record {
+        set = λ is_set. c.get_flag-4.ensures.value (one (codes "quiet") ∙ is_set);
+        not_set = λ is_not. c.get_flag-4.ensures.other (one (codes "quiet") ∙ is_not);
+        absent = λ no_text. c.get_flag-4.ensures.none (one (codes "quiet") ∙ no_text);
+      };
     }

@@ -1,0 +1,20 @@
+use Rattle.std.proofs.Common.{rules, ◌≡◌, List, refl, subst}
+use Rattle.protocol.specs.Node.Common.{Channel}
+use Rattle.runtime.specs.Ending.{IsOver}
+use Rattle.world.specs.WholeView.{world_of}
+use Rattle.runtime.proofs.Nowhere.{leads_nowhere, runs_nowhere}
+use Rattle.runtime.proofs.turning.run_world_by_turns.Goals as goal
+
+-- where the run didn't begin nothing is written, and the world is the one that was handed in
+pub returns-in_default-clause-leads : goal.returns-in_default-clause-leads
+returns-in_default-clause-leads g c = λ kept. leads_nowhere _ _ _ _ _ c.unbegun.ensures.none (rw c.unbegun.ensures.same refl)
+
+pub returns-in_default-clause-run : goal.returns-in_default-clause-run
+returns-in_default-clause-run g c = runs_nowhere _ _ _ _ (rw c.unbegun.ensures.same refl)
+
+-- the share that was taken is of the world's own network
+pub returns-clause-over : goal.returns-clause-over
+returns-clause-over g c =
+    let same : c.as_slice-channels.result.now ≡ c.args.world.net.value.program.channels.items = search rules in
+    subst (λ (channels : List Channel). IsOver channels c.args.bounds (world_of c.play_by_turns.result.world) c.play_by_turns.result.end) same
+    c.play_by_turns.ensures.over
