@@ -23,7 +23,7 @@ channels_text number (channel ∷ channels) [] = []
 channels_text number (channel ∷ channels) (name ∷ names) =
     channel_line number channel name.text ++ channels_text (number + 1) channels names
 
--- a process with its number, its node and its name
+-- a process with its number, its name and its node
 abbrev pub process_line : ℕ → ℕ → List ℕ → List ℕ
 process_line number node name =
     codes "process " ++ decimal number ++ codes " " ++ name ++ codes " " ++ decimal node ++ codes "\n"

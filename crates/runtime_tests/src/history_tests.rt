@@ -5,9 +5,12 @@ use crate::runtime_tests::{
     replay, script, sum_world,
 };
 use history_text::write_history;
-use runtime::{Ended, History, NoWatch, RunEnd, run_world, run_world_by_turns};
+use outlet::Outlet;
+use runtime::{Ended, History, NoWatch, RunEnd, TurnWatch, run_world, run_world_by_turns};
+use slot_cell::SlotCell;
 use std::alloc::Global;
 use std::test::Fail;
+use world::World;
 
 // How many lines the text has before its events: one for the form, three for channels and two for processes.
 const HEADER_LINES: u64 = 6;
@@ -63,9 +66,33 @@ fn a_history_as_a_text(rt: HostRuntime) -> Result<(), Fail> {
     Ok(())
 }
 
+// What somebody sees who looks at a run by turns.
+struct Looked {
+    // How often it looked, in which round last, and how often it was told that the run is over.
+    looks: u64,
+    round: u64,
+    overs: u64,
+}
+
+impl TurnWatch for Looked {
+    fn look<C: SlotCell, O: Outlet>(&mut self, world: &World<C, O>) {
+        self.looks = self.looks.saturating_add(1);
+        self.round = world.round();
+    }
+
+    fn over(&mut self) {
+        self.overs = self.overs.saturating_add(1);
+    }
+}
+
 #[test]
 fn a_run_by_turns(rt: HostRuntime) -> Result<(), Fail> {
     let alloc = rt.alloc();
+    let mut looked = Looked {
+        looks: 0,
+        round: 0,
+        overs: 0,
+    };
     let Ended {
         world,
         history,
@@ -74,12 +101,16 @@ fn a_run_by_turns(rt: HostRuntime) -> Result<(), Fail> {
         alloc,
         sum_world(alloc)?,
         script(alloc)?,
-        &mut NoWatch,
+        &mut looked,
         BOUNDS,
         true,
     );
+    let rounds = world.round();
     let replayed = is_replayed(alloc, &history, world)?;
     assert!(rt; end == RunEnd::Complete);
     assert!(rt; replayed);
+    assert!(rt; looked.looks > rounds);
+    assert!(rt; looked.round > 0);
+    assert!(rt; looked.overs == 1);
     Ok(())
 }
