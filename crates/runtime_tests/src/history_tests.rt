@@ -67,6 +67,7 @@ fn a_history_as_a_text(rt: HostRuntime) -> Result<(), Fail> {
 }
 
 // What somebody sees who looks at a run by turns.
+#[derive(Drop)]
 struct Looked {
     // How often it looked, in which round last, and how often it was told that the run is over.
     looks: u64,
