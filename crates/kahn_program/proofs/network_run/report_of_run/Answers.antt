@@ -30,12 +30,12 @@ returns-clause-ok g c =
     let inputs = c.args.inputs in
     let script = c.args.script.items in
     let made : c.in-Ok.net.value ≡ net = c.in-Ok.ensures.ok in
-    let now = world_of c.in-Ok-run_network.world in
-    let happened = happenings c.in-Ok-run_network.happened.lines.items in
+    let now = world_of c.in-Ok-run_network.ran.0 in
+    let happened = happenings c.in-Ok-run_network.ran.1.lines.items in
     let told = c.in-Ok-report_of_world.report in
     let seen : c.deref.result.now ≡ net = c.deref.ensures ∙ made in
     report_is (g.K.Keeper.has_kept c.close_outputs.new.keeper)
-    (Appends (g.H.Write.contents c.args.history) (g.H.Write.contents c.tell_history.new.history)) options net inputs script
+    (Appends (g.H.Write.contents c.args.history.now) (g.H.Write.contents c.tell_history.new.history)) options net inputs script
     happened now told.0.items told.1
     (subst (λ (n : Net). ∥ (now.net ≡ network_of n.program) × (now.inputs ≡ inputs) ∥₁) made
     c.in-Ok-run_network.ensures.same)
@@ -47,5 +47,5 @@ returns-clause-ok g c =
     (subst (λ (n : Net). IsToldOf n options.items now told.0.items told.1) seen c.in-Ok-report_of_world.ensures)
     c.in_ok-close_outputs.ensures.kept
     (subst (λ (n : Net). IsWrittenIf (is_some options.history)
-    (Appends (g.H.Write.contents c.args.history) (g.H.Write.contents c.tell_history.new.history))
+    (Appends (g.H.Write.contents c.args.history.now) (g.H.Write.contents c.tell_history.new.history))
     (history_text n happened)) (c.deref-2.ensures ∙ made) c.in_ok-tell_history.ensures.written)

@@ -7,7 +7,7 @@ use Rattle.kahn_program.proofs.running.report_of_readers.Goals as goal
 pub returns-clause-ok : goal.returns-clause-ok
 returns-clause-ok g c =
     run_of_readers (g.K.Keeper.has_kept c.report_of.new.keeper)
-    (Appends (g.H.Write.contents c.args.history) (g.H.Write.contents c.report_of.new.history)) _ _ _ _ _ _ _ c.in_ok-net.ensures.net c.in_ok-inputs.ensures.inputs c.report_of.ensures.ok
+    (Appends (g.H.Write.contents c.args.history.now) (g.H.Write.contents c.report_of.new.history)) _ _ _ _ _ _ _ c.in_ok-net.ensures.net c.in_ok-inputs.ensures.inputs c.report_of.ensures.ok
 
 pub returns-in_err-net-clause-err : goal.returns-in_err-net-clause-err
 returns-in_err-net-clause-err g c =

@@ -9,7 +9,7 @@ pub returns-in-Ok-clause-written : goal.returns-in-Ok-clause-written
 returns-in-Ok-clause-written g c =
     let options = c.args.options.now in
     let wrote : List ℕ → Type 0 =
-    Appends (g.H.Write.contents c.args.history) (g.H.Write.contents c.report_of_readers.new.history) in
+    Appends (g.H.Write.contents c.args.history.now) (g.H.Write.contents c.report_of_readers.new.history) in
     let of =
     subst (λ (text : List ℕ). IsReported (g.K.Keeper.has_kept c.report_of_readers.new.keeper) wrote options (option_and_then g.N.Read.remaining c.args.net)
     (option_and_then g.I.Read.remaining c.args.inputs) (option_and_then g.S.Read.remaining c.args.script) text
