@@ -6,6 +6,7 @@
 #![tactic(auto)]
 
 mod bytes;
+mod direct;
 mod laws;
 mod queue;
 mod rule;
