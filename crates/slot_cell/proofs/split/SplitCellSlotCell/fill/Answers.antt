@@ -49,3 +49,10 @@ returns-in_err-frame-clause-any_moment g c =
       before = λ t left le had. inl had;
       keeps = λ t left le had. had;
     }
+
+-- behind that it is the fill of a frame
+pub returns-clause-any_moment : goal.returns-clause-any_moment
+returns-clause-any_moment g c = c.fill_framed.ensures.any_moment
+
+pub returns-clause-same_setup : goal.returns-clause-same_setup
+returns-clause-same_setup g c = c.fill_framed.ensures.same_setup
