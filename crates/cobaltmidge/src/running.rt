@@ -7,8 +7,7 @@ ghost use Rattle.protocol.specs.World.Common.{are_quiet, output_channels};
 ghost use Rattle.replay.specs.Replay.{LeadsTo};
 ghost use Rattle.run_log.specs.Happened.{HasRun};
 ghost use Rattle.run_log.specs.Lines.{happenings};
-ghost use Rattle.world.specs.WholeView.{world_of};
-ghost use Rattle.world.specs.WorldView.{capacities, rooms};
+ghost use Rattle.world.specs.WholeView.{capacities_in, rooms_in, world_of};
 ghost use Rattle.world.specs.OpeningWorld.{IsUnused};
 ghost use Rattle.cobaltmidge.specs.Failing.{IsRunFault, is_counted};
 ghost use Rattle.cobaltmidge.specs.Runs.{IsEnd, IsRun, released_streams};
@@ -66,9 +65,9 @@ fn run_by_threads<O: Outlet + Send, W: RunWatch + Sync, R: Threads + Wait + Sync
     bounds: Bounds,
     keeps_history: bool,
 ) -> Result<(RunWorld<O>, History), RunFault>
-    ensures run { IfOk result (λ now. HasRun (rooms world.stations.items) script.items (world_of world)
+    ensures run { IfOk result (λ now. HasRun (rooms_in world) script.items (world_of world)
         (world_of now.0)) }
-    ensures leads { keeps_history ≡ true → IfOk result (λ now. LeadsTo (rooms world.stations.items) script.items
+    ensures leads { keeps_history ≡ true → IfOk result (λ now. LeadsTo (rooms_in world) script.items
         (world_of world) (happenings now.1.lines.items) (world_of now.0)) }
     ensures err { IfErr result (IsRunFault true) }
 {
@@ -83,9 +82,9 @@ fn run_by_kept_turns<O: Outlet, W: TurnWatch>(
     watch: &mut W,
     bounds: Bounds,
 ) -> Result<(RunWorld<O>, History), RunFault>
-    ensures run { IfOk result (λ now. HasRun (rooms world.stations.items) script.items (world_of world)
+    ensures run { IfOk result (λ now. HasRun (rooms_in world) script.items (world_of world)
         (world_of now.0)) }
-    ensures leads { IfOk result (λ now. LeadsTo (rooms world.stations.items) script.items (world_of world)
+    ensures leads { IfOk result (λ now. LeadsTo (rooms_in world) script.items (world_of world)
         (happenings now.1.lines.items) (world_of now.0)) }
     ensures err { IfErr result (IsRunFault true) }
 {
@@ -105,7 +104,7 @@ fn run_to_end<O: Outlet + Send, W: RunWatch + TurnWatch + Sync, R: Threads + Wai
 ) -> Result<(RunWorld<O>, History), RunFault>
     requires nodes { nodes ≡ node_count (network_of net.now.program) }
     requires few { nodes ≤ MAX_NODES }
-    requires room { AllByRecursion IsRunRoom (capacities world.stations.items) }
+    requires room { AllByRecursion IsRunRoom (capacities_in world) }
     ensures end { (inputs : List (List ℤ)) → world_of world ≡ first_world (network_of net.now.program) inputs settings.room
         → IfOk result (λ now. IsEnd settings (network_of net.now.program) inputs script.items
         (happenings now.1.lines.items) (world_of now.0)) }

@@ -6,7 +6,7 @@ ghost use Rattle.protocol.specs.Node.Common.{Fits, network_of, MAX_CHANNELS};
 ghost use Rattle.protocol.specs.World.Common.{released_of, goes_outside, output_channels};
 ghost use Rattle.history_text.specs.Histories.{history_text};
 ghost use Rattle.run_log.specs.Lines.{happenings};
-ghost use Rattle.world.specs.WholeView.{world_of};
+ghost use Rattle.world.specs.WholeView.{net_in, world_of};
 ghost use Rattle.cobaltmidge.specs.Runs.{released_streams};
 ghost use Rattle.kahn_program.specs.Keeping.{IsKeeperFailure};
 ghost use Rattle.kahn_program.specs.Runnable.{IsReportless, IsUnwritten, run_failure};
@@ -129,7 +129,7 @@ fn close_outputs<O: Outlet, K: Keeper<O>>(
     keeper: &mut K,
 ) -> Result<(), Failure>
     ensures kept { OnOk result (K.has_kept keeper.new
-        (released_streams (network_of world.net.value.program) (world_of world).stations)) }
+        (released_streams (network_of (net_in world).value.program) (world_of world).stations)) }
     ensures err { IfErr result (IsKeeperFailure K.keeps) }
 {
     let Ok(closed) = world.close(alloc) else {

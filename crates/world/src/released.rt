@@ -4,7 +4,7 @@ ghost use Rattle.protocol.specs.World.Common.{OutletView, released_of};
 ghost use Rattle.station.specs.StationView.{outlet_views};
 ghost use Rattle.protocol.specs.Node.Common.{network_of};
 ghost use Rattle.protocol.specs.World.Released.{IsPutAtHome, IsStreamOf};
-ghost use Rattle.world.specs.WholeView.{world_of};
+ghost use Rattle.world.specs.WholeView.{inputs_in, net_in, world_of};
 
 use crate::world::World;
 use outlet::Outlet;
@@ -31,10 +31,10 @@ impl<C: SlotCell, O: Outlet> World<C, O> {
     pub fn released(&self, channel: u8) -> &[i64]
         ensures stream { result.now ≡ released_of channel (world_of self.now).stations }
         // They are a prefix of the channel's history, in one approximation of it on the inputs;
-        ensures prefix { IsStreamOf (network_of self.now.net.value.program) self.now.inputs.value
+        ensures prefix { IsStreamOf (network_of (net_in self.now).value.program) (inputs_in self.now).value
             channel result.now }
         // and the permanent image of the node that puts there has put all of them.
-        ensures covered { IsPutAtHome (network_of self.now.net.value.program)
+        ensures covered { IsPutAtHome (network_of (net_in self.now).value.program)
             (world_of self.now).stations channel result.now }
     {
         self.stream(channel)
