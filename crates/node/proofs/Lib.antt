@@ -11,3 +11,4 @@ mod Memory
 mod Starts
 mod Verdicts
 mod Asks
+mod Hears
