@@ -2,7 +2,7 @@
 ghost use Rattle.std.specs.Prelude.{◌≡◌, ◌≤◌, ◌+◌, ◌*◌, ◌++◌, OnOk, FitsSigned, length, take};
 ghost use Rattle.std.specs.Int.{w64};
 ghost use Rattle.ckpt_codec.specs.Fields.{number_text};
-ghost use Rattle.ckpt_codec.specs.Spelling.{item_text, items_text, AreItems, highest_text, participants_text, passes_text};
+ghost use Rattle.ckpt_codec.specs.Spelling.{items_text, AreItems, highest_text, participants_text, passes_text};
 
 use byteorder::{BigEndian, ByteOrder};
 use retained::Log;
