@@ -435,10 +435,11 @@ impl<C: SlotCell, O: Outlet, ThisRun: Run> RunLog<C, O, ThisRun> {
     pub fn moment(&self) -> Moment
         ensures { result.round ≡ (world_of self.now.armed.world).round }
     {
+        let world = &self.armed.world;
         Moment {
-            round: self.armed.world.round(),
+            round: world.round(),
             passed: self.passed,
-            room: self.armed.world.room(),
+            room: world.room(),
         }
     }
 
