@@ -158,15 +158,6 @@ same_values IsB law back forth = record {
   stuck = λ bytes fault are e. let s = law.stuck bytes fault are e in (s.0, forth s.0 s.1, s.2);
 }
 
--- what reads each value, and not those that are so alone
-pub of_each : {A : Type 0} {Is : A → Type 0} {fields : A → List Field} {read : Reader A} → Lawful Is fields read
-    → ((a : A) (bytes : List ℕ) → Agrees a (read bytes) (scan (fields a) bytes)) → Lawful Each fields read
-of_each law all = record {
-  reads = λ a fits bytes. all a bytes;
-  took = λ bytes x are e. let t = law.took bytes x are e in (tt, t.1, t.2);
-  stuck = λ bytes fault are e. let s = law.stuck bytes fault are e in (s.0, tt, s.2);
-}
-
 -- ---- one behind another, put together
 
 pub built : {A B C : Type 0} {IsA : A → Type 0} {ff : A → List Field} {f : Reader A} {IsB : A → B → Type 0}

@@ -1,9 +1,8 @@
 -- Records are read as they are spelled, what is spelled is read, and the first offence decides.
-use Rattle.std.proofs.Common.{◌≡◌, ℕ, ◌++◌, List, [], None, Result, Ok, Err, refl, subst, ◌∙◌}
+use Rattle.std.proofs.Common.{◌≡◌, ℕ, ◌++◌, List, [], None, Result, Ok, Err, refl, subst}
 use Rattle.std.specs.Prelude.{IfOk, IfErr}
 use Rattle.record.specs.Common.{RecordView}
 use Rattle.ckpt_codec.specs.RecordText.{record_fields, version_of, IsRecordText, IsTextIn}
-use Rattle.ckpt_codec.specs.declared.version.TheConstants.{VERSION}
 use Rattle.ckpt_codec.specs.Faults.{IsCodecFault, IsVersionedFault, IsReadUnlessMemory, IsRefusedUnlessMemory}
 use Rattle.ckpt_codec.specs.declared.fault.CodecFault.{CodecFault}
 use Rattle.ckpt_codec.specs.declared.fault.CodecFault.TheVariants.{NoMemory, Truncated, Version, Malformed}
@@ -55,18 +54,11 @@ reads_so : (bytes : List ℕ) (r : Result RecordView CodecFault) → Reads (λ (
     → Reads (λ (kept : RecordView). kept) r (versioned body_at bytes)
 reads_so bytes r read = subst (Reads (λ (kept : RecordView). kept) r) (whole_is bytes) read
 
-pub whole_again : (kept : RecordView) (bytes : List ℕ) → IsRecordText kept bytes → whole_at bytes ≡ Ok kept
-whole_again kept bytes text = whole_is bytes ∙ versions.again records kept bytes text
-
 -- no spelling begins another
 pub begins_none : (kept other : RecordView) (spelling rest : List ℕ) → IsRecordText kept spelling
     → IsRecordText other (spelling ++ rest)
     → (rest ≡ []) × (other ≡ kept)
 begins_none kept other spelling rest one two = versions.begins_none records kept other spelling rest one two
-
--- what is written spells the record
-pub written_is_text : (kept : RecordView) (bytes : List ℕ) → IsTextIn VERSION kept bytes → IsRecordText kept bytes
-written_is_text kept bytes text = versions.told records VERSION kept bytes (spelt VERSION kept bytes text)
 
 -- the same faults, said of records
 same_fault : (bytes : List ℕ) (fault : CodecFault) → IsCodecFault bytes fault

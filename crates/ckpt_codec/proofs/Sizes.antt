@@ -231,7 +231,3 @@ pub length-with : (kept : RecordView) (decided n : ℕ) → n ≡ undecided_leng
     → n ≡ spelled_length (with_decided decisions kept)
 length-with kept decided n is decisions long =
     length-spelled (with_decided decisions kept) n (is ∙ ap (λ m. undecided_length kept + m) (sym long))
-
--- bytes that spell a record in some version are as many as in that in which it is written
-pub length-text : (version : ℕ) (kept : RecordView) → length (record_text version kept) ≡ spelled_length kept
-length-text version kept = length-spelled kept (length (record_text version kept)) (length-record version kept)

@@ -1,16 +1,13 @@
 -- Lists that are put behind bytes element by element.
-use Rattle.std.proofs.Common.{◌≡◌, ℕ, zero, suc, ◌+◌, ◌-◌, ◌<◌, ◌≤◌, ℤ, List, [], ◌∷◌, ◌++◌, length, take, get_or}
+use Rattle.std.proofs.Common.{◌≡◌, ℕ, zero, suc, ◌+◌, ◌-◌, ◌<◌, List, [], ◌∷◌, ◌++◌, length, take, get_or}
 use Rattle.std.proofs.Common.{slice_get, Option, Some, refl, sym, ap, subst, ◌∙◌, append_assoc, arith}
 use Rattle.std.specs.Prelude.{All}
 use Rattle.std.specs.Option.{option_to_list}
 use Rattle.std.specs.List.{flat_map, AllByRecursion}
-use Rattle.std.proofs.lemmas.Bool.{le-ltb}
 use Rattle.std.proofs.lemmas.List.{append-nil}
 use Rattle.std.proofs.lemmas.List.Elements.{All-from_recursion, recursion_from_All}
 use Rattle.std.proofs.lemmas.List.Concat.{flat_map-cons}
 use Rattle.std.proofs.lemmas.Option.{slice_get_read, slice_get-get_or}
-use Rattle.record.specs.Common.{LogState}
-use Rattle.retained.specs.LogState.{item_at}
 
 flat-append : {X : Type 0} (f : X → List ℕ) (xs ys : List X) → flat_map f (xs ++ ys) ≡ flat_map f xs ++ flat_map f ys
 flat-append f [] ys = refl
@@ -71,19 +68,7 @@ all_more P xs i x lt is so_far more =
     all_next P xs i (i + 1) (Some x) (omega arith) (sym (slice_get_read xs (length xs) i x refl lt is)) so_far
     (All-from_recursion P (x ∷ []) (more, tt))
 
--- what a log has at a position from its base on
-pub log_next : (log : LogState) (position : ℕ) (next : Option ℤ) → log.base ≤ position → next ≡ item_at log position
-    → next ≡ slice_get log.items (position - log.base)
-log_next log position next le is = is ∙ rw (le-ltb position log.base le) refl
-
--- the same for the element at a place
-pub put_at : {X : Type 0} (f : X → List ℕ) (xs : List X) (i : ℕ) (old out grown : List ℕ) (d : X) → i < length xs
-    → out ≡ old ++ flat_map f (take i xs) → grown ≡ out ++ f (get_or xs i d)
-    → grown ≡ old ++ flat_map f (take (i + 1) xs)
-put_at f xs i old out grown d lt so_far more =
-    put_next f xs i (i + 1) old out grown (Some (get_or xs i d)) (omega arith) (sym (slice_get-get_or xs i d lt)) so_far
-    (more ∙ ap (λ (t : List ℕ). out ++ t) (sym (flat_map-cons f (get_or xs i d) [] ∙ append-nil (f (get_or xs i d)))))
-
+-- the same of the element at a place
 pub all_at : {X : Type 0} (P : X → Type 0) (xs : List X) (i : ℕ) (d : X) → i < length xs → All P (take i xs)
     → P (get_or xs i d) → All P (take (i + 1) xs)
 all_at P xs i d lt so_far more =

@@ -1,6 +1,6 @@
 -- The names of records and their bytes that the crates above cite most, passed on from one place. Declares nothing.
 pub use Rattle.ckpt_codec.specs.Fields.{AreAllowed, Field, IsAllowed}
-pub use Rattle.ckpt_codec.specs.HeaderText.{IsHeaderText, IsImageSpelled, IsImageText, header_of}
+pub use Rattle.ckpt_codec.specs.HeaderText.{IsHeaderText, IsImageAdded, IsImageSpelled, IsImageText, header_of}
 pub use Rattle.ckpt_codec.specs.HeaderView.{HeaderView}
 pub use Rattle.ckpt_codec.specs.Lengths.{image_length}
 unfoldable pub use Rattle.ckpt_codec.specs.Lengths.{spelled_length}

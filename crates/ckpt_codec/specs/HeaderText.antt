@@ -9,6 +9,7 @@ use Rattle.ckpt_codec.specs.declared.header.Instance.{Instance}
 use Rattle.ckpt_codec.specs.Fields.{Field, AreAllowed, text_of}
 use Rattle.ckpt_codec.specs.RecordText.{at_most, count, flag, first_fields, decisions_fields, most_decisions}
 use Rattle.ckpt_codec.specs.RecordText.{image_fields, items_of_image, version_of}
+use Rattle.ckpt_codec.specs.Lengths.{image_length}
 
 -- ---- the header
 
@@ -81,6 +82,13 @@ pub record IsImageText (like : Option ImageView) (image : ImageView) (bytes : Li
 -- an image that may be written, by itself or beside another
 abbrev pub IsImageSpelled : ImageView → Type 0
 IsImageSpelled image = (like : Option ImageView) × AreAllowed (image_fields like image)
+
+-- the bytes of an image were put behind those from before: they spell it, by itself or beside another
+pub record IsImageAdded (image : ImageView) (before after : List ℕ) : Type 0 where
+  pub bytes : List ℕ
+  pub behind : after ≡ before ++ bytes
+  pub text : (like : Option ImageView) → AreAllowed (image_fields like image) → IsImageText like image bytes
+  pub long : length bytes ≡ image_length image
 
 -- ---- both
 

@@ -3,7 +3,7 @@ ghost use Rattle.std.specs.Prelude.{◌≡◌, ◌≤◌, ◌++◌, length, Opti
 ghost use Rattle.record.specs.Common.{ImageView};
 ghost use Rattle.ckpt_codec.specs.Faults.{IsHeaderFault, IsImageFault, IsReadUnlessMemory, IsRefusedUnlessMemory};
 ghost use Rattle.ckpt_codec.specs.Fields.{AreAllowed};
-ghost use Rattle.ckpt_codec.specs.HeaderText.{header_of, IsHeaderTextIn, IsHeaderText, IsImageText, IsImageSpelled};
+ghost use Rattle.ckpt_codec.specs.HeaderText.{header_of, IsHeaderTextIn, IsHeaderText, IsImageText, IsImageSpelled, IsImageAdded};
 ghost use Rattle.ckpt_codec.specs.HeaderView.{HeaderView};
 ghost use Rattle.ckpt_codec.specs.Reading.{Reads, held_at, slots_at, header_body_at, header_at, whole_image_at};
 ghost use Rattle.ckpt_codec.specs.Lengths.{image_length};
@@ -193,4 +193,14 @@ pub fn write_image(alloc: Global, image: &Image) -> Result<Vec<u8>, AllocError>
     let mut out = Vec::with_capacity(alloc, spelled_image_length(image))?;
     put_image(&mut out, image)?;
     Ok(out)
+}
+
+/// Puts the spelling of an image, by itself or beside another, behind bytes: so it is written where it is to stand. Refuses for want of
+/// memory alone.
+pub fn add_image(out: &mut Vec<u8>, image: &Image) -> Result<(), AllocError>
+    requires { IsImageSpelled image.now }
+    ensures { OnOk result (IsImageAdded image.now out.old.items out.new.items) }
+{
+    put_image(out, image)?;
+    Ok(())
 }

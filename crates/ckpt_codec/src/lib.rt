@@ -4,7 +4,7 @@
 //! first offence from the left.
 //!
 //! A record may also stand apart, as a header (`write_header`, `read_header`) and an image or two in slots of their own
-//! (`write_image`, `read_image`).
+//! (`write_image` or `add_image`, `read_image`).
 #![tactic(auto)]
 
 mod allowed;
@@ -24,7 +24,7 @@ mod version;
 mod writing;
 
 pub use allowed::is_image;
-pub use apart::{read_header, read_image, write_header, write_header_in, write_image};
+pub use apart::{add_image, read_header, read_image, write_header, write_header_in, write_image};
 pub use fault::CodecFault;
 pub use header::{Header, Instance};
 pub use laws::{

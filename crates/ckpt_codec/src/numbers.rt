@@ -1,12 +1,15 @@
 // Numbers and items, put behind bytes.
-ghost use Rattle.std.specs.Prelude.{◌≡◌, ◌+◌, ◌*◌, ◌++◌, OnOk, FitsSigned, length, take};
+ghost use Rattle.std.specs.Prelude.{◌≡◌, ◌≤◌, ◌+◌, ◌*◌, ◌++◌, OnOk, FitsSigned, length, take};
 ghost use Rattle.std.specs.Int.{w64};
 ghost use Rattle.ckpt_codec.specs.Fields.{number_text};
-ghost use Rattle.ckpt_codec.specs.Spelling.{item_text, items_text, AreItems, highest_text, participants_text, passes_text};
+ghost use Rattle.ckpt_codec.specs.Spelling.{items_text, AreItems, highest_text, participants_text, passes_text};
 
 use byteorder::{BigEndian, ByteOrder};
 use retained::Log;
 use std::alloc::AllocError;
+
+// How many items are written into a block.
+const BLOCK_ITEMS: usize = 32;
 
 #[tactic(auto, unfolding(crate::specs::Fields::number_text))]
 pub(crate) fn put_u8(out: &mut Vec<u8>, number: u8) -> Result<(), AllocError>
@@ -71,15 +74,39 @@ fn write_items(bytes: &mut [u8], start: usize, items: &[i64])
     BigEndian::write_i64_into(items, &mut bytes[start..]);
 }
 
+// Writes a few items into these bytes, and puts them.
+fn put_block(out: &mut Vec<u8>, block: &mut [u8], items: &[i64]) -> Result<(), AllocError>
+    requires few { 8 * length items.now ≤ length block.old }
+    ensures put { OnOk result (out.new.items ≡ out.old.items ++ items_text items.now) }
+    ensures same { length block.new ≡ length block.old }
+{
+    note_items(items);
+    let bytes = &mut block[..8 * items.len()];
+    write_items(bytes, 0, items);
+    out.extend_from_slice(bytes)?;
+    Ok(())
+}
+
+// Puts items by blocks. (A block stays in the processor's cache: nothing is filled that is written again.)
+fn put_blocks(out: &mut Vec<u8>, items: &[i64]) -> Result<(), AllocError>
+    ensures { OnOk result (out.new.items ≡ out.old.items ++ items_text items.now) }
+{
+    let mut block = [0; 8 * BLOCK_ITEMS];
+    for number in 0..items.len().div_ceil(BLOCK_ITEMS) {
+        let first = BLOCK_ITEMS * number;
+        let last = items.len().min(first + BLOCK_ITEMS);
+        put_block(out, &mut block, &items[first..last])?;
+    }
+    Ok(())
+}
+
 pub(crate) fn put_items(out: &mut Vec<u8>, items: &[i64]) -> Result<(), AllocError>
     ensures put { OnOk result (out.new.items ≡ out.old.items ++ items_text items.now) }
     ensures fit { OnOk result (AreItems items.now) }
 {
     note_items(items);
-    let start = out.len();
-    out.resize(start + 8 * items.len(), 0)?;
-    write_items(out.as_mut_slice(), start, items);
-    Ok(())
+    out.reserve(8 * items.len())?;
+    put_blocks(out, items)
 }
 
 // The items of a log, from its base to its end.

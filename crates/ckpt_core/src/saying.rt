@@ -1,12 +1,11 @@
 //! What a node says of checkpoints in which it takes part.
-ghost use Rattle.std.specs.Prelude.{◌≡◌, ℕ, ◌++◌, ◌∷◌, [], ◌<◌, length, IfOk, Some, option_copied};
+ghost use Rattle.std.specs.Prelude.{◌≡◌, ℕ, [], ◌<◌, length, IfOk, Some, option_copied};
 ghost use Rattle.kahn_net.specs.Syntax.{network_of};
 ghost use Rattle.protocol.specs.Node.Answering.{answer_packets, kept_then, with_current_as};
 ghost use Rattle.protocol.specs.Node.Beginning.{in_front};
 ghost use Rattle.protocol.specs.Node.Needs.{held_needs, is_needed, need_on, needs_of};
 ghost use Rattle.protocol.specs.Node.Telling.{query_packets};
 ghost use Rattle.protocol.specs.Node.Verdicts.{settled_packets};
-ghost use Rattle.record.specs.Moves.{highest_seen};
 ghost use Rattle.ckpt_core.specs.AskView.{answer_view, mode_with};
 ghost use Rattle.kahn_net.specs.declared.limits.TheConstants.{MAX_CHANNELS};
 

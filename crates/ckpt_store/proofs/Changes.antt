@@ -50,9 +50,6 @@ by_record P reopen other past not_held unsettled spent Spent is = spent
 no_length_told : (fits : Bool) (fault : StoreFault) → IsOfRecord fault → IsLengthTold {T = Unit {0}} fits (Err fault)
 no_length_told fits fault is = by_record (λ f. IsLengthTold {T = Unit {0}} fits (Err f)) tt tt tt tt tt tt fault is
 
-same_err : {a b : StoreFault} → ◌≡◌ {A = Result (Unit {0}) StoreFault} (Err a) (Err b) → a ≡ b
-same_err e = cc
-
 no_device : (fault : StoreFault) → IsOfRecord fault → ¬ (IsErrOf {T = Unit {0}} (Err fault) Device)
 no_device fault is =
     by_record (λ f. ¬ (IsErrOf {T = Unit {0}} (Err f) Device)) (λ e. cc) (λ e. cc) (λ e. cc) (λ e. cc) (λ e. cc)

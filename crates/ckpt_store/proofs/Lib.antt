@@ -11,3 +11,4 @@ pub mod Changes
 pub mod Seen
 pub mod Room
 mod Decisions
+mod Framed

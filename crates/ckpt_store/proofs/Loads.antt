@@ -35,9 +35,6 @@ use Rattle.ckpt_store.proofs.Spelled.{HoldsFor, parts_in, spelled_of, slot_is_on
 
 -- ---- what a reader says of bytes
 
-same_found : {X : Type 0} (a b : X) → ◌≡◌ {A = Result X StoreFault} (Ok a) (Ok b) → a ≡ b
-same_found a b e = cc
-
 same_fault : {X : Type 0} {a b : StoreFault} → ◌≡◌ {A = Result X StoreFault} (Err a) (Err b) → a ≡ b
 same_fault e = cc
 

@@ -8,6 +8,7 @@ use Rattle.std.proofs.lemmas.Option.{same_Some}
 use Rattle.std.proofs.lemmas.List.Elements.{All-tail}
 use Rattle.sector_disk.specs.Clock.{Only, LeavesOnly}
 use Rattle.sector_disk.proofs.Moments.{joined, weakened}
+use Rattle.gate_cell.specs.declared.TheConstants.{MAX_VALUE_BYTES}
 use Rattle.gate_cell.specs.declared.cell.StableCell.{Ghosts as CellWords}
 use Rattle.gate_cell.specs.Setup.{LeavesSetup, setup_then}
 use Rattle.gate_cell.specs.declared.fault.CellFault.{CellFault}
@@ -89,6 +90,21 @@ held_short room kept bytes written fits =
     let held = (and_parts (nat_le (image_length kept.permanent) room) (held_fits room kept.tentative) images).1 in
     held_short_in room kept.tentative bytes written held
 
+held_within_in : (room : ℕ) (t : Option Tentative) → room ≤ MAX_VALUE_BYTES → held_fits room t ≡ true
+    → ForSome t (λ (t : Tentative). image_length t.image ≤ MAX_VALUE_BYTES)
+held_within_in room None most fits = λ u is. absurd cc
+held_within_in room (Some t) most fits = λ u is. (let same : t ≡ u = same_Some t u is in
+    let le = leb-true (image_length t.image) room fits in
+    subst (λ (t : Tentative). image_length t.image ≤ MAX_VALUE_BYTES) same (omega (arith, le, most)))
+
+-- so the tentative image isn't longer than a value may be
+pub held_within : (room : ℕ) (kept : RecordView) → room ≤ MAX_VALUE_BYTES → fits_in room kept ≡ true
+    → ForSome kept.tentative (λ (t : Tentative). image_length t.image ≤ MAX_VALUE_BYTES)
+held_within room kept most fits =
+    let images = (and_parts (is_short (spelled_length kept)) (images_fit room kept) fits).1 in
+    let held = (and_parts (nat_le (image_length kept.permanent) room) (held_fits room kept.tentative) images).1 in
+    held_within_in room kept.tentative most held
+
 -- the bytes of the header fit the cell
 pub header_short : (capacity : ℕ) (bytes : List ℕ) → length bytes ≤ MAX_HEADER_BYTES → MIN_HEADER_BYTES ≤ capacity
     → ¬ (capacity < length bytes)
@@ -124,26 +140,16 @@ module _ {C : Type 0} (words : CellWords C) (slots : SlotWords C) (kept next : R
       → fits_in (slots.slot_capacity old) next ≡ true → ¬ (slots.slot_capacity old < length bytes)
       → (IsErrOf {T = Unit {0}} (Err fault) cell.TooLarge
       ↔ (IsTrue (words.is_ready old) × (slots.slot_capacity old < length bytes)))
-      → ((IsErrOf {T = Unit {0}} (Err fault) cell.NoMemory ⊎ IsErrOf {T = Unit {0}} (Err fault) cell.TooLarge
-      ⊎ IsErrOf {T = Unit {0}} (Err fault) cell.Reopen) → new ≡ old)
+      → ¬ (IsErrOf {T = Unit {0}} (Err fault) cell.NoMemory)
       → HasCause {T = Unit {0}} (words.failure_count old) (words.failure_count new) (words.is_ready old)
       (words.is_ready new) (Err fault)
       → LeavesOnly words.moment slots.left_since_whole old new (λ left. Spells kept left ⊎ Spells next left)
       → LeavesSetup words.capacity words.armed words.call_count old new
       → slots.slot_capacity new ≡ slots.slot_capacity old
       → IsPut words slots kept next slot old new {T = Unit {0}} (Err (of_cell fault))
-  fill_refused old new bytes cell.NoMemory ready fits room too_large unchanged cause run setup slot_room = record {
-    ready = tt;
-    spelled = tt;
-    refusals = tt;
-    fits = fits;
-    failures = record { device = λ e. cc; otherwise = λ other. cause.otherwise (λ e. cc) };
-    unchanged = λ other. unchanged (inl refl);
-    any_moment = run;
-    same_setup = setup;
-    same_slot_room = slot_room;
-  }
-  fill_refused old new bytes cell.Device ready fits room too_large unchanged cause run setup slot_room = record {
+  fill_refused old new bytes cell.NoMemory ready fits room too_large memory cause run setup slot_room =
+      absurd (memory refl)
+  fill_refused old new bytes cell.Device ready fits room too_large memory cause run setup slot_room = record {
     ready = tt;
     spelled = tt;
     refusals = tt;
@@ -154,9 +160,9 @@ module _ {C : Type 0} (words : CellWords C) (slots : SlotWords C) (kept next : R
     same_setup = setup;
     same_slot_room = slot_room;
   }
-  fill_refused old new bytes cell.TooLarge ready fits room too_large unchanged cause run setup slot_room =
+  fill_refused old new bytes cell.TooLarge ready fits room too_large memory cause run setup slot_room =
       absurd (room (too_large.0 refl).1)
-  fill_refused old new bytes cell.Reopen ready fits room too_large unchanged cause run setup slot_room =
+  fill_refused old new bytes cell.Reopen ready fits room too_large memory cause run setup slot_room =
       absurd (true≢false (sym ready ∙ cause.reopen.0 refl))
 
   -- whatever a fill leaves of the slot without a role, the record is held

@@ -1,16 +1,15 @@
 -- The record that a store shows in every state is the one that its cell holds.
-use Rattle.std.proofs.Common.{◌≡◌, ℕ, ◌-◌, ◌≤◌, List, length, Option, Some, None, refl, ◌∙◌, ap, subst}
+use Rattle.std.proofs.Common.{◌≡◌, ℕ, ◌-◌, List, Option, Some, None, refl, ◌∙◌, ap, subst}
 use Rattle.std.specs.Prelude.{is_some, IsTrue}
 use Rattle.std.proofs.lemmas.Option.{same_Some, none-some}
 use Rattle.gate_cell.specs.declared.cell.StableCell.{Ghosts as CellWords}
 use Rattle.slot_cell.specs.Whole.{Whole, slot_in}
 use Rattle.slot_cell.specs.declared.slot_cell.SlotCell.{Ghosts as SlotWords}
-use Rattle.ckpt_codec.specs.Common.{ImageView, RecordView, Tentative, MAX_DECISIONS, header_of}
+use Rattle.ckpt_codec.specs.Common.{ImageView, RecordView, Tentative, header_of}
 use Rattle.ckpt_codec.specs.HeaderText.{instance_of, tentative_with, IsTentativeText}
 use Rattle.ckpt_codec.specs.Reading.{whole_image_at}
 use Rattle.ckpt_codec.proofs.Headers.{header_again, image_again}
-use Rattle.ckpt_store.proofs.Allowed.{decisions_few}
-use Rattle.ckpt_store.proofs.Spelled.{HoldsFor, parts_in, spelled_is_record}
+use Rattle.ckpt_store.proofs.Spelled.{HoldsFor, parts_in}
 use Rattle.ckpt_store.specs.Spelling.{SpellsAt, Spells, kept_in}
 use Rattle.ckpt_store.specs.StoreView.{read_or_none, image_spelled, header_spelled, record_beside}
 use Rattle.ckpt_store.specs.StoreView.{record_behind, record_spelled, record_in, known_in}
@@ -67,10 +66,3 @@ module _ {C : Type 0} (cell : CellWords C) (slots : SlotWords C) where
       → IsTrue (cell.is_ready store.cell)
   ready_known store kept is =
       store.kept.ready (ap (λ (o : Option Known). is_some o) (known_of store.known kept is).1)
-
-  -- and the record has as few decisions as there may be
-  pub known_few : (store : Store C slots cell) (kept : RecordView) → known_in store ≡ Some kept
-      → length kept.decisions ≤ MAX_DECISIONS
-  known_few store kept is =
-      let held = known_held store kept is in
-      decisions_few kept (spelled_is_record kept held.0 (slots.whole store.cell) held.1)

@@ -1,5 +1,5 @@
--- What a cell holds is one record at most; and how it becomes the next one.
-use Rattle.std.proofs.Common.{◌≡◌, ℕ, zero, suc, ◌-◌, ◌≤◌, List, [], ◌∷◌, ◌++◌, length, map, Option, Some, None, Result, Ok, refl, sym, ◌∙◌}
+-- What a cell holds spells a record; and how it becomes the next one.
+use Rattle.std.proofs.Common.{◌≡◌, ℕ, zero, suc, ◌-◌, ◌≤◌, List, [], ◌∷◌, ◌++◌, length, map, Option, Some, None, refl, sym, ◌∙◌}
 use Rattle.std.proofs.Common.{ap, subst, arith}
 use Rattle.std.specs.Prelude.{slice_index, is_some}
 use Rattle.std.specs.Option.{ForSome}
@@ -10,14 +10,12 @@ use Rattle.slot_cell.specs.Whole.{Whole, slot_in, with_slot, with_header}
 use Rattle.ckpt_codec.specs.Common.{ImageView, RecordView, Tentative, IsAllowed, AreAllowed, count, image_fields}
 use Rattle.ckpt_codec.specs.Common.{IsRecord, HeaderView, header_of, IsHeaderText, IsImageText, spelled_length}
 use Rattle.ckpt_codec.specs.RecordText.{first_fields, decisions_fields, most_decisions, version_of}
-use Rattle.ckpt_codec.specs.HeaderText.{instance_of, slot_field, held_fields, IsHeaderTextIn}
+use Rattle.ckpt_codec.specs.HeaderText.{slot_field, held_fields, IsHeaderTextIn}
 use Rattle.ckpt_codec.specs.HeaderText.{IsTentativeText, IsApart}
-use Rattle.ckpt_codec.specs.Reading.{header_at}
-use Rattle.ckpt_codec.specs.declared.fault.CodecFault.{CodecFault}
 use Rattle.ckpt_codec.specs.declared.lengths.TheConstants.{MAX_RECORD_BYTES}
 use Rattle.ckpt_codec.specs.declared.version.TheConstants.{VERSION}
-use Rattle.ckpt_codec.proofs.Headers.{header_again, written_is_header}
-use Rattle.ckpt_codec.proofs.Joined.{apart_is_one, apart_is_record, image_text_beside}
+use Rattle.ckpt_codec.proofs.Headers.{written_is_header}
+use Rattle.ckpt_codec.proofs.Joined.{apart_is_record, image_text_beside}
 use Rattle.ckpt_store.specs.Spelling.{Lies, SpellsAt, StandIn}
 use Rattle.ckpt_store.specs.Putting.{IsHeldWritten}
 use Rattle.ckpt_store.proofs.Parts.{all_back}
@@ -92,41 +90,6 @@ spelled_of kept slot w one short parts = record {
 }
 
 -- ---- one record
-
-same_found : {A : Type 0} (a b : A) → ◌≡◌ {A = Result A CodecFault} (Ok a) (Ok b) → a ≡ b
-same_found a b e = cc
-
--- what stands in a slot spells a tentative image for the one header that names it as for another that does
-second_as : (t u : Option Tentative) (found : Option (List ℕ)) (a b : List ℕ) (permanent : ImageView)
-    → instance_of u ≡ instance_of t → HoldsFor t found a → HoldsFor u found b → IsTentativeText permanent u b
-    → IsTentativeText permanent u a
-second_as None None found a b permanent same one two text = tt
-second_as None (Some u) found a b permanent same one two text = absurd cc
-second_as (Some t) None found a b permanent same one two text = tt
-second_as (Some t) (Some u) found a b permanent same one two text =
-    subst (λ bytes. IsTentativeText permanent (Some u) bytes) (same_Some b a (sym two ∙ one)) text
-
-pub spells_one : (kept other : RecordView) (slot place : ℕ) (w : Whole) → SpellsAt slot kept w
-    → SpellsAt place other w → (place ≡ slot) × (other ≡ kept)
-spells_one kept other slot place w spelled also =
-    let s = parts_in kept slot w spelled in
-    let o = parts_in other place w also in
-    let header : o.header ≡ s.header = same_Some o.header s.header (sym o.says ∙ s.says) in
-    let same : header_of place other ≡ header_of slot kept =
-    same_found (header_of place other) (header_of slot kept)
-    (sym (header_again (header_of place other) o.header o.apart.says) ∙ ap header_at header
-    ∙ header_again (header_of slot kept) s.header s.apart.says) in
-    let at : place ≡ slot = ap (λ (h : HeaderView). h.slot) same in
-    let there : Parts slot other w = subst (λ p. Parts p other w) at o in
-    let first : there.first ≡ s.first = same_Some there.first s.first (sym there.shows ∙ s.shows) in
-    let header_there : there.header ≡ s.header = same_Some there.header s.header (sym there.says ∙ s.says) in
-    let apart : IsApart slot other s.header s.first s.second = record {
-      says = subst (λ bytes. IsHeaderText (header_of slot other) bytes) header_there there.apart.says;
-      shows = subst (λ bytes. IsImageText None other.permanent bytes) first there.apart.shows;
-      holds = second_as kept.tentative other.tentative (slot_in (1 - slot) w) s.second there.second other.permanent
-          (ap (λ (h : HeaderView). h.tentative) same) s.holds there.holds there.apart.holds;
-    } in
-    (at, (apart_is_one kept other slot slot s.header s.first s.second s.apart apart).1)
 
 -- a record that is held may be written
 pub spelled_is_record : (kept : RecordView) (slot : ℕ) (w : Whole) → SpellsAt slot kept w → IsRecord kept

@@ -4,6 +4,7 @@ use Rattle.std.specs.Prelude.{◌≡◌, ◌⊎◌, ℕ, if◌then◌else◌, Li
 use Rattle.std.specs.Prelude.{OnErr, IsErrOf, IsTrue}
 use Rattle.sector_disk.specs.Clock.{LeavesOnly}
 use Rattle.gate_cell.specs.declared.cell.StableCell.{Ghosts as CellWords}
+use Rattle.gate_cell.specs.Layout.{value_in, IsFrame}
 use Rattle.gate_cell.specs.Setup.{LeavesSetup}
 use Rattle.slot_cell.specs.declared.slot_cell.SlotCell.{Ghosts as SlotWords}
 use Rattle.ckpt_codec.specs.Common.{ImageView, RecordView, Tentative, AreAllowed, image_fields, IsImageText}
@@ -21,6 +22,17 @@ IsHeldWritten None bytes = bytes ≡ []
 IsHeldWritten (Some t) bytes =
     ((like : Option ImageView) → AreAllowed (image_fields like t.image) → IsImageText like t.image bytes)
     × (length bytes ≡ image_length t.image)
+
+-- a frame in which an image stands, which is spelled by itself or beside another
+pub record IsImageFramed (image : ImageView) (frame : List ℕ) : Type 0 where
+  pub is_frame : IsFrame (value_in frame) frame
+  pub text : (like : Option ImageView) → AreAllowed (image_fields like image) → IsImageText like image (value_in frame)
+  pub long : length (value_in frame) ≡ image_length image
+
+-- a frame in which a tentative image stands, where there is one; where there is none, no bytes stand in it
+pub record IsHeldFramed (tentative : Option Tentative) (frame : List ℕ) : Type 0 where
+  pub is_frame : IsFrame (value_in frame) frame
+  pub written : IsHeldWritten tentative (value_in frame)
 
 -- A record was put into a cell that was ready and held this one, with its permanent image in this slot; or the put was
 -- refused.

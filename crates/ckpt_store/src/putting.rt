@@ -6,17 +6,16 @@ ghost use Rattle.ckpt_codec.specs.Common.{with_permanent};
 ghost use Rattle.record.specs.declared.record.Tentative.{Tentative as HeldView};
 ghost use Rattle.ckpt_store.specs.Spelling.{is_short, held_fits, images_fit, fits_in, Spells, SpellsAt, StandIn, IsKept, kept_in, known_as};
 ghost use Rattle.ckpt_store.specs.Refusals.{no_refusal};
-ghost use Rattle.ckpt_store.specs.Putting.{IsHeldWritten, IsPut, known_after, IsChange};
+ghost use Rattle.gate_cell.specs.declared.TheConstants.{MAX_VALUE_BYTES};
+ghost use Rattle.ckpt_store.specs.Putting.{IsImageFramed, IsHeldFramed, IsPut, known_after, IsChange};
 ghost use Rattle.ckpt_store.specs.Undoing.{undone, IsUndoable};
 
 use crate::fault::StoreFault;
 use crate::known::Known;
 use crate::undo::Undo;
-use ckpt_codec::{
-    MAX_RECORD_BYTES, spelled_image_length, spelled_length, write_header, write_image,
-};
-use gate_cell::StableCell;
-use record::{Record, Tentative};
+use ckpt_codec::{MAX_RECORD_BYTES, add_image, spelled_image_length, spelled_length, write_header};
+use gate_cell::{StableCell, begin_frame, end_frame, framed};
+use record::{Image, Record, Tentative};
 use slot_cell::SlotCell;
 use std::alloc::{AllocError, Global};
 
@@ -106,14 +105,27 @@ pub fn put_header<C: SlotCell>(
     Ok(())
 }
 
-// The bytes of a tentative image; none where there is none.
-fn held_bytes(alloc: Global, tentative: &Option<Tentative>) -> Result<Vec<u8>, AllocError>
-    requires { ForSome tentative.now (λ (t : HeldView). IsImageSpelled t.image) }
-    ensures { IfOk result (λ bytes. IsHeldWritten tentative.now bytes.items) }
+// An image, spelled where it is to stand in its frame.
+fn framed_image(alloc: Global, image: &Image) -> Result<Vec<u8>, AllocError>
+    requires spelled { IsImageSpelled image.now }
+    requires short { image_length image.now ≤ MAX_VALUE_BYTES }
+    ensures { IfOk result (λ frame. IsImageFramed image.now frame.items) }
+{
+    let mut frame = begin_frame(alloc, spelled_image_length(image))?;
+    add_image(&mut frame, image)?;
+    end_frame(&mut frame)?;
+    Ok(frame)
+}
+
+// The frame of a tentative image; a frame without bytes where there is none.
+fn held_frame(alloc: Global, tentative: &Option<Tentative>) -> Result<Vec<u8>, AllocError>
+    requires spelled { ForSome tentative.now (λ (t : HeldView). IsImageSpelled t.image) }
+    requires short { ForSome tentative.now (λ (t : HeldView). image_length t.image ≤ MAX_VALUE_BYTES) }
+    ensures { IfOk result (λ frame. IsHeldFramed tentative.now frame.items) }
 {
     match tentative {
-        None => Ok(Vec::new(alloc)),
-        Some(held) => write_image(alloc, &held.image),
+        None => framed(alloc, &[]),
+        Some(held) => framed_image(alloc, &held.image),
     }
 }
 
@@ -135,9 +147,9 @@ pub fn put_image<C: SlotCell>(
     if !fits(cell, next) {
         return Err(StoreFault::TooLarge);
     }
-    let image = held_bytes(alloc, &next.tentative)?;
+    let frame = held_frame(alloc, &next.tentative)?;
     let header = write_header(alloc, next, slot)?;
-    cell.fill(usize::from(1 - slot), image.as_slice())?;
+    cell.fill_framed(usize::from(1 - slot), frame.as_slice())?;
     cell.put(header.as_slice())?;
     Ok(())
 }

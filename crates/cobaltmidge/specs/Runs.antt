@@ -5,6 +5,7 @@ use Rattle.kahn_net.specs.Common.{IsReached}
 use Rattle.protocol.specs.World.Common.{output_channels, released_of, StationView, WorldView}
 use Rattle.replay.specs.Replay.{Happening, LeadsTo}
 use Rattle.run_log.specs.Happened.{HasRun}
+use Rattle.runtime.specs.declared.driving.Bounds.{Bounds}
 use Rattle.replay.specs.declared.kept.ScriptedEvent.{ScriptedEvent}
 use Rattle.cobaltmidge.specs.Turning.{IsRunByTurns, first_world, is_over, run_rooms}
 use Rattle.cobaltmidge.specs.declared.settings.Settings.{Settings}
@@ -34,6 +35,10 @@ pub record IsRun (net : Network) (inputs streams : List (List ℤ)) (complete : 
   pub count : length streams ≡ length (output_channels 0 net.channels)
   pub prefix : ∥ ((n : ℕ) × AreWithin net inputs streams n) ∥₁
   pub whole : IsTrue complete → ∥ ((n : ℕ) × IsReached net inputs n × AreAll net inputs streams n) ∥₁
+
+-- where a run ends at the latest
+abbrev pub bounds_of : Settings → Bounds
+bounds_of settings = record { rounds = settings.rounds; items = settings.items }
 
 -- the world at the end of a run by turns
 abbrev pub IsLast : Settings → Network → List (List ℤ) → List ScriptedEvent → WorldView → Type 0

@@ -8,13 +8,16 @@ ghost use Rattle.cobaltmidge.specs.Turning.{cut_at, is_over};
 
 use kahn_net::Channel;
 use outlet::Outlet;
-use runtime::have_left;
+use runtime::{Ended, have_left};
 use sector_disk::MemDisk;
 use slot_cell::SplitCell;
 use world::World;
 
 /// The world of a run: of nodes on disks in memory.
 pub type RunWorld<O> = World<SplitCell<MemDisk>, O>;
+
+/// What a run came to: such a world, what happened, where that was to be kept, and why the run ended.
+pub type RunEnded<O> = Ended<SplitCell<MemDisk>, O>;
 
 /// Where what has left is cut: at so many items, where that is asked for and each output has them.
 pub fn cut<O: Outlet>(channels: &[Channel], world: &RunWorld<O>, items: Option<u64>) -> Option<u64>

@@ -10,6 +10,7 @@ use crate::ending::RunWorld;
 use crate::network::Network;
 use outlet::Outlet;
 use run_log::History;
+use runtime::RunEnd;
 
 /// What a run came to: the world at its end, of which what left is the same for good. `World::apply` would go on from there, and
 /// `World::close` hands out disks and outlets.
@@ -19,6 +20,8 @@ pub struct Finished<'a, O: Outlet> {
     pub world: RunWorld<O>,
     /// What happened, where that was to be kept (`Run::history`), and else nothing. `write_history` makes a text of it.
     pub history: History,
+    /// Why it ended.
+    pub end: RunEnd,
 }
 
 impl<'a, O: Outlet> Finished<'a, O> {

@@ -19,7 +19,7 @@ mod scripting;
 mod settings;
 mod turning;
 
-pub use ending::{RunWorld, cut};
+pub use ending::{RunEnded, RunWorld, cut};
 pub use error::Error;
 pub use fail_script::{Act, Script, ScriptFault, ScriptLine, parse_script};
 pub use fault::RunFault;

@@ -4,8 +4,7 @@ ghost use Rattle.std.specs.Prelude.{◌≡◌, Bool, map, IfErr, IfOk};
 ghost use Rattle.std.specs.List.{AllByRecursion};
 ghost use Rattle.protocol.specs.Node.Common.{Fits, node_count, network_of};
 ghost use Rattle.protocol.specs.World.Common.{output_channels};
-ghost use Rattle.world.specs.WholeView.{world_of};
-ghost use Rattle.world.specs.WorldView.{capacities};
+ghost use Rattle.world.specs.WholeView.{capacities_in, world_of};
 ghost use Rattle.world.specs.OpeningWorld.{IsUnused};
 ghost use Rattle.cobaltmidge.specs.Failing.{IsRunFault};
 ghost use Rattle.cobaltmidge.specs.Turning.{HasNoFailures, IsRunRoom, first_world, nearest_room};
@@ -45,7 +44,7 @@ pub(crate) fn open_world<O: Outlet>(
     ensures first { IfOk result (λ world. world_of world
         ≡ first_world (network_of net.now.value.program) inputs room) }
     ensures room { IfOk result
-        (λ world. AllByRecursion IsRunRoom (capacities world.stations.items)) }
+        (λ world. AllByRecursion IsRunRoom (capacities_in world)) }
     // A device failed (20), or memory is missing (1).
     ensures err { (threads : Bool) → IfErr result (IsRunFault threads) }
 {

@@ -5,12 +5,13 @@ ghost use Rattle.std.specs.List.{AllByRecursion};
 ghost use Rattle.protocol.specs.Node.Common.{Fits, network_of};
 ghost use Rattle.protocol.specs.World.Common.{are_quiet, output_channels};
 ghost use Rattle.run_log.specs.Lines.{happenings};
+ghost use Rattle.runtime.specs.Ending.{IsOver};
 ghost use Rattle.world.specs.OpeningWorld.{IsUnused};
 ghost use Rattle.world.specs.WholeView.{world_of};
 ghost use Rattle.cobaltmidge.specs.Errors.{IsRunError};
 ghost use Rattle.cobaltmidge.specs.Failing.{is_counted};
 ghost use Rattle.cobaltmidge.specs.Names.{script_of};
-ghost use Rattle.cobaltmidge.specs.Runs.{IsEnd, IsRun, released_streams};
+ghost use Rattle.cobaltmidge.specs.Runs.{IsEnd, IsRun, bounds_of, released_streams};
 ghost use Rattle.cobaltmidge.specs.Turning.{HasNoFailures};
 
 use crate::error::{Error, run_error};
@@ -171,6 +172,9 @@ impl<'a> Run<'a> {
         ensures end { IfOk result (λ finished. IsEnd self.entry.settings
             (network_of self.entry.network.now.net.value.program) self.entry.inputs (script_of self.entry.script)
             (happenings finished.history.lines.items) (world_of finished.world)) }
+        // Why it did: where nothing is left to do, the rounds are over, or each output has its items, the world is so.
+        ensures over { IfOk result (λ finished. IsOver (network_of self.entry.network.now.net.value.program).channels
+            (bounds_of self.entry.settings) (world_of finished.world) finished.end) }
         ensures network { IfOk result (λ finished. finished.network ≡ self.entry.network) }
         // A device failed (20), memory is missing (1), or what is counted would pass 2^63 - 1 (44).
         ensures err { IfErr result (IsRunError (is_counted self.entry.settings)) }
@@ -199,6 +203,8 @@ impl<'a> Run<'a> {
         ensures end { IfOk result (λ finished. IsEnd self.entry.settings
             (network_of self.entry.network.now.net.value.program) self.entry.inputs (script_of self.entry.script)
             (happenings finished.history.lines.items) (world_of finished.world)) }
+        ensures over { IfOk result (λ finished. IsOver (network_of self.entry.network.now.net.value.program).channels
+            (bounds_of self.entry.settings) (world_of finished.world) finished.end) }
         ensures network { IfOk result (λ finished. finished.network ≡ self.entry.network) }
         ensures err { IfErr result (IsRunError (is_counted self.entry.settings)) }
     {
@@ -219,10 +225,11 @@ impl<'a> Run<'a> {
             script,
             &mut NoWatch,
         ) {
-            Ok((world, history)) => Ok(Finished {
+            Ok(ended) => Ok(Finished {
                 network,
-                world,
-                history,
+                world: ended.world,
+                history: ended.history,
+                end: ended.end,
             }),
             Err(fault) => Err(run_error(fault)),
         }

@@ -8,8 +8,7 @@ ghost use Rattle.run_log.specs.ArmedWorlds.{armed_view};
 ghost use Rattle.protocol.specs.World.Still.{given_room};
 ghost use Rattle.replay.specs.Armed.{with_world};
 ghost use Rattle.station.specs.ReplyView.{reply_view};
-ghost use Rattle.world.specs.WholeView.{world_of};
-ghost use Rattle.world.specs.WorldView.{capacities};
+ghost use Rattle.world.specs.WholeView.{capacities_in, inputs_in, net_in, world_of};
 ghost use Rattle.cobaltmidge.specs.Resting.{AllRest};
 ghost use Rattle.cobaltmidge.specs.Turning.{Follows, HasBegun, IsDriven, IsNodeTurn, IsRunByTurns, IsRunRoom, IsWholeTurn, TakesTurns, due_event, is_over, line_before, progress, turn_node};
 
@@ -37,10 +36,10 @@ fn follow<O: Outlet>(
     armed: &mut RunArmed<O>,
     answer: Reply,
 ) -> Result<(), AllocError>
-    requires { AllByRecursion IsRunRoom (capacities armed.old.world.stations.items) }
-    ensures same { (armed.new.world.net ≡ armed.old.world.net)
-        × (armed.new.world.inputs ≡ armed.old.world.inputs) }
-    ensures room { AllByRecursion IsRunRoom (capacities armed.new.world.stations.items) }
+    requires { AllByRecursion IsRunRoom (capacities_in armed.old.world) }
+    ensures same { (net_in armed.new.world ≡ net_in armed.old.world)
+        × (inputs_in armed.new.world ≡ inputs_in armed.old.world) }
+    ensures room { AllByRecursion IsRunRoom (capacities_in armed.new.world) }
     ensures follows { OnOk result
         (Follows (reply_view answer) (armed_view armed.old) (armed_view armed.new)) }
 {
@@ -74,11 +73,11 @@ fn take_event<O: Outlet>(
     resting: &mut Resting,
     node: u8,
 ) -> Result<(), AllocError>
-    requires room { AllByRecursion IsRunRoom (capacities armed.old.world.stations.items) }
+    requires room { AllByRecursion IsRunRoom (capacities_in armed.old.world) }
     requires rest { AllRest resting.old (world_of armed.old.world) }
-    ensures same { (armed.new.world.net ≡ armed.old.world.net)
-        × (armed.new.world.inputs ≡ armed.old.world.inputs) }
-    ensures room { AllByRecursion IsRunRoom (capacities armed.new.world.stations.items) }
+    ensures same { (net_in armed.new.world ≡ net_in armed.old.world)
+        × (inputs_in armed.new.world ≡ inputs_in armed.old.world) }
+    ensures room { AllByRecursion IsRunRoom (capacities_in armed.new.world) }
     ensures turn { OnOk result (IsNodeTurn node (armed_view armed.old) (armed_view armed.new)) }
     ensures rest { OnOk result (AllRest resting.new (world_of armed.new.world)) }
 {
@@ -98,11 +97,11 @@ fn take_event<O: Outlet>(
 /// Gives channels more room where the world stands still for want of it, if a round has ended: if this round is another. A node
 /// that rests may go on then.
 fn give_room<O: Outlet>(armed: &mut RunArmed<O>, resting: &mut Resting, round: u64)
-    requires room { AllByRecursion IsRunRoom (capacities armed.old.world.stations.items) }
+    requires room { AllByRecursion IsRunRoom (capacities_in armed.old.world) }
     requires rest { AllRest resting.old (world_of armed.old.world) }
-    ensures same { (armed.new.world.net ≡ armed.old.world.net)
-        × (armed.new.world.inputs ≡ armed.old.world.inputs) }
-    ensures room { AllByRecursion IsRunRoom (capacities armed.new.world.stations.items) }
+    ensures same { (net_in armed.new.world ≡ net_in armed.old.world)
+        × (inputs_in armed.new.world ≡ inputs_in armed.old.world) }
+    ensures room { AllByRecursion IsRunRoom (capacities_in armed.new.world) }
     ensures given { armed_view armed.new
         ≡ (if (world_of armed.old.world).round == round then armed_view armed.old
         else with_world (given_room (world_of armed.old.world)) (armed_view armed.old)) }
@@ -125,11 +124,11 @@ fn take_turn<O: Outlet>(
     resting: &mut Resting,
     node: u8,
 ) -> Result<bool, AllocError>
-    requires room { AllByRecursion IsRunRoom (capacities armed.old.world.stations.items) }
+    requires room { AllByRecursion IsRunRoom (capacities_in armed.old.world) }
     requires rest { AllRest resting.old (world_of armed.old.world) }
-    ensures same { (armed.new.world.net ≡ armed.old.world.net)
-        × (armed.new.world.inputs ≡ armed.old.world.inputs) }
-    ensures room { AllByRecursion IsRunRoom (capacities armed.new.world.stations.items) }
+    ensures same { (net_in armed.new.world ≡ net_in armed.old.world)
+        × (inputs_in armed.new.world ≡ inputs_in armed.old.world) }
+    ensures room { AllByRecursion IsRunRoom (capacities_in armed.new.world) }
     ensures turn { OnOk result (IsWholeTurn node (armed_view armed.old) (armed_view armed.new)) }
     ensures rest { OnOk result (AllRest resting.new (world_of armed.new.world)) }
     ensures nothing { IfOk result
@@ -169,11 +168,11 @@ fn drive<O: Outlet>(
     passed: usize,
     event: Option<RunEvent>,
 ) -> Result<usize, AllocError>
-    requires room { AllByRecursion IsRunRoom (capacities armed.old.world.stations.items) }
+    requires room { AllByRecursion IsRunRoom (capacities_in armed.old.world) }
     requires few { IsSome event → passed < length script.now }
-    ensures same { (armed.new.world.net ≡ armed.old.world.net)
-        × (armed.new.world.inputs ≡ armed.old.world.inputs) }
-    ensures room { AllByRecursion IsRunRoom (capacities armed.new.world.stations.items) }
+    ensures same { (net_in armed.new.world ≡ net_in armed.old.world)
+        × (inputs_in armed.new.world ≡ inputs_in armed.old.world) }
+    ensures room { AllByRecursion IsRunRoom (capacities_in armed.new.world) }
     ensures driven { IfOk result (λ now. IsDriven event (progress (armed_view armed.old) passed)
         (progress (armed_view armed.new) now)) }
 {
@@ -192,10 +191,10 @@ fn begin<O: Outlet>(
     armed: &mut RunArmed<O>,
     script: &[ScriptedEvent],
 ) -> Result<usize, AllocError>
-    requires room { AllByRecursion IsRunRoom (capacities armed.old.world.stations.items) }
-    ensures same { (armed.new.world.net ≡ armed.old.world.net)
-        × (armed.new.world.inputs ≡ armed.old.world.inputs) }
-    ensures room { AllByRecursion IsRunRoom (capacities armed.new.world.stations.items) }
+    requires room { AllByRecursion IsRunRoom (capacities_in armed.old.world) }
+    ensures same { (net_in armed.new.world ≡ net_in armed.old.world)
+        × (inputs_in armed.new.world ≡ inputs_in armed.old.world) }
+    ensures room { AllByRecursion IsRunRoom (capacities_in armed.new.world) }
     ensures begun { IfOk result (λ passed. HasBegun script.now
         (progress (armed_view armed.old) 0) (progress (armed_view armed.new) passed)) }
 {
@@ -217,10 +216,10 @@ fn drive_before<O: Outlet>(
     passed: usize,
     node: u8,
 ) -> Result<usize, AllocError>
-    requires room { AllByRecursion IsRunRoom (capacities armed.old.world.stations.items) }
-    ensures same { (armed.new.world.net ≡ armed.old.world.net)
-        × (armed.new.world.inputs ≡ armed.old.world.inputs) }
-    ensures room { AllByRecursion IsRunRoom (capacities armed.new.world.stations.items) }
+    requires room { AllByRecursion IsRunRoom (capacities_in armed.old.world) }
+    ensures same { (net_in armed.new.world ≡ net_in armed.old.world)
+        × (inputs_in armed.new.world ≡ inputs_in armed.old.world) }
+    ensures room { AllByRecursion IsRunRoom (capacities_in armed.new.world) }
     ensures driven { IfOk result (λ now. IsDriven
         (line_before script.now node (progress (armed_view armed.old) passed))
         (progress (armed_view armed.old) passed) (progress (armed_view armed.new) now)) }
@@ -284,9 +283,9 @@ fn take_turns<O: Outlet, W: TurnWatch>(
 ) -> Result<(), AllocError>
     requires few { length channels.now ≤ MAX_CHANNELS }
     requires nodes { nodes ≤ MAX_NODES }
-    requires room { AllByRecursion IsRunRoom (capacities armed.old.world.stations.items) }
-    ensures same { (armed.new.world.net ≡ armed.old.world.net)
-        × (armed.new.world.inputs ≡ armed.old.world.inputs) }
+    requires room { AllByRecursion IsRunRoom (capacities_in armed.old.world) }
+    ensures same { (net_in armed.new.world ≡ net_in armed.old.world)
+        × (inputs_in armed.new.world ≡ inputs_in armed.old.world) }
     ensures came { OnOk result (TakesTurns (is_over (output_channels 0 channels.now) rounds items)
         nodes script.now (progress (armed_view armed.old) begun) (armed_view armed.new)) }
 {
@@ -334,8 +333,8 @@ pub(crate) fn run_by_turns<O: Outlet, W: TurnWatch>(
 ) -> Result<RunWorld<O>, AllocError>
     requires few { length channels.now ≤ MAX_CHANNELS }
     requires nodes { nodes ≤ MAX_NODES }
-    requires room { AllByRecursion IsRunRoom (capacities world.stations.items) }
-    ensures same { IfOk result (λ now. (now.net ≡ world.net) × (now.inputs ≡ world.inputs)) }
+    requires room { AllByRecursion IsRunRoom (capacities_in world) }
+    ensures same { IfOk result (λ now. (net_in now ≡ net_in world) × (inputs_in now ≡ inputs_in world)) }
     ensures run { IfOk result (λ now. IsRunByTurns (is_over (output_channels 0 channels.now) rounds items)
         nodes script.now (world_of world) (world_of now)) }
 {

@@ -378,13 +378,6 @@ begins_none packet other spelling rest one two =
     (sym (packet_again packet rest one.allowed) ∙ ap packet_at longer ∙ packet_again other [] two.allowed) in
     (ap (λ (x : Packet × List ℕ). x.1) both, sym (ap (λ (x : Packet × List ℕ). x.0) both))
 
--- a text spells one packet at most
-pub one_packet : (packet other : Packet) (spelling : List ℕ) → IsPacketText packet spelling
-    → IsPacketText other spelling → other ≡ packet
-one_packet packet other spelling one two =
-    (begins_none packet other spelling [] one
-    (subst (λ (text : List ℕ). IsPacketText other text) (sym (append-nil spelling)) two)).1
-
 -- what is read of all the bytes
 pub whole_takes : (bytes : List ℕ) (packet : Packet) → AreBytes bytes → whole_at bytes ≡ Some packet
     → IsPacketText packet bytes

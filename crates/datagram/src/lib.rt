@@ -18,4 +18,4 @@ pub use laws::no_spelling_begins_another;
 pub use needs::Needs;
 pub use packet::{Body, LAST_CHANNEL, LAST_NODE, MOST_NEEDS, Need, Packet, Reason};
 pub use reading::read_packet;
-pub use writing::write_packet;
+pub use writing::{PacketBytes, write_packet};

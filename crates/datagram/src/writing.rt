@@ -6,10 +6,14 @@ ghost use Rattle.datagram.specs.PacketText.{IsPacket, IsBody, IsPacketText, AreN
 use crate::needs::Needs;
 use crate::packet::{Body, Need, Packet, Reason};
 use byteorder::{BigEndian, ByteOrder};
+use smallvec::SmallVec;
 use std::alloc::{AllocError, Global};
 
+/// The spelling of a packet. Up to 24 bytes lie in the value itself, which is enough for each packet but a `Took` of needs.
+pub type PacketBytes = SmallVec<u8, 24>;
+
 #[tactic(auto, unfolding(crate::specs::PacketText::number_text))]
-fn put_u16(out: &mut Vec<u8>, number: u16) -> Result<(), AllocError>
+fn put_u16(out: &mut PacketBytes, number: u16) -> Result<(), AllocError>
     ensures { OnOk result (out.new.items ≡ out.old.items ++ number_text 2 number) }
 {
     let mut bytes = [0; 2];
@@ -19,7 +23,7 @@ fn put_u16(out: &mut Vec<u8>, number: u16) -> Result<(), AllocError>
 }
 
 #[tactic(auto, unfolding(crate::specs::PacketText::number_text))]
-fn put_u64(out: &mut Vec<u8>, number: u64) -> Result<(), AllocError>
+fn put_u64(out: &mut PacketBytes, number: u64) -> Result<(), AllocError>
     ensures { OnOk result (out.new.items ≡ out.old.items ++ number_text 8 number) }
 {
     let mut bytes = [0; 8];
@@ -29,7 +33,7 @@ fn put_u64(out: &mut Vec<u8>, number: u64) -> Result<(), AllocError>
 }
 
 #[tactic(auto, unfolding(crate::specs::PacketText::item_text))]
-fn put_item(out: &mut Vec<u8>, item: i64) -> Result<(), AllocError>
+fn put_item(out: &mut PacketBytes, item: i64) -> Result<(), AllocError>
     ensures { OnOk result (out.new.items ≡ out.old.items ++ item_text item) }
 {
     let mut bytes = [0; 8];
@@ -38,7 +42,7 @@ fn put_item(out: &mut Vec<u8>, item: i64) -> Result<(), AllocError>
     Ok(())
 }
 
-fn put_need(out: &mut Vec<u8>, need: Need) -> Result<(), AllocError>
+fn put_need(out: &mut PacketBytes, need: Need) -> Result<(), AllocError>
     ensures { OnOk result (out.new.items ≡ out.old.items ++ need_text need) }
 {
     put_u16(out, need.channel)?;
@@ -47,7 +51,7 @@ fn put_need(out: &mut Vec<u8>, need: Need) -> Result<(), AllocError>
 }
 
 // Each need in turn.
-fn put_needs(out: &mut Vec<u8>, needs: &[Need]) -> Result<(), AllocError>
+fn put_needs(out: &mut PacketBytes, needs: &[Need]) -> Result<(), AllocError>
     ensures { OnOk result (out.new.items ≡ out.old.items ++ flat_map need_text needs.now) }
 {
     for need in needs {
@@ -57,7 +61,7 @@ fn put_needs(out: &mut Vec<u8>, needs: &[Need]) -> Result<(), AllocError>
 }
 
 // A count, and so many needs.
-fn put_need_list(out: &mut Vec<u8>, needs: &Needs) -> Result<(), AllocError>
+fn put_need_list(out: &mut PacketBytes, needs: &Needs) -> Result<(), AllocError>
     requires { AreNeeds needs.now }
     ensures { OnOk result (out.new.items ≡ out.old.items ++ needs_text needs.now) }
 {
@@ -67,7 +71,12 @@ fn put_need_list(out: &mut Vec<u8>, needs: &Needs) -> Result<(), AllocError>
 }
 
 // A channel and two counts.
-fn put_counts(out: &mut Vec<u8>, channel: u16, first: u64, second: u64) -> Result<(), AllocError>
+fn put_counts(
+    out: &mut PacketBytes,
+    channel: u16,
+    first: u64,
+    second: u64,
+) -> Result<(), AllocError>
     ensures { OnOk result (out.new.items ≡ out.old.items
         ++ (number_text 2 channel ++ (number_text 8 first ++ number_text 8 second))) }
 {
@@ -78,7 +87,7 @@ fn put_counts(out: &mut Vec<u8>, channel: u16, first: u64, second: u64) -> Resul
 }
 
 // The number of an instance, a channel and a count.
-fn put_ask(out: &mut Vec<u8>, number: u64, channel: u16, count: u64) -> Result<(), AllocError>
+fn put_ask(out: &mut PacketBytes, number: u64, channel: u16, count: u64) -> Result<(), AllocError>
     ensures { OnOk result (out.new.items ≡ out.old.items
         ++ (number_text 8 number ++ (number_text 2 channel ++ number_text 8 count))) }
 {
@@ -88,7 +97,7 @@ fn put_ask(out: &mut Vec<u8>, number: u64, channel: u16, count: u64) -> Result<(
     Ok(())
 }
 
-fn put_data(out: &mut Vec<u8>, channel: u16, position: u64, item: i64) -> Result<(), AllocError>
+fn put_data(out: &mut PacketBytes, channel: u16, position: u64, item: i64) -> Result<(), AllocError>
     ensures { OnOk result (out.new.items ≡ out.old.items
         ++ (number_text 2 channel ++ (number_text 8 position ++ item_text item))) }
 {
@@ -98,7 +107,7 @@ fn put_data(out: &mut Vec<u8>, channel: u16, position: u64, item: i64) -> Result
     Ok(())
 }
 
-fn put_kept(out: &mut Vec<u8>, channel: u16, count: u64) -> Result<(), AllocError>
+fn put_kept(out: &mut PacketBytes, channel: u16, count: u64) -> Result<(), AllocError>
     ensures { OnOk result (out.new.items ≡ out.old.items
         ++ (number_text 2 channel ++ number_text 8 count)) }
 {
@@ -119,7 +128,7 @@ fn number_of_reason(reason: Reason) -> u8
 }
 
 fn put_refused(
-    out: &mut Vec<u8>,
+    out: &mut PacketBytes,
     number: u64,
     channel: u16,
     reason: Reason,
@@ -134,7 +143,7 @@ fn put_refused(
 }
 
 fn put_took(
-    out: &mut Vec<u8>,
+    out: &mut PacketBytes,
     number: u64,
     channel: u16,
     count: u64,
@@ -150,7 +159,7 @@ fn put_took(
     Ok(())
 }
 
-fn put_body(out: &mut Vec<u8>, body: &Body) -> Result<(), AllocError>
+fn put_body(out: &mut PacketBytes, body: &Body) -> Result<(), AllocError>
     requires { IsBody body.now }
     ensures { OnOk result (out.new.items ≡ out.old.items ++ body_text body.now) }
 {
@@ -237,12 +246,12 @@ fn text_len(packet: &Packet) -> usize
     }
 }
 
-/// The spelling of a packet, in memory of just its length. Refuses for want of memory alone.
-pub fn write_packet(alloc: Global, packet: &Packet) -> Result<Vec<u8>, AllocError>
+/// The spelling of a packet. A long one lies in memory of just its length. Refuses for want of memory alone.
+pub fn write_packet(alloc: Global, packet: &Packet) -> Result<PacketBytes, AllocError>
     requires { IsPacket packet.now }
     ensures { IfOk result (λ text. IsPacketText packet.now text.items) }
 {
-    let mut out = Vec::with_capacity(alloc, text_len(packet))?;
+    let mut out = SmallVec::with_capacity(alloc, text_len(packet))?;
     out.push(number_of_kind(&packet.body))?;
     out.push(packet.from)?;
     out.push(packet.to)?;

@@ -6,7 +6,6 @@ ghost use Rattle.protocol.specs.Node.Answering.{holds};
 ghost use Rattle.protocol.specs.Node.Beginning.{in_front};
 ghost use Rattle.protocol.specs.Node.Collecting.{answer_to_took, are_met, is_live, is_met};
 ghost use Rattle.protocol.specs.Node.Verdicts.{may_decide, verdict_packets};
-ghost use Rattle.record.specs.Moves.{highest_seen};
 ghost use Rattle.recovery_line.specs.Observers.{decides, has_node, names};
 ghost use Rattle.decide_core.specs.InitiatorView.{took_view};
 ghost use Rattle.kahn_net.specs.declared.limits.TheConstants.{MAX_CHANNELS};

@@ -1,5 +1,5 @@
 //! The checkpoint for which a node collects answers.
-ghost use Rattle.std.specs.Prelude.{◌≡◌, ◌++◌, ◌<◌, ◌≤◌, [], ◌∷◌, length, map, take, IfOk, OnOk, OnErr, Some, slice_get};
+ghost use Rattle.std.specs.Prelude.{◌≡◌, ◌++◌, ◌<◌, ◌≤◌, [], length, map, take, IfOk, OnOk, OnErr, Some, slice_get};
 ghost use Rattle.kahn_net.specs.Syntax.{network_of};
 ghost use Rattle.protocol.specs.Node.Beginning.{in_front, live_asks, live_begun, open_question, open_questions};
 ghost use Rattle.protocol.specs.Node.Collecting.{answered_by, is_open, is_open_at, awaits, covered_live, joined_asks, joined_live, needs_no_question, new_ask, new_asks, was_asked, with_answer, with_need, with_needs, with_taker};

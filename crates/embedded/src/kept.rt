@@ -154,8 +154,8 @@ fn reopen<D: Disk, E: Disk>(
     world: Sums<E>,
     disks: Vec<D>,
 ) -> anyhow::Result<Option<Sums<D>>> {
-    let net = Arc::clone(&world.net)?;
-    let inputs = Arc::clone(&world.inputs)?;
+    let net = Arc::clone(world.net())?;
+    let inputs = Arc::clone(world.inputs())?;
     let (left, outputs) = world.close(alloc)?;
     let Some(same) = same_disks(alloc, disks, left)? else {
         return Ok(None);

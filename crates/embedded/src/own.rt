@@ -207,8 +207,8 @@ fn run_whole(
 
 /// The world that is opened over what another one of its network leaves.
 fn reopen(alloc: Global, world: OwnWorld) -> anyhow::Result<OwnWorld> {
-    let net = Arc::clone(&world.net)?;
-    let inputs = Arc::clone(&world.inputs)?;
+    let net = Arc::clone(world.net())?;
+    let inputs = Arc::clone(world.inputs())?;
     let (disks, outputs) = world.close(alloc)?;
     match World::open(alloc, net, inputs, disks, outputs) {
         Ok(again) => Ok(again),

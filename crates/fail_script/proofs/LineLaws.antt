@@ -2,7 +2,7 @@
 use Rattle.std.proofs.Common.{◌≡◌, ℕ, ◌<◌, ◌≤◌, ◌&&◌, ◌||◌, true, false, nat_lt, List, [], ◌∷◌, drop, Bor, length}
 use Rattle.std.proofs.Common.{get_or, map, take, take_all, ◌-◌}
 use Rattle.std.proofs.Common.{rules, tests, refl, ap, arith, sym, ◌∙◌, subst, Some, None, inl, inr}
-use Rattle.std.proofs.lemmas.Bool.{and_parts, both_ways, or_cases}
+use Rattle.std.proofs.lemmas.Bool.{and_parts, both_ways}
 use Rattle.std.proofs.Math.Bool.{or-true}
 use Rattle.net_text.specs.Numbers.{numeral_value}
 use Rattle.std.specs.List.{list_all}
@@ -13,10 +13,10 @@ use Rattle.fail_script.specs.declared.act.Act.TheVariants.{FailCall, Start}
 use Rattle.fail_script.specs.declared.act.ScriptLine.{ScriptLine}
 use Rattle.fail_script.specs.declared.words.Form.{Form}
 use Rattle.fail_script.specs.declared.limits.TheConstants.{MAX_ROUND, BEYOND_NODES}
-use Rattle.fail_script.specs.Lines.{words_of, form_of, IsNumeralOf, IsActText, IsLineText, HasForm, IsInNetwork}
+use Rattle.fail_script.specs.Lines.{words_of, form_of, IsActText, IsLineText, HasForm, IsInNetwork}
 use Rattle.fail_script.specs.Lines.{IsFormless, NamesNoNode}
 use Rattle.fail_script.specs.Reading.{has_form, act_in, number_in, node_cut, cut, is_in_network, IsLineRead, IsTextRead}
-use Rattle.fail_script.proofs.Acts.{act_read, act_reads, number_read, number_reads}
+use Rattle.fail_script.proofs.Acts.{act_read, act_reads, number_read}
 use Rattle.fail_script.proofs.Forms.{same_form}
 
 pub head_of : {x y : List ℕ} {xs ys : List (List ℕ)} → x ∷ xs ≡ y ∷ ys → x ≡ y
@@ -28,16 +28,6 @@ head_of {x} e = ap (first x) e
 
 pub tail_of : {x y : List ℕ} {xs ys : List (List ℕ)} → x ∷ xs ≡ y ∷ ys → xs ≡ ys
 tail_of e = ap (drop 1) e
-
--- words that begin with no number of a round write no line
-pub none_by_round : (round : List ℕ) (others : List (List ℕ)) → number_in 0 MAX_ROUND round ≡ None
-    → IsLineRead (round ∷ others) None
-none_by_round round others none v text =
-    let is = subst (λ w. IsNumeralOf w v.round) (sym (head_of text.parts)) text.round_is in
-    absurd (neither (sym none ∙ number_reads 0 MAX_ROUND round v.round is (omega arith) text.in_range))
-  where
-    neither : {A : Type 0} {x : A} → None ≡ Some x → ⊥
-    neither e = absurd cc
 
 -- words whose act has no form write no line
 pub none_by_form : (round : List ℕ) (others : List (List ℕ)) → ((f : Form) → has_form f others → ⊥)
@@ -155,9 +145,6 @@ network_seen nodes (Start node) few is = true_ltb (node_cut node) nodes (node_be
 
 -- ---- what is read of a line's text
 
-pub blank_is : (text : List ℕ) → (list_all is_space text || is_comment text) ≡ true → IsBlank text
-blank_is text e = or_cases (list_all is_space text) (is_comment text) e
-
 pub shown_is : (text : List ℕ) → (list_all is_space text || is_comment text) ≡ false → IsBlank text → ⊥
 shown_is text e (inl spaces) = both_ways _ e (rw spaces refl)
 shown_is text e (inr comment) = both_ways _ e (rw comment (or-true (list_all is_space text)))
@@ -166,18 +153,6 @@ shown_is text e (inr comment) = both_ways _ e (rw comment (or-true (list_all is_
 pub formless : (round : ℕ) (text : List ℕ) → (IsBlank text → ⊥) → IsLineRead (words_of text) None
     → IsFormless round text
 formless round text shown none = (shown, λ line has. none line has.words)
-
--- a line is written, in an earlier round
-pub too_early : (round : ℕ) (text : List ℕ) (line : ScriptLine) → (IsBlank text → ⊥)
-    → IsLineRead (words_of text) (Some line)
-    → line.round < round → IsFormless round text
-too_early round text line shown read less = (
-  shown,
-  λ other has.
-      let same = same_round (words_of text) read.0 other read.1 has.words in
-      let is = ap (λ l. l.round) read.2 in
-      let late = has.not_before in omega (arith, same, is, late, less),
-)
 
 read_form : (round : ℕ) (text : List ℕ) (line : ScriptLine) → (IsBlank text → ⊥)
     → (read : IsLineRead (words_of text) (Some line))

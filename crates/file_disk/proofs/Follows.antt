@@ -58,29 +58,6 @@ syncs before bytes flags step are_due c held =
     by i lt true is = held.1 i (get_or bytes i 0) (are_due i lt is)
     by i lt false is = (step c held.0).settled i lt is
 
--- while one is made, and also where it fails, the file stays in step
-pub sync_stays : (t : ℕ) (before : FileHistory) (bytes : List ℕ) (flags : List Bool) (done : Bool)
-    → t ≤ request_count before → StaysInStep t before bytes flags → StaysInStep t (Synced done before) bytes flags
-sync_stays t before bytes flags true le stays c (inl held) = stays c (holds_now before t c le held.1.0)
-sync_stays t before bytes flags false le stays c (inl held) = stays c (holds_now before t c le held.1)
-sync_stays t before bytes flags true le stays c (inr held) = stays c held
-sync_stays t before bytes flags false le stays c (inr held) = stays c held
-
--- a file that holds these bytes is in step with them, whatever is in doubt
-pub holding_in_step : (history : FileHistory) (bytes : List ℕ) (flags : List Bool) → HoldsOnly history bytes
-    → IsInStep history bytes flags
-holding_in_step history bytes flags holds c held =
-    let is = holds c held in
-    record { size = ap length is; settled = λ i lt firm. ap (λ (l : List ℕ). get_or l i 0) is }
-
--- where nothing is in doubt nothing has to be due
-pub none_due : (history : FileHistory) (bytes : List ℕ) (flags : List Bool)
-    → ((k : ℕ) → get_or flags k false ≡ false) → AreDue history bytes flags
-none_due history bytes flags none i lt is = absurd (apart (sym is ∙ none (i / SECTOR_BYTES)))
-  where
-    apart : true ≡ false → ⊥
-    apart e = cc
-
 -- Sectors are put once more: those in doubt before the k-th have been put, and the file has stayed in step.
 pub record PutUpTo (k : ℕ) (start now : FileHistory) (bytes : List ℕ) (flags : List Bool) : Type 0 where
   pub stays : IsInStep start bytes flags → StaysInStep (request_count start) now bytes flags

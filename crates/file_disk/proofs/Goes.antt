@@ -1,10 +1,10 @@
 -- A file goes with the sectors of a disk after each call.
 use Rattle.std.proofs.Common.{◌≡◌, ℕ, Bool, true, false, ◌<◌, List, length, get_or, sym, ◌∙◌, ap, subst}
 use Rattle.sector_disk.specs.declared.sectors.Sectors.{Sectors}
-use Rattle.file_disk.specs.History.{FileHistory, HoldsOnly, MayHold, Put}
+use Rattle.file_disk.specs.History.{FileHistory, MayHold, Put}
 use Rattle.file_disk.specs.InStep.{AreDue, GoesWith, IsInStep, IsRewritten}
 use Rattle.file_disk.specs.declared.backing.Backing.{Backing}
-use Rattle.file_disk.proofs.Follows.{put_in_step, put_due, holding_in_step, none_due}
+use Rattle.file_disk.proofs.Follows.{put_in_step, put_due}
 
 module _ {F : Type 0} (history : F → FileHistory) where
   -- a write was passed on, whether that succeeded or not
@@ -45,12 +45,3 @@ module _ {F : Type 0} (history : F → FileHistory) where
 
       within : (i : ℕ) → i < length now.bytes.items → i < length was.bytes.items
       within i lt = subst (λ n. i < n) (ap length same) lt
-
-  -- nothing is in doubt, and the file holds what reads give or is lost
-  pub settled_goes : (backing : Backing F) (sectors : Sectors)
-      → (backing.lost ≡ false → HoldsOnly (history backing.file) sectors.bytes.items)
-      → ((k : ℕ) → get_or sectors.doubt.flags.items k false ≡ false) → GoesWith history backing sectors
-  settled_goes backing sectors holds none = record {
-    in_step = λ here. holding_in_step (history backing.file) sectors.bytes.items sectors.doubt.flags.items (holds here);
-    due = λ here fresh. none_due (history backing.file) sectors.bytes.items sectors.doubt.flags.items none;
-  }

@@ -7,3 +7,4 @@ mod PutMoves
 mod GatePut
 mod Laying
 mod Finding
+pub mod Ending

@@ -17,7 +17,9 @@ pub use access::{look, write_sectors, write_through};
 pub use cell::StableCell;
 pub use fault::CellFault;
 pub use formatting::lay_out;
-pub use frame::{LENGTH_BYTES, area_of, frame_len, framed, length_of, room_of, unframed};
+pub use frame::{
+    LENGTH_BYTES, area_of, begin_frame, end_frame, frame_len, framed, length_of, room_of, unframed,
+};
 pub use gate::GateCell;
 pub use gated::{Found, find_in, put_value};
 

@@ -6,7 +6,7 @@ use Rattle.std.proofs.lemmas.List.{at_drop_more}
 use Rattle.std.proofs.lemmas.List.Concat.{flat_map-append}
 use Rattle.std.specs.Io.KnownBytes.{Appends}
 use Rattle.std.specs.Prelude.{Option, codes}
-use Rattle.replay.specs.Replay.{Happening, KeptEventView, Made}
+use Rattle.replay.specs.Replay.{KeptEventView, Made}
 use Rattle.replay.specs.Replies.{KeptReply}
 use Rattle.replay.specs.declared.kept.Maker.{Maker}
 use Rattle.run_log.specs.Lines.{happenings, happenings_of, made_times, nth_answer}

@@ -1,11 +1,8 @@
--- Streams in the files of outlets, one after another; and outlets that never failed.
+-- Streams in the files of outlets, one after another.
 use Rattle.std.proofs.Common.{◌≡◌, ◌++◌, [], ◌∷◌, ℤ, List, length, refl}
-use Rattle.std.specs.List.{AllByRecursion}
 use Rattle.output_file.specs.InFile.{IsInFile}
 use Rattle.output_file.specs.declared.file.LineFile.{Ghosts as FileWords}
 use Rattle.output_file.specs.declared.resumed.ResumedOutlet.{ResumedOutlet}
-use Rattle.station.specs.declared.output.Output.{Output}
-use Rattle.cobaltmidge.specs.Turning.{HasNoFailures}
 use Rattle.kahn_program.specs.KeptFiles.{AreInFiles}
 
 module _ {F : Type 0} {file : FileWords F} where
@@ -22,8 +19,3 @@ module _ {F : Type 0} {file : FileWords F} where
 pub no_items : {A : Type 0} (items : List A) → length items ≡ 0 → items ≡ []
 no_items [] none = refl
 no_items (item ∷ items) none = absurd (cc)
-
--- outlets that can't fail
-pub never_failed : {O : Type 0} (outputs : List (Output O)) → AllByRecursion (HasNoFailures (λ (outlet : O). 0)) outputs
-never_failed [] = tt
-never_failed (output ∷ outputs) = (refl, never_failed outputs)

@@ -6,7 +6,7 @@ ghost use Rattle.protocol.specs.Node.Common.{Fits, network_of, MAX_CHANNELS};
 ghost use Rattle.protocol.specs.World.Common.{released_of, goes_outside, output_channels};
 ghost use Rattle.history_text.specs.Histories.{history_text};
 ghost use Rattle.run_log.specs.Lines.{happenings};
-ghost use Rattle.world.specs.WholeView.{world_of};
+ghost use Rattle.world.specs.WholeView.{net_in, world_of};
 ghost use Rattle.cobaltmidge.specs.Runs.{released_streams};
 ghost use Rattle.kahn_program.specs.Keeping.{IsKeeperFailure};
 ghost use Rattle.kahn_program.specs.Runnable.{IsReportless, IsUnwritten, run_failure};
@@ -18,7 +18,7 @@ use crate::failure::Failure;
 use crate::keeper::Keeper;
 use crate::reporting::{Stream, report};
 use cobaltmidge::{
-    History, RunFault, RunWatch, RunWorld, TurnWatch, cut, run_network, write_history,
+    Ended, History, RunFault, RunWatch, RunWorld, TurnWatch, cut, run_network, write_history,
 };
 use kahn_net::{Channel, Port};
 use net_check::{Inputs, Net};
@@ -129,7 +129,7 @@ fn close_outputs<O: Outlet, K: Keeper<O>>(
     keeper: &mut K,
 ) -> Result<(), Failure>
     ensures kept { OnOk result (K.has_kept keeper.new
-        (released_streams (network_of world.net.value.program) (world_of world).stations)) }
+        (released_streams (network_of (net_in world).value.program) (world_of world).stations)) }
     ensures err { IfErr result (IsKeeperFailure K.keeps) }
 {
     let Ok(closed) = world.close(alloc) else {
@@ -213,7 +213,7 @@ pub fn report_of_run<
     let Ok(net) = Arc::new(alloc, net) else {
         return Err(Failure::NoMemory);
     };
-    let (world, happened) = match run_network(
+    let ended = match run_network(
         rt,
         alloc,
         options.settings(),
@@ -223,9 +223,14 @@ pub fn report_of_run<
         script,
         watch,
     ) {
-        Ok(ran) => ran,
+        Ok(ended) => ended,
         Err(fault) => return Err(run_failure(fault)),
     };
+    let Ended {
+        world,
+        history: happened,
+        ..
+    } = ended;
     let Ok(report) = report_of_world(alloc, &net, &world, options.items) else {
         return Err(Failure::NoMemory);
     };

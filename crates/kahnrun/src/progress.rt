@@ -44,7 +44,7 @@ fn left_of_world<C: SlotCell, O: Outlet>(
     world: &World<C, O>,
 ) -> Result<Vec<u64>, AllocError> {
     let mut left = Vec::new(alloc);
-    for channel in 0..world.net.program.channels.len() {
+    for channel in 0..world.net().program.channels.len() {
         left.push(world.released(channel as u8).len() as u64)?;
     }
     Ok(left)
@@ -106,7 +106,7 @@ impl<'a, R: Wait + Clock> Progress<'a, R> {
     ) -> Result<String, AllocError> {
         let alloc = self.host.alloc();
         let left = left_of_world(alloc, world)?;
-        line_of(alloc, &world.net, world.round(), &left)
+        line_of(alloc, world.net(), world.round(), &left)
     }
 
     // Whether the line of a run by turns is to be written now.

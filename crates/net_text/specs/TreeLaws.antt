@@ -1,13 +1,13 @@
 -- Trees of the text, as code finds them: a chain, a negation and an if are those of their parts.
 use Rattle.std.proofs.Common.{◌≡◌, ℕ, map, ap, refl, Box, Vec, Global, rules}
 use mathlib.Core.Former.{Count}
-use Rattle.net_text.specs.Trees.{MinusTree, ChainTree, LinkThenTree, BlockTree, IfTree, RepeatTree, expr_tree, row_tree}
+use Rattle.net_text.specs.Trees.{ChainTree, LinkThenTree, BlockTree, IfTree, RepeatTree, expr_tree, row_tree}
 use Rattle.net_text.specs.Trees.{link_tree}
 use Rattle.net_text.specs.Trees.{links_tree, then_tree, row_block, block_tree}
 use Rattle.net_text.specs.declared.tree.LinkText.{LinkText}
 use Rattle.net_text.specs.declared.tree.ExprText.{ExprText, Row_of-LinkText, end_of-LinkText, more_of-LinkText}
 use Rattle.net_text.specs.declared.tree.ExprText.{items-the_row-LinkText, the_lemmas}
-use Rattle.net_text.specs.declared.tree.ExprText.TheViews.{Chain, Negate}
+use Rattle.net_text.specs.declared.tree.ExprText.TheViews.{Chain}
 use Rattle.net_text.specs.declared.tree.StatementText.{StatementText, Row_of-StatementText, end_of-StatementText}
 use Rattle.net_text.specs.declared.tree.StatementText.{more_of-StatementText, items-the_row-StatementText}
 use Rattle.net_text.specs.declared.tree.StatementText.{the_lemmas as the_statement_lemmas}
@@ -21,9 +21,6 @@ row_items (more_of-LinkText operator value rest) = ap (LinkThenTree operator (ex
 pub chain_tree : (first : Box ExprText Global) (links : Vec LinkText Global)
     → expr_tree (Chain first links) ≡ ChainTree (expr_tree first.value) (links_tree (map link_tree links.items))
 chain_tree first links = search (rules, the_lemmas, row_items)
-
-pub minus_tree : (value : Box ExprText Global) → expr_tree (Negate value) ≡ MinusTree (expr_tree value.value)
-minus_tree value = search (rules, the_lemmas)
 
 pub row_statements : {n : Count} (row : Row_of-StatementText n)
     → row_block row ≡ block_tree (items-the_row-StatementText n row)

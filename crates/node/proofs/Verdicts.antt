@@ -1,6 +1,6 @@
 -- That a store has no cause to refuse a decision, a verdict or a confirmation, and what becomes of the node by one.
 use Rattle.std.proofs.Common.{◌≡◌, ℕ, zero, suc, ◌+◌, ◌<◌, ◌≤◌, Bool, true, false, ◌&&◌, ◌||◌, not, List, [], ◌∷◌, length}
-use Rattle.std.proofs.Common.{Option, Some, None, option_map, refl, sym, ◌∙◌, ap, subst, arith, eqb, All}
+use Rattle.std.proofs.Common.{Option, Some, None, refl, sym, ◌∙◌, ap, subst, arith, eqb, All}
 use Rattle.std.specs.Prelude.{◌==◌, cond, nat_le, nat_lt}
 use Rattle.std.specs.List.{list_any}
 use Rattle.std.proofs.lemmas.Bool.{le-leb, lt-ltb, eqb-true}
@@ -8,10 +8,10 @@ use Rattle.std.proofs.lemmas.List.{length-append}
 use Rattle.std.proofs.lemmas.List.Elements.{All-cons, All-nil}
 use Rattle.ckpt_codec.specs.Common.{AreAllowed, IsAllowed, spelled_length, decided_below, decided_by, decision_by}
 use Rattle.ckpt_codec.specs.Common.{last_image}
-use Rattle.protocol.specs.Node.Common.{image_length, MAX_RETAINED_ITEMS, fits_in, numbers_where, mode_then}
+use Rattle.protocol.specs.Node.Common.{image_length, MAX_RETAINED_ITEMS, fits_in, numbers_where}
 use Rattle.protocol.specs.Node.Common.{participants_of, MAX_NODES, DecisionView, ImageView, with_confirmed}
 use Rattle.protocol.specs.Node.Common.{with_decision, without_tentative, RecordView, Tentative, MAX_DECISIONS}
-use Rattle.protocol.specs.Node.Common.{StoreFault, holds, ModeView, Down, InDoubt, Runs, RunningView, Network}
+use Rattle.protocol.specs.Node.Common.{StoreFault, holds}
 use Rattle.ckpt_codec.specs.RecordText.{participants}
 use Rattle.ckpt_codec.specs.SizeLaws.{IsRecordWithin, within_confirmed, within_without_tentative}
 use Rattle.ckpt_codec.specs.declared.lengths.TheConstants.{MAX_RECORD_BYTES}
@@ -19,15 +19,14 @@ use Rattle.ckpt_store.proofs.Room.{decision_fits}
 use Rattle.ckpt_store.specs.Spelling.{AreOthers, held_fits, images_fit, is_short}
 use Rattle.protocol_laws.specs.Node.SizeLaws.{decided_within}
 use Rattle.protocol_laws.specs.World.RoomLaws.{bounded_is_short}
-use Rattle.node.proofs.Starts.{both_of}
 use Rattle.protocol.specs.World.Common.{has_node, names}
-use Rattle.protocol.specs.Node.Recovering.{restored_from}
 use Rattle.ckpt_store.specs.Refusals.{is_held, is_named_by, refusal_to_decide, refusal_unless_held}
 use Rattle.ckpt_store.specs.declared.fault.StoreFault.TheVariants as fault
-use Rattle.node.specs.Said.{held_image, restored_if_doubtful}
-use Rattle.rollback_core.specs.RestoredView.{restored_view}
-use Rattle.rollback_core.specs.declared.restoring.Restored.{Restored}
-use Rattle.node.specs.Then.{mode_of}
+use Rattle.node.specs.Said.{held_image}
+
+pub both_of : (a b : Bool) → (a && b) ≡ true → (a ≡ true) × (b ≡ true)
+both_of true b is = (refl, is)
+both_of false b is = absurd (cc)
 
 -- what is held is said in the same words
 pub held_same : (initiator number : ℕ) (o : Option Tentative) → holds initiator number o ≡ is_held initiator number o
@@ -126,38 +125,6 @@ held_image_is initiator number (Some held) image is =
         × ((permanent : ImageView) → last_image permanent (Some held) ≡ image)
     at true same e = (same, λ permanent. (let is : held.image ≡ image = cc in is))
     at false same e = absurd (cc)
-
--- it is that of a tentative image
-pub held_there : (initiator number : ℕ) (o : Option Tentative) (image : ImageView)
-    → held_image initiator number o ≡ Some image → (held : Tentative) × (o ≡ Some held) × (held.image ≡ image)
-held_there initiator number None image is = absurd (cc)
-held_there initiator number (Some held) image is =
-    at (eqb held.initiator initiator && eqb held.number number) is
-  where
-    at : (b : Bool) → cond b (Some held.image) None ≡ Some image
-        → (h : Tentative) × (Some held ≡ Some h) × (h.image ≡ image)
-    at true same = (held, refl, (let is : held.image ≡ image = cc in is))
-    at false same = absurd (cc)
-
--- what a node runs with that was in doubt
-runs_with : (o : Option Restored) (running : RunningView) → option_map restored_view o ≡ Some running
-    → mode_of o InDoubt ≡ Runs running
-runs_with None running is = absurd (cc)
-runs_with (Some restored) running is = (let same : restored_view restored ≡ running = cc in ap Runs same)
-
-stays_with : (o : Option Restored) (mode : ModeView) → option_map restored_view o ≡ None → mode_of o mode ≡ mode
-stays_with None mode is = refl
-stays_with (Some restored) mode is = absurd (cc)
-
-pub then_runs : (net : Network) (home : ℕ) (kept : RecordView) (image : ImageView) (epoch : ℕ) (o : Option Restored)
-    (mode : ModeView) → option_map restored_view o ≡ restored_if_doubtful net home mode image epoch
-    → kept.permanent ≡ image → kept.epoch ≡ epoch → mode_then net home kept mode ≡ mode_of o mode
-then_runs net home kept image epoch o Down is same number = sym (stays_with o Down is)
-then_runs net home kept image epoch o InDoubt is same number =
-    ap (λ (i : ImageView). Runs (restored_from net home i kept.epoch)) same
-    ∙ (ap (λ (e : ℕ). Runs (restored_from net home image e)) number
-    ∙ sym (runs_with o (restored_from net home image epoch) is))
-then_runs net home kept image epoch o (Runs running) is same number = sym (stays_with o (Runs running) is)
 
 -- ---- what fits
 

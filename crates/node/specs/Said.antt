@@ -1,14 +1,13 @@
 -- What a node says to a packet, and what it runs from once it was in doubt.
 use Rattle.std.specs.Prelude.{◌≡◌, ◌<◌, ◌≤◌, ◌&&◌, ◌==◌, ℕ, true, false, if◌then◌else◌, List, length, Option, Some, None}
-use Rattle.protocol.specs.Node.Common.{Packet, ImageView, Tentative, MAX_RETAINED_ITEMS, MAX_NODES, MAX_DECISIONS}
+use Rattle.protocol.specs.Node.Common.{ImageView, Tentative, MAX_RETAINED_ITEMS, MAX_NODES, MAX_DECISIONS}
 use Rattle.protocol.specs.Node.Common.{live_in, LiveView, Network, NodeView, ModeView, Down, InDoubt, Runs}
-use Rattle.protocol.specs.Node.Common.{RunningView, Prospect, packets_by, may_decide}
+use Rattle.protocol.specs.Node.Common.{RunningView, may_decide}
 use Rattle.ckpt_codec.specs.SizeLaws.{IsRecordWithin}
 use Rattle.protocol.specs.World.Common.{has_node}
 use Rattle.protocol.specs.Node.Recovering.{restored_from}
 use Rattle.protocol.specs.declared.links.Inbox.{Inbox}
 use Rattle.protocol.specs.declared.outcome.Outcome.TheVariants as outcome
-use Rattle.protocol.specs.declared.outcome.Refusal.TheVariants.{TooLarge}
 
 -- the image that is held, of this initiator's checkpoint of this number
 abbrev pub held_image : ℕ → ℕ → Option Tentative → Option ImageView

@@ -3,7 +3,7 @@ ghost use Rattle.std.specs.Prelude.{◌≡◌, ◌<◌, ◌≤◌, false, length
 ghost use Rattle.protocol.specs.Node.Common.{cell_in, restart_after, crashed, start_prospect, IsLikeNow};
 ghost use Rattle.protocol.specs.Node.Common.{decide_prospect, network_of, MAX_NODES, highest_seen, RecordView};
 ghost use Rattle.node.specs.Planned.{CanBeMade, prospect_view};
-ghost use Rattle.node.specs.NodeView.{mode_view, node_view};
+ghost use Rattle.node.specs.NodeView.{node_view};
 ghost use Rattle.node.specs.StoredView.{IsCrashed, IsAnswer, has_failed, put_outcome};
 ghost use Rattle.node.specs.Then.{MayFollow, then_node};
 ghost use Rattle.node.specs.Said.{MayBeDecided};

@@ -1,5 +1,5 @@
 //! A node, and its events.
-ghost use Rattle.std.specs.Prelude.{◌≡◌, ◌<◌, ◌≤◌, ◌++◌, [], ◌∷◌, false, true, not, length, IfErr, IfOk, IsErrOf, IsSome, IsTrue, None, OnErr, OnOk, is_some, option_map};
+ghost use Rattle.std.specs.Prelude.{◌≡◌, ◌<◌, ◌++◌, [], ◌∷◌, false, true, not, length, IfErr, IfOk, IsErrOf, IsSome, IsTrue, None, OnErr, OnOk, is_some, option_map};
 ghost use Rattle.protocol.specs.Node.Common.{standing_of, network_of, MAX_RETAINED_ITEMS, cell_in, known_in};
 ghost use Rattle.protocol.specs.Node.Common.{record_in, with_armed, node_job, with_grant, names_right};
 ghost use Rattle.protocol.specs.Node.Common.{start_prospect, packet_for, hear_prospect, turn_packets};

@@ -1,6 +1,6 @@
 // An event of a node is planned once: what is put of its record, what becomes of its memory, and what it says. A plan changes nothing.
 // So whoever sends what is said has the memory for it before anything is put; and one function carries a plan out.
-ghost use Rattle.std.specs.Prelude.{◌≡◌, IfOk, IsSome, List, true};
+ghost use Rattle.std.specs.Prelude.{◌≡◌, IsSome, List, true};
 ghost use Rattle.protocol.specs.Node.Common.{Changes, cell_in, known_in, record_in, with_kept, Planned};
 ghost use Rattle.datagram.specs.declared.packet.Packet.{Packet as PacketValue};
 ghost use Rattle.protocol.specs.Node.Plans.{LeavesCell};

@@ -1,10 +1,10 @@
 // An outlet that goes on with what a file holds.
-ghost use Rattle.std.specs.Prelude.{◌≡◌, ◌≢◌, ◌⊎◌, ◌↔◌, ◌+◌, ◌^◌, ◌<◌, ◌≤◌, ◌++◌, [], ◌∷◌, true, false, ℕ, ℤ, List, length, max, take, drop, slice_get, Some, None, Ok, Err, OnOk, OnErr, IfOk, IfSome, IsErrOf, IsOk, IsTrue, vec_capacity};
+ghost use Rattle.std.specs.Prelude.{◌≡◌, ◌≢◌, ◌⊎◌, ◌↔◌, ◌+◌, ◌^◌, ◌<◌, ◌≤◌, ◌++◌, [], ◌∷◌, true, false, ℕ, List, length, max, take, drop, slice_get, Some, None, Ok, Err, OnOk, OnErr, IfOk, IfSome, IsErrOf, IsOk, IsTrue, vec_capacity};
 ghost use Rattle.outlet.specs.Faults.{failures_after};
 ghost use Rattle.sector_disk.specs.Past.{states_of};
 ghost use Rattle.output_file.specs.Lines.{item_line, lines_of};
 ghost use Rattle.output_file.specs.Requests.{Synced, bytes_put, has_failed, go_on_from, content_after};
-ghost use Rattle.output_file.specs.Writing.{IsWritten, OutputView, is_refusing, HasSameItems, Appends};
+ghost use Rattle.output_file.specs.Writing.{IsWritten, is_refusing, HasSameItems, Appends};
 ghost use Rattle.output_file.specs.declared.TheConstants.{BLOCK_BYTES};
 
 use crate::file::LineFile;

@@ -68,7 +68,7 @@ module _ (code : Code) (v : List ℤ) (u : List (List ℤ)) (passing : HasPassin
 -- the same of a machine that stands there
 pub runs_at : (code : Code) (is : List Instruction) (m : Machine) (mode : Mode) (v : List ℤ) (items : List (List ℤ))
     → HasPassingLoop code → IsTrue (code_repeats_within code) → is ≡ process_code code
-    → m.place ≡ place_in code mode → m.stack.items ≡ [] → m.left.items ≡ passes_in mode → m.variables.items ≡ v
+    → m.place ≡ place_in code mode → m.stack ≡ [] → m.left.items ≡ passes_in mode → m.variables.items ≡ v
     → m.unread.items ≡ items → CanStand code (standing_in mode v)
     → RunsTo is ((total items + 2) * (MOST * length is)) m (trace_from code (standing_in mode v) m.unread.items)
 runs_at code is m mode v items passing within compiled place empty passes vars untaken fits =

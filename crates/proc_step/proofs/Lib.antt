@@ -6,3 +6,5 @@ pub mod Machines
 pub mod Rounds
 pub mod Coded
 pub mod Weights
+pub mod Stacks
+pub mod Straight

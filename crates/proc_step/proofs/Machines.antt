@@ -1,7 +1,6 @@
 -- What one instruction leaves of a turn.
 use Rattle.std.proofs.Common.{◌≡◌, ℕ, zero, suc, ◌+◌, ◌<◌, ◌≤◌, drop, set, length, List, ℤ, [], ◌∷◌, ◌++◌, Option, Some}
 use Rattle.std.proofs.Common.{◌-◌, true, false, None, refl, sym, ap, ◌∙◌, subst, arith, Vec, Global}
-use mathlib.Core.List.{reverse}
 use Rattle.std.specs.Prelude.{slice_get, slice_index, nat_lt}
 use Rattle.std.proofs.lemmas.Bool.{lt-ltb, le-ltb}
 use Rattle.kahn_net.specs.Common.{Got, Sent, point_at, on_get, Step, Trace, Ended, Stopped, no_steps, history_of}
@@ -156,7 +155,7 @@ pub get_moves : (i : Instruction) (x channel site : ℕ) (room : List ℕ) (m : 
 get_moves i x channel site room m item later v u is here e f =
     let act : Step =
     record { point = point_at site m.left.items; vars = m.variables.items; act = Got channel item } in
-    let s = reverse m.stack.items in
+    let s = m.stack in
     Acting act
     (λ go. ap (λ (j : Instruction). trace_at (perform (Some j) go) m) is
     ∙ (ap (λ (h : List ℤ). on_get h act.point channel m.variables.items
@@ -168,17 +167,17 @@ get_moves i x channel site room m item later v u is here e f =
     (ap (λ (h : List ℤ). slice_get h 0) here)
     (e ∙ ap (λ (h : List ℤ). set m.unread.items channel (drop 1 h)) (sym here)) refl
 
-pub put_moves : (i : Instruction) (channel site : ℕ) (room : List ℕ) (m : Machine) (s : Vec ℤ Global)
+pub put_moves : (i : Instruction) (channel site : ℕ) (room : List ℕ) (m : Machine) (s : List ℤ)
     (sent : Vec (List ℤ) Global) → i ≡ Put channel site
     → length (history_of m.sent.items channel) < slice_index room channel
-    → sent.items ≡ set m.sent.items channel (history_of m.sent.items channel ++ top (reverse m.stack.items) ∷ [])
-    → reverse s.items ≡ below (reverse m.stack.items)
+    → sent.items ≡ set m.sent.items channel (history_of m.sent.items channel ++ top m.stack ∷ [])
+    → s ≡ below m.stack
     → Moved i room m (record m { place = m.place + 1; stack = s; sent = sent })
 put_moves i channel site room m s sent is can e f =
     let act : Step = record {
       point = point_at site m.left.items;
       vars = m.variables.items;
-      act = Sent channel (top (reverse m.stack.items));
+      act = Sent channel (top m.stack);
     } in
     Acting act
     (λ go. ap (λ (j : Instruction). trace_at (perform (Some j) go) m) is

@@ -4,3 +4,4 @@ pub mod Jobs
 pub mod NextView
 pub mod TurnLaws
 pub mod Stepping
+pub mod Stacked

@@ -1,6 +1,5 @@
 -- What instructions do to the machine of a turn.
 use Rattle.std.specs.Prelude.{◌≡◌, ◌+◌, ℕ, ℤ, List, Option, Some, None, length}
-use mathlib.Core.List.{reverse}
 use Rattle.kahn_net.specs.Common.{Step, Trace, put_by, left_by}
 use Rattle.kahn_net.specs.Statements.{after_step}
 use Rattle.proc_code.specs.declared.instruction.Instruction.{Instruction}
@@ -9,15 +8,17 @@ use Rattle.proc_step.specs.Turns.{CanBeMade}
 use Rattle.proc_step.specs.Parts.{Part}
 use Rattle.proc_step.specs.declared.machine.Flow.{Flow}
 use Rattle.proc_step.specs.declared.machine.Machine.{Machine}
+use Rattle.proc_step.specs.declared.machine.Next.{Next}
+use Rattle.proc_step.specs.declared.machine.Next.TheVariants.{Behind, To, Stop}
 
 -- the trace from where a machine is
 abbrev pub trace_at : Continuation → Machine → Trace
-trace_at go m = go m.place (reverse m.stack.items) m.left.items m.variables.items m.unread.items
+trace_at go m = go m.place m.stack m.left.items m.variables.items m.unread.items
 
 -- in at most so many instructions the code makes this trace from there
 abbrev pub RunsTo : List Instruction → ℕ → Machine → Trace → Type 0
 RunsTo code most m t =
-    Runs code most m.place (reverse m.stack.items) m.left.items m.variables.items m.unread.items (λ _. t)
+    Runs code most m.place m.stack m.left.items m.variables.items m.unread.items (λ _. t)
 
 -- The machine went on: by no act, so that nothing was taken and nothing sent, or by one that could be made.
 pub data Moved (i : Instruction) (room : List ℕ) (m m' : Machine) : Type 0 where
@@ -27,11 +28,21 @@ pub data Moved (i : Instruction) (room : List ℕ) (m m' : Machine) : Type 0 whe
       → CanBeMade step.act room m.unread.items m.sent.items → m'.unread.items ≡ left_by step.act m.unread.items
       → m'.sent.items ≡ put_by step.act m.sent.items → Moved i room m m'
 
+-- a machine at this place with these values, whatever it says of them itself
+abbrev pub held : Machine → ℕ → List ℤ → Machine
+held m place stack = record m { place = place; stack = stack }
+
 -- what an instruction did: the machine went on, or the process stopped before its next act
 abbrev pub Stepped : Instruction → List ℕ → Machine → Option Flow → Machine → Type 0
 Stepped i room m None m' = Moved i room m m'
 Stepped i room m (Some flow) m' =
     (go : Continuation) → Part (trace_at (perform (Some i) go) m) room m.unread.items m.sent.items flow m'
+
+-- the same by what follows it, where the machine doesn't say so itself
+abbrev pub Performed : Instruction → List ℕ → Machine → Next → Machine → Type 0
+Performed i room m Behind m' = Stepped i room m None (record m' { place = m.place + 1 })
+Performed i room m (To target) m' = Stepped i room m None (record m' { place = target })
+Performed i room m (Stop flow) m' = Stepped i room m (Some flow) m'
 
 -- What remains of a turn: in at most so many instructions the code makes a trace from here, and whatever part of it is
 -- made, a part of the whole was made.

@@ -8,6 +8,7 @@ mod machine;
 mod next;
 mod outcome;
 mod room;
+mod stack;
 
 pub use job::{Done, Job, JobFault};
 pub use kahn_net::{Mode, Place, ProcState};

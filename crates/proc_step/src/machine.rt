@@ -1,27 +1,29 @@
 //! The machine of a turn: it carries out a process's code from where the process stands.
 //!
 //! Between an item that it takes and the next one a process carries out each of its instructions twice at most, and
-//! as often more as the repetitions round it are made. So the loops here are counted: a round is as many instructions
-//! as the code has, a pass is as many rounds as repetitions may be made, and a pass for each item at hand and two more
-//! are enough for all that it can do.
+//! as often more as the repetitions round it are made. So the loops here are counted: a round is as many stretches of
+//! instructions one behind the other as the code has instructions, and each is one instruction at least; a pass is as
+//! many rounds as repetitions may be made, and a pass for each item at hand and two more are enough for all that it can
+//! do.
 
-ghost use Rattle.std.specs.Prelude.{◌≡◌, ◌+◌, ◌-◌, ◌*◌, ◌<◌, ◌^◌, [], ◌∷◌, ◌++◌, nat_lt, true, false, length};
+ghost use Rattle.std.specs.Prelude.{◌≡◌, ◌+◌, ◌-◌, ◌*◌, ℕ, [], ◌∷◌, ◌++◌, nat_lt, true, false, length};
 ghost use Rattle.std.specs.Prelude.{IfOk, OnOk};
-ghost use mathlib.Core.List.{reverse};
 ghost use Rattle.kahn_net.specs.Common.{Trace, total};
 ghost use Rattle.kahn_net.specs.Syntax.{Code as Syntax};
 ghost use Rattle.proc_code.specs.CodeView.{code_view};
-ghost use Rattle.proc_code.specs.Machine.{top, below, innermost, round_it};
+ghost use Rattle.proc_code.specs.Machine.{innermost, round_it};
 ghost use Rattle.proc_code.specs.Translation.{flat_code};
 ghost use Rattle.proc_step.specs.Parts.{Part, passes_in, place_in};
-ghost use Rattle.proc_step.specs.Stepping.{RunsTo, Stepped, WentOn};
+ghost use Rattle.proc_step.specs.Stepping.{Performed, RunsTo, WentOn, held};
 ghost use Rattle.proc_step.specs.Turns.{nothing_sent};
 
 use crate::room::{empty_histories, has_room, send};
+use crate::stack::Stack;
 use kahn_net::{History, MAX_NESTED_TIMES, Mode, ProcState};
 use proc_code::{Code, Instruction};
 use std::alloc::{AllocError, Global};
-use stream_eq::{Unread, all_unread, operate, set_variable, take_item};
+use std::mem;
+use stream_eq::{Unread, all_unread, set_variable, take_item};
 
 /// How a process stopped.
 #[derive(Clone, Copy)]
@@ -34,6 +36,17 @@ pub enum Flow {
     Stands(usize),
 }
 
+/// What follows an instruction.
+#[derive(Clone, Copy)]
+pub enum Next {
+    /// The instruction behind it.
+    Behind,
+    /// The one at this place.
+    To(usize),
+    /// Nothing: the process stops.
+    Stop(Flow),
+}
+
 /// What a turn changes. What is fixed for the turn, the code and the places of room, is lent to each method instead: so
 /// no contract has to say that it stays the same.
 #[derive(Drop)]
@@ -41,7 +54,7 @@ pub struct Machine<'a> {
     /// The place of the next instruction.
     pub place: usize,
     /// The values that expressions left.
-    pub stack: Vec<i64>,
+    pub stack: Stack,
     /// The passes that remain of each repetition round the place.
     pub left: Vec<u16>,
     pub variables: Vec<i64>,
@@ -49,22 +62,6 @@ pub struct Machine<'a> {
     pub unread: Vec<Unread<'a>>,
     /// What was sent on each channel.
     pub sent: Vec<History>,
-}
-
-/// Takes the topmost value of a stack; 0 where it is empty.
-fn pop(stack: &mut Vec<i64>) -> i64
-    ensures value { result ≡ top (reverse stack.old.items) }
-    ensures rest { reverse stack.new.items ≡ below (reverse stack.old.items) }
-{
-    stack.pop().unwrap_or(0)
-}
-
-/// Puts a value on a stack, which has room for it: it was made with the room that the code takes.
-fn push(stack: &mut Vec<i64>, value: i64) -> Result<(), AllocError>
-    ensures { OnOk result (reverse stack.new.items ≡ value ∷ reverse stack.old.items) }
-{
-    stack.push(value)?;
-    Ok(())
 }
 
 /// Opens a repetition of so many passes.
@@ -130,7 +127,7 @@ impl<'a> Machine<'a> {
     ) -> Result<Self, AllocError>
         ensures place { IfOk result (λ machine. (process : Syntax)
             → code_view code.now ≡ flat_code process → machine.place ≡ place_in process state.now.mode) }
-        ensures empty { IfOk result (λ machine. machine.stack.items ≡ []) }
+        ensures empty { IfOk result (λ machine. machine.stack ≡ []) }
         ensures passes { IfOk result (λ machine. machine.left.items ≡ passes_in state.now.mode) }
         ensures variables { IfOk result (λ machine. machine.variables.items ≡ state.now.variables.items) }
         ensures untaken { IfOk result (λ machine. machine.unread.items ≡ items.now) }
@@ -138,7 +135,7 @@ impl<'a> Machine<'a> {
     {
         Ok(Machine {
             place: place_of(code, &state.mode),
-            stack: Vec::with_capacity(alloc, code.deepest)?,
+            stack: Stack::new(alloc, code.deepest)?,
             left: passes_of(alloc, &state.mode, code.nesting)?,
             variables: Vec::from_slice(alloc, state.variables.as_slice())?,
             unread: all_unread(alloc, items)?,
@@ -146,43 +143,40 @@ impl<'a> Machine<'a> {
         })
     }
 
-    /// Carries out this instruction, which is the next one. A get with no item left and a put with no room left stop
-    /// before they change anything but the place and the stack of values, which are let go of.
+    /// Carries out this instruction, which is the next one, on these values. A get with no item left and a put with no room
+    /// left stop before they change anything but the stack of values, which is let go of.
     fn perform(
         &mut self,
+        stack: &mut Stack,
         instruction: Instruction,
         room: &[usize],
-    ) -> Result<Option<Flow>, AllocError>
-        requires within { self.old.place + 1 < 2 ^ 64 }
-        requires rooms { length self.old.sent.items ≡ length room.now }
-        ensures { IfOk result (λ stop. Stepped instruction room.now self.old stop self.new) }
+    ) -> Result<Next, AllocError>
+        requires { length self.old.sent.items ≡ length room.now }
+        ensures { IfOk result (λ next. (place : ℕ) → Performed instruction room.now
+            (held self.old place stack.old) next (held self.new place stack.new)) }
     {
-        self.place += 1;
         match instruction {
             Instruction::Constant { value } => {
-                push(&mut self.stack, value)?;
-                Ok(None)
+                stack.push(value)?;
+                Ok(Next::Behind)
             }
             Instruction::Load { variable } => {
                 let value = self.variables.get(variable).copied().unwrap_or(0);
-                push(&mut self.stack, value)?;
-                Ok(None)
+                stack.push(value)?;
+                Ok(Next::Behind)
             }
             Instruction::Store { variable } => {
-                let value = pop(&mut self.stack);
+                let value = stack.pop();
                 set_variable(&mut self.variables, variable, value);
-                Ok(None)
+                Ok(Next::Behind)
             }
             Instruction::Negate => {
-                let value = pop(&mut self.stack);
-                push(&mut self.stack, value.wrapping_neg())?;
-                Ok(None)
+                stack.negate()?;
+                Ok(Next::Behind)
             }
             Instruction::Apply { operator } => {
-                let right = pop(&mut self.stack);
-                let left = pop(&mut self.stack);
-                push(&mut self.stack, operate(operator, left, right))?;
-                Ok(None)
+                stack.apply(operator)?;
+                Ok(Next::Behind)
             }
             Instruction::Get {
                 variable,
@@ -190,71 +184,87 @@ impl<'a> Machine<'a> {
                 site,
             } => {
                 let Some(item) = take_item(&mut self.unread, channel) else {
-                    return Ok(Some(Flow::Stands(site)));
+                    return Ok(Next::Stop(Flow::Stands(site)));
                 };
                 set_variable(&mut self.variables, variable, item);
-                Ok(None)
+                Ok(Next::Behind)
             }
             Instruction::Put { channel, site } => {
                 if !has_room(&self.sent, room, channel) {
-                    return Ok(Some(Flow::Stands(site)));
+                    return Ok(Next::Stop(Flow::Stands(site)));
                 }
-                let item = pop(&mut self.stack);
+                let item = stack.pop();
                 send(&mut self.sent, channel, item)?;
-                Ok(None)
+                Ok(Next::Behind)
             }
-            Instruction::Jump { target } => {
-                self.place = target;
-                Ok(None)
-            }
+            Instruction::Jump { target } => Ok(Next::To(target)),
             Instruction::JumpIfZero { target } => {
-                if pop(&mut self.stack) == 0 {
-                    self.place = target;
+                if stack.pop() == 0 {
+                    return Ok(Next::To(target));
                 }
-                Ok(None)
+                Ok(Next::Behind)
             }
             Instruction::Repeat { times, behind } => {
                 if times == 0 {
-                    self.place = behind;
-                    return Ok(None);
+                    return Ok(Next::To(behind));
                 }
                 open(&mut self.left, times)?;
-                Ok(None)
+                Ok(Next::Behind)
             }
             Instruction::Again { target } => {
                 if pass_through(&mut self.left)? {
-                    self.place = target;
+                    return Ok(Next::To(target));
                 }
-                Ok(None)
+                Ok(Next::Behind)
             }
-            Instruction::Stop => Ok(Some(Flow::Stopped)),
-            Instruction::End => Ok(Some(Flow::RanOut)),
+            Instruction::Stop => Ok(Next::Stop(Flow::Stopped)),
+            Instruction::End => Ok(Next::Stop(Flow::RanOut)),
         }
     }
 
-    /// Carries out the next instruction. Past the last one the process has ended.
-    fn step(&mut self, code: &[Instruction], room: &[usize]) -> Result<Option<Flow>, AllocError>
-        requires { length self.old.sent.items ≡ length room.now }
-        ensures { IfOk result (λ stop. WentOn code.now 1 room.now self.old stop self.new) }
-    {
-        match code.get(self.place) {
-            Some(instruction) => self.perform(*instruction, room),
-            None => Ok(Some(Flow::RanOut)),
-        }
-    }
-
-    /// As many instructions as the code has, unless the process stops before.
-    fn play_round(
+    /// Carries out the next instructions, up to the first from which the process goes on elsewhere than behind it. Past
+    /// the last one the process has ended.
+    fn go_straight(
         &mut self,
+        stack: &mut Stack,
         code: &[Instruction],
         room: &[usize],
     ) -> Result<Option<Flow>, AllocError>
         requires { length self.old.sent.items ≡ length room.now }
-        ensures { IfOk result
-            (λ stop. WentOn code.now (length code.now) room.now self.old stop self.new) }
+        ensures { IfOk result (λ stop. WentOn code.now 1 room.now
+            (held self.old self.old.place stack.old) stop
+            (held self.new self.new.place stack.new)) }
+    {
+        let Some(rest) = code.get(self.place..) else {
+            return Ok(Some(Flow::RanOut));
+        };
+        for instruction in rest {
+            match self.perform(stack, *instruction, room)? {
+                Next::Behind => {}
+                Next::To(target) => {
+                    self.place = target;
+                    return Ok(None);
+                }
+                Next::Stop(flow) => return Ok(Some(flow)),
+            }
+        }
+        Ok(Some(Flow::RanOut))
+    }
+
+    /// As many times as the code has instructions, unless the process stops before.
+    fn play_round(
+        &mut self,
+        stack: &mut Stack,
+        code: &[Instruction],
+        room: &[usize],
+    ) -> Result<Option<Flow>, AllocError>
+        requires { length self.old.sent.items ≡ length room.now }
+        ensures { IfOk result (λ stop. WentOn code.now (length code.now) room.now
+            (held self.old self.old.place stack.old) stop
+            (held self.new self.new.place stack.new)) }
     {
         for _ in 0..code.len() {
-            if let Some(flow) = self.step(code, room)? {
+            if let Some(flow) = self.go_straight(stack, code, room)? {
                 return Ok(Some(flow));
             }
         }
@@ -262,8 +272,34 @@ impl<'a> Machine<'a> {
     }
 
     /// So many passes, unless the process stops before.
+    fn play_rounds(
+        &mut self,
+        stack: &mut Stack,
+        code: &[Instruction],
+        passes: usize,
+        room: &[usize],
+    ) -> Result<Option<Flow>, AllocError>
+        requires { length self.old.sent.items ≡ length room.now }
+        ensures { IfOk result (λ stop. WentOn code.now
+            (passes * (MAX_NESTED_TIMES * length code.now)) room.now
+            (held self.old self.old.place stack.old) stop
+            (held self.new self.new.place stack.new)) }
+    {
+        // The rounds of so many passes may be more than 64 bits can count.
+        let rounds = passes as u128 * u128::from(MAX_NESTED_TIMES);
+        for _ in 0..rounds {
+            if let Some(flow) = self.play_round(stack, code, room)? {
+                return Ok(Some(flow));
+            }
+        }
+        Ok(None)
+    }
+
+    /// So many passes, unless the process stops before. Meanwhile the values are held beside the machine, in a variable
+    /// of this function: so they are in registers, as far as an instruction touches them.
     fn play_passes(
         &mut self,
+        alloc: Global,
         code: &[Instruction],
         passes: usize,
         room: &[usize],
@@ -272,20 +308,17 @@ impl<'a> Machine<'a> {
         ensures { IfOk result (λ stop. WentOn code.now
             (passes * (MAX_NESTED_TIMES * length code.now)) room.now self.old stop self.new) }
     {
-        // The rounds of so many passes may be more than 64 bits can count.
-        let rounds = passes as u128 * u128::from(MAX_NESTED_TIMES);
-        for _ in 0..rounds {
-            if let Some(flow) = self.play_round(code, room)? {
-                return Ok(Some(flow));
-            }
-        }
-        Ok(None)
+        let mut stack = mem::replace(&mut self.stack, Stack::empty(alloc));
+        let stop = self.play_rounds(&mut stack, code, passes, room)?;
+        self.stack = stack;
+        Ok(stop)
     }
 
     /// Carries out instructions until the process stops, in two passes and one for each item. Their count may pass
     /// every number of the machine, so it isn't taken.
     pub fn play(
         &mut self,
+        alloc: Global,
         code: &[Instruction],
         items: &[History],
         room: &[usize],
@@ -295,11 +328,11 @@ impl<'a> Machine<'a> {
             → RunsTo code.now ((total items.now + 2) * (MAX_NESTED_TIMES * length code.now)) self.old t
             → Part t room.now self.old.unread.items self.old.sent.items flow self.new) }
     {
-        if let Some(flow) = self.play_passes(code, 2, room)? {
+        if let Some(flow) = self.play_passes(alloc, code, 2, room)? {
             return Ok(flow);
         }
         for list in items {
-            if let Some(flow) = self.play_passes(code, list.len(), room)? {
+            if let Some(flow) = self.play_passes(alloc, code, list.len(), room)? {
                 return Ok(flow);
             }
         }

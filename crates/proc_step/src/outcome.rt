@@ -65,7 +65,7 @@ pub fn take_turn(
         (standing_of after.state) after.taken.items after.sent.items) }
 {
     let mut machine = Machine::new(alloc, code, state, items, room)?;
-    let flow = machine.play(&code.instructions, items, room)?;
+    let flow = machine.play(alloc, &code.instructions, items, room)?;
     let taken = count_taken(alloc, items, &machine.unread)?;
     let Machine {
         left,

@@ -1,27 +1,26 @@
 -- Which job is out behind an event of a world: it stays, or is lost with the node's epoch or with its running; or a grant gives it
 -- out, or an install takes it in.
-use Rattle.std.proofs.Common.{◌≡◌, ◌≢◌, ◌⊎◌, ⊎_elim, inl, inr, ℕ, zero, suc, ◌+◌, Bool, true, false, cond, ◌&&◌, not, ℤ, List, [], ◌∷◌}
-use Rattle.std.proofs.Common.{length, Option, Some, None, refl, sym, ap, subst, ◌∙◌, arith}
-use Rattle.std.specs.Prelude.{nat_lt, slice_get, slice_set}
+use Rattle.std.proofs.Common.{◌≡◌, ◌⊎◌, inl, inr, ℕ, ◌+◌, Bool, true, false, cond, not, List, []}
+use Rattle.std.proofs.Common.{Option, Some, None, refl, sym, ap, subst, arith}
+use Rattle.std.specs.Prelude.{nat_lt}
 use Rattle.protocol.specs.Node.Common.{Network, Body, Need, Packet, MAX_COUNT, highest_seen, with_confirmed}
 use Rattle.protocol.specs.Node.Common.{with_epoch, with_permanent, without_tentative, RecordView, Tentative}
 use Rattle.protocol.specs.Node.Common.{AskAnswer, Silent, CoveredBefore, TookBefore, TakesNow, Declines}
 use Rattle.protocol.specs.Node.Common.{answer_to_ask, holds, kept_then, beginning, begun, collecting, live_asks}
-use Rattle.protocol.specs.Node.Common.{live_in, may_start, start_prospect, grant_prospect, granted, may_grant}
-use Rattle.protocol.specs.Node.Common.{node_job, with_grant, Ignores, Joins, GivesUp, answer_to_took, hearing_covered}
-use Rattle.protocol.specs.Node.Common.{refused_prospect, took_prospect, hearing, packet_for, PassesOver, Notes}
-use Rattle.protocol.specs.Node.Common.{GoesBack, noting_undone, set_back_to, undone_prospect, deliver_prospect}
-use Rattle.protocol.specs.Node.Common.{hear_prospect, JobView, LiveView, crashed, is_down, is_none, is_running}
-use Rattle.protocol.specs.Node.Common.{with_kept, NodeView, ModeView, Down, InDoubt, Runs, RunningView, RunningNode}
+use Rattle.protocol.specs.Node.Common.{live_in, may_start, start_prospect}
+use Rattle.protocol.specs.Node.Common.{Ignores, Joins, GivesUp, answer_to_took, hearing_covered}
+use Rattle.protocol.specs.Node.Common.{hearing, packet_for, PassesOver, Notes}
+use Rattle.protocol.specs.Node.Common.{GoesBack, noting_undone, set_back_to}
+use Rattle.protocol.specs.Node.Common.{hear_prospect, LiveView, crashed, is_down, is_running}
+use Rattle.protocol.specs.Node.Common.{with_kept, NodeView, ModeView, Down, InDoubt, Runs, RunningView}
 use Rattle.protocol.specs.Node.Common.{on_mode, on_running, running_in, Plan, Prospect, Undue, Exhausted, Planned}
 use Rattle.protocol.specs.Node.Common.{IsCarriedOut, IsMade, if_due, becoming, putting, unless_spent}
-use Rattle.protocol.specs.Node.Common.{recover_prospect, restored, own_at, cut_at, trimmed_node, after_verdict}
-use Rattle.protocol.specs.Node.Common.{commit_prospect, concluded, decide_prospect, ended_prospect, may_decide}
-use Rattle.protocol.specs.Node.Common.{mode_then, settled_prospect}
+use Rattle.protocol.specs.Node.Common.{recover_prospect, restored, own_at, cut_at, after_verdict}
+use Rattle.protocol.specs.Node.Common.{decide_prospect, may_decide}
+use Rattle.protocol.specs.Node.Common.{mode_then}
 use Rattle.datagram.specs.declared.packet.Body.TheVariants.{Data, Ack, Kept, Ask, Took, Covered, Refused, Query, Commit}
 use Rattle.datagram.specs.declared.packet.Body.TheVariants.{Ended, Settled, Undone}
 use Rattle.protocol.specs.World.Common.{names, StationView, deliver_plan}
-use Rattle.protocol.specs.Node.Answering.{answering}
 use Rattle.protocol.specs.Node.Answering.{ask_prospect}
 use Rattle.protocol.specs.Node.Collecting.{TookAnswer, give_up_prospect}
 use Rattle.protocol.specs.Node.Collecting.{joining, loses, took_by}
@@ -33,7 +32,6 @@ use Rattle.protocol.specs.Node.Recovering.{crash_prospect, restored_with}
 use Rattle.protocol.specs.Node.Starting.{with_own_now}
 use Rattle.protocol.specs.Node.Telling.{send_prospect}
 use Rattle.protocol.specs.Node.Verdicts.{decided_now}
-use Rattle.protocol.specs.Node.Verdicts.{query_prospect}
 use Rattle.protocol.specs.declared.outcome.Outcome.{Outcome}
 use Rattle.protocol.specs.declared.outcome.Outcome.TheVariants as outcome
 use Rattle.protocol.specs.declared.outcome.Refusal.TheVariants.{TooLarge, Spent}

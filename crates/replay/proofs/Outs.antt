@@ -1,12 +1,12 @@
 -- Which job is out at a node, behind an event of a world with armed crashes, and by a whole history.
-use Rattle.std.proofs.Common.{◌≡◌, ◌≢◌, ◌⊎◌, ⊎_elim, inl, inr, ℕ, zero, suc, ◌+◌, ◌<◌, Bool, true, false, cond, ◌&&◌, not, ℤ, List, [], ◌∷◌}
+use Rattle.std.proofs.Common.{◌≡◌, ◌≢◌, ◌⊎◌, ⊎_elim, inl, inr, ℕ, zero, suc, ◌+◌, Bool, true, false, cond, ◌&&◌, not, ℤ, List, [], ◌∷◌}
 use Rattle.std.proofs.Common.{◌++◌, length, Option, Some, None, refl, sym, ap, subst, ◌∙◌, arith}
 use Rattle.std.specs.Prelude.{slice_get, slice_set}
-use Rattle.protocol.specs.Node.Common.{Network, Channel, RecordView, restart_after, round_later, with_armed}
-use Rattle.protocol.specs.Node.Common.{grant_prospect, granted, may_grant, next_job, node_job, with_grant, IsInstall}
+use Rattle.protocol.specs.Node.Common.{Network, Channel, RecordView, round_later, with_armed}
+use Rattle.protocol.specs.Node.Common.{grant_prospect, granted, node_job, IsInstall}
 use Rattle.protocol.specs.Node.Common.{IsOut, JobView, crashed, is_down, is_none, is_running, NodeView, ModeView}
-use Rattle.protocol.specs.Node.Common.{Down, InDoubt, Runs, RunningNode, on_mode, on_running, running_in}
-use Rattle.protocol.specs.Node.Common.{running_node, Prospect, Undue, Exhausted, Planned, becoming, if_due, cut_at}
+use Rattle.protocol.specs.Node.Common.{Down, InDoubt, Runs, on_mode, running_in}
+use Rattle.protocol.specs.Node.Common.{Prospect, becoming, if_due, cut_at}
 use Rattle.protocol.specs.Node.Choosing.{job_at}
 use Rattle.protocol.specs.Node.Installing.{turned}
 use Rattle.protocol.specs.Node.Plans.{IsMade as IsMadeOf}
@@ -14,16 +14,15 @@ use Rattle.protocol.specs.declared.outcome.Outcome.{Outcome}
 use Rattle.protocol.specs.declared.outcome.Outcome.TheVariants as outcome
 use Rattle.protocol.specs.declared.outcome.Refusal.TheVariants.{TooLarge, Spent}
 use Rattle.protocol.specs.World.Common.{DoneView, EventView, ByNode, ByNetwork, Install, Release, event_node, node_in}
-use Rattle.protocol.specs.World.Common.{act_reply, answer_by, grant_reply, install_reply, ReplyView, StationView}
-use Rattle.protocol.specs.World.Common.{IsAct, IsActOf, IsPlanned, IsRelease, IsStationStep, IsStep, Setting}
-use Rattle.protocol.specs.World.Common.{WorldView, can_act, due_bytes, flight_at, next_release, plan_of, setting_of}
+use Rattle.protocol.specs.World.Common.{answer_by, grant_reply, install_reply, ReplyView, StationView}
+use Rattle.protocol.specs.World.Common.{IsActOf, IsRelease, IsStationStep, IsStep, Setting}
+use Rattle.protocol.specs.World.Common.{WorldView, due_bytes, flight_at, next_release, setting_of}
 use Rattle.protocol.specs.declared.event.Deed.{Deed}
 use Rattle.protocol.specs.declared.event.NetworkAct.{NetworkAct}
 use Rattle.protocol.specs.declared.event.Deed.TheVariants as event
 use Rattle.protocol.specs.declared.reply.Reply.TheVariants as reply
 use Rattle.replay.specs.Armed.{ArmedEvent, ArmedView, OfWorld, ArmCrash, IsArmedStep, IsWorldStep, EndsWith, crash_after}
 use Rattle.replay.specs.Armed.{delivered_to}
-use Rattle.replay.specs.Laws.{InstallsAreTold}
 use Rattle.replay.specs.Plain.{run_view}
 use Rattle.replay.specs.declared.kept.RunEvent.{RunEvent}
 use Rattle.replay.specs.declared.kept.RunEvent.TheVariants as run_is
@@ -36,7 +35,7 @@ use Rattle.replay.specs.declared.kept.ArmedCrash.{ArmedCrash}
 use Rattle.replay.specs.Replies.{KeptReply, kept_reply}
 use Rattle.replay.specs.declared.kept.Maker.{Maker}
 use Rattle.replay.specs.declared.kept.ScriptedEvent.{ScriptedEvent}
-use Rattle.replay.proofs.Looks.{Goes, Stays, Loses, goes_same, remembers, made_goes, deliver_goes, send_goes, start_goes}
+use Rattle.replay.proofs.Looks.{Goes, Stays, goes_same, remembers, made_goes, deliver_goes, send_goes, start_goes}
 use Rattle.replay.proofs.Looks.{decide_goes, crash_goes, recover_goes}
 use Rattle.replay.proofs.Turns.{installs_are_told}
 

@@ -2,7 +2,7 @@
 use Rattle.std.proofs.Common.{◌≡◌, ◌∙◌, ℕ, Bool, List, [], ◌∷◌, ◌++◌, Option, Some, None, refl, sym, ap, subst}
 use mathlib.Core.Logic.{∥∥₁_map}
 use Rattle.protocol.specs.Node.Common.{RecordView}
-use Rattle.protocol.specs.World.Common.{EventView, ByNode, WorldInvariant, ReplyView, WorldView}
+use Rattle.protocol.specs.World.Common.{ByNode, WorldInvariant, ReplyView, WorldView}
 use Rattle.protocol.specs.declared.event.Deed.TheVariants as event
 use Rattle.protocol.specs.World.Still.{wider}
 use Rattle.protocol_laws.specs.World.StepKeeps.{room_keeps_world, step_keeps}

@@ -1,4 +1,3 @@
 mod Raising
 mod Adding
 mod Arming
-mod Putting

@@ -1,11 +1,11 @@
 // A world with crashes that are armed for the ends of deliveries.
-ghost use Rattle.std.specs.Prelude.{◌≡◌, replicate, vec_len, IfErr, IfOk, OnErr};
+ghost use Rattle.std.specs.Prelude.{◌≡◌, replicate, IfErr, IfOk, OnErr};
 ghost use Rattle.protocol.specs.World.Common.{event_node, IsGrantedAt, has_happened};
 ghost use Rattle.replay.specs.Armed.{ArmCrash, EndsWith, IsArmedStep, OfWorld, armed_at_first, crash_after, deliveries_after, delivered_to, first_crash, has_come, is_for, one_more};
 ghost use Rattle.replay.specs.Plain.{run_view};
 ghost use Rattle.station.specs.EventView.{event_view};
 ghost use Rattle.station.specs.ReplyView.{reply_view};
-ghost use Rattle.world.specs.WholeView.{world_of};
+ghost use Rattle.world.specs.WholeView.{capacities_in, inputs_in, net_in, nodes_in, rooms_in, world_of};
 ghost use Rattle.world.specs.WorldView.{capacities, rooms};
 
 use node::next_after;
@@ -129,11 +129,11 @@ fn end<C: SlotCell, O: Outlet>(
     crash: Option<ArmedCrash>,
     said: Reply,
 ) -> Reply
-    ensures ends { EndsWith (rooms world.old.stations.items) crash (reply_view said)
+    ensures ends { EndsWith (rooms_in world.old) crash (reply_view said)
         (world_of world.old) (reply_view result) (world_of world.new) }
-    ensures rooms { rooms world.new.stations.items ≡ rooms world.old.stations.items }
-    ensures capacities { capacities world.new.stations.items ≡ capacities world.old.stations.items }
-    ensures same { (world.new.net ≡ world.old.net) × (world.new.inputs ≡ world.old.inputs) }
+    ensures rooms { rooms_in world.new ≡ rooms_in world.old }
+    ensures capacities { capacities_in world.new ≡ capacities_in world.old }
+    ensures same { (net_in world.new ≡ net_in world.old) × (inputs_in world.new ≡ inputs_in world.old) }
 {
     let Some(crash) = crash else {
         return said;
@@ -166,13 +166,13 @@ impl<C: SlotCell, O: Outlet> ArmedWorld<C, O> {
         ensures first { IfOk result (λ armed. armed_view armed ≡ armed_at_first (world_of world)) }
         ensures world { IfOk result (λ armed. armed.world ≡ world) }
     {
-        let deliveries = no_deliveries(alloc, world.stations.len())?;
+        let deliveries = no_deliveries(alloc, world.nodes())?;
         Ok(ArmedWorld::over(alloc, world, deliveries))
     }
 
     /// The same with what it asks memory for, which was made before.
     pub fn over(alloc: Global, world: World<C, O>, deliveries: Vec<u64>) -> ArmedWorld<C, O>
-        requires { deliveries.items ≡ replicate (vec_len world.stations) 0 }
+        requires { deliveries.items ≡ replicate (nodes_in world) 0 }
         ensures first { armed_view result ≡ armed_at_first (world_of world) }
         ensures world { result.world ≡ world }
     {
@@ -186,18 +186,18 @@ impl<C: SlotCell, O: Outlet> ArmedWorld<C, O> {
     /// One event of the world; where it is a delivery for whose end a crash is armed, the node crashes then, and that is
     /// answered. Refuses for want of memory alone (1), with the event, and then nothing is changed.
     pub fn apply(&mut self, alloc: Global, event: Event) -> Result<Reply, Refused>
-        ensures step { IfOk result (λ reply. IsArmedStep (rooms self.old.world.stations.items)
+        ensures step { IfOk result (λ reply. IsArmedStep (rooms_in self.old.world)
             (OfWorld (event_view event)) (armed_view self.old) (reply_view reply)
             (armed_view self.new)) }
         // A job that is granted is of a process of the event's node.
         ensures home { IfOk result
             (λ reply. IsGrantedAt (event_node (event_view event)) (reply_view reply)) }
-        ensures same_rooms { rooms self.new.world.stations.items
-            ≡ rooms self.old.world.stations.items }
-        ensures same_capacities { capacities self.new.world.stations.items
-            ≡ capacities self.old.world.stations.items }
-        ensures same { (self.new.world.net ≡ self.old.world.net)
-            × (self.new.world.inputs ≡ self.old.world.inputs) }
+        ensures same_rooms { rooms_in self.new.world
+            ≡ rooms_in self.old.world }
+        ensures same_capacities { capacities_in self.new.world
+            ≡ capacities_in self.old.world }
+        ensures same { (net_in self.new.world ≡ net_in self.old.world)
+            × (inputs_in self.new.world ≡ inputs_in self.old.world) }
         ensures refused { OnErr result (armed_view self.new ≡ armed_view self.old) }
         ensures handed_back { IfErr result (λ refused. refused.event ≡ event) }
     {
@@ -215,7 +215,7 @@ impl<C: SlotCell, O: Outlet> ArmedWorld<C, O> {
 
     /// Arms a crash for the end of a delivery. Where that is over, it has no effect. Refuses for want of memory alone.
     fn arm(&mut self, crash: ArmedCrash) -> Result<Reply, AllocError>
-        ensures step { IfOk result (λ reply. IsArmedStep (rooms self.old.world.stations.items)
+        ensures step { IfOk result (λ reply. IsArmedStep (rooms_in self.old.world)
             (ArmCrash crash) (armed_view self.old) (reply_view reply) (armed_view self.new)) }
         ensures world { self.new.world ≡ self.old.world }
         ensures refused { OnErr result (armed_view self.new ≡ armed_view self.old) }
@@ -226,14 +226,14 @@ impl<C: SlotCell, O: Outlet> ArmedWorld<C, O> {
 
     /// The event of a line of a script. Refuses for want of memory alone, and then nothing is changed.
     pub fn play(&mut self, alloc: Global, event: RunEvent) -> Result<Reply, AllocError>
-        ensures step { IfOk result (λ reply. IsArmedStep (rooms self.old.world.stations.items)
+        ensures step { IfOk result (λ reply. IsArmedStep (rooms_in self.old.world)
             (run_view event) (armed_view self.old) (reply_view reply) (armed_view self.new)) }
-        ensures same_rooms { rooms self.new.world.stations.items
-            ≡ rooms self.old.world.stations.items }
-        ensures same_capacities { capacities self.new.world.stations.items
-            ≡ capacities self.old.world.stations.items }
-        ensures same { (self.new.world.net ≡ self.old.world.net)
-            × (self.new.world.inputs ≡ self.old.world.inputs) }
+        ensures same_rooms { rooms_in self.new.world
+            ≡ rooms_in self.old.world }
+        ensures same_capacities { capacities_in self.new.world
+            ≡ capacities_in self.old.world }
+        ensures same { (net_in self.new.world ≡ net_in self.old.world)
+            × (inputs_in self.new.world ≡ inputs_in self.old.world) }
         ensures refused { OnErr result (armed_view self.new ≡ armed_view self.old) }
     {
         match event {

@@ -8,7 +8,6 @@ ghost use Rattle.station.specs.EventView.{event_view};
 ghost use Rattle.station.specs.ReplyView.{reply_view};
 
 use crate::history::KeptEvent;
-use protocol::Leaving;
 use replay::{KeptReply, RunEvent};
 use std::alloc::AllocError;
 use std::sync::Arc;
@@ -38,10 +37,7 @@ pub fn keep_reply(reply: &Reply) -> KeptReply
         Reply::Started => KeptReply::Started,
         Reply::Decided => KeptReply::Decided,
         Reply::Refused(refusal) => KeptReply::Refused(*refusal),
-        Reply::Released(freed) => KeptReply::Released(Leaving {
-            output: freed.output,
-            number: freed.number,
-        }),
+        Reply::Released(item) => KeptReply::Released(*item),
         Reply::OutletFailed => KeptReply::OutletFailed,
         Reply::Crashed => KeptReply::Crashed,
         Reply::Recovered => KeptReply::Recovered,

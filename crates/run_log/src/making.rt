@@ -8,6 +8,7 @@ ghost use Rattle.run_log.specs.ArmedWorlds.{armed_view};
 ghost use Rattle.run_log.specs.Added.{IsAdded};
 ghost use Rattle.station.specs.EventView.{event_view};
 ghost use Rattle.station.specs.ReplyView.{reply_view};
+ghost use Rattle.world.specs.WholeView.{rooms_in};
 ghost use Rattle.world.specs.WorldView.{rooms};
 
 use crate::appending::write_entry;
@@ -31,12 +32,12 @@ pub(crate) fn make_event<C: SlotCell, O: Outlet>(
 ) -> Result<Reply, Refused>
     ensures added { IfOk result (λ reply. IsAdded keeps (who.Node node) (OfWorld (event_view event))
         (reply_view reply) lines.old.items lines.new.items) }
-    ensures step { IfOk result (λ reply. IsArmedStep (rooms world.old.world.stations.items)
+    ensures step { IfOk result (λ reply. IsArmedStep (rooms_in world.old.world)
         (OfWorld (event_view event)) (armed_view world.old) (reply_view reply)
         (armed_view world.new)) }
     ensures home { IfOk result
         (λ reply. IsGrantedAt (event_node (event_view event)) (reply_view reply)) }
-    ensures rooms { rooms world.new.world.stations.items ≡ rooms world.old.world.stations.items }
+    ensures rooms { rooms_in world.new.world ≡ rooms_in world.old.world }
     ensures refused { OnErr result ((lines.new.items ≡ lines.old.items)
         × (armed_view world.new ≡ armed_view world.old)) }
     ensures handed_back { IfErr result (λ refused. refused.event ≡ event) }
@@ -69,9 +70,9 @@ pub(crate) fn make_scripted<C: SlotCell, O: Outlet>(
 ) -> Result<Reply, AllocError>
     ensures added { IfOk result (λ reply. IsAdded keeps who.Driver (run_view event) (reply_view reply)
         lines.old.items lines.new.items) }
-    ensures step { IfOk result (λ reply. IsArmedStep (rooms world.old.world.stations.items)
+    ensures step { IfOk result (λ reply. IsArmedStep (rooms_in world.old.world)
         (run_view event) (armed_view world.old) (reply_view reply) (armed_view world.new)) }
-    ensures rooms { rooms world.new.world.stations.items ≡ rooms world.old.world.stations.items }
+    ensures rooms { rooms_in world.new.world ≡ rooms_in world.old.world }
     ensures refused { OnErr result ((lines.new.items ≡ lines.old.items)
         × (armed_view world.new ≡ armed_view world.old)) }
 {

@@ -1,6 +1,6 @@
 // The log of a run, with the world to which it leads.
 ghost use Rattle.std.specs.Prelude.{◌≡◌, ◌||◌, ◌<◌, [], true, false, length, IfErr, IfOk, IsTrue, OnErr, OnOk};
-ghost use Rattle.protocol.specs.World.Common.{event_node, Install, are_quiet, stands_still, IsGrantedAt};
+ghost use Rattle.protocol.specs.World.Common.{event_node, Install, are_quiet, released_of, stands_still, IsGrantedAt};
 ghost use Rattle.replay.specs.Armed.{OfWorld, armed_at_first};
 ghost use Rattle.replay.specs.Plain.{run_view};
 ghost use Rattle.replay.specs.Replay.{IsEventOf, IsIdle, IsSilence, LeadsTo, has_idled};
@@ -20,7 +20,7 @@ ghost use Rattle.run_log.specs.declared.seat_count.Counted.TheVariants as kind;
 ghost use Rattle.station.specs.DoneView.{done_view};
 ghost use Rattle.station.specs.EventView.{event_view};
 ghost use Rattle.station.specs.ReplyView.{reply_view};
-ghost use Rattle.world.specs.WholeView.{world_of};
+ghost use Rattle.world.specs.WholeView.{rooms_in, world_of};
 ghost use Rattle.world.specs.WorldView.{rooms};
 ghost use Rattle.station.specs.declared.event.Event.TheVariants as event;
 
@@ -35,9 +35,8 @@ use outlet::Outlet;
 use proc_step::Done;
 use replay::{RunEvent, ScriptedEvent, Silence};
 use slot_cell::SlotCell;
-use std::alloc::Global;
-use wire::NODES;
-use world::{Deed, Event, PlainEvent, Refused, Reply, World};
+use std::alloc::{AllocError, Global};
+use world::{Deed, Event, Freed, PlainEvent, Refused, Reply, World};
 
 /// What a node that has nothing to do waits for, beside a packet: the round, how many lines of the script are passed, and the room
 /// of channels. As long as these stay, and no packet is due for it, it has nothing to do.
@@ -66,7 +65,7 @@ pub struct RunLog<C: SlotCell, O: Outlet, ThisRun: Run> {
     pub ghost replays: { ∥ HasHappened ThisRun.rooms ThisRun.script ThisRun.opening ThisRun.keeps lines.items passed
         (armed_view armed) ∥₁ },
     pub ghost same_keeps: { keeps ≡ ThisRun.keeps },
-    pub ghost same_rooms: { rooms armed.world.stations.items ≡ ThisRun.rooms },
+    pub ghost same_rooms: { rooms_in armed.world ≡ ThisRun.rooms },
     pub ghost same_script: { script.items ≡ ThisRun.script },
     pub ghost numbers: { ThisRun.keeps ≡ true → numbers_in lines.items stops ≡ run_numbers totals },
     pub ghost running: { stopped ≡ false → stops ≡ 0 },
@@ -102,8 +101,8 @@ fn is_idle(event: &Event) -> bool
 fn has_idled<C: SlotCell, O: Outlet>(world: &World<C, O>, node: u8) -> bool
     ensures { result ≡ has_idled (world_of world.now) node }
 {
-    match world.stations.get(usize::from(node)) {
-        Some(station) => station.turns.of(world.round).idled,
+    match world.station(node) {
+        Some(station) => station.turns.of(world.round()).idled,
         None => false,
     }
 }
@@ -120,7 +119,7 @@ impl<C: SlotCell, O: Outlet, ThisRun: Run> RunLog<C, O, ThisRun> {
         keeps: bool,
     ) -> RunLog<C, O, ThisRun>
         requires opening { armed_view armed ≡ armed_at_first ThisRun.opening }
-        requires rooms { rooms armed.world.stations.items ≡ ThisRun.rooms }
+        requires rooms { rooms_in armed.world ≡ ThisRun.rooms }
         requires script { script.items ≡ ThisRun.script }
         requires totals { run_numbers totals ≡ no_numbers }
         requires keeps { keeps ≡ ThisRun.keeps }
@@ -434,19 +433,27 @@ impl<C: SlotCell, O: Outlet, ThisRun: Run> RunLog<C, O, ThisRun> {
 
     /// What a node that has nothing to do waits for.
     pub fn moment(&self) -> Moment
-        ensures { result.round ≡ self.now.armed.world.round }
+        ensures { result.round ≡ (world_of self.now.armed.world).round }
     {
+        let world = &self.armed.world;
         Moment {
-            round: self.armed.world.round,
+            round: world.round(),
             passed: self.passed,
-            room: self.armed.world.room,
+            room: world.room(),
         }
+    }
+
+    /// How far an output has come, as `World::freed` says it.
+    pub fn freed(&self, channel: u8) -> Result<Freed, AllocError>
+        ensures { IfOk result (λ freed. (freed.output ≡ channel) × (freed.number
+            ≡ length (released_of channel (world_of self.now.armed.world).stations))) }
+    {
+        self.armed.world.freed(channel)
     }
 
     /// Whether a packet is due for a node.
     pub fn has_packet(&self, node: u8) -> bool {
-        let world = &self.armed.world;
-        usize::from(node) < NODES && world.wire.first_due(node, world.round).is_some()
+        self.armed.world.has_packet(node)
     }
 
     /// The round of the script's next line.
@@ -500,7 +507,7 @@ impl<C: SlotCell, O: Outlet, ThisRun: Run> RunLog<C, O, ThisRun> {
 
     /// How the run stands. It is stopped where nothing is left to do.
     pub fn status(&mut self) -> Status
-        ensures round { result.round ≡ self.old.armed.world.round }
+        ensures round { result.round ≡ (world_of self.old.armed.world).round }
         ensures complete { result.complete ≡ are_quiet (world_of self.old.armed.world) }
         ensures stopped { (result.stopped ≡ self.new.stopped)
             × (self.new.stopped ≡ self.old.stopped || result.complete) }

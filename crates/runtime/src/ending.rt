@@ -93,8 +93,8 @@ pub fn have_left<C: SlotCell, O: Outlet>(
     true
 }
 
-/// Why a run ended of which no call was refused.
-pub(crate) fn end_of<C: SlotCell, O: Outlet>(
+/// Why a run ended of which no call was refused: asked of the world to which it came.
+pub fn end_of<C: SlotCell, O: Outlet>(
     channels: &[Channel],
     world: &World<C, O>,
     bounds: Bounds,

@@ -17,9 +17,9 @@ use outlet::Outlet;
 use proc_step::Done;
 use run_log::{FaultAnswer, HeldBack, HubFault, Run, TurnAnswer};
 use slot_cell::SlotCell;
-use std::alloc::Global;
+use std::alloc::{AllocError, Global};
 use std::sync::MutexGuard;
-use world::{Event, Reply};
+use world::{Event, Freed, Reply};
 
 /// The lock of a hub: who has it calls for a seat as often as it wants, and gives it back by `leave`, which wakes whoever has
 /// something to do by then. Where it is only let go of, nobody is woken.
@@ -120,6 +120,13 @@ impl<'hub, C: SlotCell, O: Outlet, ThisRun: Run> Entered<'hub, C, O, ThisRun> {
             (seat_numbers seat.new.count ≡ seat_numbers seat.old.count) }
     {
         seat.fault(alloc, &mut self.locked.log)
+    }
+
+    /// How far an output has come. Its type keeps that the channel's history has so many items in some approximation.
+    pub fn freed(&self, channel: u8) -> Result<Freed, AllocError>
+        ensures { IfOk result (λ freed. freed.output ≡ channel) }
+    {
+        self.locked.log.freed(channel)
     }
 
     /// How the hub stands.

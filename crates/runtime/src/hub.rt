@@ -18,7 +18,7 @@ ghost use Rattle.run_log.specs.SeatCounts.{seat_numbers};
 ghost use Rattle.run_log.specs.declared.seat_count.Counted.TheVariants as kind;
 ghost use Rattle.station.specs.DoneView.{done_view};
 ghost use Rattle.station.specs.ReplyView.{reply_view};
-ghost use Rattle.world.specs.WholeView.{world_of};
+ghost use Rattle.world.specs.WholeView.{nodes_in, rooms_in, world_of};
 ghost use Rattle.world.specs.WorldView.{rooms};
 ghost use Rattle.station.specs.declared.event.Event.TheVariants as event;
 
@@ -36,6 +36,7 @@ use slot_cell::SlotCell;
 use std::alloc::{AllocError, Global};
 use std::sync::{CondvarTimeouts, Mutex, Wait};
 use std::time::{Clock, Duration};
+use wire::NODES;
 use world::{Reply, World};
 
 /// A world with its history, under one lock, and where those sleep who wait for it.
@@ -89,12 +90,12 @@ pub(crate) fn open_log<C: SlotCell, O: Outlet, ThisRun: Run>(
     DriverSeat<ThisRun>,
 )
     requires opening { world_of world ≡ ThisRun.opening }
-    requires rooms { rooms world.stations.items ≡ ThisRun.rooms }
+    requires rooms { rooms_in world ≡ ThisRun.rooms }
     requires script { script.items ≡ ThisRun.script }
     requires names { names_of ledgers ≡ ThisRun.names }
     requires parts { HaveParts ledgers ThisRun.seats }
     requires seats { ThisRun.seats ≡ nodes + 1 }
-    requires deliveries { deliveries.items ≡ replicate (vec_len world.stations) 0 }
+    requires deliveries { deliveries.items ≡ replicate (nodes_in world) 0 }
     requires none { seats.items ≡ [] }
     requires room { nodes ≤ vec_capacity seats }
     requires keeps { keeps ≡ ThisRun.keeps }
@@ -130,7 +131,7 @@ impl<C: SlotCell, O: Outlet, ThisRun: Run> Hub<C, O, ThisRun> {
         AllocError,
     >
         requires opening { world_of world ≡ ThisRun.opening }
-        requires rooms { rooms world.stations.items ≡ ThisRun.rooms }
+        requires rooms { rooms_in world ≡ ThisRun.rooms }
         requires script { script.items ≡ ThisRun.script }
         requires names { names_of ledgers ≡ ThisRun.names }
         requires parts { HaveParts ledgers ThisRun.seats }
@@ -143,7 +144,7 @@ impl<C: SlotCell, O: Outlet, ThisRun: Run> Hub<C, O, ThisRun> {
             deliveries,
             sleepers,
             seats,
-        } = HubParts::new(alloc, world.stations.len(), nodes)?;
+        } = HubParts::new(alloc, world.nodes(), nodes)?;
         let (log, seats, driver) = open_log(
             alloc, world, deliveries, script, nodes, ledgers, seats, true,
         );
@@ -163,6 +164,7 @@ impl<C: SlotCell, O: Outlet, ThisRun: Run> Hub<C, O, ThisRun> {
             locked: Mutex::new(Locked {
                 log,
                 left: 0,
+                asleep: [false; NODES],
                 until: Until {
                     round: 0,
                     left: None,
@@ -195,6 +197,7 @@ impl<C: SlotCell, O: Outlet, ThisRun: Run> Hub<C, O, ThisRun> {
                 if locked.wakes_node(node, nothing_at) {
                     break;
                 }
+                locked.falls_asleep(node);
                 locked = place.wait(rt, locked);
             }
         }

@@ -22,7 +22,7 @@ mod watching;
 mod working;
 
 pub use driving::{Bounds, drive};
-pub use ending::{Ended, RunEnd, have_left};
+pub use ending::{Ended, RunEnd, end_of, have_left};
 pub use entered::Entered;
 pub use hub::Hub;
 pub use job_watch::{JobWatch, NoWatch};

@@ -8,7 +8,7 @@ ghost use Rattle.run_log.specs.Happened.{HasRun};
 ghost use Rattle.run_log.specs.Lines.{happenings};
 ghost use Rattle.runtime.specs.Beginning.{HasBegun};
 ghost use Rattle.runtime.specs.Ending.{IsOver};
-ghost use Rattle.world.specs.WholeView.{world_of};
+ghost use Rattle.world.specs.WholeView.{net_in, rooms_in, world_of};
 ghost use Rattle.world.specs.WorldView.{rooms};
 
 use crate::driving::{Bounds, begin, first_lines};
@@ -93,7 +93,7 @@ fn play<
 ) -> Ended<C, O>
     requires few { length channels.now ≤ MAX_CHANNELS }
     requires opening { world_of world ≡ ThisRun.opening }
-    requires rooms { rooms world.stations.items ≡ ThisRun.rooms }
+    requires rooms { rooms_in world ≡ ThisRun.rooms }
     requires script { script.items ≡ ThisRun.script }
     requires names { names_of ledgers ≡ ThisRun.names }
     requires parts { HaveParts ledgers ThisRun.seats }
@@ -107,7 +107,7 @@ fn play<
     ensures begun { ThisRun.keeps ≡ true
         → HasBegun ThisRun.script (happenings result.history.lines.items) result.end }
 {
-    let Ok(parts) = HubParts::new(alloc, world.stations.len(), nodes) else {
+    let Ok(parts) = HubParts::new(alloc, world.nodes(), nodes) else {
         return Ended::unbegun(alloc, world, HubFault::NoMemory);
     };
     let Ok((marks, mut marks_seats)) = opened.named::<ItsMarks>(alloc) else {
@@ -185,23 +185,23 @@ pub fn run_world<
     keeps_history: bool,
 ) -> Ended<C, O>
     // Kept or not, a history leads there.
-    ensures run { HasRun (rooms world.stations.items) script.items (world_of world) (world_of result.world) }
-    ensures leads { keeps_history ≡ true → LeadsTo (rooms world.stations.items) script.items (world_of world)
+    ensures run { HasRun (rooms_in world) script.items (world_of world) (world_of result.world) }
+    ensures leads { keeps_history ≡ true → LeadsTo (rooms_in world) script.items (world_of world)
         (happenings result.history.lines.items) (world_of result.world) }
-    ensures over { IsOver (network_of world.net.value.program).channels bounds (world_of result.world)
+    ensures over { IsOver (network_of (net_in world).value.program).channels bounds (world_of result.world)
         result.end }
     // Where the run came to its end, the events of the script's lines of round 0 come before all others.
     ensures begun { keeps_history ≡ true
         → HasBegun script.items (happenings result.history.lines.items) result.end }
 {
-    let Ok(net) = Arc::try_clone(&world.net) else {
+    let Ok(net) = Arc::try_clone(world.net()) else {
         return Ended::unbegun(alloc, world, HubFault::NoMemory);
     };
     let Ok(opened) = Opened::new(alloc, &net) else {
         return Ended::unbegun(alloc, world, HubFault::NoMemory);
     };
     // (A network has at most 16 nodes.)
-    let nodes = world.stations.len() as u8;
+    let nodes = world.nodes() as u8;
     let ledgers = UnusedLedgers::new(u64::from(nodes) + 1);
     let channels = net.program.channels.as_slice();
     play::<C, O, Brand, Brand, W, R>(

@@ -1,5 +1,5 @@
 // A run by turns on one thread, from its world to its history.
-ghost use Rattle.std.specs.Prelude.{◌≡◌, ◌≤◌, true, length, replicate, vec_len, IfOk};
+ghost use Rattle.std.specs.Prelude.{◌≡◌, ◌≤◌, true, length, replicate, IfOk};
 ghost use Rattle.node_memory.specs.JobView.{shared_view};
 ghost use Rattle.protocol.specs.Node.Common.{MAX_CHANNELS, network_of};
 ghost use Rattle.protocol.specs.World.Common.{node_in};
@@ -12,7 +12,7 @@ ghost use Rattle.run_log.specs.RunLogs.{happened_in};
 ghost use Rattle.run_log.specs.SeatCounts.{seat_parts};
 ghost use Rattle.runtime.specs.Beginning.{first_lines, BeginsByDriver, HasBegun};
 ghost use Rattle.runtime.specs.Ending.{IsOver};
-ghost use Rattle.world.specs.WholeView.{world_of};
+ghost use Rattle.world.specs.WholeView.{net_in, nodes_in, rooms_in, world_of};
 ghost use Rattle.world.specs.WorldView.{rooms};
 
 use crate::driving::{Bounds, begin, first_lines};
@@ -112,12 +112,12 @@ fn open_table<C: SlotCell, O: Outlet, ThisRun: Run>(
     keeps: bool,
 ) -> (Table<C, O, ThisRun>, Result<bool, HubFault>)
     requires opening { world_of world ≡ ThisRun.opening }
-    requires rooms { rooms world.stations.items ≡ ThisRun.rooms }
+    requires rooms { rooms_in world ≡ ThisRun.rooms }
     requires script { script.items ≡ ThisRun.script }
     requires names { names_of ledgers ≡ ThisRun.names }
     requires parts { HaveParts ledgers ThisRun.seats }
     requires seats { ThisRun.seats ≡ 1 }
-    requires deliveries { deliveries.items ≡ replicate (vec_len world.stations) 0 }
+    requires deliveries { deliveries.items ≡ replicate (nodes_in world) 0 }
     requires keeps { keeps ≡ ThisRun.keeps }
 {
     let lines = first_lines(&script);
@@ -214,7 +214,7 @@ fn play_by_turns<C: SlotCell, O: Outlet, ThisRun: Run, W: TurnWatch>(
 ) -> Ended<C, O>
     requires few { length channels.now ≤ MAX_CHANNELS }
     requires opening { world_of world ≡ ThisRun.opening }
-    requires rooms { rooms world.stations.items ≡ ThisRun.rooms }
+    requires rooms { rooms_in world ≡ ThisRun.rooms }
     requires script { script.items ≡ ThisRun.script }
     requires names { names_of ledgers ≡ ThisRun.names }
     requires parts { HaveParts ledgers ThisRun.seats }
@@ -227,7 +227,7 @@ fn play_by_turns<C: SlotCell, O: Outlet, ThisRun: Run, W: TurnWatch>(
     ensures begun { ThisRun.keeps ≡ true
         → HasBegun ThisRun.script (happenings result.history.lines.items) result.end }
 {
-    let Ok(deliveries) = no_deliveries(alloc, world.stations.len()) else {
+    let Ok(deliveries) = no_deliveries(alloc, world.nodes()) else {
         return Ended::unbegun(alloc, world, HubFault::NoMemory);
     };
     let (mut table, begun) = open_table::<C, O, ThisRun>(
@@ -269,19 +269,19 @@ pub fn run_world_by_turns<C: SlotCell, O: Outlet, W: TurnWatch>(
     keeps_history: bool,
 ) -> Ended<C, O>
     // Kept or not, a history leads there.
-    ensures run { HasRun (rooms world.stations.items) script.items (world_of world) (world_of result.world) }
-    ensures leads { keeps_history ≡ true → LeadsTo (rooms world.stations.items) script.items (world_of world)
+    ensures run { HasRun (rooms_in world) script.items (world_of world) (world_of result.world) }
+    ensures leads { keeps_history ≡ true → LeadsTo (rooms_in world) script.items (world_of world)
         (happenings result.history.lines.items) (world_of result.world) }
-    ensures over { IsOver (network_of world.net.value.program).channels bounds (world_of result.world)
+    ensures over { IsOver (network_of (net_in world).value.program).channels bounds (world_of result.world)
         result.end }
     // Where the run came to its end, the events of the script's lines of round 0 come before all others.
     ensures begun { keeps_history ≡ true
         → HasBegun script.items (happenings result.history.lines.items) result.end }
 {
-    let Ok(net) = Arc::try_clone(&world.net) else {
+    let Ok(net) = Arc::try_clone(world.net()) else {
         return Ended::unbegun(alloc, world, HubFault::NoMemory);
     };
-    let nodes = node_number(world.stations.len());
+    let nodes = node_number(world.nodes());
     let channels = net.program.channels.as_slice();
     play_by_turns::<C, O, Brand, W>(
         alloc,

@@ -32,6 +32,9 @@ pub struct Until {
 pub(crate) struct Locked<C: SlotCell, O: Outlet, ThisRun: Run> {
     pub log: RunLog<C, O, ThisRun>,
     pub left: u64,
+    // The nodes whose threads sleep, or are about to, and which nobody has woken yet. A call that wakes a thread goes to the system, so
+    // none is made for a thread that is awake.
+    pub asleep: [bool; NODES],
     // What the driver waited for last.
     pub until: Until,
     // How the hub stands as far as who watches the run was told, if anybody was.
@@ -110,11 +113,19 @@ impl<C: SlotCell, O: Outlet, ThisRun: Run> Locked<C, O, ThisRun> {
         }
     }
 
-    // The nodes for which a packet is due.
-    fn receivers(&self) -> [bool; NODES] {
+    /// A node's thread sleeps from now on, until somebody wakes it.
+    pub fn falls_asleep(&mut self, node: u8) {
+        if let Some(asleep) = self.asleep.get_mut(usize::from(node)) {
+            *asleep = true;
+        }
+    }
+
+    // The nodes that sleep and are to be woken: all of them, or those for which a packet is due. They count as awake from now on.
+    fn woken_nodes(&mut self, all: bool) -> [bool; NODES] {
         let mut nodes = [false; NODES];
         for node in 0..NODES {
-            if self.log.has_packet(node as u8) {
+            if self.asleep[node] && (all || self.log.has_packet(node as u8)) {
+                self.asleep[node] = false;
                 nodes[node] = true;
             }
         }
@@ -130,11 +141,7 @@ impl<C: SlotCell, O: Outlet, ThisRun: Run> Locked<C, O, ThisRun> {
             self.log.is_stopped()
         };
         Woken {
-            nodes: if has_moved_on || stopped {
-                [true; NODES]
-            } else {
-                self.receivers()
-            },
+            nodes: self.woken_nodes(has_moved_on || stopped),
             driver: self.wakes_driver(),
             watch: self.wakes_watch(),
         }

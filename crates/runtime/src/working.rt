@@ -16,14 +16,25 @@ use run_log::{HubFault, Run, TurnAnswer};
 use slot_cell::SlotCell;
 use std::alloc::Global;
 use std::sync::{Arc, Wait};
-use stream_eq::Freed;
 use world::Reply;
 
-// An item has left: its output's mark is raised, where it is one of the seat's node.
-fn raise<ItsMarks: MarksName>(marks: &Marks<ItsMarks>, seat: &mut Seat<ItsMarks>, freed: Freed) {
+// Items have left by an output, if there is one here: its mark is raised to how far it has come, where it is one of the seat's node.
+fn raise<C: SlotCell, O: Outlet, ThisRun: Run, ItsMarks: MarksName>(
+    entered: &Entered<'_, C, O, ThisRun>,
+    marks: &Marks<ItsMarks>,
+    seat: &mut Seat<ItsMarks>,
+    left_by: Option<u8>,
+) -> Result<(), HubFault> {
+    let Some(output) = left_by else {
+        return Ok(());
+    };
+    let Ok(freed) = entered.freed(output) else {
+        return Err(HubFault::NoMemory);
+    };
     if marks.fits(seat, &freed) {
         marks.raise(seat, freed);
     }
+    Ok(())
 }
 
 // Runs a job outside the lock, and brings back what came of it.
@@ -57,12 +68,15 @@ fn run_job<C: SlotCell, O: Outlet, ThisRun: Run, W: JobWatch, R: Wait>(
 const TURNS: u32 = 256;
 
 // Turns in a row, until a job is granted, nothing is to be done, or others have something to do. It answers what the last one came to.
+// Items leave by one output after another, mostly many in a row, so a mark is raised once for all of them: before items leave by another
+// output, and by who called for the output that is left in `left_by`.
 fn take_turns<C: SlotCell, O: Outlet, ThisRun: Run, ItsMarks: MarksName>(
     alloc: Global,
     entered: &mut Entered<'_, C, O, ThisRun>,
     seat: &mut NodeSeat<ThisRun>,
     marks: &Marks<ItsMarks>,
     marks_seat: &mut Seat<ItsMarks>,
+    left_by: &mut Option<u8>,
 ) -> Result<TurnAnswer, HubFault>
     ensures node { seat.new.node ≡ seat.old.node }
     ensures home { IfOk result (IsGrantedIn seat.old.node) }
@@ -72,7 +86,12 @@ fn take_turns<C: SlotCell, O: Outlet, ThisRun: Run, ItsMarks: MarksName>(
             TurnAnswer::Reply(Reply::Granted(job)) => {
                 return Ok(TurnAnswer::Reply(Reply::Granted(job)));
             }
-            TurnAnswer::Reply(Reply::Released(freed)) => raise(marks, marks_seat, freed),
+            TurnAnswer::Reply(Reply::Released(item)) => {
+                if *left_by != Some(item.output) {
+                    raise(entered, marks, marks_seat, *left_by)?;
+                    *left_by = Some(item.output);
+                }
+            }
             TurnAnswer::Reply(_) | TurnAnswer::Widened => {}
             TurnAnswer::Nothing => return Ok(TurnAnswer::Nothing),
             TurnAnswer::Stopped => return Ok(TurnAnswer::Stopped),
@@ -99,7 +118,10 @@ fn stay<C: SlotCell, O: Outlet, ThisRun: Run, ItsMarks: MarksName, R: Wait>(
     ensures home { IfOk result (IsGrantedIn seat.old.node) }
 {
     let mut entered = hub.enter_node(rt, seat, *nothing_at);
-    let answer = take_turns(alloc, &mut entered, seat, marks, marks_seat)?;
+    let mut left_by = None;
+    let answer = take_turns(alloc, &mut entered, seat, marks, marks_seat, &mut left_by);
+    raise(&entered, marks, marks_seat, left_by)?;
+    let answer = answer?;
     let seen = entered.leave();
     *nothing_at = match &answer {
         TurnAnswer::Nothing => Some(seen),

@@ -99,7 +99,7 @@ fn want_of_memory_at_a_node_ends_the_run(rt: HostRuntime) -> Result<(), Fail> {
     let ended = run_world(&rt, alloc, world, script, &NoWatch, BOUNDS, false);
     let end = ended.end;
     // The world comes back all the same.
-    let stations = ended.world.stations.len();
+    let stations = ended.world.nodes();
     drop(ended);
     assert!(rt; end == RunEnd::Refused(HubFault::NoMemory));
     assert!(rt; stations == usize::from(NODES));

@@ -6,7 +6,7 @@ ghost use Rattle.marks.specs.Seats.{table_of};
 ghost use Rattle.node_memory.specs.JobView.{shared_view};
 ghost use Rattle.protocol.specs.World.Common.{node_in};
 ghost use Rattle.run_log.specs.LedgerNames.{HaveParts, names_of};
-ghost use Rattle.world.specs.WholeView.{world_of};
+ghost use Rattle.world.specs.WholeView.{rooms_in, world_of};
 ghost use Rattle.world.specs.WorldView.{rooms};
 
 use kahn_net::Channel;
@@ -295,7 +295,7 @@ fn play_in_turns<ThisRun: Run, R: Wait>(
     ledgers: UnusedLedgers,
 ) -> Result<Ended, Fail>
     requires opening { world_of world ≡ ThisRun.opening }
-    requires rooms { rooms world.stations.items ≡ ThisRun.rooms }
+    requires rooms { rooms_in world ≡ ThisRun.rooms }
     requires script { script.items ≡ ThisRun.script }
     requires names { names_of ledgers ≡ ThisRun.names }
     requires parts { HaveParts ledgers ThisRun.seats }
@@ -375,7 +375,7 @@ fn play_by_threads<
     opened: Opened,
 ) -> Result<Ended, Fail>
     requires opening { world_of world ≡ ThisRun.opening }
-    requires rooms { rooms world.stations.items ≡ ThisRun.rooms }
+    requires rooms { rooms_in world ≡ ThisRun.rooms }
     requires script { script.items ≡ ThisRun.script }
     requires names { names_of ledgers ≡ ThisRun.names }
     requires parts { HaveParts ledgers ThisRun.seats }
@@ -1059,7 +1059,7 @@ fn play_with_crash<
     opened: Opened,
 ) -> Result<Ended, Fail>
     requires opening { world_of world ≡ ThisRun.opening }
-    requires rooms { rooms world.stations.items ≡ ThisRun.rooms }
+    requires rooms { rooms_in world ≡ ThisRun.rooms }
     requires script { script.items ≡ ThisRun.script }
     requires names { names_of ledgers ≡ ThisRun.names }
     requires parts { HaveParts ledgers ThisRun.seats }

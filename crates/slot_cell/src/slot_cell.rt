@@ -2,6 +2,7 @@
 ghost use Rattle.std.specs.Prelude.{◌≡◌, ◌⊎◌, ◌<◌, ◌≤◌, ◌↔◌, ℕ, false, List, length, IfOk, OnOk, IsErrOf, IsTrue, IsSome, Option, Some, None};
 ghost use Rattle.sector_disk.specs.Clock.{Only, LeavesOnly};
 ghost use Rattle.gate_cell.specs.CellFault.{HasCause};
+ghost use Rattle.gate_cell.specs.Layout.{value_in, IsFrame};
 ghost use Rattle.gate_cell.specs.Setup.{LeavesSetup};
 ghost use Rattle.gate_cell.specs.ValueCall.{ValueCall};
 ghost use Rattle.gate_cell.specs.declared.TheConstants.{MAX_VALUE_BYTES};
@@ -68,6 +69,29 @@ pub trait SlotCell: StableCell {
             ↔ (IsTrue (Self.is_ready self.old) × (slot_capacity self.old < length new.now)) }
         ensures unchanged { (IsErrOf result CellFault.NoMemory ⊎ IsErrOf result CellFault.TooLarge
             ⊎ IsErrOf result CellFault.Reopen) → self.new ≡ self.old }
+        ensures cause { HasCause (Self.failure_count self.old) (Self.failure_count self.new)
+            (Self.is_ready self.old) (Self.is_ready self.new) result };
+
+    /// Fills slot 0 or 1 with the value of this frame: as `fill` does with bytes, but it copies none and takes no memory. Refuses with
+    /// `Device` (20), `TooLarge` (22) and `Reopen` (23).
+    fn fill_framed(&mut self, slot: usize, frame: &[u8]) -> Result<(), CellFault>
+        requires slot { slot ≤ 1 }
+        requires frame { IsFrame (value_in frame.now) frame.now }
+        ensures ok { OnOk result (whole self.new
+            ≡ with_slot slot (Some (value_in frame.now)) (whole self.old)) }
+
+        // A crash at any moment of the call leaves what it might have left before, with anything in this slot.
+        ensures any_moment { LeavesOnly Self.moment left_since_whole self.old self.new
+            (LeftByFill (may_leave_whole self.old) slot) }
+        ensures same_setup { LeavesSetup Self.capacity Self.armed Self.call_count self.old self.new }
+        ensures same_slot_room { slot_capacity self.new ≡ slot_capacity self.old }
+
+        ensures memory { ¬ (IsErrOf result CellFault.NoMemory) }
+        ensures too_large { IsErrOf result CellFault.TooLarge
+            ↔ (IsTrue (Self.is_ready self.old)
+            × (slot_capacity self.old < length (value_in frame.now))) }
+        ensures unchanged { (IsErrOf result CellFault.TooLarge ⊎ IsErrOf result CellFault.Reopen)
+            → self.new ≡ self.old }
         ensures cause { HasCause (Self.failure_count self.old) (Self.failure_count self.new)
             (Self.is_ready self.old) (Self.is_ready self.new) result };
 

@@ -4,7 +4,7 @@ ghost use Rattle.sector_disk.specs.Clock.{Only, LeavesOnly};
 ghost use Rattle.sector_disk.specs.Disk.{SameSetup};
 ghost use Rattle.gate_cell.specs.Calls.{HasStopped, count_after_calls};
 ghost use Rattle.gate_cell.specs.CellFault.{HasCause, HasDeviceCause};
-ghost use Rattle.gate_cell.specs.Layout.{other_area, IsGate, IsSettled};
+ghost use Rattle.gate_cell.specs.Layout.{other_area, value_in, IsFrame, IsGate, IsSettled};
 ghost use Rattle.gate_cell.specs.Stands.{AlwaysStands, Looks, only_value, stands_for_content, stands_for_one, stood_fits, room_bound};
 ghost use Rattle.gate_cell.specs.Setup.{LeavesSetup};
 ghost use Rattle.gate_cell.specs.ValueCall.{ValueCall};
@@ -486,11 +486,45 @@ impl<D: Disk> SlotCell for SplitCell<D> {
             return Err(CellFault::TooLarge);
         }
         let frame = framed(self.alloc, new)?;
+        self.fill_framed(slot, &frame)
+    }
+
+    fn fill_framed(&mut self, slot: usize, frame: &[u8]) -> Result<(), CellFault>
+        requires slot { slot ≤ 1 }
+        requires frame { IsFrame (value_in frame.now) frame.now }
+        ensures ok { OnOk result
+            (whole_of self.new ≡ with_slot slot (Some (value_in frame.now)) (whole_of self.old)) }
+        ensures any_moment { LeavesOnly moment_of left_since_whole_of self.old self.new
+            (LeftByFill (may_leave_whole_of self.old) slot) }
+        ensures same_setup { LeavesSetup capacity_of armed_of calls_of self.old self.new }
+        ensures same_slot_room { slot_capacity_of self.new ≡ slot_capacity_of self.old }
+        ensures memory { ¬ (IsErrOf result CellFault.NoMemory) }
+        ensures too_large { IsErrOf result CellFault.TooLarge
+            ↔ (IsTrue (is_ready_of self.old)
+            × (slot_capacity_of self.old < length (value_in frame.now))) }
+        ensures unchanged { (IsErrOf result CellFault.TooLarge ⊎ IsErrOf result CellFault.Reopen)
+            → self.new ≡ self.old }
+        ensures cause { HasCause (failures_of self.old) (failures_of self.new)
+            (is_ready_of self.old) (is_ready_of self.new) result }
+
+        // Two device calls: a write and a sync.
+        ensures calls { OnOk result (calls_of self.new ≡ count_after_calls 2 (calls_of self.old)) }
+        ensures stopped { IsErrOf result CellFault.Device
+            → HasStopped D.call_count D.failed_call 2 (disk_in self.old) (disk_in self.new) }
+        ensures setup { SameSetup D.sector_count D.armed (disk_in self.old) (disk_in self.new) }
+    {
+        if !self.ready {
+            return Err(CellFault::Reopen);
+        }
+        let sectors = self.disk.sectors();
+        if length_of(frame) > slot_room_of(sectors) {
+            return Err(CellFault::TooLarge);
+        }
         self.ready = false;
         write_through(
             &mut self.disk,
             HEADER_SECTORS + slot * slot_sectors_of(sectors),
-            &frame,
+            frame,
         )?;
         self.ready = true;
         Ok(())

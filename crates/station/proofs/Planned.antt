@@ -17,13 +17,11 @@ use Rattle.protocol.specs.Node.Common.{unless_spent, IsMade, IsPut, recover_pros
 use Rattle.std.proofs.lemmas.List.Elements.{All-nil}
 use Rattle.node_memory.specs.JobView.{shared_view}
 use Rattle.protocol.specs.Node.Delivering.{delivery_of}
-use Rattle.protocol.specs.Node.Hearing.{told_prospect}
 use Rattle.protocol.specs.Node.NodeView.{with_mode}
 use Rattle.protocol.specs.declared.round_turns.RoundTurns.{RoundTurns}
 use Rattle.protocol.specs.declared.event.Deed.{Deed}
 use Rattle.protocol.specs.declared.reply.Reply.TheVariants as reply
 use Rattle.protocol.specs.World.Steps.{grant_plan}
-use Rattle.protocol.specs.World.Steps.{plan_sendings}
 use Rattle.protocol.specs.World.Turns.{count_grant}
 use Rattle.protocol_laws.specs.World.DeedLaws.{becoming_sends}
 use Rattle.protocol.specs.declared.outcome.Outcome.{Outcome}
@@ -232,63 +230,6 @@ module _ (fits : RecordView → Bool) (round : ℕ) (net : Network) (to place : 
 
   abbrev Tells : Option Packet → Type 0
   Tells packet = ComesOut fits round (told_plan packet) old answer new to before after
-
-  -- there are none
-  pub none_came : (found : Option (List ℕ)) → None ≡ found → answer ≡ reply.NotDue → new ≡ old → after ≡ before
-      → Delivers found
-  none_came found is answers same flown =
-      subst Delivers is
-      (record {
-        came = outcome.NotDue;
-        step = not_due_is fits round (deliver_plan net place None old) old new refl answer answers same;
-        traffic = flown ∙ ap (λ (r : ReplyView). cond (has_happened r)
-            (all_sent round (plan_sendings (deliver_plan net place None old) outcome.NotDue) before) before)
-            (sym answers);
-      })
-
-  -- the node is down
-  tells_none : (packet : Option Packet) → is_down old.node.mode ≡ true → answer ≡ reply.NotDue → new ≡ old
-      → after ≡ before → Tells packet
-  tells_none packet down answers same flown =
-      let undue : (told_plan packet).prospect ≡ Undue =
-      ap (λ (d : Bool). if_due (not d) (told_prospect net old.number packet old.node)) down in
-      record {
-        came = outcome.NotDue;
-        step = not_due_is fits round (told_plan packet) old new undue answer answers same;
-        traffic = flown ∙ ap (λ (r : ReplyView). cond (has_happened r)
-            (all_sent round (plan_sendings (told_plan packet) outcome.NotDue) (traffic_without before to place)) before)
-            (sym answers);
-      }
-
-  pub came_to_none : (found : Option (List ℕ)) (bytes : List ℕ) → Some bytes ≡ found → is_down old.node.mode ≡ true
-      → answer ≡ reply.NotDue → new ≡ old → after ≡ before → Delivers found
-  came_to_none found bytes is down answers same flown =
-      subst Delivers is (tells_none (packet_for net old.number bytes) down answers same flown)
-
-  -- they spell no packet for it
-  tells_nothing : is_down old.node.mode ≡ false → answer ≡ reply.Dropped → new ≡ old
-      → after ≡ traffic_without before to place → Tells None
-  tells_nothing up answers same flown =
-      let plan = told_plan None in
-      let is : plan.prospect ≡ becoming old.node = ap (λ (d : Bool). if_due (not d) (becoming old.node)) up in
-      let silent : packets_by plan.prospect outcome.Made ≡ [] =
-      ap (λ (p : Prospect). packets_by p outcome.Made) is in
-      record {
-        came = outcome.Made;
-        step = becomes_is fits round plan old new old.node is answer answers same;
-        traffic = flown
-            ∙ (ap (λ (ps : List Packet). all_sent round (map sending_of ps) (traffic_without before to place))
-            (sym silent)
-            ∙ ap (λ (r : ReplyView). cond (has_happened r)
-            (all_sent round (map sending_of (packets_by plan.prospect outcome.Made)) (traffic_without before to place))
-            before) (sym answers));
-      }
-
-  pub came_dropped : (found : Option (List ℕ)) (bytes : List ℕ) → Some bytes ≡ found
-      → None ≡ packet_for net old.number bytes → is_down old.node.mode ≡ false → answer ≡ reply.Dropped → new ≡ old
-      → after ≡ traffic_without before to place → Delivers found
-  came_dropped found bytes is none up answers same flown =
-      subst Delivers is (subst Tells none (tells_nothing up answers same flown))
 
   -- they spell one, which it hears
   tells_one : (packet : Packet) → is_down old.node.mode ≡ false

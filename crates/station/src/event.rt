@@ -2,9 +2,8 @@
 ghost use Rattle.std.specs.Prelude.{◌≡◌};
 
 use proc_step::{Done, Job};
-use protocol::{Deed, NetworkAct, PlainEvent};
+use protocol::{Deed, Leaving, NetworkAct, PlainEvent};
 use std::sync::Arc;
-use stream_eq::Freed;
 
 /// What can happen.
 #[derive(Drop)]
@@ -51,8 +50,8 @@ impl Event {
     }
 }
 
-/// What came of an event: with a share of the job that was granted, and shares of what the item that left is proved by.
-pub type Reply = protocol::Reply<Arc<Job>, Freed>;
+/// What came of an event: with a share of the job that was granted, and the place of the item that left.
+pub type Reply = protocol::Reply<Arc<Job>, Leaving>;
 
 /// Want of memory (1), with the event. The world is as it was.
 #[derive(Drop)]

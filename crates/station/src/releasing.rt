@@ -1,8 +1,7 @@
 // A station's outputs: one item leaves the system.
-ghost use Rattle.std.specs.Prelude.{◌≡◌, ◌<◌, ◌+◌, ℕ, length, IfSome, IfOk, OnErr, Some, slice_get};
+ghost use Rattle.std.specs.Prelude.{◌≡◌, ◌<◌, ℕ, length, IfSome, IfOk, OnErr, Some, slice_get};
 ghost use Rattle.node.specs.NodeOf.{view_of};
-ghost use Rattle.protocol.specs.Node.Common.{HasNext, current_log, trimmed_node, HistoryReaches};
-ghost use Rattle.station.specs.Lending.{inputs_lent, net_lent};
+ghost use Rattle.protocol.specs.Node.Common.{HasNext, current_log, trimmed_node};
 ghost use Rattle.station.specs.ReplyView.{reply_view};
 ghost use Rattle.protocol.specs.World.Common.{OutletView, first_waiting, next_release, IsRelease};
 ghost use Rattle.station.specs.StationView.{outlet_view, outlet_views};
@@ -15,11 +14,10 @@ use crate::output::Output;
 use crate::station::Station;
 use node::Node;
 use outlet::{Outlet, OutletFault};
+use protocol::Leaving;
 use record::Record;
 use slot_cell::SlotCell;
 use std::alloc::AllocError;
-use std::sync::Arc;
-use stream_eq::Freed;
 
 // Whether an outlet failed in this round.
 fn has_failed_in(failed: Option<u64>, round: u64) -> bool
@@ -58,17 +56,14 @@ pub(crate) fn next_output<O: Outlet>(
     None
 }
 
-// Lets the next item of an output leave, which some approximation has. The shares for the answer come first, since they
-// may be refused.
+// Lets the next item of an output leave.
 fn release_at<C: SlotCell, O: Outlet>(
     lent: &Lent,
     node: &mut Node<C>,
     output: &mut Output<O>,
 ) -> Result<Reply, AllocError>
-    requires next { HasNext (current_log output.old.channel (view_of node.old).mode)
+    requires { HasNext (current_log output.old.channel (view_of node.old).mode)
         (length (O.taken output.old.outlet)) }
-    requires reached { HistoryReaches (net_lent lent.now) (inputs_lent lent.now)
-        output.old.channel (length (O.taken output.old.outlet) + 1) }
     ensures refused { OnErr result
         ((view_of node.new ≡ view_of node.old)
         × (outlet_view O.taken O.failures output.new ≡ outlet_view O.taken O.failures output.old)) }
@@ -82,12 +77,8 @@ fn release_at<C: SlotCell, O: Outlet>(
         (outlet_view O.taken O.failures output.new)) }
 {
     let channel = output.channel;
-    let net = Arc::try_clone(lent.net)?;
-    let inputs = Arc::try_clone(lent.inputs)?;
     match node.release(channel, &mut output.outlet) {
-        Ok(()) => Ok(Reply::Released(Freed {
-            net,
-            inputs,
+        Ok(()) => Ok(Reply::Released(Leaving {
             output: channel,
             number: output.outlet.len(),
         })),
@@ -115,18 +106,13 @@ impl<C: SlotCell, O: Outlet> Station<C, O> {
         }
     }
 
-    /// Lets one item leave, which its log has, and some approximation, where an outlet waits for it.
+    /// Lets one item leave, which its log has, where an outlet waits for it.
     pub(crate) fn release(&mut self, lent: &Lent) -> Result<Reply, AllocError>
-        requires next { (place : ℕ) (outlet : OutletView)
+        requires { (place : ℕ) (outlet : OutletView)
             → next_release lent.now.round (station_view O.taken O.failures self.old) ≡ Some place
             → slice_get (outlet_views O.taken O.failures self.old.outputs.items) place ≡ Some outlet
             → HasNext (current_log outlet.channel (view_of self.old.node).mode)
             (length outlet.taken) }
-        requires reached { (place : ℕ) (outlet : OutletView)
-            → next_release lent.now.round (station_view O.taken O.failures self.old) ≡ Some place
-            → slice_get (outlet_views O.taken O.failures self.old.outputs.items) place ≡ Some outlet
-            → HistoryReaches (net_lent lent.now) (inputs_lent lent.now) outlet.channel
-            (length outlet.taken + 1) }
         ensures cell { self.new.node.store ≡ self.old.node.store }
         ensures refused { OnErr result
             (station_view O.taken O.failures self.new ≡ station_view O.taken O.failures self.old) }

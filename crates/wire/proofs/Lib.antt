@@ -2,3 +2,4 @@ pub mod Passing
 pub mod Seen
 pub mod Staged
 pub mod Ready
+pub mod Roomy

@@ -3,3 +3,4 @@ pub mod Queue
 pub mod Wire
 pub mod Traffic
 pub mod Staging
+pub mod RoomFor

@@ -1,13 +1,17 @@
 // What a packet consists of.
 ghost use Rattle.std.specs.Prelude.{◌≡◌, IfOk};
 
+use smallvec::SmallVec;
 use std::alloc::{AllocError, Global};
 use std::marker::Model;
+
+/// Bytes of which up to 24 lie in the value itself. A packet with an item has 21, so it needs no memory of its own in a queue.
+pub type PacketBytes = SmallVec<u8, 24>;
 
 /// The bytes of a packet, which contracts see as a list.
 #[derive(Debug, Drop)]
 pub struct Bytes {
-    bytes: Vec<u8>,
+    bytes: PacketBytes,
 }
 
 impl Model for Bytes {
@@ -20,7 +24,7 @@ impl Model for Bytes {
 
 impl Bytes {
     /// A packet of these bytes.
-    pub fn new(bytes: Vec<u8>) -> Bytes
+    pub fn new(bytes: PacketBytes) -> Bytes
         ensures { result ≡ bytes.items }
     {
         Bytes { bytes }
@@ -33,12 +37,12 @@ impl Bytes {
         self.bytes.as_slice()
     }
 
-    /// The same bytes once more, in memory of their own.
+    /// The same bytes once more.
     pub fn copy(&self, alloc: Global) -> Result<Bytes, AllocError>
         ensures { IfOk result (λ copy. copy ≡ self.now) }
     {
         Ok(Bytes {
-            bytes: Vec::from_slice(alloc, self.bytes.as_slice())?,
+            bytes: SmallVec::from_slice(alloc, self.bytes.as_slice())?,
         })
     }
 }

@@ -6,6 +6,7 @@
 #![tactic(auto)]
 
 mod bytes;
+mod direct;
 mod laws;
 mod queue;
 mod rule;
@@ -13,7 +14,7 @@ mod sending;
 mod staging;
 mod wire;
 
-pub use bytes::Bytes;
+pub use bytes::{Bytes, PacketBytes};
 pub use laws::nothing_is_made_up;
 pub use queue::{Flight, NODES};
 pub use rule::{Change, Rule};

@@ -177,6 +177,21 @@ impl Queue {
         Ok(())
     }
 
+    // Puts a packet last that no rule is for, where there is room, and counts it.
+    pub(crate) fn put(&mut self, sending: Sending, round: u64)
+        requires nodes { AreNodes sending }
+        requires room { 1 ≤ self.old.room }
+        ensures sent { queue_traffic self.new
+            ≡ queue_sent [] sending.from sending.to sending.packet round
+            (queue_traffic self.old) }
+        ensures room { self.old.room ≤ self.new.room + 1 }
+    {
+        let Sending { from, packet, .. } = sending;
+        let due = capped_sum(round, 0);
+        self.flights.push_back_reserved(Flight { packet, due });
+        self.note_sent(from);
+    }
+
     // Puts a copy of a packet last.
     pub(crate) fn repeat(&mut self, alloc: Global, place: usize) -> Result<(), AllocError>
         requires { place < length self.old.flights }

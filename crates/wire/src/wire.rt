@@ -7,6 +7,7 @@ ghost use Rattle.wire.specs.Queue.{is_due, without, with_delay, with_copy};
 ghost use Rattle.wire.specs.Wire.{queue_at, in_flight, room_for, with_queue, with_room, is_due_at};
 ghost use Rattle.wire.specs.Traffic.{AreNodes, empty_queue, queues_traffic, traffic_of, opening_traffic, traffic_without, traffic_delayed, traffic_repeated, traffic_armed, all_sent};
 
+use crate::direct::send_directly;
 use crate::queue::{NODES, Queue};
 use crate::rule::Rule;
 use crate::sending::Sending;
@@ -159,6 +160,9 @@ impl Wire {
             ≡ all_sent round packets.items (traffic_of self.old)) }
         ensures err { OnErr result (traffic_of self.new ≡ traffic_of self.old) }
     {
+        if self.rules.is_empty() {
+            return send_directly(&mut self.queues, packets, round);
+        }
         let more = staged(alloc, &self.queues, &self.rules, packets, round)?;
         post_all(&mut self.queues, more)
     }

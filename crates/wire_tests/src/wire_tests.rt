@@ -7,7 +7,7 @@ use crate::asserting::{holds, same};
 use std::alloc::Global;
 use std::process::Abort;
 use std::test::Fail;
-use wire::{Bytes, Change, Rule, Sending, Wire};
+use wire::{Bytes, Change, PacketBytes, Rule, Sending, Wire};
 
 /// Adds a packet of one byte to those that are to be sent.
 fn add(alloc: Global, packets: &mut Vec<Sending>, from: u8, to: u8, byte: u8) -> Result<(), Fail>
@@ -15,7 +15,7 @@ fn add(alloc: Global, packets: &mut Vec<Sending>, from: u8, to: u8, byte: u8) ->
     requires so_far { All AreNodes packets.old.items }
     ensures { OnOk result (All AreNodes packets.new.items) }
 {
-    let packet = Vec::from_slice(alloc, &[byte])?;
+    let packet = PacketBytes::from_slice(alloc, &[byte])?;
     packets.push(Sending {
         from,
         to,

@@ -11,10 +11,10 @@ use Rattle.slot_cell.specs.declared.slot_cell.SlotCell.{Ghosts as SlotWords}
 use Rattle.slot_cell.specs.declared.split.SplitCell.{SplitCell}
 use Rattle.ckpt_store.specs.StoreView.{record_spelled}
 use Rattle.protocol.specs.Node.Common.{cell_in, record_in, RecordView, Spells, Whole}
-use Rattle.protocol.specs.World.Common.{output_channels, outputs_of, OutputView, records_of, StationView, WorldInvariant}
+use Rattle.protocol.specs.World.Common.{output_channels, outputs_of, OutputView, records_of, WorldInvariant}
 use Rattle.protocol.specs.World.Common.{WorldView}
 use Rattle.starting_again.proofs.Leaving.{gives_back_its_own, leaves_its_own}
-use Rattle.starting_again.specs.WasLeft.{outputs_by_station, outputs_left, WasLeft}
+use Rattle.starting_again.specs.WasLeft.{outputs_by_station, WasLeft}
 use Rattle.station.proofs.Cells.{own_spelled}
 use Rattle.station.specs.OutputView.{output_view, outputs_view}
 use Rattle.station.specs.StationView.{outlet_views, station_view}

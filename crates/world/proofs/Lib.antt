@@ -12,3 +12,4 @@ mod Showing
 mod Places
 mod Restarts
 mod Held
+mod Collected

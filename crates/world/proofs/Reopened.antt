@@ -1,7 +1,7 @@
 -- A store and a node that are opened over what lies on a disk, and the disk that comes back.
-use Rattle.std.proofs.Common.{◌≡◌, ◌⊎◌, inl, inr, ℕ, ◌<◌, ◌≤◌, Bool, true, false, List, Option, Some, None, refl, sym, ap, subst}
+use Rattle.std.proofs.Common.{◌≡◌, ◌⊎◌, inl, inr, ℕ, ◌<◌, ◌≤◌, false, List, Option, Some, None, refl, sym, ap, subst}
 use Rattle.std.proofs.Common.{◌∙◌, arith}
-use Rattle.std.specs.Prelude.{Result, Err, IfOk, IsErrOf, IsSome, IsTrue}
+use Rattle.std.specs.Prelude.{Result, Err, IfOk, IsSome, IsTrue}
 use Rattle.std.proofs.Math.Logic.{∥∥₁_elim}
 use mathlib.Core.HLevel.{⊥_prop}
 use Rattle.sector_disk.specs.Clock.{LeavesOnly, Only}
@@ -25,7 +25,7 @@ use Rattle.ckpt_store.specs.StoreView.{record_or, record_spelled}
 use Rattle.ckpt_store.specs.declared.fault.StoreFault.TheVariants.{Reopen, Device}
 use Rattle.ckpt_store.specs.declared.fault.StoreFault.TheVariants as store
 use Rattle.protocol.specs.Node.Common.{RecordView, slot_room_on, Spells, StoreFault, Whole}
-use Rattle.world.specs.Left.{HoldsRecord, record_on}
+use Rattle.world.specs.Left.{HoldsRecord}
 use Rattle.world.specs.OpeningWorld.{IsNotOpened, IsOpeningRefusal}
 use Rattle.world.specs.Reopening.{IsDiskAsLeft, IsDiskRefused}
 

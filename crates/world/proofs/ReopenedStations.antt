@@ -1,5 +1,5 @@
 -- The stations of a world that is opened over what was left.
-use Rattle.std.proofs.Common.{◌≡◌, ℕ, zero, suc, ◌+◌, ◌<◌, ◌≤◌, Bool, true, false, cond, List, ℤ, None, Option, Some, [], ◌∷◌, ◌++◌, map, length}
+use Rattle.std.proofs.Common.{◌≡◌, ℕ, zero, suc, ◌+◌, ◌<◌, Bool, true, false, cond, List, ℤ, None, Option, Some, [], ◌∷◌, ◌++◌, map, length}
 use Rattle.std.proofs.Common.{refl, sym, ap, subst, ◌∙◌, arith}
 use Rattle.std.specs.Prelude.{IfSome, option_to_list, slice_get}
 use Rattle.std.specs.List.{AllByRecursion, AllZip}
@@ -14,8 +14,7 @@ use Rattle.ckpt_store.specs.StoreView.{record_spelled}
 use Rattle.node.specs.NodeOf.{view_of}
 use Rattle.node.specs.declared.node.Node.{Node}
 use Rattle.protocol.specs.Node.Common.{cell_in, Net, Network, network_of, node_count, NodeView, RecordView, slot_room_on}
-use Rattle.protocol.specs.Node.Common.{StoreFault}
-use Rattle.protocol.specs.World.Common.{AreApproximated, is_output, opening_traffic, outputs_of, OutputView, OutletView}
+use Rattle.protocol.specs.World.Common.{is_output, opening_traffic, outputs_of, OutputView, OutletView}
 use Rattle.protocol.specs.World.Common.{records_of, StationView, Traffic, WorldInvariant, WorldView}
 use Rattle.protocol.specs.World.OpeningWorld.{opening_outlet, outlets_on}
 use Rattle.protocol.specs.World.Turns.{no_turns}
@@ -28,9 +27,9 @@ use Rattle.station.specs.OutputView.{fresh, outputs_view}
 use Rattle.station.specs.StationView.{outlet_views, station_view}
 use Rattle.station.specs.declared.output.Output.{Output}
 use Rattle.station.specs.declared.station.Station.{Station}
-use Rattle.world.specs.Left.{AreLeft, HoldsRecord, record_on, records_on}
+use Rattle.world.specs.Left.{AreLeft, record_on, records_on}
 use Rattle.world.specs.OpeningWorld.{AllNumbered, armed_on, calls_on, HaveOutlets, LeavesOnlyRecord, own_outputs}
-use Rattle.world.specs.Reopening.{HoldsItsOwn, HoldTheirOwn, IsDiskAsLeft, IsReopenedNode, IsReopenedStation, node_down}
+use Rattle.world.specs.Reopening.{HoldsItsOwn, HoldTheirOwn, IsReopenedNode, IsReopenedStation, node_down}
 use Rattle.world.specs.Reopening.{station_down, stations_down, world_again}
 use Rattle.world.proofs.Left.{outputs_shown}
 use Rattle.world.proofs.OpenedStations.{fresh_own, numbered_more, own_fresh, own_views}

@@ -3,8 +3,15 @@ use Rattle.std.specs.List.{AllZip}
 use Rattle.gate_cell.specs.declared.cell.StableCell.{Ghosts as CellWords}
 use Rattle.slot_cell.specs.declared.slot_cell.SlotCell.{Ghosts as SlotWords}
 use Rattle.outlet.specs.declared.outlet.Outlet.{Ghosts as OutletWords}
+use Rattle.std.specs.Prelude.{ℕ, Bool, List, vec_len}
+use Rattle.std.specs.declared.alloc.Global.{Global}
+use Rattle.std.specs.declared.sync.Arc.{Arc}
+use Rattle.net_check.specs.declared.inputs.Inputs.{Inputs}
+use Rattle.protocol.specs.Node.Common.{Net, RecordView}
 use Rattle.protocol.specs.World.Common.{WorldView, traffic_of}
-use Rattle.world.specs.WorldView.{world_view, IsGrown}
+use Rattle.wire.specs.declared.wire.Wire.{Wire}
+use Rattle.station.specs.declared.station.Station.{Station}
+use Rattle.world.specs.WorldView.{capacities, rooms, world_view, IsGrown}
 use Rattle.world.specs.declared.world.World.{World}
 
 abbrev pub world_of : {C O : Type 0} {cell : CellWords C} {slots : SlotWords C} {outlet : OutletWords O}
@@ -12,6 +19,36 @@ abbrev pub world_of : {C O : Type 0} {cell : CellWords C} {slots : SlotWords C} 
 world_of {C} {O} {cell} {slots} {outlet} world =
     world_view outlet.taken outlet.failures world.net world.inputs world.stations.items (traffic_of world.wire)
     world.round world.room
+
+-- What a world is made of, in the words by which clauses name it: its network, its inputs, its stations, what is in flight, how many nodes it has,
+-- and of each cell what it has room for.
+abbrev pub net_in : {C O : Type 0} {cell : CellWords C} {slots : SlotWords C} {outlet : OutletWords O}
+    → World C O slots cell outlet → Arc Net Global
+net_in world = world.net
+
+abbrev pub inputs_in : {C O : Type 0} {cell : CellWords C} {slots : SlotWords C} {outlet : OutletWords O}
+    → World C O slots cell outlet → Arc Inputs Global
+inputs_in world = world.inputs
+
+abbrev pub stations_in : {C O : Type 0} {cell : CellWords C} {slots : SlotWords C} {outlet : OutletWords O}
+    → World C O slots cell outlet → List (Station C O slots cell)
+stations_in world = world.stations.items
+
+abbrev pub wire_in : {C O : Type 0} {cell : CellWords C} {slots : SlotWords C} {outlet : OutletWords O}
+    → World C O slots cell outlet → Wire
+wire_in world = world.wire
+
+abbrev pub nodes_in : {C O : Type 0} {cell : CellWords C} {slots : SlotWords C} {outlet : OutletWords O}
+    → World C O slots cell outlet → ℕ
+nodes_in world = vec_len world.stations
+
+abbrev pub rooms_in : {C O : Type 0} {cell : CellWords C} {slots : SlotWords C} {outlet : OutletWords O}
+    → World C O slots cell outlet → List (RecordView → Bool)
+rooms_in world = rooms world.stations.items
+
+abbrev pub capacities_in : {C O : Type 0} {cell : CellWords C} {slots : SlotWords C} {outlet : OutletWords O}
+    → World C O slots cell outlet → List ℕ
+capacities_in world = capacities world.stations.items
 
 -- what has left each station only grew, and is covered at each moment between
 abbrev pub HaveGrown : {C O : Type 0} {cell : CellWords C} {slots : SlotWords C} {outlet : OutletWords O}

@@ -9,6 +9,7 @@ mod closing;
 mod laws;
 mod opening;
 mod outputs;
+mod parts;
 mod picking;
 mod quiet;
 mod released;

@@ -1,15 +1,18 @@
 // What has left the system.
-ghost use Rattle.std.specs.Prelude.{◌≡◌, ◌==◌, find, option_copied, option_map};
+ghost use Rattle.std.specs.Prelude.{◌≡◌, ◌==◌, IfOk, find, length, option_copied, option_map};
 ghost use Rattle.protocol.specs.World.Common.{OutletView, released_of};
 ghost use Rattle.station.specs.StationView.{outlet_views};
 ghost use Rattle.protocol.specs.Node.Common.{network_of};
 ghost use Rattle.protocol.specs.World.Released.{IsPutAtHome, IsStreamOf};
-ghost use Rattle.world.specs.WholeView.{world_of};
+ghost use Rattle.world.specs.WholeView.{inputs_in, net_in, world_of};
 
 use crate::world::World;
 use outlet::Outlet;
 use slot_cell::SlotCell;
 use station::Output;
+use std::alloc::AllocError;
+use std::sync::Arc;
+use stream_eq::Freed;
 
 // The items that have left by the output of this channel, where it is one of these.
 fn released_by<O: Outlet>(outputs: &[Output<O>], channel: u8) -> Option<&[i64]>
@@ -31,13 +34,29 @@ impl<C: SlotCell, O: Outlet> World<C, O> {
     pub fn released(&self, channel: u8) -> &[i64]
         ensures stream { result.now ≡ released_of channel (world_of self.now).stations }
         // They are a prefix of the channel's history, in one approximation of it on the inputs;
-        ensures prefix { IsStreamOf (network_of self.now.net.value.program) self.now.inputs.value
+        ensures prefix { IsStreamOf (network_of (net_in self.now).value.program) (inputs_in self.now).value
             channel result.now }
         // and the permanent image of the node that puts there has put all of them.
-        ensures covered { IsPutAtHome (network_of self.now.net.value.program)
+        ensures covered { IsPutAtHome (network_of (net_in self.now).value.program)
             (world_of self.now).stations channel result.now }
     {
         self.stream(channel)
+    }
+
+    /// How many items have left by the output of this channel, with shares of the network and of its inputs: what another thread
+    /// can be told of it. None has left by what is no output. Refuses for want of memory alone.
+    pub fn freed(&self, channel: u8) -> Result<Freed, AllocError>
+        ensures shared { IfOk result (λ freed. (freed.net.value ≡ (net_in self.now).value)
+            × (freed.inputs.value ≡ (inputs_in self.now).value)) }
+        ensures left { IfOk result (λ freed. (freed.output ≡ channel)
+            × (freed.number ≡ length (released_of channel (world_of self.now).stations))) }
+    {
+        Ok(Freed {
+            net: Arc::try_clone(&self.net)?,
+            inputs: Arc::try_clone(&self.inputs)?,
+            output: channel,
+            number: self.released(channel).len() as u64,
+        })
     }
 
     fn stream(&self, channel: u8) -> &[i64]

@@ -2,7 +2,7 @@
 ghost use Rattle.std.specs.Prelude.{◌≡◌, OnErr, OnOk};
 ghost use Rattle.protocol.specs.Node.Sharing.{IsRoom};
 ghost use Rattle.protocol.specs.World.Common.{with_room};
-ghost use Rattle.world.specs.WholeView.{world_of};
+ghost use Rattle.world.specs.WholeView.{inputs_in, net_in, stations_in, wire_in, world_of};
 
 use crate::world::World;
 use ckpt_codec::MAX_RETAINED_ITEMS;
@@ -19,7 +19,7 @@ pub struct RoomOutOfRange;
 impl<C: SlotCell, O: Outlet> World<C, O> {
     /// How many items a channel retains at most, where its share of a record isn't less.
     pub fn room(&self) -> usize
-        ensures { result ≡ self.now.room }
+        ensures { result ≡ (world_of self.now).room }
     {
         self.room
     }
@@ -31,8 +31,8 @@ impl<C: SlotCell, O: Outlet> World<C, O> {
         // The room is what differs, and nothing else.
         ensures set { OnOk result (world_of self.new ≡ with_room items (world_of self.old)) }
         ensures unchanged { OnErr result (world_of self.new ≡ world_of self.old) }
-        ensures same { (self.new.net ≡ self.old.net) × (self.new.inputs ≡ self.old.inputs)
-            × (self.new.stations ≡ self.old.stations) × (self.new.wire ≡ self.old.wire) }
+        ensures same { (net_in self.new ≡ net_in self.old) × (inputs_in self.new ≡ inputs_in self.old)
+            × (stations_in self.new ≡ stations_in self.old) × (wire_in self.new ≡ wire_in self.old) }
         // Refused are exactly the numbers out of range.
         ensures within { OnOk result (IsRoom items) }
         ensures refused { OnErr result (¬ (IsRoom items)) }

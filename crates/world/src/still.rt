@@ -5,7 +5,7 @@ ghost use Rattle.protocol.specs.Node.Common.{network_of};
 ghost use Rattle.protocol.specs.World.Common.{stands_still};
 ghost use Rattle.protocol.specs.World.Still.{is_still, wants_room, wider, widened};
 ghost use Rattle.station.specs.StationView.{station_view};
-ghost use Rattle.world.specs.WholeView.{world_of};
+ghost use Rattle.world.specs.WholeView.{inputs_in, net_in, stations_in, wire_in, world_of};
 
 use crate::world::World;
 use ckpt_codec::MAX_RETAINED_ITEMS;
@@ -76,8 +76,8 @@ impl<C: SlotCell, O: Outlet> World<C, O> {
     pub fn widen(&mut self)
         // The room is what differs, and nothing else.
         ensures set { world_of self.new ≡ widened (world_of self.old) }
-        ensures same { (self.new.net ≡ self.old.net) × (self.new.inputs ≡ self.old.inputs)
-            × (self.new.stations ≡ self.old.stations) × (self.new.wire ≡ self.old.wire) }
+        ensures same { (net_in self.new ≡ net_in self.old) × (inputs_in self.new ≡ inputs_in self.old)
+            × (stations_in self.new ≡ stations_in self.old) × (wire_in self.new ≡ wire_in self.old) }
     {
         self.room = wider(self.room);
     }

@@ -38,13 +38,13 @@ use wire::Wire;
 /// abstract machine of recovery lines led to it.
 #[derive(Drop)]
 pub struct World<C: SlotCell, O: Outlet> {
-    pub net: Arc<Net>,
-    pub inputs: Arc<Inputs>,
-    pub stations: Vec<Station<C, O>>,
-    pub wire: Wire,
-    pub round: u64,
+    pub(crate) net: Arc<Net>,
+    pub(crate) inputs: Arc<Inputs>,
+    pub(crate) stations: Vec<Station<C, O>>,
+    pub(crate) wire: Wire,
+    pub(crate) round: u64,
     /// How many items a channel retains at most, where its share of a record isn't less.
-    pub room: usize,
+    pub(crate) room: usize,
     pub ghost sound: { WorldInvariant
         (world_view O.taken O.failures net inputs stations.items (traffic_of wire) round room) },
 }
@@ -124,11 +124,11 @@ fn round_after<C: SlotCell, O: Outlet>(reply: &Reply, round: u64, stations: &[St
 }
 
 impl<C: SlotCell, O: Outlet> World<C, O> {
-    ghost use Rattle.world.specs.WholeView.{world_of, HaveGrown};
+    ghost use Rattle.world.specs.WholeView.{HaveGrown, capacities_in, inputs_in, net_in, rooms_in, stations_in, world_of};
 
     /// The round, from 0.
     pub fn round(&self) -> u64
-        ensures { result ≡ self.now.round }
+        ensures { result ≡ (world_of self.now).round }
     {
         self.round
     }
@@ -136,7 +136,7 @@ impl<C: SlotCell, O: Outlet> World<C, O> {
     /// Whether the round need wait for no node: each has let its turn pass in it, or is down and isn't to be recovered yet. The
     /// next turn that passes ends it then. Takes no memory.
     pub fn is_round_over(&self) -> bool
-        ensures { result ≡ are_done_with self.now.round (world_of self.now).stations }
+        ensures { result ≡ are_done_with (world_of self.now).round (world_of self.now).stations }
     {
         are_done_with(&self.stations, self.round)
     }
@@ -149,10 +149,10 @@ impl<C: SlotCell, O: Outlet> World<C, O> {
         ensures grown { HaveGrown self.old self.new }
         // Whatever a crash of all nodes leaves at moments of the event spells a record of each, and the line from which
         // they would then restart is sound, covers all that has left, and isn't behind the line before the event.
-        ensures line { KeepsLine O.taken O.failures (network_of self.old.net.value.program)
-            self.old.stations.items self.new.stations.items }
+        ensures line { KeepsLine O.taken O.failures (network_of (net_in self.old).value.program)
+            (stations_in self.old) (stations_in self.new) }
         // By the end of the event one line alone is possible: that of the records which the nodes keep.
-        ensures settled { HasOneLine O.taken O.failures self.new.stations.items }
+        ensures settled { HasOneLine O.taken O.failures (stations_in self.new) }
         // Checkpoints that several nodes take together are coordinated: an instance is decided only while all whom the
         // decision names hold it, and stays so until it is permanent there; what is said to be ended is over, and stays
         // over; whoever takes part had to; and steps of the abstract machine lead from the world before to the one after.
@@ -161,18 +161,18 @@ impl<C: SlotCell, O: Outlet> World<C, O> {
         // for all streams of the world.
         ensures prefix { AreApproximated (world_of self.new) }
         // The network and its inputs stay.
-        ensures same { (self.new.net ≡ self.old.net) × (self.new.inputs ≡ self.old.inputs) }
+        ensures same { (net_in self.new ≡ net_in self.old) × (inputs_in self.new ≡ inputs_in self.old) }
         // It is a step of the world: what is answered, and what is there afterwards.
         ensures step { IfOk result
-            (λ reply. IsStep (rooms self.old.stations.items) (event_view event)
+            (λ reply. IsStep (rooms_in self.old) (event_view event)
             (world_of self.old) (reply_view reply) (world_of self.new)) }
         // Each cell has the room that it had; and where that of the event's node has room for the longest record, no event
         // is refused because a record is too large.
-        ensures same_capacities { capacities self.new.stations.items
-            ≡ capacities self.old.stations.items }
-        ensures same_rooms { rooms self.new.stations.items ≡ rooms self.old.stations.items }
+        ensures same_capacities { capacities_in self.new
+            ≡ capacities_in self.old }
+        ensures same_rooms { rooms_in self.new ≡ rooms_in self.old }
         ensures roomy { HasFullRoom (event_node (event_view event))
-            (capacities self.old.stations.items)
+            (capacities_in self.old)
             → IfOk result (λ reply. ¬ (IsTooLarge (reply_view reply))) }
         // A packet that comes is never dropped, since each in flight spells one for its node.
         ensures heard { IfOk result (λ reply. ¬ (IsDropped (reply_view reply))) }
@@ -181,25 +181,25 @@ impl<C: SlotCell, O: Outlet> World<C, O> {
             (λ reply. IsGrantedAt (event_node (event_view event)) (reply_view reply)) }
         // What it doesn't touch stays as it was: the cells where no record was put, and all of it at a refusal.
         ensures unchanged { LeavesCells (event_view event) (answer_view result)
-            → AllZip IsCellUnchanged self.old.stations.items self.new.stations.items }
+            → AllZip IsCellUnchanged (stations_in self.old) (stations_in self.new) }
         // A node that is down since its device failed in the event may be recovered after the rounds that were armed with the
         // call that failed: what its cell tells of that is what counts.
         ensures armed { IfOk result (λ reply. reply_view reply ≡ Down
-            → RestartsAsArmedAt self.old.round (event_node (event_view event))
-            self.old.stations.items self.new.stations.items) }
+            → RestartsAsArmedAt (world_of self.old).round (event_node (event_view event))
+            (stations_in self.old) (stations_in self.new)) }
         // No fault is armed on the device of its node but that of an `Arm` which isn't refused, behind those armed before, none
         // is disarmed, and no device call that was counted is forgotten.
         ensures device { LeavesDeviceAt (event_view event) (answer_view result)
-            (event_node (event_view event)) self.old.stations.items self.new.stations.items }
+            (event_node (event_view event)) (stations_in self.old) (stations_in self.new) }
         // Every station but that of the event's node is the very same, with all that its cell and its outlets hold and
         // count, whether the event was made or refused.
         ensures others { AreSameElsewhere (event_node (event_view event))
-            self.old.stations.items self.new.stations.items }
+            (stations_in self.old) (stations_in self.new) }
         ensures refused { OnErr result (world_of self.new ≡ world_of self.old) }
         // What the cell of its node holds, and what a crash may leave of it, is as it was then. Only a `Recover` may have
         // called its device.
         ensures held { OnErr result (HoldsAsBeforeAt (event_node (event_view event))
-            self.old.stations.items self.new.stations.items) }
+            (stations_in self.old) (stations_in self.new)) }
         // An event that takes no memory isn't refused.
         ensures memory { OnErr result (TakesMemory (event_view event)) }
         ensures handed_back { IfErr result (λ refused. refused.event ≡ event) }

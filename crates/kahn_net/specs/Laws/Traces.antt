@@ -4,7 +4,7 @@ use Rattle.std.proofs.Common.{append_assoc, append-nil, pos, arith, Vec, Global}
 use Rattle.std.specs.Ordering.{int_eq}
 use Rattle.kahn_net.specs.Streams.{history_of}
 use Rattle.kahn_net.specs.Syntax.{Block, Nothing, then_of, row_block, block_of, tree_of}
-use Rattle.kahn_net.specs.Laws.Syntax.{if_of, repeat_of}
+use Rattle.kahn_net.specs.Laws.Syntax.{if_of}
 use Rattle.kahn_net.specs.declared.program.Expr.{Expr}
 use Rattle.kahn_net.specs.declared.program.Statement.TheViews as view
 use Rattle.kahn_net.specs.Statements.{point_at, Step, Trace, End, Ended, Waits, Stopped, no_steps, on_get, trace_of}
@@ -135,17 +135,6 @@ then_nothing t site left = at t.end refl
         } in r) is
         ∙ (ap (λ (x : List Step). let r : Trace = record { steps = x; end = Stopped v } in r) (append-nil t.steps)
         ∙ ap (λ (e : End). let r : Trace = record { steps = t.steps; end = e } in r) (sym is))
-
--- what a repetition does, as code finds it, with nothing behind it: so many passes of its block
-pub makes_passes : (s : Statement) (times : ℕ) (body : Vec Statement Global) → s ≡ view.Repeat times body
-    → (site : ℕ) (left : List ℕ) (v : List ℤ) (u : List (List ℤ))
-    → trace_of site left (then_of s Nothing) v u
-    ≡ rounds times (λ (k : ℕ). trace_of site (left ++ k ∷ []) (block_of body.items)) v u
-makes_passes s times body is site left v u =
-    let b = block_of body.items in
-    ap (λ (block : Block). trace_of site left block v u)
-    (ap (λ (x : Statement). then_of x Nothing) is ∙ repeat_of times body Nothing)
-    ∙ then_nothing (rounds times (λ (k : ℕ). trace_of site (left ++ k ∷ []) b) v u) (site + sites_of b) left
 
 -- what an if does, as code finds it, with nothing behind it: its first block where the value isn't 0, and else its
 -- second

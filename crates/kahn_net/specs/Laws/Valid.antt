@@ -2,9 +2,8 @@
 use Rattle.std.proofs.Common.{◌≡◌, sym, ap, refl, ℕ, zero, suc, ◌+◌, ◌<◌, ◌≤◌, List, [], ◌∷◌, length, get_or, map}
 use Rattle.std.proofs.Common.{slice_get, Some, None, arith}
 use Rattle.kahn_net.specs.declared.program.Process.{Process as ProcessCode}
-use Rattle.kahn_net.specs.declared.program.Program.{Program}
-use Rattle.kahn_net.specs.Syntax.{Code, Network, code_of, network_of}
-use Rattle.kahn_net.specs.Valid.{IsValid, IsValidCode, block_units, body_units}
+use Rattle.kahn_net.specs.Syntax.{Code, Network, code_of}
+use Rattle.kahn_net.specs.Valid.{IsValid, block_units, body_units}
 use Rattle.kahn_net.specs.declared.limits.TheConstants.{MAX_UNITS}
 
 -- the same as code reads it
@@ -19,13 +18,7 @@ code_past [] i h = refl
 code_past (q ∷ ps) zero h = absurd (omega arith)
 code_past (q ∷ ps) (suc i) h = code_past ps i (omega arith)
 
--- each process of a valid network is valid
-pub valid_at : (program : Program) (i : ℕ) (p : ProcessCode) → IsValid (network_of program)
-    → i < length program.processes.items → p ≡ get_or program.processes.items i p
-    → IsValidCode (length program.channels.items) (code_of p)
-valid_at program i p v lt e = v.codes i (code_of p) (code_at program.processes.items i p lt e)
-
--- it has few units, and stands on a node below 16
+-- a process of a valid network has few units, and stands on a node below 16
 pub units_few : (net : Network) (i : ℕ) (code : Code) → IsValid net → slice_get net.codes i ≡ Some code
     → block_units code.prelude + body_units code.body ≤ MAX_UNITS
 units_few net i code v here = (v.codes i code here).units

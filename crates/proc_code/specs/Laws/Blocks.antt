@@ -187,9 +187,6 @@ module _ (code : List Instruction) where
     abbrev if_length : ℕ
     if_length = length (if_code at test first second)
 
-    pub if_length_is : if_length ≡ length test + (1 + (length (first one_at) + (1 + length (second two_at))))
-    if_length_is = omega (arith, at_end)
-
     choice_made : (m1 m2 : ℕ) (x : ℤ) (a b : Trace) (s : List ℤ) (left : List ℕ) (v : List ℤ) (u : List (List ℤ))
         → IsCodeAt code at (if_code at test first second)
         → Reaches (length test) at s left v u (at + length test) (x ∷ s)

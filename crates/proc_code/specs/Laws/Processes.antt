@@ -1,12 +1,12 @@
 -- The code of a process performs what the process does, from the beginning and from each site.
 use Rattle.std.proofs.Common.{◌≡◌, ℕ, zero, suc, ◌+◌, ◌-◌, ◌<◌, ◌≤◌, Bool, true, false, cond, List, ℤ, [], ◌∷◌, ◌++◌}
-use Rattle.std.proofs.Common.{drop, ◌*◌, length, Option, Some, None, refl, ap, subst, arith, length-append}
+use Rattle.std.proofs.Common.{drop, ◌*◌, length, Option, Some, None, refl, ap, subst, arith}
 use Rattle.std.specs.Prelude.{IsTrue, nat_lt, ◌==◌}
 use Rattle.std.specs.List.{AllZip}
 use Rattle.kahn_net.specs.Common.{total, Block, Nothing, GetThen, AssignThen, PutThen, StopThen, IfThen, RepeatThen}
 use Rattle.kahn_net.specs.Common.{Code, is_passing, Point, Trace, Ended, no_steps, then_do, rounds, trace_of}
 use Rattle.kahn_net.specs.Common.{sites_of, HasPassingLoop, passes, loop_trace, process_trace, trace_from}
-use Rattle.kahn_net.specs.Repeats.{repeats_on, repeats_in_body, repeats_at, CanRemain, FitsRepeats}
+use Rattle.kahn_net.specs.Repeats.{repeats_on, repeats_in_body, CanRemain, FitsRepeats}
 use Rattle.kahn_net.specs.Processes.{At}
 use Rattle.kahn_net.specs.Resuming.{trace_on, passes_left, body_on}
 use Rattle.kahn_net.specs.Laws.Passes.{fewer_left, pass_takes, rounds_take}

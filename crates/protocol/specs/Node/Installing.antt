@@ -6,7 +6,7 @@ use Rattle.ckpt_codec.specs.Common.{ImageView, SavedEnd, MAX_COUNT}
 use Rattle.record.specs.Changes.{trimmed_log}
 use Rattle.record.specs.Ends.{received_at, log_at}
 use Rattle.protocol.specs.Node.JobView.{JobView}
-use Rattle.protocol.specs.Node.NodeView.{NodeView, ModeView, Down, InDoubt, Runs, RunningView, RunningNode, on_mode}
+use Rattle.protocol.specs.Node.NodeView.{NodeView, ModeView, Down, InDoubt, Runs, RunningView, RunningNode}
 use Rattle.protocol.specs.Node.NodeView.{on_running}
 use Rattle.protocol.specs.Node.Granting.{is_process}
 use Rattle.protocol.specs.Node.Popping.{popping}
@@ -117,12 +117,6 @@ TakesTurn channels process taken sent InDoubt = Unit {0}
 TakesTurn channels process taken sent (Runs running) = ImageTakes channels process taken sent running.current
 
 -- how what comes back is taken in, or left
-abbrev pub IsTakenIn : List Channel → JobView → Standing → List ℕ → List (List ℤ) → ModeView → Bool → ModeView → Type 0
-IsTakenIn channels job standing taken sent old true new =
-    IsOut job old × (new ≡ on_mode (turned channels job.process standing taken sent) old)
-IsTakenIn channels job standing taken sent old false new = ¬ (IsOut job old) × (new ≡ old)
-
--- the same of a node
 abbrev pub IsInstall : List Channel → JobView → Standing → List ℕ → List (List ℤ) → NodeView → Bool → NodeView → Type 0
 IsInstall channels job standing taken sent old true new =
     IsOut job old.mode × (new ≡ on_running (turned channels job.process standing taken sent) old)

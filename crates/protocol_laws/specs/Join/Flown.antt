@@ -1,13 +1,13 @@
 -- What is in flight, as the abstract machine sees it: a world goes on with just that under way, whatever else was sent
 -- before.
 use Rattle.std.proofs.Common.{◌≡◌, ◌⊎◌, inl, inr, ℕ, zero, suc, ◌<◌, List, [], ◌∷◌, ◌++◌, length, All, get_or}
-use Rattle.std.proofs.Common.{Option, Some, None, unwrap_or, refl, sym, ap, ◌∙◌, arith}
+use Rattle.std.proofs.Common.{Option, Some, None, unwrap_or, refl, ap, ◌∙◌, arith}
 use Rattle.std.specs.Prelude.{slice_get}
 use Rattle.protocol.specs.Node.Common.{Network, in_front}
-use Rattle.protocol.specs.World.Common.{Traffic, flights_to, Flight, Net, Packet, World, Step, HasRun, Leads, RunsOn}
+use Rattle.protocol.specs.World.Common.{Traffic, flights_to, Flight, Net, Packet, Step, HasRun, RunsOn}
 use Rattle.protocol.specs.World.Common.{SaysWhatWasSent, WasSent, world_seen, net_seen, StationView}
 use Rattle.wire.specs.Traffic.{QueueTraffic}
-use Rattle.recovery_line.specs.Worlds.{InFlight, Send}
+use Rattle.recovery_line.specs.Worlds.{Send}
 use Rattle.protocol.specs.Join.Runs.{Carries, IsInFlight}
 use Rattle.protocol.specs.Join.Seen.{bytes_seen}
 use Rattle.protocol_laws.specs.Join.Leading.{leads_by, reached_then}

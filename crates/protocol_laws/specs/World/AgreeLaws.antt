@@ -1,13 +1,13 @@
 -- Where no device and no outlet fails, an event has one outcome.
-use Rattle.std.proofs.Common.{◌≡◌, ◌⊎◌, inl, inr, ℕ, ◌+◌, Bool, true, false, cond, List, ℤ, Option, Some, None, length}
+use Rattle.std.proofs.Common.{◌≡◌, inl, inr, ℕ, ◌+◌, Bool, true, false, cond, List, ℤ, Option, Some, None, length}
 use Rattle.std.proofs.Common.{refl, sym, ap, subst, ◌∙◌, ◌++◌}
 use Rattle.std.specs.Prelude.{slice_get, slice_set}
 use Rattle.protocol.specs.Node.Common.{Network, Channel, RecordView, LogState, restart_after, IsInstall, NodeView}
 use Rattle.protocol.specs.Node.Common.{Exhausted, IsCarriedOut, IsMade, IsPut, Plan, Planned, Prospect, Undue}
-use Rattle.protocol.specs.Node.Common.{room_for, TookNext, current_log}
-use Rattle.protocol.specs.World.Common.{Traffic, all_sent, DoneView, ByNetwork, ByNode, EventView, Install, Release}
+use Rattle.protocol.specs.Node.Common.{room_for, current_log}
+use Rattle.protocol.specs.World.Common.{Traffic, DoneView, ByNetwork, ByNode, EventView, Install, Release}
 use Rattle.protocol.specs.World.Common.{event_node, answer_by, install_reply, ReplyView, OutletView, StationView}
-use Rattle.protocol.specs.World.Common.{IsActOf, IsInstalled, IsPlanned, IsRelease, IsStationStep, IsStep, Setting}
+use Rattle.protocol.specs.World.Common.{IsActOf, IsInstalled, IsPlanned, IsRelease, IsStationStep, Setting}
 use Rattle.protocol.specs.World.Common.{StationPlan, WorldView, moved_to, next_release, plan_of, round_after}
 use Rattle.protocol.specs.World.Common.{setting_of, traffic_after, turns_by}
 use Rattle.protocol.specs.Node.Plans.{IsHeldUp}
@@ -15,7 +15,7 @@ use Rattle.protocol.specs.Node.Trimming.{logged_at}
 use Rattle.protocol.specs.World.Agreeing.{NothingFailed, StepsAgree}
 use Rattle.protocol.specs.World.ReplyView.{leaving}
 use Rattle.protocol.specs.declared.reply.Reply.TheVariants as reply
-use Rattle.protocol.specs.World.Steps.{IsHanded, IsReleaseAt}
+use Rattle.protocol.specs.World.Steps.{IsHanded}
 use Rattle.protocol.specs.World.Steps.{released_to}
 use Rattle.protocol.specs.declared.outcome.Outcome.{Outcome}
 use Rattle.protocol.specs.declared.outcome.Outcome.TheVariants as outcome

@@ -12,7 +12,7 @@ use Rattle.protocol.specs.Node.Common.{Body, Network, IsValid, RecordView, are_n
 use Rattle.protocol.specs.Node.Common.{is_outgoing}
 use Rattle.datagram.specs.declared.packet.Body.TheVariants as says
 use Rattle.datagram.specs.declared.packet.Packet.{Packet as Datagram}
-use Rattle.protocol.specs.World.Common.{Traffic, flights_to, Flight, Image, IsCross, Net, Packet, Record, World}
+use Rattle.protocol.specs.World.Common.{Traffic, flights_to, Flight, Image, Net, Packet, Record, World}
 use Rattle.protocol.specs.World.Common.{Reachable, Leads, RunsOn, SaysWhatWasSent, world_seen, EventView}
 use Rattle.protocol.specs.World.Common.{WorldInvariant, net_seen, ReplyView, StationView, WorldView, IsStep}
 use Rattle.protocol.specs.World.Common.{BytesAreSound, TrafficIsSound}

@@ -13,8 +13,8 @@ use Rattle.protocol.specs.Node.Common.{Packet, Network, MAX_COUNT, highest_seen,
 use Rattle.protocol.specs.Node.Common.{round_later, with_armed, begun, live_asks, live_in, may_start, start_prospect}
 use Rattle.protocol.specs.Node.Common.{grant_prospect, node_job, with_grant, packet_for, deliver_prospect}
 use Rattle.protocol.specs.Node.Common.{hear_prospect, JobView, crashed, is_down, Down, InDoubt, ModeView, NodeView}
-use Rattle.protocol.specs.Node.Common.{Runs, Planned, Prospect, Undue, Exhausted, becoming, if_due, packets_by}
-use Rattle.protocol.specs.Node.Common.{putting, unless_spent, recover_prospect, restored, restored_mode, IsWritable}
+use Rattle.protocol.specs.Node.Common.{Runs, Planned, Prospect, becoming, if_due, packets_by}
+use Rattle.protocol.specs.Node.Common.{putting, unless_spent, recover_prospect, restored, restored_mode}
 use Rattle.protocol.specs.Node.Common.{turn_packets, decide_prospect, may_decide}
 use Rattle.protocol.specs.World.Common.{is_due, Flight, ByNode, ByNetwork, Install, Release, back_reply}
 use Rattle.protocol.specs.World.Common.{delivery_reply, grant_reply, ReplyView, StationView, Setting, deliver_plan}
@@ -170,12 +170,6 @@ module _ (setting : Setting) (flying : TrafficIsSound setting.net setting.inputs
           (λ none. ∥∥₁_elim sound ⊥_prop
           (λ says. spells_one setting.net setting.inputs old.number flight.packet says none))
 
--- what is sent may be written
-abbrev pub IsWritten : Prospect → Type 0
-IsWritten Undue = Unit {0}
-IsWritten (Exhausted looks) = Unit {0}
-IsWritten (Planned plan) = All IsWritable plan.packets × All IsWritable plan.refused
-
 -- ---- a packet that comes is sound
 
 module _ (setting : Setting) (sure : IsSoundSetting setting) (old : StationView) (sound : IsSoundStation setting old)
@@ -293,17 +287,6 @@ module _ (setting : Setting) (sure : IsSoundSetting setting) (old : StationView)
     deed_sound k event.Idle =
         sound_becoming setting.net setting.inputs old.node old
         (moved_keeps setting.net setting.inputs old.node old.failures old.turns old sound.inv.kept sound.inv.runs) refl
-
-    -- ---- what it sends may be written, also what it sends where its record is too large
-
-    written : (prospect : Prospect) → IsSoundProspect setting.net setting.inputs old prospect → IsWritten prospect
-    written Undue is = tt
-    written (Exhausted looks) is = tt
-    written (Planned plan) is =
-        (λ k d within. (is.sendable k d within).writable, λ k d within. (is.refusable k d within).writable)
-
-    pub deed_writable : (k : ℕ) (deed : Deed) → IsWritten (plan_of setting k deed old).prospect
-    deed_writable k deed = written (plan_of setting k deed old).prospect (deed_sound k deed)
 
 deed_sends : (setting : Setting) (k : ℕ) (deed : Deed) (station : StationView) (came : Outcome)
     → is_down station.node.mode ≡ true → packets_by (plan_of setting k deed station).prospect came ≡ []

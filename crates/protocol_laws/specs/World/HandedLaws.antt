@@ -3,23 +3,19 @@ use Rattle.std.proofs.Common.{◌≡◌, ◌⊎◌, inl, inr, ℕ, suc, ◌+◌,
 use Rattle.std.proofs.Common.{◌++◌, length, Option, Some, None, refl, sym, ap, subst, ◌∙◌, length-append, arith}
 use Rattle.std.specs.Prelude.{slice_get, nat_lt, not, ◌&&◌}
 use Rattle.std.specs.Option.{option_to_list}
-use Rattle.std.proofs.Math.Logic.{∥∥₁_map}
 use Rattle.std.proofs.lemmas.Bool.{ltb-true}
-use Rattle.protocol.specs.Node.Common.{approximation, sent_on, history_of, IsPrefix, LogState, IsLogOf, Network}
+use Rattle.protocol.specs.Node.Common.{IsPrefix, LogState, IsLogOf, Network}
 use Rattle.protocol.specs.Node.Common.{sent_of, RecordView, ModeView, Down, InDoubt, Runs, running_node, running_in}
-use Rattle.protocol.specs.Node.Common.{is_running, HasNext, TookNext, current_log, acts_of, HistoryReaches}
+use Rattle.protocol.specs.Node.Common.{is_running, HasNext, TookNext, current_log}
 use Rattle.kahn_net.specs.Laws.Prefixes.{prefix_of, prefix_along, prefix_refl}
 use Rattle.retained.specs.LogState.{item_at}
 use Rattle.outlet.specs.ReleaseLaws.{released_one}
 use Rattle.outlet.proofs.Steps.{goes_on}
 use Rattle.protocol.specs.Node.Trimming.{logged_at}
-use Rattle.protocol_laws.specs.Node.ReleaseLaws.{acts_put_prefix}
-use Rattle.protocol_laws.specs.Node.SentLaws.{sent_stands}
-use Rattle.protocol.specs.World.Common.{output_of, outputs_of, StationInvariant, OutputView, RecordIsSound, ReplyView}
+use Rattle.protocol.specs.World.Common.{output_of, outputs_of, StationInvariant, ReplyView}
 use Rattle.protocol.specs.World.Common.{OutletView, StationView, first_waiting, next_release}
-use Rattle.protocol.specs.World.RecordSound.{RecordHasCome}
-use Rattle.protocol_laws.specs.World.LeaveLaws.{beginning_length, has_next}
-use Rattle.protocol_laws.specs.World.OutputLaws.{map_at, output_here}
+use Rattle.protocol_laws.specs.World.LeaveLaws.{has_next}
+use Rattle.protocol_laws.specs.World.OutputLaws.{map_at}
 use Rattle.protocol.specs.World.Steps.{has_failed_in, is_waiting, IsHanded}
 
 -- The outlet that is next
@@ -90,35 +86,6 @@ next_there net inputs old round place outlet inv next there = at old.node.mode r
         let runs = inv.runs node (ap (running_in old.node.kept old.node.version) is) in
         has_next net inputs node (outputs_of old.outlets) place (output_of outlet) runs.sound runs.order
         (map_at output_of old.outlets place outlet there) (next_waits round place old outlet next there)
-
--- and some approximation of its channel's history has that item
-module _ (net : Network) (inputs : List (List ℤ)) (kept : RecordView) (outputs : List OutputView) (place : ℕ)
-    (output : OutputView) (is : slice_get outputs place ≡ Some output) (sound : RecordIsSound net inputs kept outputs)
-    (waits : length output.taken < sent_of kept.permanent output.channel) where
-  put_reaches : (come : RecordHasCome net inputs kept outputs)
-      → length output.taken + 1
-      ≤ length (history_of (approximation net inputs (suc come.n)) output.channel)
-  put_reaches come =
-      let there = output_here net kept.node outputs sound.listed place output is in
-      let acts = acts_of net (approximation net inputs come.n) come.permanent_acts there.process in
-      let put = sent_stands net kept.node (approximation net inputs come.n) come.permanent_acts kept.permanent
-      output.channel there.process there.channel come.permanent sound.permanent.laid_out there.there there.producer
-      there.here in
-      let few = beginning_length (sent_on output.channel acts)
-      (history_of (approximation net inputs (suc come.n)) output.channel)
-      (acts_put_prefix net inputs come.n come.permanent_acts output.channel there.process there.channel there.there
-      there.producer) in
-      omega (arith, waits, put, few)
-
-  pub put_is_reached : HistoryReaches net inputs output.channel (length output.taken + 1)
-  put_is_reached = ∥∥₁_map sound.come (λ come. (suc come.n, put_reaches come))
-
-pub next_reached : (net : Network) (inputs : List (List ℤ)) (old : StationView) (round place : ℕ) (outlet : OutletView)
-    → StationInvariant net inputs old → next_release round old ≡ Some place → slice_get old.outlets place ≡ Some outlet
-    → HistoryReaches net inputs outlet.channel (length outlet.taken + 1)
-next_reached net inputs old round place outlet inv next there =
-    put_is_reached net inputs old.node.kept (outputs_of old.outlets) place (output_of outlet)
-    (map_at output_of old.outlets place outlet there) inv.kept (next_waits round place old outlet next there)
 
 -- What it took
 

@@ -36,21 +36,6 @@ module _ (setting : Setting) (sure : IsSoundSetting setting) where
   next_ahead (Release k) old sound = behind_itself old.node.kept.permanent
   next_ahead (ByNetwork k place act) old sound = behind_itself old.node.kept.permanent
 
-  -- so the permanent image that is kept in the end isn't behind
-  pub step_ahead : (room : RecordView → Bool) (e : EventView) (came : Outcome) (old : StationView) (answer : ReplyView)
-      (new : StationView) → IsSoundStation setting old → IsStationStep setting room e came old answer new
-      → IsBehind old.node.kept.permanent new.node.kept.permanent
-  step_ahead room e came old answer new sound step = at (step_kept setting sure room e came old answer new sound step)
-    where
-      at : (new.node.kept ≡ old.node.kept) ⊎ (new.node.kept ≡ next_kept setting e old)
-          → IsBehind old.node.kept.permanent new.node.kept.permanent
-      at (inl same) =
-          subst (λ (r : RecordView). IsBehind old.node.kept.permanent r.permanent) (sym same)
-          (behind_itself old.node.kept.permanent)
-      at (inr same) =
-          subst (λ (r : RecordView). IsBehind old.node.kept.permanent r.permanent) (sym same)
-          (next_ahead e old sound)
-
 -- ---- the records that a crash leaves, station by station
 
 module _ (setting : Setting) (e : EventView) where

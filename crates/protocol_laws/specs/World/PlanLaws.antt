@@ -3,11 +3,11 @@ use Rattle.std.proofs.Common.{◌≡◌, ◌⊎◌, inl, inr, ⊎_elim, ℕ, ◌
 use Rattle.std.proofs.Common.{Some}
 use Rattle.std.proofs.Common.{None, refl, sym, ap, subst, ◌∙◌, All}
 use Rattle.std.proofs.lemmas.List.Elements.{All-nil}
-use Rattle.protocol.specs.Node.Common.{Fits, Network, IsValid, MAX_COUNT, Packet, with_epoch, RecordView, Tentative}
+use Rattle.protocol.specs.Node.Common.{Network, MAX_COUNT, Packet, with_epoch, RecordView, Tentative}
 use Rattle.protocol.specs.Node.Common.{JobView, NodeView, ModeView, Down, InDoubt, Runs, RunningView, RunningNode}
 use Rattle.protocol.specs.Node.Common.{running_node, running_in, running_of, on_mode, Plan, Prospect, Undue}
 use Rattle.protocol.specs.Node.Common.{Exhausted, Planned, becoming, if_due, unless_spent, IsCarriedOut, IsMade}
-use Rattle.protocol.specs.Node.Common.{next_record, restored, node_count, granted, grant_prospect, next_job, node_job}
+use Rattle.protocol.specs.Node.Common.{next_record, restored, granted, grant_prospect, next_job, node_job}
 use Rattle.protocol.specs.Node.Common.{with_grant, crashed, is_running, with_kept, IsBehind}
 use Rattle.protocol.specs.Node.Plans.{HasFailedAt, IsHeldUp, plan_record}
 use Rattle.protocol.specs.Node.Recovering.{restored_running, restored_with}
@@ -16,9 +16,8 @@ use Rattle.protocol.specs.declared.outcome.Outcome.{Outcome}
 use Rattle.protocol.specs.declared.outcome.Outcome.TheVariants as outcome
 use Rattle.protocol.specs.declared.outcome.Refusal.TheVariants.{TooLarge, Spent}
 use Rattle.protocol.specs.declared.round_turns.RoundTurns.{RoundTurns}
-use Rattle.protocol.specs.World.Common.{outputs_of, IsSoundSetting, IsSoundStation, RunsSoundly, StationInvariant}
-use Rattle.protocol.specs.World.Common.{OutputView, RecordIsSound, StationView, Setting, moved_to, IsJoined}
-use Rattle.protocol.specs.World.Common.{TrafficIsSound}
+use Rattle.protocol.specs.World.Common.{outputs_of, RunsSoundly, StationInvariant}
+use Rattle.protocol.specs.World.Common.{OutputView, RecordIsSound, StationView, moved_to}
 use Rattle.protocol.specs.Node.Choosing.{after_grant, job_at}
 use Rattle.protocol_laws.specs.Join.Sayable.{ProspectSays}
 use Rattle.protocol_laws.specs.Join.Spelled.{all_sendable}

@@ -3,47 +3,65 @@ use Rattle.std.specs.Prelude.{IsTrue}
 use Rattle.std.specs.Option.{ForSome}
 use Rattle.std.proofs.lemmas.Result.{err_from_is_err_and}
 use Rattle.sector_disk.specs.Clock.{LeavesOnly}
+use Rattle.gate_cell.specs.Layout.{value_in, IsFrame}
 use Rattle.gate_cell.specs.ValueCall.{Puts}
+use Rattle.gate_cell.specs.declared.TheConstants.{MAX_VALUE_BYTES}
 use Rattle.slot_cell.specs.Whole.{with_slot, LeftByFill}
-use Rattle.ckpt_codec.specs.Common.{RecordView, Tentative, header_of, IsImageSpelled}
+use Rattle.ckpt_codec.specs.Common.{RecordView, Tentative, header_of, image_length, IsImageSpelled}
 use Rattle.ckpt_codec.specs.HeaderText.{IsHeaderTextIn}
 use Rattle.ckpt_codec.specs.declared.lengths.TheConstants.{MAX_HEADER_BYTES}
 use Rattle.ckpt_codec.specs.declared.version.TheConstants.{VERSION}
 use Rattle.ckpt_store.specs.Spelling.{Spells, SpellsAt, StandIn, fits_in}
-use Rattle.ckpt_store.specs.Putting.{IsHeldWritten}
+use Rattle.ckpt_store.specs.Putting.{IsHeldWritten, IsHeldFramed}
 use Rattle.ckpt_store.proofs.Spelled.{named_by, still_spelled, stand_filled}
-use Rattle.ckpt_store.proofs.Puts.{fits_short, header_short, held_short, held_spelled, held_allowed, by_fill, fill_refused, header_was_put}
+use Rattle.ckpt_store.proofs.Puts.{fits_short, header_short, held_short, held_within, held_spelled, held_allowed, by_fill, fill_refused, header_was_put}
 use Rattle.ckpt_store.proofs.putting.put_image.Goals as goal
 
-pub held_bytes-requires : goal.held_bytes-requires
-held_bytes-requires g c =
+pub held_frame-requires-clause-spelled : goal.held_frame-requires-clause-spelled
+held_frame-requires-clause-spelled g c =
     subst (λ (r : RecordView). ForSome r.tentative (λ (t : Tentative). IsImageSpelled t.image)) (sym c.next.view_is)
     (held_spelled c.args.next.now c.requires.record)
 
-pub returns-in_err-fill : goal.returns-in_err-fill
-returns-in_err-fill g c = λ kept spelled none same.
+pub held_frame-requires-clause-short : goal.held_frame-requires-clause-short
+held_frame-requires-clause-short g c =
+    let S = g.C.SlotCell in
+    let next = c.args.next.now in
+    let old = c.args.cell.now in
+    let found : c.fits.result ≡ true = search rules in
+    let fits : fits_in (S.slot_capacity old) next ≡ true = sym c.fits.ensures ∙ found in
+    subst (λ (r : RecordView). ForSome r.tentative (λ (t : Tentative). image_length t.image ≤ MAX_VALUE_BYTES))
+    (sym c.next.view_is) (held_within (S.slot_capacity old) next (g.met.C.SlotCell.slot_room_is_bounded old) fits)
+
+pub fill_framed-requires-clause-frame : goal.fill_framed-requires-clause-frame
+fill_framed-requires-clause-frame g c =
+    subst (λ (f : List ℕ). IsFrame (value_in f) f) (sym c.as_slice.ensures.value) c.in_ok-frame.ensures.is_frame
+
+pub returns-in_err-fill_framed : goal.returns-in_err-fill_framed
+returns-in_err-fill_framed g c = λ kept spelled none same.
     let C = g.C.StableCell in
     let S = g.C.SlotCell in
     let laws = g.met.C.SlotCell in
     let next = c.args.next.now in
     let slot = c.args.slot in
     let old = c.args.cell.now in
-    let new = c.fill.new.self in
-    let fill = c.in_err-fill.ensures in
-    let bytes = c.as_slice.result.now in
-    let p = err_from_is_err_and c.from_residual-in_err-fill.result c.from_residual-in_err-fill.ensures.1 in
-    let written : IsHeldWritten next.tentative bytes =
-    subst (IsHeldWritten next.tentative) (sym c.as_slice.ensures.value)
-    (subst (λ (r : RecordView). IsHeldWritten r.tentative c.in_ok-image.image.items) c.next.view_is
-    c.in_ok-image.ensures) in
+    let new = c.fill_framed.new.self in
+    let fill = c.in_err-fill_framed.ensures in
+    let frame = c.as_slice.result.now in
+    let bytes = value_in frame in
+    let p = err_from_is_err_and c.from_residual-in_err-fill_framed.result c.from_residual-in_err-fill_framed.ensures.1 in
+    let is : IsHeldFramed next.tentative frame =
+    subst (IsHeldFramed next.tentative) (sym c.as_slice.ensures.value)
+    (subst (λ (r : RecordView). IsHeldFramed r.tentative c.in_ok-frame.frame.items) c.next.view_is
+    c.in_ok-frame.ensures) in
+    let written : IsHeldWritten next.tentative bytes = is.written in
     let found : c.fits.result ≡ true = search rules in
     let fits : fits_in (S.slot_capacity old) next ≡ true = sym c.fits.ensures ∙ found in
     let other : c.from.result ≡ 1 - slot = search rules in
     let any_moment : LeavesOnly C.moment S.left_since_whole old new (LeftByFill (S.may_leave_whole old) (1 - slot)) =
     subst (λ (k : ℕ). LeavesOnly C.moment S.left_since_whole old new (LeftByFill (S.may_leave_whole old) k)) other
     fill.any_moment in
-    rw (p.1, p.2) (fill_refused C S kept next slot old new bytes c.in_err-fill.field-0.0 c.requires.ready fits
-    (held_short (S.slot_capacity old) next bytes written fits) fill.too_large fill.unchanged fill.cause
+    rw (p.1, p.2) (fill_refused C S kept next slot old new bytes c.in_err-fill_framed.field-0.0 c.requires.ready fits
+    (held_short (S.slot_capacity old) next bytes written fits) fill.too_large fill.memory fill.cause
     (by_fill C S kept next slot old new (laws.settled_whole old c.requires.ready) spelled none any_moment)
     fill.same_setup fill.same_slot_room)
 
@@ -55,17 +73,19 @@ returns-in_err-put g c = λ kept spelled none same.
     let next = c.args.next.now in
     let slot = c.args.slot in
     let old = c.args.cell.now in
-    let mid = c.fill.new.self in
+    let mid = c.fill_framed.new.self in
     let new = c.put.new.self in
-    let fill = c.in_ok-fill.ensures in
+    let fill = c.in_ok-fill_framed.ensures in
     let put = c.in_err-put.ensures in
-    let bytes = c.as_slice.result.now in
+    let frame = c.as_slice.result.now in
+    let bytes = value_in frame in
     let value = c.as_slice-2.result.now in
     let p = err_from_is_err_and c.from_residual-in_err-put.result c.from_residual-in_err-put.ensures.1 in
-    let written : IsHeldWritten next.tentative bytes =
-    subst (IsHeldWritten next.tentative) (sym c.as_slice.ensures.value)
-    (subst (λ (r : RecordView). IsHeldWritten r.tentative c.in_ok-image.image.items) c.next.view_is
-    c.in_ok-image.ensures) in
+    let is : IsHeldFramed next.tentative frame =
+    subst (IsHeldFramed next.tentative) (sym c.as_slice.ensures.value)
+    (subst (λ (r : RecordView). IsHeldFramed r.tentative c.in_ok-frame.frame.items) c.next.view_is
+    c.in_ok-frame.ensures) in
+    let written : IsHeldWritten next.tentative bytes = is.written in
     let text : IsHeaderTextIn VERSION (header_of slot next) value =
     subst (IsHeaderTextIn VERSION (header_of slot next)) (sym c.as_slice-2.ensures.value) c.in_ok-header.ensures.text in
     let few : length value ≤ MAX_HEADER_BYTES =
@@ -101,16 +121,18 @@ returns g c = λ kept spelled none same.
     let next = c.args.next.now in
     let slot = c.args.slot in
     let old = c.args.cell.now in
-    let mid = c.fill.new.self in
+    let mid = c.fill_framed.new.self in
     let new = c.put.new.self in
-    let fill = c.in_ok-fill.ensures in
+    let fill = c.in_ok-fill_framed.ensures in
     let put = c.in_ok-put.ensures in
-    let bytes = c.as_slice.result.now in
+    let frame = c.as_slice.result.now in
+    let bytes = value_in frame in
     let value = c.as_slice-2.result.now in
-    let written : IsHeldWritten next.tentative bytes =
-    subst (IsHeldWritten next.tentative) (sym c.as_slice.ensures.value)
-    (subst (λ (r : RecordView). IsHeldWritten r.tentative c.in_ok-image.image.items) c.next.view_is
-    c.in_ok-image.ensures) in
+    let is : IsHeldFramed next.tentative frame =
+    subst (IsHeldFramed next.tentative) (sym c.as_slice.ensures.value)
+    (subst (λ (r : RecordView). IsHeldFramed r.tentative c.in_ok-frame.frame.items) c.next.view_is
+    c.in_ok-frame.ensures) in
+    let written : IsHeldWritten next.tentative bytes = is.written in
     let text : IsHeaderTextIn VERSION (header_of slot next) value =
     subst (IsHeaderTextIn VERSION (header_of slot next)) (sym c.as_slice-2.ensures.value) c.in_ok-header.ensures.text in
     let few : length value ≤ MAX_HEADER_BYTES =

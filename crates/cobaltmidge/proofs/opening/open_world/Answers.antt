@@ -37,5 +37,5 @@ returns-clause-first g c =
 pub returns-clause-room : goal.returns-clause-room
 returns-clause-room g c =
     rooms_given sectors_of c.in-Ok-empty_disks.disks.items _
-    (ap (λ stations. capacities stations.items) c.set_room.ensures.same.2 ∙ c.in-Ok-new.ensures.made.room)
+    (ap (λ stations. capacities stations) c.set_room.ensures.same.2 ∙ c.in-Ok-new.ensures.made.room)
     c.in-Ok-empty_disks.ensures.sectors

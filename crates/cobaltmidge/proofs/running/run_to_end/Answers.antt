@@ -11,20 +11,20 @@ returns-then-settings-clause-end g c = λ inputs opened.
     let net = network_of c.args.net.now.program in
     let stations = c.args.world.stations.items in
     let script = c.args.script.items in
-    by_threads_ends (λ now. world_of now.0) (λ now. happenings now.1.lines.items) settings.history settings.threads settings net
+    by_threads_ends (λ now. world_of now.world) (λ now. happenings now.history.lines.items) settings.history settings.threads settings net
     inputs script c.run_by_threads.result c.if-settings.true
     (if_ok_then _ _ c.run_by_threads.result
     (λ now run. replayed_world g.O.Outlet.taken g.O.Outlet.failures stations settings net inputs script
-    (world_of c.args.world) (world_of now.0) c.requires.room refl opened run)
+    (world_of c.args.world) (world_of now.world) c.requires.room refl opened run)
     c.run_by_threads.ensures.run)
     (λ keeps. if_ok_then _ _ c.run_by_threads.result
     (λ now leads. kept_world g.O.Outlet.taken g.O.Outlet.failures stations settings net inputs script
-    (happenings now.1.lines.items) (world_of c.args.world) (world_of now.0) c.requires.room refl opened leads)
+    (happenings now.history.lines.items) (world_of c.args.world) (world_of now.world) c.requires.room refl opened leads)
     (c.run_by_threads.ensures.leads keeps))
 
 pub returns-then-settings-clause-same : goal.returns-then-settings-clause-same
 returns-then-settings-clause-same g c =
-    by_threads_stays (λ now. world_of now.0) _ c.args.script.items (world_of c.args.world) c.run_by_threads.result
+    by_threads_stays (λ now. world_of now.world) _ c.args.script.items (world_of c.args.world) c.run_by_threads.result
     c.run_by_threads.ensures.run
 
 pub returns-then-settings-2-clause-end : goal.returns-then-settings-2-clause-end
@@ -32,14 +32,14 @@ returns-then-settings-2-clause-end g c = λ inputs opened.
     let settings = c.args.settings in
     let net = network_of c.args.net.now.program in
     let script = c.args.script.items in
-    by_kept_ends (λ now. world_of now.0) (λ now. happenings now.1.lines.items) settings.history settings.threads settings net
+    by_kept_ends (λ now. world_of now.world) (λ now. happenings now.history.lines.items) settings.history settings.threads settings net
     inputs script c.run_by_kept_turns.result c.if-settings-2.true
     (if_ok_then _ _ c.run_by_kept_turns.result
     (λ now leads. kept_world g.O.Outlet.taken g.O.Outlet.failures c.args.world.stations.items settings net inputs script
-    (happenings now.1.lines.items) (world_of c.args.world) (world_of now.0) c.requires.room refl opened leads)
+    (happenings now.history.lines.items) (world_of c.args.world) (world_of now.world) c.requires.room refl opened leads)
     c.run_by_kept_turns.ensures.leads)
 
 pub returns-then-settings-2-clause-same : goal.returns-then-settings-2-clause-same
 returns-then-settings-2-clause-same g c =
-    by_threads_stays (λ now. world_of now.0) _ c.args.script.items (world_of c.args.world) c.run_by_kept_turns.result
+    by_threads_stays (λ now. world_of now.world) _ c.args.script.items (world_of c.args.world) c.run_by_kept_turns.result
     c.run_by_kept_turns.ensures.run

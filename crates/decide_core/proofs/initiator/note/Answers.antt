@@ -1,4 +1,3 @@
-use Rattle.std.proofs.Common.{List, Option, Some, sym, ap, ◌∙◌}
 use Rattle.std.specs.Prelude.{slice_get}
 use Rattle.std.proofs.lemmas.Option.{slice_get-get_or}
 use Rattle.decide_core.proofs.initiator.note.Goals as goal

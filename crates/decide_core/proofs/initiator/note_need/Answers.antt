@@ -1,4 +1,4 @@
-use Rattle.std.proofs.Common.{ℕ, Bool, cond, List, Option, map, sym, ap, ◌∙◌}
+use Rattle.std.proofs.Common.{ℕ, Bool, cond, map, sym, ap, ◌∙◌}
 use Rattle.std.specs.Prelude.{slice_set}
 use Rattle.std.proofs.lemmas.List.{map-set}
 use Rattle.protocol.specs.Node.Collecting.{new_question}

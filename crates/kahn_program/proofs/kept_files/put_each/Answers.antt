@@ -1,4 +1,4 @@
-use Rattle.std.proofs.Common.{rules, ◌≡◌, ◌++◌, ◌∙◌, length, [], ◌∷◌, ap, sym, subst, ℤ, List, append_assoc, append-nil}
+use Rattle.std.proofs.Common.{rules, ◌≡◌, ◌++◌, ◌∙◌, length, [], ◌∷◌, ap, sym, subst, append_assoc, append-nil}
 use Rattle.std.specs.Vec.Iter.{into_iter_items}
 use Rattle.output_file.specs.Output.{taken_of}
 use Rattle.kahn_program.specs.Keeping.{taken_streams}

@@ -30,8 +30,8 @@ returns-clause-ok g c =
     let inputs = c.args.inputs in
     let script = c.args.script.items in
     let made : c.in-Ok.net.value ≡ net = c.in-Ok.ensures.ok in
-    let now = world_of c.in-Ok-run_network.ran.0 in
-    let happened = happenings c.in-Ok-run_network.ran.1.lines.items in
+    let now = world_of c.in-Ok-run_network.ended.world in
+    let happened = happenings c.in-Ok-run_network.ended.history.lines.items in
     let told = c.in-Ok-report_of_world.report in
     let seen : c.deref.result.now ≡ net = c.deref.ensures ∙ made in
     report_is (g.K.Keeper.has_kept c.close_outputs.new.keeper)

@@ -1,4 +1,4 @@
-use Rattle.std.proofs.Common.{◌≡◌, ℕ, ◌-◌, ◌*◌, Bool, cond, Option, Some, refl, sym, ap, ◌∙◌}
+use Rattle.std.proofs.Common.{ℕ, ◌-◌, ◌*◌, Bool, cond, Option, Some, refl, sym, ap, ◌∙◌}
 use Rattle.net_text.specs.Trees.{block_tree}
 use Rattle.net_check.specs.Texts.{or_line, past_line}
 use Rattle.net_check.proofs.Counting.{past_here, past_later}

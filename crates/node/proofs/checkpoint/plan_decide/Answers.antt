@@ -3,8 +3,7 @@ use Rattle.protocol.specs.Node.Common.{MAX_NODES, holds, live_in, LiveView, is_d
 use Rattle.protocol.specs.Node.Common.{may_decide, participants_of}
 use Rattle.protocol.specs.Node.Verdicts.{all_answered}
 use Rattle.node.specs.NodeView.{mode_view}
-use Rattle.node.proofs.Starts.{both_of}
-use Rattle.node.proofs.Verdicts.{are_others, decide_fine, decided_fits, participants_few}
+use Rattle.node.proofs.Verdicts.{are_others, both_of, decide_fine, decided_fits, participants_few}
 use Rattle.node.proofs.checkpoint.plan_decide.Goals as goal
 
 -- a node that collects answers runs

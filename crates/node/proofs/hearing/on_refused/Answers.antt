@@ -1,9 +1,8 @@
 use Rattle.std.proofs.Common.{subst, sym, ◌∙◌}
-use Rattle.protocol.specs.Node.Common.{holds, live_in, is_live}
-use Rattle.node.specs.NodeView.{mode_view, node_view}
+use Rattle.protocol.specs.Node.Common.{holds}
+use Rattle.node.specs.NodeView.{node_view}
 use Rattle.node.specs.Planned.{CanDo}
-use Rattle.node.proofs.Starts.{both_of}
-use Rattle.node.proofs.Verdicts.{dropped_fits, fine_unless_held}
+use Rattle.node.proofs.Verdicts.{both_of, dropped_fits, fine_unless_held}
 use Rattle.node.proofs.hearing.on_refused.Goals as goal
 
 pub returns-clause-can : goal.returns-clause-can

@@ -1,7 +1,7 @@
 use Rattle.std.proofs.Common.{◌≡◌, ◌==◌, ◌&&◌, Bool, true, false, cond, ℕ, List, Some, ap, refl, subst, sym, ◌∙◌}
 use Rattle.protocol.specs.Node.Common.{Need, Network, network_of, RecordView, holds, GivesUp, Ignores, Joins}
 use Rattle.protocol.specs.Node.Common.{answer_to_took, was_asked, LiveView}
-use Rattle.protocol.specs.Node.Collecting.{TookAnswer, are_met}
+use Rattle.protocol.specs.Node.Collecting.{are_met}
 use Rattle.decide_core.specs.InitiatorView.{took_view}
 use Rattle.node.specs.NodeView.{node_view}
 use Rattle.node.specs.Planned.{CanDo}

@@ -5,7 +5,7 @@ use Rattle.protocol.specs.Node.Common.{MAX_COUNT, received_of, ImageView, Record
 use Rattle.protocol.specs.Node.Common.{PassesOver, ModeView, Down, InDoubt, Runs}
 use Rattle.ckpt_store.proofs.Room.{epoch_fits}
 use Rattle.ckpt_store.specs.declared.fault.StoreFault.TheVariants as fault
-use Rattle.protocol.specs.Node.GoingBack.{UndoneAnswer, answer_at, answer_with, inbox_of}
+use Rattle.protocol.specs.Node.GoingBack.{answer_at, answer_with, inbox_of}
 use Rattle.protocol.specs.declared.links.Inbox.{Inbox}
 use Rattle.node.specs.NodeView.{node_view}
 use Rattle.node.specs.Planned.{CanDo}

@@ -1,5 +1,5 @@
-use Rattle.std.proofs.Common.{◌≡◌, ◌-◌, [], ◌∷◌, ℤ, List, take, drop, refl, sym, ap, ◌∙◌, rules, to_z, of_z, w64}
-use Rattle.protocol.specs.Node.Common.{log_with, popped_times, ready_items}
+use Rattle.std.proofs.Common.{◌≡◌, ◌-◌, [], ◌∷◌, ℤ, List, take, refl, sym, ap, ◌∙◌, rules, to_z, of_z, w64}
+use Rattle.protocol.specs.Node.Common.{log_with}
 use Rattle.protocol.specs.Node.Popping.{places_left}
 use Rattle.window_link.specs.Windows.{received}
 use Rattle.node_memory.proofs.Pops.{nothing_behind, taken_is}

@@ -1,4 +1,4 @@
-use Rattle.std.proofs.Common.{ap, ◌∙◌, sym, arith, length}
+use Rattle.std.proofs.Common.{ap, ◌∙◌, sym, arith}
 use Rattle.std.proofs.lemmas.List.{length-map}
 use Rattle.kahn_net.specs.Common.{next_of, code_of, network_of, standing_in}
 use Rattle.kahn_net.specs.declared.state.Mode.{Mode}

@@ -1,6 +1,5 @@
-use Rattle.std.proofs.Common.{rules, ℕ, ◌<◌, length, refl, sym, ap, subst, ◌∙◌}
+use Rattle.std.proofs.Common.{rules, ◌<◌, length, refl, sym, ap, subst, ◌∙◌}
 use Rattle.protocol.specs.Node.Common.{RecordView, Spells}
-use Rattle.world.specs.Reopening.{node_down}
 use Rattle.world.proofs.reopening.reopen_node.Goals as goal
 
 pub invariant_of-result : goal.invariant_of-result

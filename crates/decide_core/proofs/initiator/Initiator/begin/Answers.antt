@@ -1,7 +1,6 @@
-use Rattle.std.proofs.Common.{◌≡◌, ◌≤◌, List, Option, length, ap, sym, ◌∙◌, arith}
+use Rattle.std.proofs.Common.{◌≡◌, List, Option, length, ap, sym, ◌∙◌, arith}
 use Rattle.std.proofs.lemmas.List.{length-map}
 use Rattle.kahn_net.specs.Syntax.{network_of}
-use Rattle.kahn_net.specs.declared.limits.TheConstants.{MAX_CHANNELS}
 use Rattle.protocol.specs.Node.LiveView.{QuestionView}
 use Rattle.protocol.specs.Node.Needs.{question_on}
 use Rattle.decide_core.specs.InitiatorView.{question_view}

@@ -21,7 +21,7 @@ use Rattle.protocol.specs.World.Steps.{recover_plan}
 use Rattle.protocol.specs.World.Steps.{arm_plan, send_plan, start_plan}
 use Rattle.protocol_laws.specs.World.ActLaws.{takes_turn, like_now}
 use Rattle.protocol_laws.specs.World.DeedLaws.{becoming_sends, crash_sends, grant_sends, recover_sends}
-use Rattle.protocol_laws.specs.World.HandedLaws.{next_reached, next_there}
+use Rattle.protocol_laws.specs.World.HandedLaws.{next_there}
 use Rattle.protocol_laws.specs.World.MoveLaws.{decision_others, decision_room}
 use Rattle.protocol_laws.specs.World.TellLaws.{decide_allowed, start_allowed, station_writable}
 use Rattle.station.specs.DoneView.{done_view}
@@ -99,12 +99,8 @@ pub release-requires : goal.release-requires
 release-requires g c =
     let net = network_of c.args.lent.now.net.now.value.program in
     let was = station_view g.O.Outlet.taken g.O.Outlet.failures c.args.self.now in
-    record {
-      next = λ place outlet next there. next_there net c.args.lent.now.inputs.now.value was c.args.lent.now.round place outlet
-          c.requires.sound.inv next there;
-      reached = λ place outlet next there. next_reached net c.args.lent.now.inputs.now.value was c.args.lent.now.round place outlet
-          c.requires.sound.inv next there;
-    }
+    λ place outlet next there. next_there net c.args.lent.now.inputs.now.value was c.args.lent.now.round place outlet
+    c.requires.sound.inv next there
 
 pub send-requires : goal.send-requires
 send-requires g c =

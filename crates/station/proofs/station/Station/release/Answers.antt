@@ -17,10 +17,7 @@ release_at-requires g c =
     let next = sym c.in-Some.ensures.next in
     let there =
     outlet_at taken failures c.args.self.now.outputs.items j x c.in-Some.ensures.within c.index_mut.ensures.value in
-    record {
-      next = c.requires.next j (outlet_view taken failures x) next there;
-      reached = c.requires.reached j (outlet_view taken failures x) next there;
-    }
+    c.requires j (outlet_view taken failures x) next there
 
 pub returns-clause-refused : goal.returns-clause-refused
 returns-clause-refused g c =

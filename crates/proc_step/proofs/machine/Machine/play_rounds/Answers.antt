@@ -1,9 +1,9 @@
 use Rattle.std.proofs.Common.{◌+◌, ◌*◌, ◌≡◌, ℕ, length, ap, subst, ◌∙◌, arith}
 use Rattle.kahn_net.specs.declared.limits.TheConstants.{MAX_NESTED_TIMES}
 use Rattle.std.proofs.Common.{None}
-use Rattle.proc_step.specs.Stepping.{WentOn}
+use Rattle.proc_step.specs.Stepping.{WentOn, held}
 use Rattle.proc_step.proofs.Rounds.{in_passes, then_on, then_stops}
-use Rattle.proc_step.proofs.machine.Machine.play_passes.Goals as goal
+use Rattle.proc_step.proofs.machine.Machine.play_rounds.Goals as goal
 
 pub returns-in-Some : goal.returns-in-Some
 returns-in-Some c =
@@ -29,4 +29,7 @@ returns c =
     let same : c.loop.counter * k ≡ passes * (MAX_NESTED_TIMES * k) =
     ap (λ (n : ℕ). n * k) (all ∙ ap (λ (n : ℕ). passes * n) c.from.ensures)
     ∙ (let h : passes * MAX_NESTED_TIMES * k ≡ passes * (MAX_NESTED_TIMES * k) = omega arith in h) in
-    subst (λ (n : ℕ). WentOn c.args.code.now n c.args.room.now c.args.self.now None c.loop.self) same c.loop.invariant
+    subst
+    (λ (n : ℕ). WentOn c.args.code.now n c.args.room.now (held c.args.self.now c.args.self.now.place c.args.stack.now) None
+    (held c.loop.self c.loop.self.place c.loop.stack))
+    same c.loop.invariant

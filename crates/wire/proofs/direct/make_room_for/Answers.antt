@@ -1,0 +1,32 @@
+use Rattle.std.proofs.Common.{◌<◌, ◌∙◌, length, length-set, subst, sym, arith}
+use Rattle.std.proofs.lemmas.List.Elements.{All-get_or}
+use Rattle.wire.specs.Traffic.{AreNodes}
+use Rattle.wire.proofs.Roomy.{room_more}
+use Rattle.wire.proofs.Staged.{reserved_next}
+use Rattle.wire.proofs.direct.make_room_for.Goals as goal
+
+pub returns-in_err-reserve-clause-same : goal.returns-in_err-reserve-clause-same
+returns-in_err-reserve-clause-same c =
+    let l = c.loop-sending in
+    let s = c.sending-item.result in
+    let here : l.sending-index < length c.args.packets.now = omega (arith, c.loop-sending-test.true) in
+    let node : AreNodes s = subst AreNodes (sym c.sending-item.is)
+    (All-get_or AreNodes c.args.packets.now l.sending-index s here c.requires.nodes) in
+    let within : s.to < length l.queues = omega (arith, node.1, c.requires.there, l.invariant.1) in
+    reserved_next l.queues s.to c.index-queues-sending.result c.reserve.new.self c.reserve.new.self.room _ within
+    c.reserve.ensures.same l.invariant.0
+
+pub loop-sending-preserved : goal.loop-sending-preserved
+loop-sending-preserved c =
+    let l = c.loop-sending in
+    let s = c.sending-item.result in
+    let here : l.sending-index < length c.args.packets.now = omega (arith, c.loop-sending-test.true) in
+    let node : AreNodes s = subst AreNodes (sym c.sending-item.is)
+    (All-get_or AreNodes c.args.packets.now l.sending-index s here c.requires.nodes) in
+    let within : s.to < length l.queues = omega (arith, node.1, c.requires.there, l.invariant.1) in (
+      reserved_next l.queues s.to c.index-queues-sending.result c.reserve.new.self c.reserve.new.self.room _ within
+          c.reserve.ensures.same l.invariant.0,
+      length-set l.queues s.to c.reserve.new.self ∙ l.invariant.1,
+      room_more l.queues c.args.packets.now l.sending-index c.index-queues-sending.result c.reserve.new.self s within
+          here c.sending-item.is c.reserve.ensures.more c.in_ok-reserve.ensures.ok l.invariant.2,
+    )
