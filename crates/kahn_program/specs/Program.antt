@@ -1,0 +1,89 @@
+-- The whole program over its host: what it accepts, and what stands in the host's log where it is done.
+use Rattle.std.specs.declared.alloc.Global.{Global}
+use Rattle.std.specs.Prelude.{Vec, ℕ, ℤ, false, List, [], ◌∷◌, ◌++◌, Option, Some, None, IfSome, codes, string_bytes}
+use Rattle.std.specs.Option.{option_map}
+use Rattle.cobaltmidge.specs.Texts.{IsNetOf, AreInputsOf}
+use Rattle.fail_script.specs.Lines.{IsScript}
+use Rattle.fail_script.specs.declared.act.ScriptLine.{ScriptLine}
+use Rattle.host.specs.Requests.{Request, Each, IsFree, Later}
+use Rattle.kahn_program.specs.declared.asked.Options.{Options}
+use Rattle.kahn_program.specs.declared.program.Texts.{Texts}
+use Rattle.net_text.specs.Names.{NameTree}
+use Rattle.protocol.specs.Node.Common.{Channel, Port, Outside, Process, Net, network_of, node_count}
+use Rattle.run_files.specs.Keeping.{IsWrittenTo}
+use Rattle.run_files.specs.History.{IsOpenFor}
+use Rattle.run_files.specs.Rules.{Given, rule}
+use Rattle.run_files.specs.declared.happened.HistoryFile.{HistoryFile}
+use Rattle.run_files.specs.Wanted.{Wanted}
+
+-- These texts are accepted: they are a network's, its inputs', and where there is a script that of a script for its nodes.
+pub record IsAccepted (given : Given) : Type 0 where
+  pub net : Net
+  pub inputs : List (List ℤ)
+  pub of_net : IsNetOf given.net net
+  pub of_inputs : AreInputsOf given.inputs net inputs
+  pub of_script : IfSome given.script
+      (λ bytes. (lines : List ScriptLine) × IsScript (node_count (network_of net.program)) bytes lines)
+
+-- What a command line asks of files. An approximation needs no script, and nothing outlasts it.
+abbrev pub asked_by : Option ℕ → Options → Wanted
+asked_by None options = record {
+  net = string_bytes options.net;
+  inputs = string_bytes options.inputs;
+  script = option_map string_bytes options.script;
+  history = option_map string_bytes options.history;
+  state = option_map string_bytes options.state;
+  sync = options.sync;
+}
+asked_by (Some n) options = record {
+  net = string_bytes options.net;
+  inputs = string_bytes options.inputs;
+  script = None;
+  history = None;
+  state = None;
+  sync = false;
+}
+
+abbrev pub asked_files : Options → Wanted
+asked_files options = asked_by options.approx options
+
+-- the name of an output's file
+abbrev pub file_name : NameTree → List ℕ
+file_name name = name.text ++ codes ".items"
+
+abbrev pub name_if_output : Port → NameTree → List (List ℕ) → List (List ℕ)
+name_if_output Outside name names = file_name name ∷ names
+name_if_output (Process p) name names = names
+
+-- those of all outputs, in order of the channels
+abbrev pub file_names : List Channel → List NameTree → List (List ℕ)
+file_names [] names = []
+file_names (channel ∷ channels) [] = []
+file_names (channel ∷ channels) (name ∷ names) = name_if_output channel.consumer name (file_names channels names)
+
+-- where a file for it is asked for, this is written there
+abbrev pub IsWrittenIfAsked : Option (List ℕ) → List Request → List ℕ → Type 0
+IsWrittenIfAsked None e bytes = Unit {0}
+IsWrittenIfAsked (Some path) e bytes = IsWrittenTo path bytes e
+
+-- the file for it is open, where it is asked for
+abbrev pub IsOpenIfAsked : {F : Type 0} → (F → List ℕ) → Option (List ℕ) → Option (HistoryFile F) → List Request → Type 0
+IsOpenIfAsked path_of None None e = Unit {0}
+IsOpenIfAsked path_of None (Some history) e = ⊥
+IsOpenIfAsked path_of (Some path) None e = ⊥
+IsOpenIfAsked path_of (Some path) (Some history) e =
+    IsOpenFor path (option_map string_bytes history.made) (path_of history.file) e
+
+-- What a call asks keeps the rules, and no lock is held behind it where none was before.
+pub record Keeps (o : Wanted) (old new : List Request) : Type 0 where
+  pub rules : Each (rule IsAccepted o) old → Each (rule IsAccepted o) new
+  pub later : Later old new
+  pub free : IsFree old → IsFree new
+
+-- the texts, as bytes
+abbrev pub given_of : Texts → Given
+given_of texts = record {
+  net = texts.net.items;
+  inputs = texts.inputs.items;
+  script = option_map (λ (script : Vec ℕ Global). script.items) texts.script;
+}
