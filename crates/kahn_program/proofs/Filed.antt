@@ -1,7 +1,7 @@
 -- Streams in the files of outlets, one after another.
 use Rattle.std.proofs.Common.{◌≡◌, ◌++◌, [], ◌∷◌, ℤ, List, length, refl}
 use Rattle.output_file.specs.InFile.{IsInFile}
-use Rattle.output_file.specs.declared.file.LineFile.{Ghosts as FileWords}
+use Rattle.host.specs.declared.line_file.LineFile.{Ghosts as FileWords}
 use Rattle.output_file.specs.declared.resumed.ResumedOutlet.{ResumedOutlet}
 use Rattle.kahn_program.specs.KeptFiles.{AreInFiles}
 

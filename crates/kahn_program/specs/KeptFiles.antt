@@ -2,7 +2,7 @@
 use Rattle.std.specs.Prelude.{ℤ, List}
 use Rattle.std.specs.List.{AllZip}
 use Rattle.output_file.specs.InFile.{IsInFile}
-use Rattle.output_file.specs.declared.file.LineFile.{Ghosts as FileWords}
+use Rattle.host.specs.declared.line_file.LineFile.{Ghosts as FileWords}
 use Rattle.output_file.specs.declared.resumed.ResumedOutlet.{ResumedOutlet}
 
 -- each of these streams is in the file of its outlet

@@ -10,7 +10,7 @@ use Rattle.std.proofs.lemmas.Bool.{eqb-true}
 use Rattle.std.proofs.lemmas.List.{length-append, append-nil, take-append-drop, take-append-le, drop-append-le, take_min}
 use Rattle.std.specs.Fmt.{signed_decimal}
 use Rattle.output_file.specs.Lines.{item_line, lines_of, AreItems}
-use Rattle.output_file.specs.Requests.{Request, Put, Synced, MayBeLeft, bytes_put, has_failed, go_on_from, with_bytes, content_after}
+use Rattle.host.specs.LineRequests.{Request, Put, Synced, MayBeLeft, bytes_put, has_failed, go_on_from, with_bytes, content_after}
 use Rattle.output_file.specs.Writing.{IsWritten, OutputView, HasSameItems, Appends}
 use Rattle.output_file.proofs.Lining.{lines_append, BeginsSo, any_beginning}
 

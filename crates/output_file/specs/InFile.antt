@@ -2,8 +2,8 @@
 use Rattle.std.specs.Prelude.{◌≡◌, ◌⊎◌, ℤ, List}
 use Rattle.output_file.specs.Lines.{lines_of}
 use Rattle.output_file.specs.Output.{asked_of, held_of, items_of, taken_of}
-use Rattle.output_file.specs.Requests.{content_after}
-use Rattle.output_file.specs.declared.file.LineFile.{Ghosts as FileWords}
+use Rattle.host.specs.LineRequests.{content_after}
+use Rattle.host.specs.declared.line_file.LineFile.{Ghosts as FileWords}
 use Rattle.output_file.specs.declared.resumed.ResumedOutlet.{ResumedOutlet}
 
 -- The outlet took this stream, and it is in its file: the file that had the lines of the held items, and did what it was asked since,

@@ -1,9 +1,9 @@
 -- An outlet over a file of lines.
 use Rattle.std.specs.Prelude.{ℕ, ℤ, List, take}
 use Rattle.sector_disk.specs.Past.{states_of}
-use Rattle.output_file.specs.Requests.{Request}
+use Rattle.host.specs.LineRequests.{Request}
 use Rattle.output_file.specs.Writing.{OutputView}
-use Rattle.output_file.specs.declared.file.LineFile.{Ghosts as FileWords}
+use Rattle.host.specs.declared.line_file.LineFile.{Ghosts as FileWords}
 use Rattle.output_file.specs.declared.resumed.ResumedOutlet.{ResumedOutlet}
 use Rattle.std.specs.Prelude.{length}
 

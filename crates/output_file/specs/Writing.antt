@@ -3,7 +3,7 @@ use Rattle.std.specs.Prelude.{◌≡◌, ◌⊎◌, ℕ, ◌+◌, ◌^◌, ◌�
 use Rattle.outlet.specs.declared.fault.OutletFault.{OutletFault}
 use Rattle.outlet.specs.declared.fault.OutletFault.TheVariants.{NoMemory, Failed}
 use Rattle.output_file.specs.Lines.{item_line, lines_of}
-use Rattle.output_file.specs.Requests.{Request, bytes_put, has_failed, go_on_from}
+use Rattle.host.specs.LineRequests.{Request, bytes_put, has_failed, go_on_from}
 
 -- A file that was opened with its lines ending at `start` was asked to put these bytes there, but for those at their end
 -- that are still in a block. They end at `end`. It is broken where a put failed; then no other put was asked since.

@@ -1,6 +1,6 @@
 // What holds of lines, whoever wrote them.
 ghost use Rattle.std.specs.Prelude.{◌≡◌, ◌++◌, ℕ, ℤ, List, length, take, true};
-ghost use Rattle.output_file.specs.Requests.{Request, MayBeLeft, bytes_put, go_on_from};
+ghost use Rattle.host.specs.LineRequests.{Request, MayBeLeft, bytes_put, go_on_from};
 ghost use Rattle.output_file.specs.Lines.{HoldsLines, HasBadLine, AreItems, lines_of};
 
 /// Bytes are the lines of items in one way, if at all. Where a line is bad they are in none, and one line is the first

@@ -5,19 +5,14 @@
 //! was cut off in the middle of a line. `ResumedOutlet` is the outlet over it.
 #![tactic(auto)]
 
-mod asked;
 mod fault;
-mod file;
-mod host_file;
 mod laws;
 mod line_block;
 mod reading;
 mod resumed;
 
-pub use asked::Asked;
 pub use fault::LinesFault;
-pub use file::LineFile;
-pub use host_file::HostLines;
+pub use host::{HostLines, LineFile, LinesAsked};
 pub use laws::{beginning_law, kill_law, reading_law};
 pub use reading::{HeldItems, read_items};
 pub use resumed::ResumedOutlet;

@@ -5,7 +5,7 @@ ghost use Rattle.output_file.specs.Writing.{IsWritten};
 ghost use Rattle.output_file.specs.declared.TheConstants.{BLOCK_BYTES};
 
 use crate::BLOCK_BYTES;
-use crate::file::LineFile;
+use host::LineFile;
 use itoa::Buffer;
 use std::alloc::{AllocError, Global};
 

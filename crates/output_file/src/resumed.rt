@@ -3,11 +3,11 @@ ghost use Rattle.std.specs.Prelude.{◌≡◌, ◌≢◌, ◌⊎◌, ◌↔◌, 
 ghost use Rattle.outlet.specs.Faults.{failures_after};
 ghost use Rattle.sector_disk.specs.Past.{states_of};
 ghost use Rattle.output_file.specs.Lines.{item_line, lines_of};
-ghost use Rattle.output_file.specs.Requests.{Synced, bytes_put, has_failed, go_on_from, content_after};
+ghost use Rattle.host.specs.LineRequests.{Synced, bytes_put, has_failed, go_on_from, content_after};
 ghost use Rattle.output_file.specs.Writing.{IsWritten, is_refusing, HasSameItems, Appends};
 ghost use Rattle.output_file.specs.declared.TheConstants.{BLOCK_BYTES};
 
-use crate::file::LineFile;
+use host::LineFile;
 use crate::line_block::LineBlock;
 use crate::reading::HeldItems;
 use outlet::{Outlet, OutletFault};
@@ -124,6 +124,15 @@ impl<F: LineFile> ResumedOutlet<F> {
         ensures waiting { length (output_view self.now).block ≤ BLOCK_BYTES }
     {
         &self.lines.file
+    }
+
+    /// The file, with all that it was asked. What waits in the block is let go of.
+    pub fn into_file(self) -> F
+        ensures { F.asked result ≡ asked_of self }
+    {
+        let ResumedOutlet { lines, .. } = self;
+        let LineBlock { file, .. } = lines;
+        file
     }
 
     // Whether it takes nothing any more.

@@ -1,0 +1,64 @@
+// What a host was asked. It is read in proofs alone, and takes no memory.
+ghost use Rattle.std.specs.Prelude.{◌≡◌, [], ◌∷◌};
+
+use crate::fault::HostFault;
+use crate::host::Standing;
+use crate::line_file::LinesAsked;
+use sector_disk::Past;
+use std::snapshot::Snapshot;
+
+/// A path.
+pub type Path = Snapshot<String>;
+
+/// Bytes.
+pub type Bytes = Snapshot<Vec<u8>>;
+
+/// What a host answered.
+pub type Answer = Result<(), HostFault>;
+
+/// A request and its answer, as `Request` of `specs/Requests` has them.
+#[derive(Drop)]
+pub enum Noted {
+    Read(Path, Snapshot<Result<Vec<u8>, HostFault>>),
+    Looked(Path, Result<Standing, HostFault>),
+    Placed(Path, Snapshot<Result<String, HostFault>>),
+    MadeFile(Path, Answer),
+    MadeFolder(Path, Answer),
+    OpenedDevice(Path, Answer),
+    Wrote(Path, Bytes, Answer),
+    Synced(Path, Answer),
+    Renamed(Path, Path, Answer),
+    RemovedFile(Path, Answer),
+    RemovedFolder(Path, Answer),
+    Locked(Path, Answer),
+    Unlocked(Path),
+    Opened(Path, Path, Result<Bytes, HostFault>),
+    Cut(Path, u64, Answer),
+    Used(Path, Snapshot<LinesAsked>),
+    Said(Bytes, Answer),
+    Told(Bytes, Answer),
+}
+
+/// What a host was asked, for whoever implements `Host`.
+#[derive(Drop)]
+pub struct Asked {
+    past: Past<Noted>,
+}
+
+impl Asked {
+    ghost use Rattle.host.specs.Asked.{request_of, requests_in};
+
+    /// It was asked nothing yet.
+    pub fn nothing() -> Asked
+        ensures { requests_in result ≡ [] }
+    {
+        Asked { past: Past::new() }
+    }
+
+    /// It was asked this, with this answer.
+    pub fn note(&mut self, noted: &Noted)
+        ensures { requests_in self.new ≡ request_of noted.now ∷ requests_in self.old }
+    {
+        self.past.note(noted);
+    }
+}

@@ -1,0 +1,61 @@
+// Why the files of a run were refused.
+ghost use Rattle.std.specs.Prelude.{◌≡◌};
+ghost use Rattle.run_files.specs.Faults.{or_memory};
+
+use host::HostFault;
+use std::alloc::{AllocError, AllocFailed};
+
+/// Why the files of a run were refused.
+#[derive(Clone, Copy, Debug, PartialEq, Eq)]
+pub enum FilesFault {
+    /// There is no memory.
+    NoMemory,
+    /// Another run is at work with the folder.
+    InUse,
+    /// The folder is of other texts, lacks a file or is damaged, or something else stands under its name (80).
+    OtherState,
+    /// The folder or a file of it can't be made, read, written or synced (82).
+    Failed,
+    /// What happens can't be written.
+    Unwritten,
+    /// A text can't be read.
+    Unreadable,
+}
+
+/// The same, with what there is to say of it: the file, and why in words.
+#[derive(Debug, Drop)]
+pub struct Refused {
+    pub fault: FilesFault,
+    /// None where there is nothing more to say, or no memory for it.
+    pub words: Option<String>,
+}
+
+impl From<AllocError> for Refused {
+    fn from(_: AllocError) -> Self {
+        Refused {
+            fault: FilesFault::NoMemory,
+            words: None,
+        }
+    }
+}
+
+impl<T: Drop> From<AllocFailed<T>> for Refused {
+    fn from(_: AllocFailed<T>) -> Self {
+        Refused {
+            fault: FilesFault::NoMemory,
+            words: None,
+        }
+    }
+}
+
+impl FilesFault {
+    /// What a host's fault comes to, where it isn't want of memory.
+    pub fn or_memory(self, fault: HostFault) -> FilesFault
+        ensures { result ≡ or_memory self fault }
+    {
+        match fault {
+            HostFault::NoMemory => FilesFault::NoMemory,
+            _ => self,
+        }
+    }
+}

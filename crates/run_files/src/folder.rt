@@ -1,0 +1,543 @@
+// The folder in which what left outlasts the run: the texts of the network and of the inputs, a file of lines for each output, and a file
+// whose lock says that a run is at work.
+ghost use Rattle.std.specs.Prelude.{◌≡◌, ◌≢◌, ◌<◌, ◌++◌, ◌⊎◌, [], ℕ, List, IfOk, IfErr, OnOk, OnErr, Ok, Err, Some, length, slice_get, string_bytes};
+ghost use Rattle.host.specs.Requests.{Each, Has, HasUnder, IsFree, IsHeld, Later, Locked, MadeFile, MadeFolder, Opened, Read, Used};
+ghost use Rattle.output_file.specs.Output.{asked_of};
+ghost use Rattle.run_files.specs.Opening.{AreMade, AreOpened, AreUsed};
+ghost use Rattle.run_files.specs.Rules.{GoesOn, HasSameTexts, IsReady, rule};
+ghost use Rattle.run_files.specs.Wanted.{wanted_of};
+ghost use Rattle.run_files.specs.declared.fault.FilesFault.TheVariants.{OtherState, InUse};
+ghost use Rattle.host.specs.declared.fault.HostFault.TheVariants as host_fault;
+
+use crate::asking::{cut, make_file, make_folder, open_lines, read, remove_file, remove_folder, rename_folder, sync, take_back};
+use crate::fault::{FilesFault, Refused};
+use crate::happened::{MAX_NAMES, fresh_name};
+use crate::names::{Judge, Names};
+use crate::words::{refused, refused_by};
+use host::{Host, HostFault, LineFile};
+use output_file::{HeldItems, LinesFault, ResumedOutlet, read_items};
+use std::alloc::{AllocError, Global};
+use std::snapshot::Snapshot;
+
+/// The texts of a run whose folder it is.
+#[derive(Clone, Copy)]
+pub struct FolderTexts<'a> {
+    pub net: &'a Vec<u8>,
+    pub inputs: &'a Vec<u8>,
+}
+
+/// The file of an output, which was just opened, and the items that it holds.
+#[derive(Drop)]
+pub struct HeldFile<F: LineFile> {
+    pub file: F,
+    pub held: HeldItems,
+    pub ghost unasked: { F.asked file ≡ [] },
+}
+
+/// The name of a file that was opened, and what it held.
+#[derive(Drop)]
+pub struct OpenedName {
+    pub name: String,
+    pub bytes: Snapshot<Vec<u8>>,
+}
+
+/// A folder that is this run's alone, as long as its lock is held.
+pub struct OpenFolder<H: Host> {
+    pub lock: H::Lock,
+    /// The outputs' files, in order of the channels.
+    pub files: Vec<HeldFile<H::Lines>>,
+    /// Their names, in the same order.
+    pub opened: Vec<OpenedName>,
+}
+
+// The path of a file of a folder.
+fn in_folder(alloc: Global, folder: &String, tail: &str) -> Result<String, AllocError>
+    ensures { IfOk result (λ path. string_bytes path ≡ string_bytes folder.now ++ tail.now) }
+{
+    let mut path = String::from_str(alloc, folder.as_str())?;
+    path.push_str(tail)?;
+    Ok(path)
+}
+
+// The folder in which a folder of this name stands.
+fn home_of(alloc: Global, folder: &str) -> Result<String, AllocError> {
+    match folder.trim_end_matches('/').rsplit_once('/') {
+        Some((home, _)) => { if home.is_empty() { String::from_str(alloc, "/") } else { String::from_str(alloc, home) } }
+        None => String::from_str(alloc, "."),
+    }
+}
+
+// Refuses unless a file of the folder holds exactly this text.
+fn compare<H: Host, J: Judge>(
+    host: &mut H,
+    alloc: Global,
+    names: &Names,
+    folder: &String,
+    tail: &str,
+    text: &Vec<u8>,
+) -> Result<(), Refused>
+    requires { IsHeld (string_bytes folder.now) (H.asked host.old) }
+    ensures goes { GoesOn J.accepts (wanted_of names.now) (H.asked host.old) (H.asked host.new) }
+    ensures same { OnOk result (HasUnder (string_bytes folder.now)
+        (Read (string_bytes folder.now ++ tail.now) (Ok text.now.items)) (H.asked host.new)) }
+    // A folder is told to be another run's only where a file of it holds another text, or isn't there.
+    ensures cause { IfErr result (λ refused. refused.fault ≡ OtherState →
+        ((bytes : List ℕ) × Has (Read (string_bytes folder.now ++ tail.now) (Ok bytes)) (H.asked host.new) × (bytes ≢ text.now.items))
+        ⊎ Has (Read (string_bytes folder.now ++ tail.now) (Err host_fault.NotThere)) (H.asked host.new)) }
+{
+    let path = in_folder(alloc, folder, tail)?;
+    match read::<H, J>(host, names, &path) {
+        Ok(bytes) => if bytes.as_slice() == text.as_slice() {
+            Ok(())
+        } else {
+            Err(refused(FilesFault::OtherState, other_text(alloc, &path, &bytes, text)))
+        },
+        Err(HostFault::NotThere) => Err(refused_by(host, alloc, FilesFault::OtherState, HostFault::NotThere, &path)),
+        Err(fault) => Err(refused_by(host, alloc, FilesFault::Failed, fault, &path)),
+    }
+}
+
+// Which line of a text differs from that of the file.
+fn other_text(alloc: Global, path: &String, held: &Vec<u8>, text: &Vec<u8>) -> Result<String, AllocError> {
+    let mut line: u64 = 1;
+    for (a, b) in held.iter().zip(text.iter()) {
+        if *a != *b {
+            break;
+        }
+        if *a == b'\n' {
+            line = line.wrapping_add(1);
+        }
+    }
+    format!(in alloc; "{path}: line {line} differs from the text of this run")
+}
+
+// A folder where nothing stands, beside the one of this name. An older one that was left there stays.
+fn make_beside<H: Host, J: Judge>(
+    host: &mut H,
+    alloc: Global,
+    names: &Names,
+    folder: &String,
+) -> Result<String, Refused>
+    requires { IsReady J.accepts (wanted_of names.now) (H.asked host.old) }
+    ensures goes { GoesOn J.accepts (wanted_of names.now) (H.asked host.old) (H.asked host.new) }
+    ensures made { IfOk result (λ making. Has (MadeFolder (string_bytes making) (Ok tt)) (H.asked host.new)) }
+{
+    for nth in 0..MAX_NAMES {
+        let making = fresh_name(alloc, folder.as_str(), "making", nth)?;
+        match make_folder::<H, J>(host, names, &making) {
+            Ok(()) => return Ok(making),
+            Err(HostFault::IsThere) => {}
+            Err(fault) => return Err(refused_by(host, alloc, FilesFault::Failed, fault, &making)),
+        }
+    }
+    Err(refused(FilesFault::Failed, format!(in alloc; "{folder}.making: too many folders of this name are left")))
+}
+
+// The paths of all files that a folder gets.
+fn paths_of(alloc: Global, making: &String, outputs: &[String]) -> Result<Vec<String>, AllocError> {
+    let mut paths = Vec::new(alloc);
+    paths.push(in_folder(alloc, making, "/net")?)?;
+    paths.push(in_folder(alloc, making, "/inputs")?)?;
+    for output in outputs {
+        paths.push(format!(in alloc; "{making}/{output}")?)?;
+    }
+    Ok(paths)
+}
+
+// What the nth file of a new folder holds: the texts, and then nothing for each output.
+fn text_of<'a>(texts: FolderTexts<'a>, nothing: &'a Vec<u8>, nth: usize) -> &'a Vec<u8> {
+    match nth {
+        0 => texts.net,
+        1 => texts.inputs,
+        _ => nothing,
+    }
+}
+
+// Makes the files of a folder, and says how many of them, and why not all.
+fn fill<H: Host, J: Judge>(
+    host: &mut H,
+    alloc: Global,
+    names: &Names,
+    paths: &[String],
+    texts: FolderTexts<'_>,
+) -> (usize, Option<Refused>)
+    requires { IsReady J.accepts (wanted_of names.now) (H.asked host.old) }
+    ensures goes { GoesOn J.accepts (wanted_of names.now) (H.asked host.old) (H.asked host.new) }
+    ensures made { AreMade result.0 paths.now (H.asked host.new) }
+{
+    let nothing = Vec::new(alloc);
+    let mut made = 0;
+    for path in paths {
+        let text = text_of(texts, &nothing, made);
+        if let Err(fault) = make_file::<H, J>(host, names, path, text) {
+            return (made, Some(refused_by(host, alloc, FilesFault::Failed, fault, path)));
+        }
+        made += 1;
+    }
+    (made, None)
+}
+
+// Takes away what was made of a folder that doesn't get its name.
+fn clear<H: Host, J: Judge>(
+    host: &mut H,
+    names: &Names,
+    making: &String,
+    paths: &[String],
+    made: usize,
+)
+    requires folder { Has (MadeFolder (string_bytes making.now) (Ok tt)) (H.asked host.old) }
+    requires files { AreMade made paths.now (H.asked host.old) }
+    ensures { GoesOn J.accepts (wanted_of names.now) (H.asked host.old) (H.asked host.new) }
+{
+    for (nth, path) in paths.iter().enumerate() {
+        if nth < made {
+            remove_file::<H, J>(host, names, path);
+        }
+    }
+    remove_folder::<H, J>(host, names, making);
+}
+
+// Waits until these files and folders stand on the disk, where that is asked for.
+fn settle<H: Host, J: Judge>(
+    host: &mut H,
+    alloc: Global,
+    names: &Names,
+    paths: &[String],
+) -> Result<(), Refused>
+    requires { IsReady J.accepts (wanted_of names.now) (H.asked host.old) }
+    ensures { GoesOn J.accepts (wanted_of names.now) (H.asked host.old) (H.asked host.new) }
+{
+    if !names.sync {
+        return Ok(());
+    }
+    for path in paths {
+        if let Err(fault) = sync::<H, J>(host, names, path) {
+            return Err(refused_by(host, alloc, FilesFault::Failed, fault, path));
+        }
+    }
+    Ok(())
+}
+
+// Waits for one of them.
+fn settle_one<H: Host, J: Judge>(
+    host: &mut H,
+    alloc: Global,
+    names: &Names,
+    path: &String,
+) -> Result<(), Refused>
+    requires { IsReady J.accepts (wanted_of names.now) (H.asked host.old) }
+    ensures { GoesOn J.accepts (wanted_of names.now) (H.asked host.old) (H.asked host.new) }
+{
+    if !names.sync {
+        return Ok(());
+    }
+    match sync::<H, J>(host, names, path) {
+        Ok(()) => Ok(()),
+        Err(fault) => Err(refused_by(host, alloc, FilesFault::Failed, fault, path)),
+    }
+}
+
+// Gives a folder that was made and filled its name. False where something stands there.
+fn give_name<H: Host, J: Judge>(
+    host: &mut H,
+    alloc: Global,
+    names: &Names,
+    making: &String,
+    folder: &String,
+    paths: &[String],
+) -> Result<bool, Refused>
+    requires ready { IsReady J.accepts (wanted_of names.now) (H.asked host.old) }
+    requires made { Has (MadeFolder (string_bytes making.now) (Ok tt)) (H.asked host.old) }
+    requires wanted { (wanted_of names.now).state ≡ Some (string_bytes folder.now) }
+    ensures { GoesOn J.accepts (wanted_of names.now) (H.asked host.old) (H.asked host.new) }
+{
+    settle::<H, J>(host, alloc, names, paths)?;
+    settle_one::<H, J>(host, alloc, names, making)?;
+    match rename_folder::<H, J>(host, names, making, folder) {
+        Ok(()) => Ok(true),
+        Err(HostFault::NotEmpty) | Err(HostFault::IsThere) | Err(HostFault::NoFolder) => Ok(false),
+        Err(fault) => Err(refused_by(host, alloc, FilesFault::Failed, fault, folder)),
+    }
+}
+
+// Makes the folder under another name, and renames it once it is whole. False where something stood there by then: what was made is
+// taken away then, and so it is where it fails.
+fn make<H: Host, J: Judge>(
+    host: &mut H,
+    alloc: Global,
+    names: &Names,
+    folder: &String,
+    texts: FolderTexts<'_>,
+    outputs: &[String],
+) -> Result<bool, Refused>
+    requires ready { IsReady J.accepts (wanted_of names.now) (H.asked host.old) }
+    requires wanted { (wanted_of names.now).state ≡ Some (string_bytes folder.now) }
+    ensures { GoesOn J.accepts (wanted_of names.now) (H.asked host.old) (H.asked host.new) }
+{
+    let making = make_beside::<H, J>(host, alloc, names, folder)?;
+    let paths = match paths_of(alloc, &making, outputs) {
+        Ok(paths) => paths,
+        Err(error) => {
+            remove_folder::<H, J>(host, names, &making);
+            return Err(Refused::from(error));
+        }
+    };
+    let (made, failed) = fill::<H, J>(host, alloc, names, &paths, texts);
+    let named = match failed {
+        Some(refused) => Err(refused),
+        None => give_name::<H, J>(host, alloc, names, &making, folder, &paths),
+    };
+    match named {
+        Ok(true) => Ok(true),
+        Ok(false) => {
+            clear::<H, J>(host, names, &making, &paths, made);
+            Ok(false)
+        }
+        Err(refused) => {
+            clear::<H, J>(host, names, &making, &paths, made);
+            Err(refused)
+        }
+    }
+}
+
+// Whether the folder is there and whole. Refuses where something else stands under its name.
+fn is_made<H: Host, J: Judge>(
+    host: &mut H,
+    alloc: Global,
+    names: &Names,
+    folder: &String,
+) -> Result<bool, Refused>
+    ensures { GoesOn J.accepts (wanted_of names.now) (H.asked host.old) (H.asked host.new) }
+{
+    let path = in_folder(alloc, folder, "/net")?;
+    match read::<H, J>(host, names, &path) {
+        Ok(_) => Ok(true),
+        Err(HostFault::NotThere) => Ok(false),
+        Err(HostFault::NoFolder) => Err(refused(FilesFault::OtherState, format!(in alloc; "{folder} is no folder"))),
+        Err(fault) => Err(refused_by(host, alloc, FilesFault::Failed, fault, &path)),
+    }
+}
+
+// Makes the folder where it isn't there. Where another run was quicker its folder is taken.
+fn make_if_missing<H: Host, J: Judge>(
+    host: &mut H,
+    alloc: Global,
+    names: &Names,
+    folder: &String,
+    texts: FolderTexts<'_>,
+    outputs: &[String],
+) -> Result<(), Refused>
+    requires ready { IsReady J.accepts (wanted_of names.now) (H.asked host.old) }
+    requires wanted { (wanted_of names.now).state ≡ Some (string_bytes folder.now) }
+    ensures { GoesOn J.accepts (wanted_of names.now) (H.asked host.old) (H.asked host.new) }
+{
+    if is_made::<H, J>(host, alloc, names, folder)? {
+        return Ok(());
+    }
+    if make::<H, J>(host, alloc, names, folder, texts, outputs)? {
+        let home = home_of(alloc, folder.as_str())?;
+        settle_one::<H, J>(host, alloc, names, &home)?;
+        return Ok(());
+    }
+    if is_made::<H, J>(host, alloc, names, folder)? {
+        return Ok(());
+    }
+    Err(refused(FilesFault::OtherState, format!(in alloc; "{folder} is there, and has no file net")))
+}
+
+// What the lines of a file hold.
+fn items_of(alloc: Global, path: &String, bytes: &Vec<u8>) -> Result<HeldItems, Refused> {
+    match read_items(alloc, bytes.as_slice()) {
+        Ok(held) => Ok(held),
+        Err(LinesFault::NoMemory) => Err(Refused::from(AllocError)),
+        Err(LinesFault::NotAnItem { line }) => {
+            let words = format!(in alloc; "{path}: line {line} is no item");
+            Err(refused(FilesFault::OtherState, words))
+        }
+    }
+}
+
+// The file of an output, with what it holds. A line that was cut off is taken off.
+fn open_one<H: Host, J: Judge>(
+    host: &mut H,
+    alloc: Global,
+    names: &Names,
+    lock: &H::Lock,
+    folder: &String,
+    name: &String,
+) -> Result<(HeldFile<H::Lines>, Snapshot<Vec<u8>>), Refused>
+    requires ready { IsReady J.accepts (wanted_of names.now) (H.asked host.old) }
+    requires lock { H.folder_of lock.now ≡ string_bytes folder.now }
+    requires held { IsHeld (string_bytes folder.now) (H.asked host.old) }
+    requires same { HasSameTexts (wanted_of names.now) (string_bytes folder.now) (H.asked host.old) }
+    ensures goes { GoesOn J.accepts (wanted_of names.now) (H.asked host.old) (H.asked host.new) }
+    ensures opened { IfOk result (λ one. Has (Opened (string_bytes folder.now) (string_bytes name.now) (Ok one.1.value.items)) (H.asked host.new)) }
+{
+    let (mut file, bytes) = match open_lines::<H, J>(host, names, lock, folder, name) {
+        Ok(opened) => opened,
+        Err(HostFault::NotThere) => return Err(refused_by(host, alloc, FilesFault::OtherState, HostFault::NotThere, name)),
+        Err(fault) => return Err(refused_by(host, alloc, FilesFault::Failed, fault, name)),
+    };
+    let held = items_of(alloc, name, &bytes)?;
+    if held.bytes < bytes.len() as u64 {
+        if let Err(fault) = cut::<H, J>(host, names, folder, name, &mut file, &bytes, held.bytes) {
+            return Err(refused_by(host, alloc, FilesFault::Failed, fault, name));
+        }
+    }
+    Ok((HeldFile { file, held }, Snapshot::of(&bytes)))
+}
+
+// The files of all outputs.
+fn open_each<H: Host, J: Judge>(
+    host: &mut H,
+    alloc: Global,
+    names: &Names,
+    lock: &H::Lock,
+    folder: &String,
+    outputs: Vec<String>,
+) -> Result<(Vec<HeldFile<H::Lines>>, Vec<OpenedName>), Refused>
+    requires ready { IsReady J.accepts (wanted_of names.now) (H.asked host.old) }
+    requires lock { H.folder_of lock.now ≡ string_bytes folder.now }
+    requires held { IsHeld (string_bytes folder.now) (H.asked host.old) }
+    requires same { HasSameTexts (wanted_of names.now) (string_bytes folder.now) (H.asked host.old) }
+    ensures goes { GoesOn J.accepts (wanted_of names.now) (H.asked host.old) (H.asked host.new) }
+    ensures opened { IfOk result (λ all. AreOpened (string_bytes folder.now) all.1.items (H.asked host.new)) }
+{
+    let mut files = Vec::with_capacity(alloc, outputs.len())?;
+    let mut opened = Vec::with_capacity(alloc, outputs.len())?;
+    for name in outputs {
+        let (file, bytes) = open_one::<H, J>(host, alloc, names, lock, folder, &name)?;
+        files.push(file)?;
+        opened.push(OpenedName { name, bytes })?;
+    }
+    Ok((files, opened))
+}
+
+// All that is done under the lock: the texts are compared, what was found is synced where that is asked for, and the outputs' files opened.
+fn open_locked<H: Host, J: Judge>(
+    host: &mut H,
+    alloc: Global,
+    names: &Names,
+    lock: &H::Lock,
+    folder: &String,
+    texts: FolderTexts<'_>,
+    outputs: Vec<String>,
+) -> Result<(Vec<HeldFile<H::Lines>>, Vec<OpenedName>), Refused>
+    requires ready { IsReady J.accepts (wanted_of names.now) (H.asked host.old) }
+    requires lock { H.folder_of lock.now ≡ string_bytes folder.now }
+    requires held { IsHeld (string_bytes folder.now) (H.asked host.old) }
+    requires net { Has (Read (wanted_of names.now).net (Ok texts.net.now.items)) (H.asked host.old) }
+    requires inputs { Has (Read (wanted_of names.now).inputs (Ok texts.inputs.now.items)) (H.asked host.old) }
+    ensures goes { GoesOn J.accepts (wanted_of names.now) (H.asked host.old) (H.asked host.new) }
+    ensures opened { IfOk result (λ all. AreOpened (string_bytes folder.now) all.1.items (H.asked host.new)) }
+{
+    compare::<H, J>(host, alloc, names, folder, "/net", texts.net)?;
+    compare::<H, J>(host, alloc, names, folder, "/inputs", texts.inputs)?;
+    let paths = paths_of(alloc, folder, &outputs)?;
+    settle::<H, J>(host, alloc, names, &paths)?;
+    settle_one::<H, J>(host, alloc, names, folder)?;
+    let home = home_of(alloc, folder.as_str())?;
+    settle_one::<H, J>(host, alloc, names, &home)?;
+    open_each::<H, J>(host, alloc, names, lock, folder, outputs)
+}
+
+/// The folder of this name, which is made where it isn't there; `outputs` are the names of its outputs' files, in order of the channels. It is
+/// refused, and what it holds stays, where another run is at work in it, and where it is another network's, has other inputs or is damaged. A
+/// line that was cut off is no damage: what stands of it is taken off.
+pub fn open_folder<H: Host, J: Judge>(
+    host: &mut H,
+    alloc: Global,
+    names: &Names,
+    folder: &String,
+    texts: FolderTexts<'_>,
+    outputs: Vec<String>,
+) -> Result<OpenFolder<H>, Refused>
+    requires free { IsFree (H.asked host.old) }
+    requires ready { IsReady J.accepts (wanted_of names.now) (H.asked host.old) }
+    requires wanted { (wanted_of names.now).state ≡ Some (string_bytes folder.now) }
+    requires net { Has (Read (wanted_of names.now).net (Ok texts.net.now.items)) (H.asked host.old) }
+    requires inputs { Has (Read (wanted_of names.now).inputs (Ok texts.inputs.now.items)) (H.asked host.old) }
+    ensures rules { Each (rule J.accepts (wanted_of names.now)) (H.asked host.old) → Each (rule J.accepts (wanted_of names.now)) (H.asked host.new) }
+    ensures later { Later (H.asked host.old) (H.asked host.new) }
+    ensures held { IfOk result (λ open. IsHeld (string_bytes folder.now) (H.asked host.new)) }
+    ensures lock { IfOk result (λ open. H.folder_of open.lock ≡ string_bytes folder.now) }
+    ensures opened { IfOk result (λ open. AreOpened (string_bytes folder.now) open.opened.items (H.asked host.new)) }
+    ensures err { OnErr result (IsFree (H.asked host.new)) }
+{
+    make_if_missing::<H, J>(host, alloc, names, folder, texts, outputs.as_slice())?;
+    let lock = match host.lock(folder) {
+        Ok(lock) => lock,
+        Err(HostFault::InUse) => return Err(refused(FilesFault::InUse, format!(in alloc; "another run is at work in {folder}"))),
+        Err(fault) => return Err(refused_by(host, alloc, FilesFault::Failed, fault, folder)),
+    };
+    match open_locked::<H, J>(host, alloc, names, &lock, folder, texts, outputs) {
+        Ok((files, opened)) => Ok(OpenFolder {
+            lock,
+            files,
+            opened,
+        }),
+        Err(refused) => {
+            host.unlock(lock);
+            Err(refused)
+        }
+    }
+}
+
+/// Gives the owner's share of the lock back.
+pub fn let_go<H: Host, J: Judge>(host: &mut H, names: &Names, folder: &String, lock: H::Lock)
+    requires lock { H.folder_of lock ≡ string_bytes folder.now }
+    requires held { IsHeld (string_bytes folder.now) (H.asked host.old) }
+    ensures rules { Each (rule J.accepts (wanted_of names.now)) (H.asked host.old) → Each (rule J.accepts (wanted_of names.now)) (H.asked host.new) }
+    ensures later { Later (H.asked host.old) (H.asked host.new) }
+    ensures free { IsFree (H.asked host.new) }
+{
+    let _ = names;
+    let _ = folder;
+    host.unlock(lock);
+}
+
+// One file of a run that is over.
+fn give_one<H: Host, J: Judge>(
+    host: &mut H,
+    alloc: Global,
+    names: &Names,
+    folder: &String,
+    opened: &OpenedName,
+    outlet: ResumedOutlet<H::Lines>,
+) -> Result<(), Refused>
+    requires { Has (Opened (string_bytes folder.now) (string_bytes opened.now.name) (Ok opened.now.bytes.value.items)) (H.asked host.old) }
+    ensures goes { GoesOn J.accepts (wanted_of names.now) (H.asked host.old) (H.asked host.new) }
+    ensures used { OnOk result (Has (Used (string_bytes opened.now.name) (asked_of outlet)) (H.asked host.new)) }
+{
+    let file = outlet.into_file();
+    let OpenedName { name, bytes } = opened;
+    if !file.is_named(name) {
+        return Err(refused(FilesFault::Failed, format!(in alloc; "{name} came back as another file")));
+    }
+    take_back::<H, J>(host, names, folder, name, bytes, file);
+    Ok(())
+}
+
+/// Gives the files of a run that is over back to the host: what each was asked stands in the log from now on.
+pub fn give_back<H: Host, J: Judge>(
+    host: &mut H,
+    alloc: Global,
+    names: &Names,
+    folder: &String,
+    opened: &[OpenedName],
+    outlets: Vec<ResumedOutlet<H::Lines>>,
+) -> Result<(), Refused>
+    requires { AreOpened (string_bytes folder.now) opened.now (H.asked host.old) }
+    ensures goes { GoesOn J.accepts (wanted_of names.now) (H.asked host.old) (H.asked host.new) }
+    ensures used { OnOk result (AreUsed opened.now outlets.items (H.asked host.new)) }
+{
+    let mut next = 0;
+    for outlet in outlets {
+        let Some(one) = opened.get(next) else {
+            return Err(refused(FilesFault::Failed, format!(in alloc; "{folder}: more files came back than were opened")));
+        };
+        give_one::<H, J>(host, alloc, names, folder, one, outlet)?;
+        next += 1;
+    }
+    Ok(())
+}

@@ -1,0 +1,162 @@
+// The file into which what happens is written: beside the one of its name, which it becomes once it is whole.
+ghost use Rattle.std.specs.Prelude.{◌≡◌, IfOk, IfSome, OnOk, Some, Ok, string_bytes};
+ghost use Rattle.std.specs.Option.{option_map};
+ghost use Rattle.host.specs.Requests.{Has, Looked, MadeFile, Renamed};
+ghost use Rattle.host.specs.declared.host.Standing.TheVariants.{Device};
+ghost use Rattle.run_files.specs.History.{IsOpenFor};
+ghost use Rattle.run_files.specs.Keeping.{IsWrittenTo};
+ghost use Rattle.run_files.specs.Rules.{GoesOn, IsReady};
+ghost use Rattle.run_files.specs.Wanted.{wanted_of};
+
+use crate::asking::{look, make, remove_file, rename_file, write};
+use crate::fault::{FilesFault, Refused};
+use crate::names::{Judge, Names};
+use crate::words::{refused, refused_by};
+use host::{Host, HostFault, Standing};
+use std::alloc::{AllocError, Global};
+
+/// How many names are tried for a file or a folder that is made.
+pub const MAX_NAMES: u64 = 100;
+
+/// A file into which what happens is to be written.
+#[derive(Drop)]
+pub struct HistoryFile<F: Drop> {
+    pub file: F,
+    /// The name under which it was made. None for a device, as a terminal or a pipe.
+    pub made: Option<String>,
+}
+
+// The name that is tried at the nth time.
+pub(crate) fn fresh_name(alloc: Global, path: &str, ending: &str, nth: u64) -> Result<String, AllocError> {
+    let path = path.trim_end_matches('/');
+    if nth == 0 {
+        return format!(in alloc; "{path}.{ending}");
+    }
+    format!(in alloc; "{path}.{ending}.{nth}")
+}
+
+// A file beside the one of this name. An older one that was left there stays.
+fn make_beside<H: Host, J: Judge>(
+    host: &mut H,
+    alloc: Global,
+    names: &Names,
+    path: &String,
+) -> Result<HistoryFile<H::File>, Refused>
+    requires { IsReady J.accepts (wanted_of names.now) (H.asked host.old) }
+    ensures goes { GoesOn J.accepts (wanted_of names.now) (H.asked host.old) (H.asked host.new) }
+    ensures open { IfOk result (λ history. IsOpenFor (string_bytes path.now) (option_map string_bytes history.made)
+        (H.path_of history.file) (H.asked host.new)) }
+{
+    for nth in 0..MAX_NAMES {
+        let made = fresh_name(alloc, path.as_str(), "new", nth)?;
+        match make::<H, J>(host, names, &made) {
+            Ok(file) => {
+                return Ok(HistoryFile {
+                    file,
+                    made: Some(made),
+                });
+            }
+            Err(HostFault::IsThere) => {}
+            Err(fault) => return Err(refused_by(host, alloc, FilesFault::Unwritten, fault, &made)),
+        }
+    }
+    Err(refused(FilesFault::Unwritten, format!(in alloc; "{path}.new: too many files of this name are left")))
+}
+
+// A device of this name.
+fn open_device<H: Host, J: Judge>(
+    host: &mut H,
+    alloc: Global,
+    names: &Names,
+    path: &String,
+) -> Result<HistoryFile<H::File>, Refused>
+    requires ready { IsReady J.accepts (wanted_of names.now) (H.asked host.old) }
+    requires wanted { (wanted_of names.now).history ≡ Some (string_bytes path.now) }
+    requires device { Has (Looked (string_bytes path.now) (Ok Device)) (H.asked host.old) }
+    ensures goes { GoesOn J.accepts (wanted_of names.now) (H.asked host.old) (H.asked host.new) }
+    ensures open { IfOk result (λ history. IsOpenFor (string_bytes path.now) (option_map string_bytes history.made)
+        (H.path_of history.file) (H.asked host.new)) }
+{
+    match host.open_device(path) {
+        Ok(file) => Ok(HistoryFile { file, made: None }),
+        Err(fault) => Err(refused_by(host, alloc, FilesFault::Unwritten, fault, path)),
+    }
+}
+
+/// The file into which what happens is to be written: a new one beside that of this name, or the device of this name.
+pub fn open_history<H: Host, J: Judge>(
+    host: &mut H,
+    alloc: Global,
+    names: &Names,
+    path: &String,
+) -> Result<HistoryFile<H::File>, Refused>
+    requires ready { IsReady J.accepts (wanted_of names.now) (H.asked host.old) }
+    requires wanted { (wanted_of names.now).history ≡ Some (string_bytes path.now) }
+    ensures goes { GoesOn J.accepts (wanted_of names.now) (H.asked host.old) (H.asked host.new) }
+    ensures open { IfOk result (λ history. IsOpenFor (string_bytes path.now) (option_map string_bytes history.made)
+        (H.path_of history.file) (H.asked host.new)) }
+{
+    match look::<H, J>(host, names, path) {
+        Ok(Standing::Device) => open_device::<H, J>(host, alloc, names, path),
+        Ok(Standing::Folder) => Err(refused(FilesFault::Unwritten, format!(in alloc; "{path} is a folder"))),
+        Ok(Standing::File) | Ok(Standing::Nothing) => make_beside::<H, J>(host, alloc, names, path),
+        Err(fault) => Err(refused_by(host, alloc, FilesFault::Unwritten, fault, path)),
+    }
+}
+
+// Gives the file its name, where it was made under another.
+fn rename<H: Host, J: Judge>(
+    host: &mut H,
+    names: &Names,
+    path: &String,
+    made: &Option<String>,
+) -> Result<(), HostFault>
+    requires ready { IsReady J.accepts (wanted_of names.now) (H.asked host.old) }
+    requires wanted { (wanted_of names.now).history ≡ Some (string_bytes path.now) }
+    requires made { IfSome made.now (λ name. Has (MadeFile (string_bytes name) (Ok tt)) (H.asked host.old)) }
+    ensures goes { GoesOn J.accepts (wanted_of names.now) (H.asked host.old) (H.asked host.new) }
+    ensures renamed { OnOk result (IfSome made.now (λ name. Has (Renamed (string_bytes name) (string_bytes path.now) (Ok tt)) (H.asked host.new))) }
+{
+    match made {
+        Some(name) => rename_file::<H, J>(host, names, name, path),
+        None => Ok(()),
+    }
+}
+
+/// Takes the file away that was made for what happens, since nothing is written to it.
+pub fn drop_history<H: Host, J: Judge>(host: &mut H, names: &Names, made: &Option<String>)
+    requires { IfSome made.now (λ name. Has (MadeFile (string_bytes name) (Ok tt)) (H.asked host.old)) }
+    ensures { GoesOn J.accepts (wanted_of names.now) (H.asked host.old) (H.asked host.new) }
+{
+    if let Some(name) = made {
+        remove_file::<H, J>(host, names, name);
+    }
+}
+
+/// Writes what happened, and gives the file its name. One that can't be written or renamed is taken away.
+pub fn finish_history<H: Host, J: Judge>(
+    host: &mut H,
+    alloc: Global,
+    names: &Names,
+    path: &String,
+    mut history: HistoryFile<H::File>,
+    bytes: &Vec<u8>,
+) -> Result<(), Refused>
+    requires ready { IsReady J.accepts (wanted_of names.now) (H.asked host.old) }
+    requires wanted { (wanted_of names.now).history ≡ Some (string_bytes path.now) }
+    requires open { IsOpenFor (string_bytes path.now) (option_map string_bytes history.made) (H.path_of history.file) (H.asked host.old) }
+    ensures goes { GoesOn J.accepts (wanted_of names.now) (H.asked host.old) (H.asked host.new) }
+    ensures written { OnOk result (IsWrittenTo (string_bytes path.now) bytes.now.items (H.asked host.new)) }
+{
+    if let Err(fault) = write::<H, J>(host, names, &mut history.file, bytes) {
+        let refusal = refused_by(host, alloc, FilesFault::Unwritten, fault, path);
+        drop_history::<H, J>(host, names, &history.made);
+        return Err(refusal);
+    }
+    if let Err(fault) = rename::<H, J>(host, names, path, &history.made) {
+        let refusal = refused_by(host, alloc, FilesFault::Unwritten, fault, path);
+        drop_history::<H, J>(host, names, &history.made);
+        return Err(refusal);
+    }
+    Ok(())
+}
