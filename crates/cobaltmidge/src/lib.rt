@@ -4,10 +4,10 @@
 //! (`Network::open`), and applies one event after another.
 #![tactic(auto)]
 
-mod column;
 mod disks;
 mod ending;
 mod error;
+mod explaining;
 mod fault;
 mod finished;
 mod network;
@@ -19,6 +19,7 @@ mod scripting;
 mod settings;
 mod turning;
 
+pub use diagnosis::{Explanation, explain_bytes};
 pub use ending::{RunEnded, RunWorld, cut};
 pub use error::Error;
 pub use fail_script::{Act, Script, ScriptFault, ScriptLine, parse_script};
