@@ -15,6 +15,7 @@ mod places;
 mod scanner;
 mod script;
 mod shown;
+mod undue;
 mod uses;
 mod words;
 
@@ -22,3 +23,5 @@ pub use explanation::{Explanation, explain_bytes};
 pub use items::{explain_inputs, explain_inputs_text};
 pub use net::{explain_net, explain_net_text};
 pub use script::explain_script;
+pub use undue::{NeverDue, never_due};
+pub use words::Grouped;

@@ -318,8 +318,8 @@ struct Above {
     round: u64,
 }
 
-// The round with which a line begins, if it has one.
-fn round_of(line: &str) -> Option<u64> {
+/// The round with which a line begins, if it has one.
+pub(crate) fn round_of(line: &str) -> Option<u64> {
     let bytes = line.as_bytes();
     let mut start = 0;
     for (offset, byte) in bytes.iter().enumerate() {

@@ -8,7 +8,7 @@ const MOST_SHOWN: usize = 40;
 
 /// A number with a comma between thousands, as `57,344`.
 #[derive(Clone, Copy)]
-pub(crate) struct Grouped(pub u64);
+pub struct Grouped(pub u64);
 
 impl fmt::Display for Grouped {
     fn fmt<W: fmt::Write>(&self, f: &mut fmt::Formatter<W>) -> fmt::Result {

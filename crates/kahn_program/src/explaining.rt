@@ -1,7 +1,10 @@
 //! What stands behind the line of a refused text, for who wrote it.
 
 use crate::asked::Options;
-use cobaltmidge::{Error, Explanation, Network, explain_bytes};
+use cobaltmidge::{
+    Error, Explanation, Net, Network, NeverDue, Outlet, Reason, RunEnd, RunWorld, cut,
+    explain_bytes, never_due, reason_of,
+};
 use std::alloc::{AllocError, Global};
 use std::str;
 
@@ -112,4 +115,39 @@ pub fn explanation(
         Some(told) => Ok(Some(told)),
         None => told_of_asked_script(alloc, options, script, &network),
     }
+}
+
+// The first line of a script that never came due in a run that ended in this round.
+fn undue(script: Option<&[u8]>, ended: u64) -> Option<NeverDue> {
+    match str::from_utf8(script?) {
+        Ok(script) => never_due(script, ended),
+        Err(_) => None,
+    }
+}
+
+/// The lines that say why a run's report ends in `partial`, and which lines of its script never came due, each with its line feed; none
+/// where it is complete and all came due. `end` is what was told with the run's world. Refuses for want of memory alone.
+pub fn ending<O: Outlet>(
+    alloc: Global,
+    options: &Options,
+    net: &Net,
+    world: &RunWorld<O>,
+    end: RunEnd,
+    script: Option<&[u8]>,
+) -> Result<String, AllocError> {
+    let mut lines = String::new(alloc);
+    let cut = cut(net.program.channels.as_slice(), world, options.items);
+    let reason = match cut {
+        Some(items) => Reason::Items { items },
+        None => reason_of(net, world, end, options.settings()),
+    };
+    if cut.is_some() || !world.complete() {
+        let line = format!(in alloc; "partial: {reason}\n")?;
+        lines.push_str(line.as_str())?;
+    }
+    if let Some(line) = undue(script, world.round()) {
+        let line = format!(in alloc; "{line}\n")?;
+        lines.push_str(line.as_str())?;
+    }
+    Ok(lines)
 }

@@ -16,7 +16,7 @@ mod words;
 
 pub use asked::{MAX_APPROXIMATION, MAX_ITEMS, MAX_ROUNDS, Options};
 pub use cobaltmidge::{DEFAULT_ROUNDS, NoWatch, RunWatch, TurnWatch};
-pub use explaining::explanation;
+pub use explaining::{ending, explanation};
 pub use failure::{Failure, Source};
 pub use keeper::{InMemory, Keeper};
 pub use kept_files::{FILE_FAILED, FileKeeper, HeldFile, ITEM_DIFFERS, OTHER_STATE};
