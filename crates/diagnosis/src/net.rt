@@ -181,12 +181,18 @@ fn bad_token(alloc: Global, text: &str, stuck: &Stuck) -> Result<String, AllocEr
     format!(in alloc; "found {found}, which begins no token, expected {expected}")
 }
 
+// Whether a number behind a minus is what would be the least one, in an expression.
+fn is_least(text: &str, stuck: &Stuck) -> bool {
+    let before = word(text, stuck.before.start, stuck.before.end);
+    let number = word(text, stuck.at.start, stuck.at.end);
+    stuck.grammar.next == Next::Factor && before == "-" && number == "9223372036854775808"
+}
+
 // What is said of a number past its range.
 fn large_number(alloc: Global, text: &str, stuck: &Stuck) -> Result<String, AllocError> {
     let found = found_words(alloc, text, stuck)?;
     let greatest = i64::MAX;
-    let before = word(text, stuck.before.start, stuck.before.end);
-    if before == "-" && word(text, stuck.at.start, stuck.at.end) == "9223372036854775808" {
+    if is_least(text, stuck) {
         return format!(in alloc;
             "{found} is past {greatest}, the greatest number; the least one is written -{greatest} - 1"
         );
