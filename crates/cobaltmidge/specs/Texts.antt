@@ -1,5 +1,5 @@
 -- What the texts of a network, of its inputs and of a failure script stand for, and why one is refused.
-use Rattle.std.specs.Prelude.{◌≡◌, ℕ, ℤ, List, map}
+use Rattle.std.specs.Prelude.{◌≡◌, ℕ, suc, ℤ, List, map}
 use Rattle.net_text.specs.Grammar.{IsTextOf}
 use Rattle.net_text.specs.InputLines.{IsInputsText, IsInputsFault}
 use Rattle.net_text.specs.Texts.{IsParseFault}
@@ -68,6 +68,16 @@ pub data IsInputsError : Net → List ℕ → Error → Type 0 where
   bad_inputs : {net : Net} {bytes : List ℕ} {error : Error} (lines : List InputTree) (fault : NetFault)
       → IsInputsText bytes lines → HasInputFault net.channel_names.items (network_of net.program) lines fault
       → error ≡ inputs_error fault → IsInputsError net bytes error
+
+-- a list of items by an input's name, behind so many other lists, as the line of a text
+abbrev pub given_line : ℕ → List ℕ → List ℤ → InputTree
+given_line before name items = record { name = record { text = name; line = suc before }; items = items }
+
+-- lists of items, as such lines, have a fault for the network
+pub data IsItemsError : Net → List InputTree → Error → Type 0 where
+  bad_items : {net : Net} {lines : List InputTree} {error : Error} (fault : NetFault)
+      → HasInputFault net.channel_names.items (network_of net.program) lines fault → error ≡ inputs_error fault
+      → IsItemsError net lines error
 
 -- this text is no script for so many nodes
 pub data IsScriptError : ℕ → List ℕ → Error → Type 0 where

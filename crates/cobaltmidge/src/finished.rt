@@ -8,6 +8,8 @@ ghost use Rattle.cobaltmidge.specs.Names.{IsOutputNamed};
 
 use crate::ending::RunWorld;
 use crate::network::Network;
+use crate::reason::{Reason, reason_of};
+use crate::settings::Settings;
 use outlet::Outlet;
 use run_log::History;
 use runtime::RunEnd;
@@ -22,6 +24,8 @@ pub struct Finished<'a, O: Outlet> {
     pub history: History,
     /// Why it ended.
     pub end: RunEnd,
+    /// How it went.
+    pub settings: Settings,
 }
 
 impl<'a, O: Outlet> Finished<'a, O> {
@@ -45,5 +49,10 @@ impl<'a, O: Outlet> Finished<'a, O> {
         ensures whole { IsTrue result → AreWhole (world_of self.now.world) }
     {
         self.world.complete()
+    }
+
+    /// Why it ended, in words and with numbers.
+    pub fn reason(&self) -> Reason<'_> {
+        reason_of(&self.network.net, &self.world, self.end, self.settings)
     }
 }

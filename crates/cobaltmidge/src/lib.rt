@@ -4,14 +4,16 @@
 //! (`Network::open`), and applies one event after another.
 #![tactic(auto)]
 
-mod column;
 mod disks;
 mod ending;
 mod error;
+mod explaining;
 mod fault;
 mod finished;
+mod items;
 mod network;
 mod opening;
+mod reason;
 mod resting;
 mod run;
 mod running;
@@ -19,6 +21,7 @@ mod scripting;
 mod settings;
 mod turning;
 
+pub use diagnosis::{Explanation, NeverDue, explain_bytes, never_due};
 pub use ending::{RunEnded, RunWorld, cut};
 pub use error::Error;
 pub use fail_script::{Act, Script, ScriptFault, ScriptLine, parse_script};
@@ -26,12 +29,14 @@ pub use fault::RunFault;
 pub use file_disk::{FileDisk, HostFile, OpenFault, SectorFile, create_disk, open_disk};
 pub use finished::Finished;
 pub use history_text::write_history;
+pub use items::Items;
 pub use kahn_net::{Channel, Port};
 pub use net_check::{Inputs, Net, NetFault, bind, check, fits};
 pub use net_text::{TextFault, parse, parse_inputs};
 pub use network::Network;
 pub use outlet::{ListOutlet, Outlet, OutletFault};
 pub use proc_step::{Done, Job};
+pub use reason::{Reason, reason_of};
 pub use replay::{ArmedCrash, RunEvent, ScriptedEvent};
 pub use run::Run;
 pub use run_log::ArmedWorld;

@@ -1,6 +1,6 @@
 //! A network by its text, and what belongs to it by name or by text.
 
-ghost use Rattle.std.specs.Prelude.{◌≡◌, ℕ, ◌<◌, ◌≤◌, ◌↔◌, IfErr, IfOk, IfSome, IsOkUnless, IsTrue, List, MatchOption, false, length, map, slice_get};
+ghost use Rattle.std.specs.Prelude.{◌≡◌, ℕ, ◌<◌, ◌≤◌, ◌↔◌, [], IfErr, IfOk, IfSome, IsOkUnless, IsTrue, List, MatchOption, false, length, map, slice_get};
 ghost use Rattle.std.specs.List.{AllByRecursion};
 ghost use Rattle.protocol.specs.Node.Common.{Fits, MAX_NODES, network_of, node_count};
 ghost use Rattle.protocol.specs.World.Common.{output_channels};
@@ -20,6 +20,7 @@ use crate::ending::RunWorld;
 use crate::error::{
     Error, inputs_error, inputs_text_error, net_error, net_text_error, run_error, script_error,
 };
+use crate::items::Items;
 use crate::opening::open_world;
 use crate::scripting::events_of;
 use fail_script::parse_script;
@@ -228,6 +229,14 @@ impl Network {
         ensures accepted { IsTextOfInputs self.now.net.value text.now → IsOkUnless result NoMemory }
     {
         inputs_of_text(alloc, text, &self.net)
+    }
+
+    /// Items for its inputs by their names, to which lists are added: `network.items(alloc).with("i", &[1, 2])?.inputs()?`.
+    pub fn items(&self, alloc: Global) -> Items<'_>
+        ensures network { result.network ≡ self.entry }
+        ensures none { result.lines.items ≡ [] }
+    {
+        Items::new(alloc, self)
     }
 
     /// The events of a failure script for its nodes, a line for each, as `2 crash 0 now 0 1`.

@@ -176,6 +176,7 @@ impl<'a> Run<'a> {
         ensures over { IfOk result (λ finished. IsOver (network_of self.entry.network.now.net.value.program).channels
             (bounds_of self.entry.settings) (world_of finished.world) finished.end) }
         ensures network { IfOk result (λ finished. finished.network ≡ self.entry.network) }
+        ensures settings { IfOk result (λ finished. finished.settings ≡ self.entry.settings) }
         // A device failed (20), memory is missing (1), or what is counted would pass 2^63 - 1 (44).
         ensures err { IfErr result (IsRunError (is_counted self.entry.settings)) }
     {
@@ -206,6 +207,7 @@ impl<'a> Run<'a> {
         ensures over { IfOk result (λ finished. IsOver (network_of self.entry.network.now.net.value.program).channels
             (bounds_of self.entry.settings) (world_of finished.world) finished.end) }
         ensures network { IfOk result (λ finished. finished.network ≡ self.entry.network) }
+        ensures settings { IfOk result (λ finished. finished.settings ≡ self.entry.settings) }
         ensures err { IfErr result (IsRunError (is_counted self.entry.settings)) }
     {
         let Run {
@@ -230,6 +232,7 @@ impl<'a> Run<'a> {
                 world: ended.world,
                 history: ended.history,
                 end: ended.end,
+                settings,
             }),
             Err(fault) => Err(run_error(fault)),
         }

@@ -1,7 +1,9 @@
 -- The command line as `clap` sees it, and what its matches ask for.
-use Rattle.std.specs.Prelude.{◌≡◌, ℕ, ◌≤◌, true, false, Bool, List, [], ◌∷◌, Option, Some, None, codes, option_map, string_bytes}
+use Rattle.std.specs.Prelude.{◌≡◌, ◌≢◌, ℕ, ◌≤◌, true, false, Bool, List, [], ◌∷◌, Option, Some, None, codes, option_map, string_bytes}
 use Rattle.std.specs.Str.Parse.{IsNumeral, digits_value, without_leading_plus}
-use Rattle.clap.specs.Words.{App, Row, Rule, Text, new_app, new_rule, with_rule, first_of, one_of}
+use Rattle.clap.specs.Words.{App, HasKind, Row, Rule, Text, fault_of, matches_of, new_app, new_rule, with_rule, first_of, one_of}
+use Rattle.clap.specs.declared.error.Error.{Error}
+use Rattle.clap.specs.declared.error.kind.ErrorKind.TheVariants.{MissingRequiredArgument}
 use Rattle.clap.specs.declared.builder.action.ArgAction.TheVariants.{SetTrue}
 use Rattle.clap.specs.declared.builder.value_parser.ValueParser.TheVariants.{Unsigned}
 use Rattle.kahn_program.specs.declared.asked.Options.{Options}
@@ -30,11 +32,15 @@ by_default text rule = record rule { defaults = text ∷ [] }
 abbrev pub flag : Text → Rule
 flag name = record (new_rule name) { long = Some name; action = Some SetTrue }
 
--- kahnrun [--script FILE] [--state FOLDER] [--sync] [--rounds N] [--items N] [--room N] [--plain] [--approx N] [--explain] [--history FILE] [--quiet]
+-- `--version`, besides `--help`
+abbrev pub with_version : App → App
+with_version app = record app { top = record (app.top) { has_version = true } }
+
+-- kahnrun [--script FILE] [--state FOLDER [--sync]] [--rounds N] [--items N] [--room N] [--plain] [--approx N] [--explain] [--history FILE] [--quiet]
 -- NET INPUTS
 unfoldable pub kahnrun : App
 kahnrun =
-    let net = with_rule (new_app (codes "kahnrun")) (required (codes "NET")) in
+    let net = with_rule (with_version (new_app (codes "kahnrun"))) (required (codes "NET")) in
     let inputs = with_rule net (required (codes "INPUTS")) in
     let script = with_rule inputs (file_option (codes "script")) in
     let state = with_rule script (file_option (codes "state")) in
@@ -80,3 +86,16 @@ pub record IsAsked (rows : List Row) (options : Options) : Type 0 where
   pub explain : IsFlag (one_of (codes "explain") rows) options.explain
   pub history : first_of (codes "history") rows ≡ option_map string_bytes options.history
   pub quiet : IsFlag (one_of (codes "quiet") rows) options.quiet
+
+-- `--sync` was given, and no folder
+pub record IsSyncAlone (rows : List Row) : Type 0 where
+  pub given : one_of (codes "sync") rows ≢ None
+  pub not_off : one_of (codes "sync") rows ≢ Some (codes "false")
+  pub state : first_of (codes "state") rows ≡ None
+
+-- why words are refused: for what is wrong with one of them or lacks, or because `--sync` has no folder. Want of memory may be told in
+-- either place.
+pub data IsRefusal : List Text → Error → Type 0 where
+  by_words : {words : List Text} {error : Error} → HasKind (fault_of kahnrun words) error → IsRefusal words error
+  by_sync : {words : List Text} {error : Error} → IsSyncAlone (matches_of kahnrun words)
+      → HasKind (MissingRequiredArgument ∷ []) error → IsRefusal words error

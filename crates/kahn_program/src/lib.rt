@@ -3,6 +3,7 @@
 
 mod approximating;
 mod asked;
+mod explaining;
 mod failure;
 mod keeper;
 mod kept_files;
@@ -15,6 +16,7 @@ mod words;
 
 pub use asked::{MAX_APPROXIMATION, MAX_ITEMS, MAX_ROUNDS, Options};
 pub use cobaltmidge::{DEFAULT_ROUNDS, NoWatch, RunWatch, TurnWatch};
+pub use explaining::{ending, explanation};
 pub use failure::{Failure, Source};
 pub use keeper::{InMemory, Keeper};
 pub use kept_files::{FILE_FAILED, FileKeeper, HeldFile, ITEM_DIFFERS, OTHER_STATE};

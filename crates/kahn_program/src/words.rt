@@ -1,11 +1,11 @@
 //! What the words of the command line ask for.
 
-ghost use Rattle.std.specs.Prelude.{◌≡◌, ◌∷◌, [], IfErr, IfOk, codes, false, map, option_map, string_bytes};
+ghost use Rattle.std.specs.Prelude.{◌≡◌, ◌∷◌, [], IfErr, IfOk, codes, false, is_some, map, option_map, string_bytes, true};
 ghost use Rattle.clap.specs.Words.{HasKind, app_of, fault_of, first_value, found_of, matches_of, one_text, rule_of};
 ghost use Rattle.clap.specs.declared.error.kind.ErrorKind.TheVariants as kind;
 ghost use Rattle.protocol.specs.Node.Common.{MAX_RETAINED_ITEMS};
 ghost use Rattle.protocol.specs.declared.limits.TheConstants.{MIN_ROOM};
-ghost use Rattle.kahn_program.specs.CommandLine.{IsAsked, IsNumber, by_default, file_option, flag, kahnrun, number, required};
+ghost use Rattle.kahn_program.specs.CommandLine.{IsAsked, IsNumber, IsRefusal, by_default, file_option, flag, kahnrun, number, required};
 
 use crate::asked::{MAX_APPROXIMATION, MAX_ITEMS, MAX_ROUNDS, Options};
 use ckpt_codec::MAX_RETAINED_ITEMS;
@@ -21,13 +21,14 @@ const LEAST_ROOM: u64 = MIN_ROOM as u64;
 
 const MOST_ROOM: u64 = MAX_RETAINED_ITEMS as u64;
 
+// The number of this version, which the file VERSION at the top has too, and the logic of the kit for which the sources are.
+const VERSION: &str = "0.9.0, for rattle-kit logic dac8208d650f15bf";
+
 const ABOUT: &str =
     "Runs a Kahn process network on its inputs, and prints what each output released: right whatever the script breaks.";
 
 // What stands behind the options.
 const AFTER_OPTIONS: &str = "\
-Example: kahnrun examples/two_nodes.net examples/two_nodes.inputs --script examples/two_nodes.script
-
 Refusals, as in `net line 4: refusal 14` on standard error:
    2  a character that can't stand there
    3  the text can't go on so
@@ -52,10 +53,21 @@ Refusals, as in `net line 4: refusal 14` on standard error:
 Exit status:
    0  the report ends in `complete`
    3  the report ends in `partial`
-   2  a text or the command line is refused, or help was asked for
+   2  a text or the command line is refused, or help or the version was asked for
    1  anything else
 
-docs/FORMATS.md says more of texts, options, refusals and statuses.";
+docs/FORMATS.md says more of texts, options, refusals and statuses.
+
+To run a network:
+  kahnrun examples/running_sum.net examples/running_sum.inputs
+To break packets, nodes and disks meanwhile:
+  kahnrun --script examples/two_nodes.script examples/two_nodes.net examples/two_nodes.inputs
+To keep what left, and go on with it after a kill:
+  kahnrun --state numbers --items 4 examples/kahn_1974.net examples/kahn_1974.inputs
+To see where and why a text is refused:
+  kahnrun --explain NET INPUTS
+To draw what happened in a run:
+  kahnrun --history run.history NET INPUTS; tools/draw --history run.history";
 
 /// The name of a file, and what it is for.
 fn file<'a>(alloc: Global, name: &'a str, help: &'a str) -> Arg<'a>
@@ -132,11 +144,13 @@ fn flag<'a>(alloc: Global, name: &'a str, help: &'a str) -> Arg<'a>
 }
 
 /// The command line:
-/// `kahnrun [--script FILE] [--state FOLDER] [--sync] [--rounds N] [--items N] [--room N] [--plain] [--approx N] [--explain] [--history FILE] [--quiet] NET INPUTS`.
+/// `kahnrun [--script FILE] [--state FOLDER [--sync]] [--rounds N] [--items N] [--room N] [--plain] [--approx N] [--explain] [--history FILE] [--quiet] NET INPUTS`;
+/// or `kahnrun --help`, or `kahnrun --version`.
 fn command<'a>(alloc: Global) -> Result<Command<'a>, AllocError>
     ensures { IfOk result (λ c. app_of c ≡ kahnrun) }
 {
     let command = Command::new(alloc, "kahnrun")
+        .version(VERSION)
         .about(ABOUT)
         .after_help(AFTER_OPTIONS)
         .arg(file(alloc, "NET", "The network's text"))?
@@ -160,7 +174,7 @@ fn command<'a>(alloc: Global) -> Result<Command<'a>, AllocError>
         .arg(flag(
             alloc,
             "sync",
-            "Waits until what the folder keeps outlasts a loss of power too",
+            "With --state: waits until what the folder keeps outlasts a loss of power too",
         ))?
         .arg(rounds(alloc))?
         .arg(number(
@@ -186,7 +200,7 @@ fn command<'a>(alloc: Global) -> Result<Command<'a>, AllocError>
         .arg(flag(
             alloc,
             "explain",
-            "Says of a refused text at which column, and in words, on a second line",
+            "Says where and why a text is refused, and shows its line; a terminal has that without being asked",
         ))?
         .arg(file_option(
             alloc,
@@ -239,9 +253,8 @@ fn given(
     }
 }
 
-/// What these words ask for, of which the first is the program's name. Refuses by `clap`'s error, whose text
-/// is for the user: also where they ask for help, and for want of memory.
-pub fn options<S: AsStr>(alloc: Global, words: &[S]) -> Result<Options, Error>
+/// What these words ask for, one by one.
+fn given_options<S: AsStr>(alloc: Global, words: &[S]) -> Result<Options, Error>
     // Each value is that of the matches, defaults included, and within its bounds.
     ensures asked { IfOk result (IsAsked (matches_of kahnrun (map S.text words.now))) }
     // Words are refused for what is wrong with them, or for want of memory.
@@ -271,6 +284,45 @@ pub fn options<S: AsStr>(alloc: Global, words: &[S]) -> Result<Options, Error>
         history: name_given(alloc, &matches, "history")?,
         quiet: matches.get_flag("quiet"),
     })
+}
+
+/// The error of a command line with `--sync` and no folder.
+fn sync_alone(alloc: Global) -> Error
+    // Its kind, or want of memory.
+    ensures { HasKind (kind.MissingRequiredArgument ∷ []) result }
+{
+    match command(alloc) {
+        Ok(mut command) => {
+            match command.error(
+                ErrorKind::MissingRequiredArgument,
+                "--sync is about the folder of --state, and no --state was given",
+            ) {
+                Ok(error) => error,
+                Err(error) => error.into(),
+            }
+        }
+        Err(error) => error.into(),
+    }
+}
+
+/// What these words ask for, of which the first is the program's name. Refuses by `clap`'s error, whose text
+/// is for the user: also where they ask for help or for the version, and for want of memory.
+pub fn options<S: AsStr>(alloc: Global, words: &[S]) -> Result<Options, Error>
+    // Each value is that of the matches, defaults included, and within its bounds.
+    ensures asked { IfOk result (IsAsked (matches_of kahnrun (map S.text words.now))) }
+    // What is kept is synced only where something is kept.
+    ensures kept { IfOk result (λ options. options.sync ≡ true → is_some options.state ≡ true) }
+    // Words are refused for what is wrong with them, for `--sync` without a folder, or for want of memory.
+    ensures refused { IfErr result (IsRefusal (map S.text words.now)) }
+{
+    let options = match given_options(alloc, words) {
+        Ok(options) => options,
+        Err(error) => return Err(error),
+    };
+    if options.sync && options.state.is_none() {
+        return Err(sync_alone(alloc));
+    }
+    Ok(options)
 }
 
 /// The error of a command line with a word that isn't UTF-8.

@@ -1,17 +1,18 @@
 use Rattle.std.proofs.Common.{◌≡◌, ◌∙◌, ap, ap₂}
 use Rattle.clap.specs.Simple.{app_of_fields}
 use Rattle.clap.specs.Words.{app_of, with_rule}
-use Rattle.kahn_program.specs.CommandLine.{kahnrun}
+use Rattle.kahn_program.specs.CommandLine.{kahnrun, with_version}
 use Rattle.kahn_program.proofs.words.command.Goals as goal
 
 pub returns : goal.returns
 unfolding kahnrun
 returns c =
-    let app : app_of c.after_help.result ≡ app_of c.new.result =
+    let app : app_of c.after_help.result ≡ app_of c.version.result =
     ap app_of_fields c.after_help.ensures ∙ ap app_of_fields c.about.ensures in
+    let version : app_of c.version.result ≡ with_version (app_of c.new.result) = ap app_of_fields c.version.ensures in
     let net =
     c.in_ok-arg.ensures.shape c.file.ensures.here
-    ∙ ap₂ with_rule (app ∙ c.new.ensures.app) c.file.ensures.rule in
+    ∙ ap₂ with_rule (app ∙ version ∙ ap with_version c.new.ensures.app) c.file.ensures.rule in
     let inputs = c.in_ok-arg-2.ensures.shape c.file-2.ensures.here ∙ ap₂ with_rule net c.file-2.ensures.rule in
     let script =
     c.in_ok-arg-3.ensures.shape c.file_option.ensures.here ∙ ap₂ with_rule inputs c.file_option.ensures.rule in

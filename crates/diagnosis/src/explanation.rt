@@ -1,0 +1,105 @@
+//! Why a text is refused, and where in it.
+
+use crate::places::{column, line_from, line_start};
+use crate::shown::push_line;
+use crate::words::with_commas;
+use std::alloc::{AllocError, Global};
+use std::str;
+
+/// Why a text is refused, and where in it.
+#[derive(Debug, Drop)]
+pub struct Explanation {
+    /// The line, from 1, where the text is refused at one.
+    pub line: Option<usize>,
+    /// The column on that line, from 1 and in bytes.
+    pub column: Option<usize>,
+    /// Why, in words.
+    pub words: String,
+}
+
+/// A place of a text, by its offset, and what is wrong there.
+#[derive(Drop)]
+pub(crate) struct Found {
+    pub offset: usize,
+    pub words: String,
+}
+
+impl Explanation {
+    /// An explanation without a place.
+    pub(crate) fn whole(words: String) -> Explanation {
+        Explanation {
+            line: None,
+            column: None,
+            words,
+        }
+    }
+
+    /// What was found on a line of a text; or these words, where it wasn't.
+    pub(crate) fn at(
+        alloc: Global,
+        bytes: &[u8],
+        line: usize,
+        found: Option<Found>,
+        words: &str,
+    ) -> Result<Explanation, AllocError> {
+        let start = line_start(bytes, line);
+        match found {
+            Some(found) => Ok(Explanation {
+                line: Some(line),
+                column: Some(column(start, found.offset)),
+                words: found.words,
+            }),
+            None => Ok(Explanation {
+                line: Some(line),
+                column: Some(1),
+                words: String::from_str(alloc, words)?,
+            }),
+        }
+    }
+
+    /// The lines that say it, each with its line feed: `NAME:LINE:COLUMN: WORDS`, the line of the text, and a mark under the column. Where
+    /// there is no place it is `NAME: WORDS` alone. Refuses for want of memory alone.
+    pub fn lines(&self, alloc: Global, name: &str, text: &[u8]) -> Result<String, AllocError> {
+        let words = self.words.as_str();
+        let (Some(line), Some(column)) = (self.line, self.column) else {
+            return format!(in alloc; "{name}: {words}\n");
+        };
+        let mut lines = format!(in alloc; "{name}:{line}:{column}: {words}\n")?;
+        let shown = line_from(text, line_start(text, line));
+        push_line(alloc, &mut lines, line, shown, column.saturating_sub(1))?;
+        Ok(lines)
+    }
+}
+
+// The line of an offset, from 1.
+fn line_at(bytes: &[u8], offset: usize) -> usize {
+    let mut line: usize = 1;
+    for (at, byte) in bytes.iter().enumerate() {
+        if at == offset {
+            return line;
+        }
+        if *byte == b'\n' {
+            line = line.wrapping_add(1);
+        }
+    }
+    line
+}
+
+/// Where bytes aren't text; None where they are. Refuses for want of memory alone.
+pub fn explain_bytes(alloc: Global, bytes: &[u8]) -> Result<Option<Explanation>, AllocError> {
+    let Err(error) = str::from_utf8(bytes) else {
+        return Ok(None);
+    };
+    let offset = error.valid_up_to();
+    let line = line_at(bytes, offset);
+    let at = with_commas(offset);
+    let words = match bytes.get(offset) {
+        Some(byte) => {
+            let byte = *byte;
+            format!(in alloc; "not UTF-8: the byte 0x{byte:02X} at offset {at}")?
+        }
+        None => format!(in alloc; "not UTF-8: the text ends within a character")?,
+    };
+    let found = Found { offset, words };
+    Ok(Some(Explanation::at(alloc, bytes, line, Some(found), "")?))
+}

@@ -1,0 +1,276 @@
+//! Why a network's text is refused.
+
+use crate::declared::{twice_named, unknown_name};
+use crate::explanation::{Explanation, Found};
+use crate::grammar::{Ending, Grammar, Next, Stop};
+use crate::limits::{lazy_loop, past_limit};
+use crate::pieces::{Piece, Placed, is_comparison};
+use crate::places::word;
+use crate::scanner::Scanner;
+use crate::uses::{second_consumer, second_producer, without_consumer, without_producer};
+use crate::words::{MARK, character_words, has_mark, quoted, with_commas};
+use net_check::NetFault;
+use net_text::{Keyword, MAX_NAME_BYTES, MAX_NESTING, MAX_TEXT_BYTES, TextFault};
+use std::alloc::{AllocError, Global};
+
+// What is said where a text has no such fault at this line.
+const NO_MORE: &str = "the text is refused here";
+
+// Where a text can't go on, and what stood before.
+#[derive(Clone, Copy)]
+struct Stuck {
+    at: Placed,
+    before: Placed,
+    grammar: Grammar,
+    stop: Stop,
+}
+
+// The first piece with which a text can't go on.
+fn stuck_in(text: &str) -> Option<Stuck> {
+    let mut scanner = Scanner::new(text);
+    let mut grammar = Grammar::new();
+    let mut before = Placed::none();
+    for _ in 0..=text.len() {
+        let at = scanner.next_piece();
+        if at.piece == Piece::End && grammar.next == Next::Declaration {
+            return None;
+        }
+        let known = grammar;
+        if let Err(stop) = grammar.step(at.piece) {
+            return Some(Stuck {
+                at,
+                before,
+                grammar: known,
+                stop,
+            });
+        }
+        before = at;
+    }
+    None
+}
+
+// What a list of statements may go on with.
+fn expected_statement(grammar: &Grammar) -> &'static str {
+    let is_outermost = grammar.is_outermost();
+    match grammar.next {
+        Next::Body => "`var`, a statement, `loop` or `}`",
+        Next::Else if is_outermost => "`else`, a statement, `loop` or `}`",
+        Next::Else => "`else`, a statement or `}`",
+        _ if is_outermost => "a statement, `loop` or `}`",
+        _ => "a statement or `}`",
+    }
+}
+
+// What may stand behind a value.
+fn expected_behind_value(grammar: &Grammar) -> &'static str {
+    if grammar.is_in_parenthesis() {
+        return "an operator or `)`";
+    }
+    match grammar.ending {
+        Ending::Semicolon => "an operator or `;`",
+        Ending::To => "an operator or `to`",
+        Ending::Brace => "an operator or `{`",
+    }
+}
+
+// What is expected within a process.
+fn expected_in_process(grammar: &Grammar) -> &'static str {
+    match grammar.next {
+        Next::Assign => "`=`",
+        Next::Value => "`get` or a value",
+        Next::Factor => "a number, a variable, `(` or `-`",
+        Next::Operator => expected_behind_value(grammar),
+        Next::ChannelUsed => "a channel's name",
+        Next::StatementEnd => "`;`",
+        Next::Times => "a number from 1 to 1,000",
+        Next::BlockOpen => "`{`",
+        Next::ProcessClose => "`}` of the process, since nothing stands behind its loop",
+        _ => expected_statement(grammar),
+    }
+}
+
+// What is expected.
+fn expected(grammar: &Grammar) -> &'static str {
+    match grammar.next {
+        Next::Kahn => "`kahn`",
+        Next::Edition => "the edition, 1 or 2",
+        Next::EditionEnd | Next::ChannelEnd | Next::InitialEnd => "`;`",
+        Next::Declaration => "`input`, `chan`, `output`, `process` or the end of the text",
+        Next::ChannelName => "the channel's name",
+        Next::ProcessName => "the process's name",
+        Next::On => "`on`",
+        Next::Node => "the node's number",
+        Next::ProcessOpen => "`{`",
+        Next::VariableName => "the variable's name",
+        Next::VariableEnd => "`=` or `;`",
+        Next::Initial => "a number or `-`",
+        Next::InitialNumber => "a number",
+        _ => expected_in_process(grammar),
+    }
+}
+
+// Whether a name has to stand here.
+fn wants_name(next: Next) -> bool {
+    match next {
+        Next::ChannelName | Next::ProcessName | Next::VariableName | Next::ChannelUsed => true,
+        _ => false,
+    }
+}
+
+// What was found, in words.
+fn found_words(alloc: Global, text: &str, stuck: &Stuck) -> Result<String, AllocError> {
+    let at = stuck.at;
+    let found = word(text, at.start, at.end);
+    match at.piece {
+        Piece::End => String::from_str(alloc, "the end of the text"),
+        Piece::Bad => { character_words(alloc, word(text, at.start, text.len()).chars().next()) }
+        Piece::Word(_) if wants_name(stuck.grammar.next) => {
+            let found = quoted(alloc, found)?;
+            format!(in alloc; "the keyword {found}")
+        }
+        _ => quoted(alloc, found),
+    }
+}
+
+// Whether a piece is of the second edition alone, and could stand here in it.
+fn is_of_second_edition(stuck: &Stuck) -> bool {
+    if stuck.grammar.is_second_edition {
+        return false;
+    }
+    match (stuck.at.piece, stuck.grammar.next) {
+        (Piece::Word(Keyword::Repeat), Next::Body | Next::Statement | Next::Else) => true,
+        (Piece::Word(Keyword::Div), Next::Operator) => true,
+        (Piece::Word(Keyword::Mod), Next::Operator) => true,
+        _ => false,
+    }
+}
+
+// Whether a variable is declared behind a statement.
+fn is_late_variable(stuck: &Stuck) -> bool {
+    let next = stuck.grammar.next;
+    let is_behind = next == Next::Statement || next == Next::Else;
+    is_behind && stuck.grammar.is_outermost() && stuck.at.piece == Piece::Word(Keyword::Var)
+}
+
+// What was found and what was expected.
+fn unexpected(alloc: Global, text: &str, stuck: &Stuck) -> Result<String, AllocError> {
+    let at = stuck.at;
+    let found = found_words(alloc, text, stuck)?;
+    let expected = expected(&stuck.grammar);
+    if is_of_second_edition(stuck) {
+        return format!(in alloc; "{found} needs `kahn 2;`: this text begins with `kahn 1;`");
+    }
+    if stuck.grammar.next == Next::Operator && is_comparison(at.piece) {
+        return format!(in alloc; "found {found} behind a comparison, which isn't compared again");
+    }
+    if is_late_variable(stuck) {
+        return format!(in alloc;
+            "found {found}, expected {expected}: variables are declared before the first statement"
+        );
+    }
+    format!(in alloc; "found {found}, expected {expected}")
+}
+
+// What is said of a character that begins no token.
+fn bad_token(alloc: Global, text: &str, stuck: &Stuck) -> Result<String, AllocError> {
+    if stuck.at.start == 0 && has_mark(text) {
+        return String::from_str(alloc, MARK);
+    }
+    let found = found_words(alloc, text, stuck)?;
+    let expected = expected(&stuck.grammar);
+    format!(in alloc; "found {found}, which begins no token, expected {expected}")
+}
+
+// Whether a number behind a minus is what would be the least one, in an expression.
+fn is_least(text: &str, stuck: &Stuck) -> bool {
+    let before = word(text, stuck.before.start, stuck.before.end);
+    let number = word(text, stuck.at.start, stuck.at.end);
+    stuck.grammar.next == Next::Factor && before == "-" && number == "9223372036854775808"
+}
+
+// What is said of a number past its range.
+fn large_number(alloc: Global, text: &str, stuck: &Stuck) -> Result<String, AllocError> {
+    let found = found_words(alloc, text, stuck)?;
+    let greatest = i64::MAX;
+    if is_least(text, stuck) {
+        return format!(in alloc;
+            "{found} is past {greatest}, the greatest number; the least one is written -{greatest} - 1"
+        );
+    }
+    format!(in alloc; "{found} is past {greatest}, the greatest number")
+}
+
+// What is said of the piece at which a text is stuck.
+fn stuck_words(alloc: Global, text: &str, stuck: &Stuck) -> Result<String, AllocError> {
+    let at = stuck.at;
+    match (at.piece, stuck.stop) {
+        (Piece::Bad, _) => bad_token(alloc, text, stuck),
+        (Piece::LargeNumber, _) => large_number(alloc, text, stuck),
+        (Piece::LongName, _) => {
+            let len = with_commas(at.end.saturating_sub(at.start));
+            format!(in alloc; "a name of {len} bytes; at most {MAX_NAME_BYTES}")
+        }
+        (_, Stop::TooDeep) => {
+            let found = found_words(alloc, text, stuck)?;
+            format!(in alloc;
+                "{found} opens more than {MAX_NESTING} blocks, parentheses and minus signs within one another"
+            )
+        }
+        (_, Stop::Times) => {
+            let found = found_words(alloc, text, stuck)?;
+            format!(in alloc; "{found} times; a block is repeated 1 to 1,000 times")
+        }
+        (_, Stop::Unexpected) => unexpected(alloc, text, stuck),
+    }
+}
+
+/// Why a text is none of a network's: `fault` is what `net_text::parse` refused it by. Refuses for want of memory alone.
+pub fn explain_net_text(
+    alloc: Global,
+    text: &str,
+    fault: TextFault,
+) -> Result<Explanation, AllocError> {
+    let Some(line) = fault.line() else {
+        return Ok(Explanation::whole(String::from_str(alloc, "no memory")?));
+    };
+    let found = if text.len() > MAX_TEXT_BYTES {
+        let len = with_commas(text.len());
+        Some(Found {
+            offset: 0,
+            words: format!(in alloc; "a text of {len} bytes; at most 1,048,576")?,
+        })
+    } else {
+        match stuck_in(text) {
+            Some(stuck) => Some(Found {
+                offset: stuck.at.start,
+                words: stuck_words(alloc, text, &stuck)?,
+            }),
+            None => None,
+        }
+    };
+    Explanation::at(alloc, text.as_bytes(), line, found, NO_MORE)
+}
+
+// Where a text has this fault, and what is wrong there.
+fn found_in(alloc: Global, text: &str, fault: NetFault) -> Result<Option<Found>, AllocError> {
+    match fault {
+        NetFault::TwiceNamed { .. } => twice_named(alloc, text),
+        NetFault::UnknownName { .. } => unknown_name(alloc, text),
+        NetFault::TwoProducers { .. } => second_producer(alloc, text),
+        NetFault::TwoConsumers { .. } => second_consumer(alloc, text),
+        NetFault::LoopWithoutGet { .. } => lazy_loop(alloc, text),
+        NetFault::Limit { .. } => past_limit(alloc, text),
+        NetFault::NoProducer { .. } => without_producer(alloc, text),
+        NetFault::NoConsumer { .. } => without_consumer(alloc, text),
+        NetFault::NoMemory | NetFault::MissingInput => Ok(None),
+    }
+}
+
+/// Why the network of a text isn't valid: `fault` is what `net_check::check` refused it by. Refuses for want of memory alone.
+pub fn explain_net(alloc: Global, text: &str, fault: NetFault) -> Result<Explanation, AllocError> {
+    let Some(line) = fault.line() else {
+        return Ok(Explanation::whole(String::from_str(alloc, NO_MORE)?));
+    };
+    let found = found_in(alloc, text, fault)?;
+    Explanation::at(alloc, text.as_bytes(), line, found, NO_MORE)
+}

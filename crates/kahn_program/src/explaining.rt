@@ -1,0 +1,153 @@
+//! What stands behind the line of a refused text, for who wrote it.
+
+use crate::asked::Options;
+use cobaltmidge::{
+    Error, Explanation, Net, Network, NeverDue, Outlet, Reason, RunEnd, RunWorld, cut,
+    explain_bytes, never_due, reason_of,
+};
+use std::alloc::{AllocError, Global};
+use std::str;
+
+// The lines of an explanation, of the text of this file.
+fn told(
+    alloc: Global,
+    name: &str,
+    bytes: &[u8],
+    explanation: &Explanation,
+) -> Result<Option<String>, AllocError> {
+    Ok(Some(explanation.lines(alloc, name, bytes)?))
+}
+
+// The lines about bytes that aren't text.
+fn told_of_bytes(alloc: Global, name: &str, bytes: &[u8]) -> Result<Option<String>, AllocError> {
+    match explain_bytes(alloc, bytes)? {
+        Some(explanation) => told(alloc, name, bytes, &explanation),
+        None => Ok(None),
+    }
+}
+
+// The lines about a text with this error.
+fn told_of_error(
+    alloc: Global,
+    name: &str,
+    text: &str,
+    error: Error,
+    network: Option<&Network>,
+) -> Result<Option<String>, AllocError> {
+    if error == Error::NoMemory {
+        return Err(AllocError);
+    }
+    let explanation = error.explained_in(alloc, text, network)?;
+    told(alloc, name, text.as_bytes(), &explanation)
+}
+
+// The lines about the inputs of a network, where they are refused.
+fn told_of_inputs(
+    alloc: Global,
+    name: &str,
+    bytes: &[u8],
+    network: &Network,
+) -> Result<Option<String>, AllocError> {
+    let Ok(text) = str::from_utf8(bytes) else {
+        return told_of_bytes(alloc, name, bytes);
+    };
+    match network.inputs(alloc, text) {
+        Ok(_) => Ok(None),
+        Err(error) => told_of_error(alloc, name, text, error, Some(network)),
+    }
+}
+
+// The lines about a script for a network, where it is refused.
+fn told_of_script(
+    alloc: Global,
+    name: &str,
+    bytes: &[u8],
+    network: &Network,
+) -> Result<Option<String>, AllocError> {
+    let Ok(text) = str::from_utf8(bytes) else {
+        return told_of_bytes(alloc, name, bytes);
+    };
+    match network.script(alloc, text) {
+        Ok(_) => Ok(None),
+        Err(error) => told_of_error(alloc, name, text, error, Some(network)),
+    }
+}
+
+// The lines about the script that is asked for, where one is and it is refused.
+fn told_of_asked_script(
+    alloc: Global,
+    options: &Options,
+    script: Option<&[u8]>,
+    network: &Network,
+) -> Result<Option<String>, AllocError> {
+    match (&options.script, script, options.approx) {
+        (Some(name), Some(script), None) => {
+            told_of_script(alloc, name.as_str(), script, network)
+        }
+        _ => Ok(None),
+    }
+}
+
+/// The lines behind that of a refusal, each with its line feed: of the first text that is refused where, why, and the line of the text with
+/// a mark under the column. None where none of the texts is refused, or one before it wasn't read. Refuses for want of memory alone.
+pub fn explanation(
+    alloc: Global,
+    options: &Options,
+    net: Option<&[u8]>,
+    inputs: Option<&[u8]>,
+    script: Option<&[u8]>,
+) -> Result<Option<String>, AllocError> {
+    let Some(net) = net else {
+        return Ok(None);
+    };
+    let name = options.net.as_str();
+    let Ok(text) = str::from_utf8(net) else {
+        return told_of_bytes(alloc, name, net);
+    };
+    let network = match Network::parse(alloc, text) {
+        Ok(network) => network,
+        Err(error) => return told_of_error(alloc, name, text, error, None),
+    };
+    let Some(inputs) = inputs else {
+        return Ok(None);
+    };
+    match told_of_inputs(alloc, options.inputs.as_str(), inputs, &network)? {
+        Some(told) => Ok(Some(told)),
+        None => told_of_asked_script(alloc, options, script, &network),
+    }
+}
+
+// The first line of a script that never came due in a run that ended in this round.
+fn undue(script: Option<&[u8]>, ended: u64) -> Option<NeverDue> {
+    match str::from_utf8(script?) {
+        Ok(script) => never_due(script, ended),
+        Err(_) => None,
+    }
+}
+
+/// The lines that say why a run's report ends in `partial`, and which lines of its script never came due, each with its line feed; none
+/// where it is complete and all came due. `end` is what was told with the run's world. Refuses for want of memory alone.
+pub fn ending<O: Outlet>(
+    alloc: Global,
+    options: &Options,
+    net: &Net,
+    world: &RunWorld<O>,
+    end: RunEnd,
+    script: Option<&[u8]>,
+) -> Result<String, AllocError> {
+    let mut lines = String::new(alloc);
+    let cut = cut(net.program.channels.as_slice(), world, options.items);
+    let reason = match cut {
+        Some(items) => Reason::Items { items },
+        None => reason_of(net, world, end, options.settings()),
+    };
+    if cut.is_some() || !world.complete() {
+        let line = format!(in alloc; "partial: {reason}\n")?;
+        lines.push_str(line.as_str())?;
+    }
+    if let Some(line) = undue(script, world.round()) {
+        let line = format!(in alloc; "{line}\n")?;
+        lines.push_str(line.as_str())?;
+    }
+    Ok(lines)
+}
