@@ -9,3 +9,4 @@ pub mod Report
 pub mod Statuses
 pub mod Runs
 pub mod Scripts
+pub mod Program

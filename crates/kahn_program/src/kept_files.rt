@@ -1,9 +1,9 @@
 //! Outlets over files, which outlast a run.
 
-ghost use Rattle.std.specs.Prelude.{◌≡◌, [], true, IfErr, IfOk, OnOk};
+ghost use Rattle.std.specs.Prelude.{◌≡◌, true, IfErr, IfOk, OnOk};
 ghost use Rattle.output_file.specs.Output.{taken_of};
 ghost use Rattle.kahn_program.specs.Keeping.{IsKeeperFailure, taken_streams};
-ghost use Rattle.kahn_program.specs.KeptFiles.{AreInFiles};
+ghost use Rattle.kahn_program.specs.KeptFiles.{AreInFiles, closed_of};
 ghost use Rattle.output_file.specs.InFile.{IsInFile};
 
 use crate::failure::Failure;
@@ -11,7 +11,9 @@ use crate::keeper::Keeper;
 use crate::reporting::count_outputs;
 use net_check::Net;
 use outlet::Outlet;
-use output_file::{HeldItems, LineFile, ResumedOutlet};
+use host::LineFile;
+use output_file::ResumedOutlet;
+use run_files::HeldFile;
 use std::alloc::{AllocError, Global};
 use std::mem;
 use world::{OutletMaker, Output, outputs_of};
@@ -24,14 +26,6 @@ pub const ITEM_DIFFERS: u8 = 81;
 
 /// The refusal of a run of which a file failed.
 pub const FILE_FAILED: u8 = 82;
-
-/// The file of an output, which was just opened, and the items that it holds.
-#[derive(Drop)]
-pub struct HeldFile<F: LineFile> {
-    pub file: F,
-    pub held: HeldItems,
-    pub ghost unasked: { F.asked file ≡ [] },
-}
 
 /// A run's outlets over files, one for each output, in order of the channels.
 #[derive(Drop)]
@@ -57,6 +51,14 @@ impl<F: LineFile> FileKeeper<F> {
             files,
             closed: Vec::new(alloc),
         }
+    }
+
+    /// The outlets of a run that is over, one for each output, in order of the channels.
+    pub fn into_closed(self) -> Vec<ResumedOutlet<F>>
+        ensures { result.items ≡ closed_of self }
+    {
+        let FileKeeper { closed, .. } = self;
+        closed
     }
 }
 

@@ -14,11 +14,12 @@ ghost use Rattle.kahn_program.specs.Runs.{IsReport, IsToldOf, IsWrittenIf, first
 ghost use Rattle.kahn_program.specs.declared.failure.Failure.TheVariants.{NoMemory, Unwritten};
 
 use crate::asked::Options;
+use crate::explaining::ending;
 use crate::failure::Failure;
 use crate::keeper::Keeper;
 use crate::reporting::{Stream, report};
 use cobaltmidge::{
-    Ended, History, RunFault, RunWatch, RunWorld, TurnWatch, cut, run_network, write_history,
+    Ended, History, RunEnd, RunFault, RunWatch, RunWorld, TurnWatch, cut, run_network, write_history,
 };
 use kahn_net::{Channel, Port};
 use net_check::{Inputs, Net};
@@ -122,6 +123,21 @@ fn report_of_world<O: Outlet>(
     Ok((bytes, complete))
 }
 
+/// What there is to say of a run's end, where that is asked for.
+fn ending_if_asked<O: Outlet>(
+    alloc: Global,
+    options: &Options,
+    net: &Net,
+    world: &RunWorld<O>,
+    end: RunEnd,
+    script: Option<&[u8]>,
+) -> Result<String, AllocError> {
+    if options.explain {
+        return ending(alloc, options, net, world, end, script);
+    }
+    Ok(String::new(alloc))
+}
+
 /// The run is over: its outlets go back to where they come from.
 fn close_outputs<O: Outlet, K: Keeper<O>>(
     alloc: Global,
@@ -181,8 +197,8 @@ fn tell_history<H: Write>(
 }
 
 /// Runs a network on its inputs by the events of a script, as the options say, until nothing is left to do, the rounds are over,
-/// or each output has the items that are asked for. Gives the whole report, and whether the run is complete. What happened is written
-/// too, where that is asked for.
+/// or each output has the items that are asked for. Gives the whole report, whether the run is complete, and what there is to say of its end,
+/// where that is asked for. `script_text` is the script's text, if there is one. What happened is written too, where that is asked for.
 pub fn report_of_run<
     O: Outlet + Send,
     K: Keeper<O>,
@@ -196,10 +212,11 @@ pub fn report_of_run<
     net: Net,
     inputs: Inputs,
     script: Vec<ScriptedEvent>,
+    script_text: Option<&[u8]>,
     keeper: &mut K,
     history: &mut H,
     watch: &mut P,
-) -> Result<(Vec<u8>, bool), Failure>
+) -> Result<(Vec<u8>, bool, String), Failure>
     requires fitting { Fits (network_of net.program) inputs }
     ensures ok { IfOk result
         (λ report. IsReport (K.has_kept keeper.new) (Appends (H.contents history.old) (H.contents history.new))
@@ -229,12 +246,15 @@ pub fn report_of_run<
     let Ended {
         world,
         history: happened,
-        ..
+        end,
     } = ended;
-    let Ok(report) = report_of_world(alloc, &net, &world, options.items) else {
+    let Ok((report, complete)) = report_of_world(alloc, &net, &world, options.items) else {
+        return Err(Failure::NoMemory);
+    };
+    let Ok(ending) = ending_if_asked(alloc, options, &net, &world, end, script_text) else {
         return Err(Failure::NoMemory);
     };
     close_outputs(alloc, world, keeper)?;
     tell_history(options, &net, &happened, history)?;
-    Ok(report)
+    Ok((report, complete, ending))
 }

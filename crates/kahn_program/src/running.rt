@@ -78,9 +78,10 @@ fn report_by_script<
     let Ok(events) = events_of(alloc, &lines) else {
         return Err(Failure::NoMemory);
     };
-    report_of_run(
-        rt, alloc, options, net, inputs, events, keeper, history, watch,
-    )
+    let (report, complete, _) = report_of_run(
+        rt, alloc, options, net, inputs, events, None, keeper, history, watch,
+    )?;
+    Ok((report, complete))
 }
 
 /// The report that is asked for of a network on its inputs, and whether it tells `complete`: of an approximation, or of a

@@ -18,8 +18,6 @@ pub enum FilesFault {
     Failed,
     /// What happens can't be written.
     Unwritten,
-    /// A text can't be read.
-    Unreadable,
 }
 
 /// The same, with what there is to say of it: the file, and why in words.

@@ -1,0 +1,700 @@
+//! The whole program over its host.
+
+ghost use Rattle.std.specs.Prelude.{◌≡◌, ◌⊎◌, ◌≤◌, Bool, IfOk, IfErr, IfSome, OnOk, OnErr, Ok, Some, is_some, map, option_and_then, string_bytes};
+ghost use Rattle.std.specs.Option.{option_map};
+ghost use Rattle.host.specs.Requests.{Each, Has, IsFree, Later, Read, Said};
+ghost use Rattle.protocol.specs.Node.Common.{Fits, MAX_NODES, network_of, node_count};
+ghost use Rattle.cobaltmidge.specs.Texts.{AreInputsOf, IsNetOf};
+ghost use Rattle.kahn_program.specs.Program.{IsAccepted, IsDone, asked_files, file_names};
+ghost use Rattle.kahn_program.specs.Scripts.{AreLinesOf};
+ghost use Rattle.kahn_program.specs.Statuses.{status_of_run};
+ghost use Rattle.run_files.specs.Rules.{GoesOn, WereRead, rule};
+ghost use Rattle.run_files.specs.Wanted.{wanted_of};
+
+use crate::approximating::report_of_approximation;
+use crate::asked::Options;
+use crate::explaining::explanation;
+use crate::failure::{Failure, Source};
+use crate::keeper::{InMemory, Keeper};
+use crate::kept_files::{FILE_FAILED, FileKeeper, OTHER_STATE};
+use crate::network_run::report_of_run;
+use crate::reading::{read_inputs, read_net, read_script};
+use cobaltmidge::{RunWatch, TurnWatch, events_of};
+use fail_script::{Script, ScriptLine};
+use host::{Host, HostFault};
+use kahn_net::Port;
+use net_check::{Inputs, Net};
+use outlet::{ListOutlet, Outlet};
+use output_file::ResumedOutlet;
+use run_files::{
+    FilesFault, FolderTexts, HeldFile, HistoryFile, Judge, Names, OpenFolder, OpenedName, Refused,
+    drop_history, finish_history, give_back, let_go, open_folder, open_history, read, say, tell,
+    tell_apart,
+};
+use std::alloc::{AllocError, Global};
+use std::sync::Wait;
+use std::thread::Threads;
+use world::node_count;
+
+/// What the program accepts: the text of a network, that of its inputs, and where a script is asked for that of a script for its nodes.
+#[derive(Drop)]
+pub struct Accepted;
+
+impl Judge for Accepted {
+    ghost use Rattle.kahn_program.specs.Program.{IsAccepted};
+
+    ghost accepts = { IsAccepted };
+}
+
+/// Why the program ends without a report, and what there is to say of it besides.
+#[derive(Drop)]
+pub struct Stop {
+    pub failure: Failure,
+    pub words: Option<String>,
+}
+
+impl From<AllocError> for Stop {
+    fn from(_: AllocError) -> Self {
+        Stop {
+            failure: Failure::NoMemory,
+            words: None,
+        }
+    }
+}
+
+impl From<Failure> for Stop {
+    fn from(failure: Failure) -> Self {
+        Stop {
+            failure,
+            words: None,
+        }
+    }
+}
+
+impl From<Refused> for Stop {
+    fn from(refused: Refused) -> Self {
+        Stop {
+            failure: match refused.fault {
+                FilesFault::NoMemory => Failure::NoMemory,
+                FilesFault::InUse => Failure::InUse,
+                FilesFault::OtherState => Failure::State { number: OTHER_STATE },
+                FilesFault::Failed => Failure::State { number: FILE_FAILED },
+                FilesFault::Unwritten => Failure::Unwritten,
+            },
+            words: refused.words,
+        }
+    }
+}
+
+/// The texts of a run, as they were read.
+#[derive(Drop)]
+pub struct Texts {
+    pub net: Vec<u8>,
+    pub inputs: Vec<u8>,
+    pub script: Option<Vec<u8>>,
+}
+
+/// What a run is of. The script's text is only looked at where its end is told.
+#[derive(Drop)]
+struct RunTexts<'a> {
+    net: Net,
+    inputs: Inputs,
+    lines: Vec<ScriptLine>,
+    script: Option<&'a [u8]>,
+}
+
+/// The names that a command line gives. An approximation needs no script, and nothing outlasts it.
+pub(crate) fn names_of(options: &Options) -> Result<Names, AllocError>
+    ensures { IfOk result (λ names. wanted_of names ≡ asked_files options.now) }
+{
+    let net = options.net.clone()?;
+    let inputs = options.inputs.clone()?;
+    if options.approx.is_some() {
+        return Ok(Names {
+            net,
+            inputs,
+            script: None,
+            history: None,
+            state: None,
+            sync: false,
+        });
+    }
+    Ok(Names {
+        net,
+        inputs,
+        script: copied(&options.script)?,
+        history: copied(&options.history)?,
+        state: copied(&options.state)?,
+        sync: options.sync,
+    })
+}
+
+// A copy of a name, if there is one.
+fn copied(name: &Option<String>) -> Result<Option<String>, AllocError>
+    ensures { IfOk result (λ copy. option_map string_bytes copy ≡ option_map string_bytes name.now) }
+{
+    match name {
+        Some(name) => Ok(Some(name.clone()?)),
+        None => Ok(None),
+    }
+}
+
+// The bytes of a text.
+fn read_bytes<H: Host>(
+    host: &mut H,
+    alloc: Global,
+    names: &Names,
+    source: Source,
+    path: &String,
+) -> Result<Vec<u8>, Stop>
+    ensures goes { GoesOn IsAccepted (wanted_of names.now) (H.asked host.old) (H.asked host.new) }
+    ensures read { IfOk result (λ bytes. Has (Read (string_bytes path.now) (Ok bytes.items)) (H.asked host.new)) }
+{
+    match read::<H, Accepted>(host, names, path) {
+        Ok(bytes) => Ok(bytes),
+        Err(HostFault::NoMemory) => Err(Stop::from(AllocError)),
+        Err(_) => Err(Stop {
+            failure: Failure::Unreadable(source),
+            words: words_of(host, alloc, path.as_str()),
+        }),
+    }
+}
+
+// A name, and the host's own words.
+fn words_of<H: Host>(host: &H, alloc: Global, path: &str) -> Option<String> {
+    match host.words(alloc) {
+        Ok(words) => format!(in alloc; "{path}: {words}\n").ok(),
+        Err(_) => None,
+    }
+}
+
+// A text that is refused, and what there is to say of it where that is asked for.
+fn refused_text(
+    alloc: Global,
+    options: &Options,
+    failure: Failure,
+    net: &[u8],
+    inputs: Option<&[u8]>,
+    script: Option<&[u8]>,
+) -> Stop {
+    let words = if options.explain {
+        explanation(alloc, options, Some(net), inputs, script).unwrap_or(None)
+    } else {
+        None
+    };
+    Stop { failure, words }
+}
+
+// The network of a text.
+fn net_of(alloc: Global, options: &Options, net: &Vec<u8>) -> Result<Net, Stop>
+    ensures { IfOk result (IsNetOf net.now.items) }
+{
+    match read_net(alloc, Some(net.as_slice())) {
+        Ok(net) => Ok(net),
+        Err(failure) => Err(refused_text(alloc, options, failure, net.as_slice(), None, None)),
+    }
+}
+
+// The items of a text for the network's inputs.
+fn inputs_of(
+    alloc: Global,
+    options: &Options,
+    net_text: &Vec<u8>,
+    inputs: &Vec<u8>,
+    net: &Net,
+) -> Result<Inputs, Stop>
+    ensures inputs { IfOk result (AreInputsOf inputs.now.items net.now) }
+    ensures fitting { IfOk result (Fits (network_of net.now.program)) }
+{
+    match read_inputs(alloc, Some(inputs.as_slice()), net) {
+        Ok(inputs) => Ok(inputs),
+        Err(failure) => {
+            let read = Some(inputs.as_slice());
+            Err(refused_text(alloc, options, failure, net_text.as_slice(), read, None))
+        }
+    }
+}
+
+// The lines of a script.
+fn lines_of(
+    alloc: Global,
+    options: &Options,
+    net_text: &Vec<u8>,
+    inputs: &Vec<u8>,
+    script: &Vec<u8>,
+    nodes: usize,
+) -> Result<Vec<ScriptLine>, Stop>
+    requires { nodes ≤ MAX_NODES }
+    ensures { IfOk result (λ lines. IsScript nodes script.now.items lines.items) }
+{
+    match read_script(alloc, Some(script.as_slice()), nodes as u8) {
+        Ok(Script { lines }) => Ok(lines),
+        Err(failure) => {
+            let (inputs, script) = (Some(inputs.as_slice()), Some(script.as_slice()));
+            Err(refused_text(alloc, options, failure, net_text.as_slice(), inputs, script))
+        }
+    }
+}
+
+// The script, if one is asked for, and its lines.
+fn read_lines<H: Host>(
+    host: &mut H,
+    alloc: Global,
+    options: &Options,
+    names: &Names,
+    net: &Vec<u8>,
+    inputs: &Vec<u8>,
+    nodes: usize,
+) -> Result<(Option<Vec<u8>>, Vec<ScriptLine>), Stop>
+    requires { nodes ≤ MAX_NODES }
+    ensures goes { GoesOn IsAccepted (wanted_of names.now) (H.asked host.old) (H.asked host.new) }
+    ensures read { IfOk result (λ script. WasReadIf (wanted_of names.now).script
+        (option_map (λ bytes. bytes.items) script.0) (H.asked host.new)) }
+    ensures lines { IfOk result (λ script. AreLinesOf names.now.script nodes
+        (option_map (λ bytes. bytes.items) script.0) script.1.items) }
+{
+    match &names.script {
+        Some(path) => {
+            let script = read_bytes(host, alloc, names, Source::Script, path)?;
+            let lines = lines_of(alloc, options, net, inputs, &script, nodes)?;
+            Ok((Some(script), lines))
+        }
+        None => Ok((None, Vec::new(alloc))),
+    }
+}
+
+/// The texts of a run, and what they are.
+#[derive(Drop)]
+struct Checked {
+    texts: Texts,
+    net: Net,
+    inputs: Inputs,
+    lines: Vec<ScriptLine>,
+}
+
+// The texts that are asked for: each is read and checked before the next one is opened.
+fn read_all<H: Host>(
+    host: &mut H,
+    alloc: Global,
+    options: &Options,
+    names: &Names,
+) -> Result<Checked, Stop>
+    ensures goes { GoesOn IsAccepted (wanted_of names.now) (H.asked host.old) (H.asked host.new) }
+    ensures read { IfOk result (λ all. WereRead (wanted_of names.now) (given_of all.texts) (H.asked host.new)) }
+    ensures net { IfOk result (λ all. IsNetOf all.texts.net.items all.net) }
+    ensures inputs { IfOk result (λ all. AreInputsOf all.texts.inputs.items all.net all.inputs) }
+    ensures fitting { IfOk result (λ all. Fits (network_of all.net.program) all.inputs) }
+    ensures lines { IfOk result (λ all. AreLinesOf names.now.script (node_count (network_of all.net.program))
+        (given_of all.texts).script all.lines.items) }
+{
+    let net_text = read_bytes(host, alloc, names, Source::Net, &names.net)?;
+    let net = net_of(alloc, options, &net_text)?;
+    let inputs_text = read_bytes(host, alloc, names, Source::Inputs, &names.inputs)?;
+    let inputs = inputs_of(alloc, options, &net_text, &inputs_text, &net)?;
+    let (script, lines) =
+        read_lines(host, alloc, options, names, &net_text, &inputs_text, node_count(&net))?;
+    let texts = Texts {
+        net: net_text,
+        inputs: inputs_text,
+        script,
+    };
+    Ok(Checked {
+        texts,
+        net,
+        inputs,
+        lines,
+    })
+}
+
+// The name of the file of an output. Neither the texts' files nor the lock's have such a name.
+fn file_name(alloc: Global, output: &str) -> Result<String, AllocError>
+    ensures { IfOk result (λ name. string_bytes name ≡ output.now ++ codes ".items") }
+{
+    let mut name = String::from_str(alloc, output)?;
+    name.push_str(".items")?;
+    Ok(name)
+}
+
+// The names of the files of a network's outputs, in order of the channels.
+fn file_names(alloc: Global, net: &Net) -> Result<Vec<String>, AllocError>
+    ensures { IfOk result (λ names. map string_bytes names.items
+        ≡ file_names net.now.program.channels.items net.now.channel_names.items) }
+{
+    let mut names = Vec::new(alloc);
+    for (number, channel) in net.program.channels.iter().enumerate() {
+        if let Port::Outside = channel.consumer {
+            names.push(file_name(alloc, net.channel_names[number].as_str())?)?;
+        }
+    }
+    Ok(names)
+}
+
+/// What comes of a run or of an approximation.
+#[derive(Drop)]
+struct Report {
+    bytes: Vec<u8>,
+    complete: bool,
+    // what there is to say of the run's end
+    ending: String,
+}
+
+// The file into which what happens is to be written, if that is asked for.
+fn open_if_asked<H: Host>(
+    host: &mut H,
+    alloc: Global,
+    names: &Names,
+) -> Result<Option<HistoryFile<H::File>>, Stop>
+    requires { IsReady IsAccepted (wanted_of names.now) (H.asked host.old) }
+    ensures goes { GoesOn IsAccepted (wanted_of names.now) (H.asked host.old) (H.asked host.new) }
+    ensures open { IfOk result (λ history. IsOpenIfAsked H.path_of (wanted_of names.now).history history (H.asked host.new)) }
+{
+    match &names.history {
+        Some(path) => Ok(Some(open_history::<H, Accepted>(host, alloc, names, path)?)),
+        None => Ok(None),
+    }
+}
+
+// Writes what happened, where that is asked for.
+fn finish_if_asked<H: Host>(
+    host: &mut H,
+    alloc: Global,
+    names: &Names,
+    history: Option<HistoryFile<H::File>>,
+    happened: &Vec<u8>,
+) -> Result<(), Stop>
+    requires ready { IsReady IsAccepted (wanted_of names.now) (H.asked host.old) }
+    requires open { IsOpenIfAsked H.path_of (wanted_of names.now).history history (H.asked host.old) }
+    ensures goes { GoesOn IsAccepted (wanted_of names.now) (H.asked host.old) (H.asked host.new) }
+    ensures written { OnOk result (IsWrittenIfAsked (wanted_of names.now).history (H.asked host.new) happened.now.items) }
+{
+    match (&names.history, history) {
+        (Some(path), Some(history)) => {
+            finish_history::<H, Accepted>(host, alloc, names, path, history, happened)?;
+            Ok(())
+        }
+        _ => Ok(()),
+    }
+}
+
+// Takes away what was made for what happens, where nothing is written.
+fn drop_if_asked<H: Host>(host: &mut H, names: &Names, history: Option<HistoryFile<H::File>>)
+    requires { IsOpenIfAsked H.path_of (wanted_of names.now).history history (H.asked host.old) }
+    ensures { GoesOn IsAccepted (wanted_of names.now) (H.asked host.old) (H.asked host.new) }
+{
+    if let Some(history) = history {
+        drop_history::<H, Accepted>(host, names, &history.made);
+    }
+}
+
+// A run by outlets of this keeper, and what happened in it, written where that is asked for.
+fn run_over<
+    H: Host,
+    O: Outlet + Send,
+    K: Keeper<O>,
+    P: RunWatch + TurnWatch + Sync,
+    R: Threads + Wait + Sync,
+>(
+    rt: &R,
+    alloc: Global,
+    host: &mut H,
+    options: &Options,
+    names: &Names,
+    asked: RunTexts<'_>,
+    keeper: &mut K,
+    watch: &mut P,
+) -> Result<Report, Stop>
+    requires ready { IsReady IsAccepted (wanted_of names.now) (H.asked host.old) }
+    requires fitting { Fits (network_of asked.net.program) asked.inputs }
+    ensures goes { GoesOn IsAccepted (wanted_of names.now) (H.asked host.old) (H.asked host.new) }
+    ensures report { IfOk result (λ report. IsReport (K.has_kept keeper.new)
+        (IsWrittenIfAsked (wanted_of names.now).history (H.asked host.new)) options.now asked.net asked.inputs
+        (map scripted_of asked.lines.items) report.bytes.items report.complete) }
+{
+    let RunTexts {
+        net,
+        inputs,
+        lines,
+        script,
+    } = asked;
+    let events = events_of(alloc, &lines)?;
+    let history = open_if_asked(host, alloc, names)?;
+    let mut happened = Vec::new(alloc);
+    match report_of_run(
+        rt,
+        alloc,
+        options,
+        net,
+        inputs,
+        events,
+        script,
+        keeper,
+        &mut happened,
+        watch,
+    ) {
+        Ok((bytes, complete, ending)) => {
+            finish_if_asked(host, alloc, names, history, &happened)?;
+            Ok(Report {
+                bytes,
+                complete,
+                ending,
+            })
+        }
+        Err(failure) => {
+            drop_if_asked(host, names, history);
+            Err(Stop::from(failure))
+        }
+    }
+}
+
+// A run over the files of a folder that is this run's, and what they were asked.
+fn run_locked<H: Host, P: RunWatch + TurnWatch + Sync, R: Threads + Wait + Sync>(
+    rt: &R,
+    alloc: Global,
+    host: &mut H,
+    options: &Options,
+    names: &Names,
+    folder: &String,
+    files: Vec<HeldFile<H::Lines>>,
+    opened: &[OpenedName],
+    asked: RunTexts<'_>,
+    watch: &mut P,
+) -> Result<Report, Stop>
+    requires ready { IsReady IsAccepted (wanted_of names.now) (H.asked host.old) }
+    requires fitting { Fits (network_of asked.net.program) asked.inputs }
+    requires opened { AreOpened (string_bytes folder.now) opened.now (H.asked host.old) }
+    ensures goes { GoesOn IsAccepted (wanted_of names.now) (H.asked host.old) (H.asked host.new) }
+    ensures report { IfOk result (λ report. IsReport (AreKeptIn (string_bytes folder.now) (map (λ one. string_bytes one.name) opened.now) (H.asked host.new))
+        (IsWrittenIfAsked (wanted_of names.now).history (H.asked host.new)) options.now asked.net asked.inputs
+        (map scripted_of asked.lines.items) report.bytes.items report.complete) }
+{
+    let mut keeper = FileKeeper::new(alloc, files);
+    let report = run_over::<H, ResumedOutlet<H::Lines>, _, _, _>(
+        rt,
+        alloc,
+        host,
+        options,
+        names,
+        asked,
+        &mut keeper,
+        watch,
+    )?;
+    give_back::<H, Accepted>(host, alloc, names, folder, opened, keeper.into_closed())?;
+    Ok(report)
+}
+
+// A run of which what left is kept in a folder.
+fn run_kept<H: Host, P: RunWatch + TurnWatch + Sync, R: Threads + Wait + Sync>(
+    rt: &R,
+    alloc: Global,
+    host: &mut H,
+    options: &Options,
+    names: &Names,
+    folder: &String,
+    texts: &Texts,
+    asked: RunTexts<'_>,
+    watch: &mut P,
+) -> Result<Report, Stop>
+    requires free { IsFree (H.asked host.old) }
+    requires ready { IsReady IsAccepted (wanted_of names.now) (H.asked host.old) }
+    requires wanted { (wanted_of names.now).state ≡ Some (string_bytes folder.now) }
+    requires read { WereRead (wanted_of names.now) (given_of texts.now) (H.asked host.old) }
+    requires fitting { Fits (network_of asked.net.program) asked.inputs }
+    ensures keeps { Keeps IsAccepted (wanted_of names.now) (H.asked host.old) (H.asked host.new) }
+    ensures report { IfOk result (λ report. IsReport (AreKeptIn (string_bytes folder.now)
+        (file_names asked.net.program.channels.items asked.net.channel_names.items) (H.asked host.new))
+        (IsWrittenIfAsked (wanted_of names.now).history (H.asked host.new)) options.now asked.net asked.inputs
+        (map scripted_of asked.lines.items) report.bytes.items report.complete) }
+{
+    let outputs = file_names(alloc, &asked.net)?;
+    let folder_texts = FolderTexts {
+        net: &texts.net,
+        inputs: &texts.inputs,
+    };
+    let open = open_folder::<H, Accepted>(host, alloc, names, folder, folder_texts, outputs)?;
+    let OpenFolder {
+        lock,
+        files,
+        opened,
+    } = open;
+    match run_locked(
+        rt,
+        alloc,
+        host,
+        options,
+        names,
+        folder,
+        files,
+        opened.as_slice(),
+        asked,
+        watch,
+    ) {
+        Ok(report) => {
+            let_go::<H, Accepted>(host, names, folder, lock);
+            Ok(report)
+        }
+        Err(stop) => {
+            let_go::<H, Accepted>(host, names, folder, lock);
+            Err(stop)
+        }
+    }
+}
+
+// The text of the script, if there is one.
+fn script_text(texts: &Texts) -> Option<&[u8]> {
+    match &texts.script {
+        Some(script) => Some(script.as_slice()),
+        None => None,
+    }
+}
+
+// The run that is asked for.
+fn run_asked<H: Host, P: RunWatch + TurnWatch + Sync, R: Threads + Wait + Sync>(
+    rt: &R,
+    alloc: Global,
+    host: &mut H,
+    options: &Options,
+    names: &Names,
+    all: Checked,
+    watch: &mut P,
+) -> Result<Report, Stop> {
+    let Checked {
+        texts,
+        net,
+        inputs,
+        lines,
+    } = all;
+    tell_apart::<H, Accepted>(host, alloc, names)?;
+    let asked = RunTexts {
+        net,
+        inputs,
+        lines,
+        script: script_text(&texts),
+    };
+    match &names.state {
+        Some(folder) => run_kept(rt, alloc, host, options, names, folder, &texts, asked, watch),
+        None => run_over::<H, ListOutlet, _, _, _>(
+            rt,
+            alloc,
+            host,
+            options,
+            names,
+            asked,
+            &mut InMemory,
+            watch,
+        ),
+    }
+}
+
+// An approximation, if one is asked for, and else a run.
+fn report_asked<H: Host, P: RunWatch + TurnWatch + Sync, R: Threads + Wait + Sync>(
+    rt: &R,
+    alloc: Global,
+    host: &mut H,
+    options: &Options,
+    names: &Names,
+    watch: &mut P,
+) -> Result<Report, Stop> {
+    let all = read_all(host, alloc, options, names)?;
+    let Some(n) = options.approx else {
+        return run_asked(rt, alloc, host, options, names, all, watch);
+    };
+    let (bytes, complete) = report_of_approximation(alloc, &all.net, &all.inputs, n)?;
+    Ok(Report {
+        bytes,
+        complete,
+        ending: String::new(alloc),
+    })
+}
+
+// Says the report, and gives the exit status: 1 where it can't be written.
+fn say_report<H: Host>(
+    host: &mut H,
+    alloc: Global,
+    options: &Options,
+    names: &Names,
+    report: Report,
+) -> u8 {
+    let Report {
+        bytes,
+        complete,
+        ending,
+    } = report;
+    if say::<H, Accepted>(host, names, &bytes).is_err() {
+        if options.explain {
+            tell_words(host, names, words_of(host, alloc, "standard output"));
+        }
+        return 1;
+    }
+    if !ending.is_empty() {
+        tell_words(host, names, Some(ending));
+    }
+    if complete { 0 } else { 3 }
+}
+
+// Writes these words to standard error, if there are some. That they can't be written is no failure of the run.
+fn tell_words<H: Host>(host: &mut H, names: &Names, words: Option<String>) {
+    if let Some(words) = words {
+        let _ = tell::<H, Accepted>(host, names, &words.into_bytes());
+    }
+}
+
+// Tells why there is no report, and gives the exit status: 1 where the line can't be written.
+fn tell_stop<H: Host>(
+    host: &mut H,
+    alloc: Global,
+    options: &Options,
+    names: &Names,
+    stop: Stop,
+) -> u8 {
+    let Stop { failure, words } = stop;
+    let Ok(line) = format!(in alloc; "{failure}\n") else {
+        return 1;
+    };
+    if tell::<H, Accepted>(host, names, &line.into_bytes()).is_err() {
+        return 1;
+    }
+    if options.explain {
+        tell_words(host, names, words);
+    }
+    failure.status()
+}
+
+// Tells that there is no memory, not even for the names.
+fn tell_no_memory<H: Host>(host: &mut H, alloc: Global, options: &Options) -> u8 {
+    let _ = options;
+    let Ok(line) = format!(in alloc; "no memory\n") else {
+        return 1;
+    };
+    let _ = host.tell(&line.into_bytes());
+    1
+}
+
+// The program by these names.
+fn main_by_names<H: Host, P: RunWatch + TurnWatch + Sync, R: Threads + Wait + Sync>(
+    rt: &R,
+    alloc: Global,
+    host: &mut H,
+    options: &Options,
+    names: &Names,
+    watch: &mut P,
+) -> u8 {
+    match report_asked(rt, alloc, host, options, names, watch) {
+        Ok(report) => say_report(host, alloc, options, names, report),
+        Err(stop) => tell_stop(host, alloc, options, names, stop),
+    }
+}
+
+/// The whole program over its host, as the options say, and its exit status: 0 where the report tells `complete`, 3 where it tells `partial`,
+/// 2 where a text is refused, 1 for any other failure. `watch` looks at the run meanwhile.
+pub fn main_of<H: Host, P: RunWatch + TurnWatch + Sync, R: Threads + Wait + Sync>(
+    rt: &R,
+    alloc: Global,
+    host: &mut H,
+    options: &Options,
+    watch: &mut P,
+) -> u8 {
+    match names_of(options) {
+        Ok(names) => main_by_names(rt, alloc, host, options, &names, watch),
+        Err(_) => tell_no_memory(host, alloc, options),
+    }
+}
