@@ -1,14 +1,18 @@
 //! The whole program over its host.
 
-ghost use Rattle.std.specs.Prelude.{◌≡◌, ◌⊎◌, ◌≤◌, Bool, IfOk, IfErr, IfSome, OnOk, OnErr, Ok, Some, is_some, map, option_and_then, string_bytes};
+ghost use Rattle.std.specs.Prelude.{◌≡◌, ◌++◌, ◌≤◌, Bool, IfOk, OnOk, Ok, Some, codes, map, string_bytes};
 ghost use Rattle.std.specs.Option.{option_map};
-ghost use Rattle.host.specs.Requests.{Each, Has, IsFree, Later, Read, Said};
+ghost use Rattle.host.specs.Requests.{Each, Has, IsFree, Read, Said};
 ghost use Rattle.protocol.specs.Node.Common.{Fits, MAX_NODES, network_of, node_count};
+ghost use Rattle.cobaltmidge.specs.Scripts.{scripted_of};
 ghost use Rattle.cobaltmidge.specs.Texts.{AreInputsOf, IsNetOf};
-ghost use Rattle.kahn_program.specs.Program.{IsAccepted, IsDone, asked_files, file_names};
+ghost use Rattle.fail_script.specs.Lines.{IsScript};
+ghost use Rattle.kahn_program.specs.Program.{AreKept, AreKeptIn, HasReport, IsAccepted, IsDone, IsOpenIfAsked, IsWrittenIfAsked, Keeps, asked_files, file_names, given_of};
+ghost use Rattle.kahn_program.specs.Runs.{IsReport, IsReportOf};
 ghost use Rattle.kahn_program.specs.Scripts.{AreLinesOf};
 ghost use Rattle.kahn_program.specs.Statuses.{status_of_run};
-ghost use Rattle.run_files.specs.Rules.{GoesOn, WereRead, rule};
+ghost use Rattle.run_files.specs.Opening.{AreOpened};
+ghost use Rattle.run_files.specs.Rules.{GoesOn, IsReady, WasReadIf, WereRead, rule};
 ghost use Rattle.run_files.specs.Wanted.{wanted_of};
 
 use crate::approximating::report_of_approximation;
@@ -499,7 +503,7 @@ fn run_kept<H: Host, P: RunWatch + TurnWatch + Sync, R: Threads + Wait + Sync>(
     requires wanted { (wanted_of names.now).state ≡ Some (string_bytes folder.now) }
     requires read { WereRead (wanted_of names.now) (given_of texts.now) (H.asked host.old) }
     requires fitting { Fits (network_of asked.net.program) asked.inputs }
-    ensures keeps { Keeps IsAccepted (wanted_of names.now) (H.asked host.old) (H.asked host.new) }
+    ensures keeps { Keeps (wanted_of names.now) (H.asked host.old) (H.asked host.new) }
     ensures report { IfOk result (λ report. IsReport (AreKeptIn (string_bytes folder.now)
         (file_names asked.net.program.channels.items asked.net.channel_names.items) (H.asked host.new))
         (IsWrittenIfAsked (wanted_of names.now).history (H.asked host.new)) options.now asked.net asked.inputs
@@ -556,7 +560,17 @@ fn run_asked<H: Host, P: RunWatch + TurnWatch + Sync, R: Threads + Wait + Sync>(
     names: &Names,
     all: Checked,
     watch: &mut P,
-) -> Result<Report, Stop> {
+) -> Result<Report, Stop>
+    requires free { IsFree (H.asked host.old) }
+    requires read { WereRead (wanted_of names.now) (given_of all.texts) (H.asked host.old) }
+    requires accepted { IsAccepted (given_of all.texts) }
+    requires fitting { Fits (network_of all.net.program) all.inputs }
+    ensures keeps { Keeps (wanted_of names.now) (H.asked host.old) (H.asked host.new) }
+    ensures report { IfOk result (λ report. IsReport (AreKept (wanted_of names.now).state
+        (file_names all.net.program.channels.items all.net.channel_names.items) (H.asked host.new))
+        (IsWrittenIfAsked (wanted_of names.now).history (H.asked host.new)) options.now all.net all.inputs
+        (map scripted_of all.lines.items) report.bytes.items report.complete) }
+{
     let Checked {
         texts,
         net,
@@ -593,7 +607,12 @@ fn report_asked<H: Host, P: RunWatch + TurnWatch + Sync, R: Threads + Wait + Syn
     options: &Options,
     names: &Names,
     watch: &mut P,
-) -> Result<Report, Stop> {
+) -> Result<Report, Stop>
+    requires free { IsFree (H.asked host.old) }
+    requires wanted { wanted_of names.now ≡ asked_files options.now }
+    ensures keeps { Keeps (wanted_of names.now) (H.asked host.old) (H.asked host.new) }
+    ensures report { IfOk result (λ report. HasReport options.now report.bytes.items report.complete (H.asked host.new)) }
+{
     let all = read_all(host, alloc, options, names)?;
     let Some(n) = options.approx else {
         return run_asked(rt, alloc, host, options, names, all, watch);
@@ -613,7 +632,11 @@ fn say_report<H: Host>(
     options: &Options,
     names: &Names,
     report: Report,
-) -> u8 {
+) -> u8
+    ensures goes { GoesOn IsAccepted (wanted_of names.now) (H.asked host.old) (H.asked host.new) }
+    ensures said { (complete : Bool) → result ≡ status_of_run complete
+        → (complete ≡ report.complete) × Has (Said report.bytes.items (Ok tt)) (H.asked host.new) }
+{
     let Report {
         bytes,
         complete,
@@ -632,7 +655,9 @@ fn say_report<H: Host>(
 }
 
 // Writes these words to standard error, if there are some. That they can't be written is no failure of the run.
-fn tell_words<H: Host>(host: &mut H, names: &Names, words: Option<String>) {
+fn tell_words<H: Host>(host: &mut H, names: &Names, words: Option<String>)
+    ensures { GoesOn IsAccepted (wanted_of names.now) (H.asked host.old) (H.asked host.new) }
+{
     if let Some(words) = words {
         let _ = tell::<H, Accepted>(host, names, &words.into_bytes());
     }
@@ -645,7 +670,10 @@ fn tell_stop<H: Host>(
     options: &Options,
     names: &Names,
     stop: Stop,
-) -> u8 {
+) -> u8
+    ensures goes { GoesOn IsAccepted (wanted_of names.now) (H.asked host.old) (H.asked host.new) }
+    ensures status { (complete : Bool) → result ≡ status_of_run complete → ⊥ }
+{
     let Stop { failure, words } = stop;
     let Ok(line) = format!(in alloc; "{failure}\n") else {
         return 1;
@@ -660,7 +688,10 @@ fn tell_stop<H: Host>(
 }
 
 // Tells that there is no memory, not even for the names.
-fn tell_no_memory<H: Host>(host: &mut H, alloc: Global, options: &Options) -> u8 {
+fn tell_no_memory<H: Host>(host: &mut H, alloc: Global, options: &Options) -> u8
+    ensures keeps { Keeps (asked_files options.now) (H.asked host.old) (H.asked host.new) }
+    ensures status { result ≡ 1 }
+{
     let _ = options;
     let Ok(line) = format!(in alloc; "no memory\n") else {
         return 1;
@@ -677,7 +708,12 @@ fn main_by_names<H: Host, P: RunWatch + TurnWatch + Sync, R: Threads + Wait + Sy
     options: &Options,
     names: &Names,
     watch: &mut P,
-) -> u8 {
+) -> u8
+    requires free { IsFree (H.asked host.old) }
+    requires wanted { wanted_of names.now ≡ asked_files options.now }
+    ensures keeps { Keeps (wanted_of names.now) (H.asked host.old) (H.asked host.new) }
+    ensures done { (complete : Bool) → result ≡ status_of_run complete → IsDone options.now complete (H.asked host.new) }
+{
     match report_asked(rt, alloc, host, options, names, watch) {
         Ok(report) => say_report(host, alloc, options, names, report),
         Err(stop) => tell_stop(host, alloc, options, names, stop),
@@ -692,7 +728,17 @@ pub fn main_of<H: Host, P: RunWatch + TurnWatch + Sync, R: Threads + Wait + Sync
     host: &mut H,
     options: &Options,
     watch: &mut P,
-) -> u8 {
+) -> u8
+    requires { IsFree (H.asked host.old) }
+    ensures status { result ≤ 3 }
+    // Each request keeps the rules, whatever the host answers.
+    ensures rules { Each (rule IsAccepted (asked_files options.now)) (H.asked host.old)
+        → Each (rule IsAccepted (asked_files options.now)) (H.asked host.new) }
+    // No lock is held at the end.
+    ensures free { IsFree (H.asked host.new) }
+    // Where the status is 0 or 3 all that is asked for is done, and was answered so.
+    ensures done { (complete : Bool) → result ≡ status_of_run complete → IsDone options.now complete (H.asked host.new) }
+{
     match names_of(options) {
         Ok(names) => main_by_names(rt, alloc, host, options, &names, watch),
         Err(_) => tell_no_memory(host, alloc, options),

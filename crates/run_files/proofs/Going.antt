@@ -1,7 +1,21 @@
 -- How a log goes on.
-use Rattle.std.proofs.Common.{◌≡◌, ◌⊎◌, inl, inr, ℕ, List, [], ◌∷◌, Option, Some, None, Ok, refl, sym, subst}
+use Rattle.std.proofs.Common.{Vec, ◌≡◌, ◌⊎◌, inl, inr, ℕ, zero, suc, ◌+◌, ◌<◌, get_or, add-one, length-append, List, [], ◌∷◌, ◌++◌, length, slice_get, Option, Some, None, Ok, Err, refl, sym, subst, arith}
+use Rattle.std.proofs.lemmas.Option.{slice_get_read}
+use Rattle.std.specs.Option.{option_map}
+use Rattle.std.specs.Prelude.{IfSome, string_bytes}
+use Rattle.std.specs.declared.alloc.Global.{Global}
+use Rattle.std.specs.declared.string.String.{String}
+use Rattle.host.specs.Requests.{Locked, MadeFile, Opened, OpenedDevice, Placed, Read, Renamed, Unlocked, Used, Wrote}
 use Rattle.host.specs.Requests.{Request, Has, HasUnder, Later, Each, IsHeld, IsFree, lock_change, Leaves, held_by, free_by, under_by, LockChange}
 use Rattle.run_files.specs.Rules.{rule, GoesOn, Given, HasSameTexts, IfAsked, IsApart, IsElsewhere, IsOutside, IsReady, WasReadIf, WereRead}
+use Rattle.host.specs.declared.fault.HostFault.{HostFault}
+use Rattle.host.specs.declared.line_file.LineFile.{Ghosts as FileWords}
+use Rattle.output_file.specs.Output.{asked_of}
+use Rattle.output_file.specs.declared.resumed.ResumedOutlet.{ResumedOutlet}
+use Rattle.run_files.specs.Opening.{AreMade, AreOpened, AreUsed}
+use Rattle.run_files.specs.declared.folder.OpenedName.{OpenedName}
+use Rattle.run_files.specs.History.{IsOpenFor}
+use Rattle.run_files.specs.Keeping.{IsWrittenTo}
 use Rattle.run_files.specs.Wanted.{Wanted}
 
 module _ (accepts : Given → Type 0) (o : Wanted) where
@@ -100,3 +114,154 @@ module _ (accepts : Given → Type 0) (o : Wanted) where
 -- it is the newest
 pub has_now : (r : Request) (old new : List Request) → new ≡ r ∷ old → Has r new
 has_now r old new is = let P : List Request → Type 0 = λ e. Has r e in subst P (sym is) (inl refl)
+
+some_is : {A : Type 0} (x y : A) → Some x ≡ Some y → x ≡ y
+some_is x y same = cc
+
+module _ (accepts : Given → Type 0) (o : Wanted) where
+  -- what was made for what happens, if anything was
+  pub open_made : (path : List ℕ) (made : Option (String Global)) (at : List ℕ) (old new : List Request)
+      → IsOpenFor path (option_map string_bytes made) at old → GoesOn accepts o old new
+      → IfSome made (λ name. Has (MadeFile (string_bytes name) (Ok tt)) new)
+  open_made path None at old new it goes = tt
+  open_made path (Some name) at old new it goes = goes.later _ it.1
+
+  -- these bytes were written to it, and it got its name
+  pub written_by : (path : List ℕ) (made : Option (String Global)) (at bytes : List ℕ) (old written new : List Request)
+      → IsOpenFor path (option_map string_bytes made) at old → GoesOn accepts o old written
+      → Has (Wrote at bytes (Ok tt)) written → GoesOn accepts o written new
+      → IfSome made (λ name. Has (Renamed (string_bytes name) path (Ok tt)) new)
+      → IsWrittenTo path bytes new
+  written_by path None at bytes old written new it first wrote after renamed =
+      let P : List ℕ → Type 0 = λ name. Has (Wrote name bytes (Ok tt)) new in
+      inr (after.later _ (first.later _ it.1), subst P it.0 (after.later _ wrote))
+  written_by path (Some name) at bytes old written new it first wrote after renamed =
+      let P : List ℕ → Type 0 = λ other. Has (Wrote other bytes (Ok tt)) new in
+      inl (string_bytes name, after.later _ (first.later _ it.1), subst P it.0 (after.later _ wrote), renamed)
+
+module _ (accepts : Given → Type 0) (o : Wanted) where
+  pub made_goes : (made : ℕ) (paths : List (String Global)) (old new : List Request) → GoesOn accepts o old new → AreMade made paths old
+      → AreMade made paths new
+  made_goes zero paths old new goes are = tt
+  made_goes (suc made) [] old new goes are = are
+  made_goes (suc made) (path ∷ paths) old new goes are = (goes.later _ are.0, made_goes made paths old new goes are.1)
+
+  pub made_more : (made : ℕ) (paths : List (String Global)) (path : String Global) (old new : List Request) → GoesOn accepts o old new
+      → AreMade made paths old → slice_get paths made ≡ Some path → Has (MadeFile (string_bytes path) (Ok tt)) new
+      → AreMade (suc made) paths new
+  made_more zero [] path old new goes are there has = absurd (cc)
+  made_more zero (other ∷ paths) path old new goes are there has =
+      let P : String Global → Type 0 = λ p. Has (MadeFile (string_bytes p) (Ok tt)) new in
+      (subst P (sym (some_is other path there)) has, tt)
+  made_more (suc made) [] path old new goes are there has = are
+  made_more (suc made) (other ∷ paths) path old new goes are there has =
+      (goes.later _ are.0, made_more made paths path old new goes are.1 there has)
+
+  pub made_next : (made index : ℕ) (paths : List (String Global)) (path : String Global) (old new : List Request) → GoesOn accepts o old new
+      → AreMade made paths old → made ≡ index → path ≡ get_or paths index path → index < length paths
+      → Has (MadeFile (string_bytes path) (Ok tt)) new → AreMade (made + 1) paths new
+  made_next made index paths path old new goes are same there within has =
+      let P : ℕ → Type 0 = λ n. AreMade n paths new in
+      let Q : ℕ → Type 0 = λ n. slice_get paths n ≡ Some path in
+      subst P (sym (add-one made))
+      (made_more made paths path old new goes are (subst Q (sym same) (slice_get_read paths (length paths) index path refl within there)) has)
+
+  pub opened_goes : (folder : List ℕ) (opened : List OpenedName) (old new : List Request) → GoesOn accepts o old new
+      → AreOpened folder opened old → AreOpened folder opened new
+  opened_goes folder [] old new goes are = tt
+  opened_goes folder (one ∷ opened) old new goes are = (goes.later _ are.0, opened_goes folder opened old new goes are.1)
+
+  pub opened_more : (folder : List ℕ) (opened : List OpenedName) (one : OpenedName) (old new : List Request) → GoesOn accepts o old new
+      → AreOpened folder opened old → Has (Opened folder (string_bytes one.name) (Ok one.bytes.value.items)) new
+      → AreOpened folder (opened ++ one ∷ []) new
+  opened_more folder [] one old new goes are has = (has, tt)
+  opened_more folder (other ∷ opened) one old new goes are has =
+      (goes.later _ are.0, opened_more folder opened one old new goes are.1 has)
+
+  module _ {F : Type 0} {file : FileWords F} where
+    pub used_more : (opened : List OpenedName) (outlets : List (ResumedOutlet F file)) (one : OpenedName) (outlet : ResumedOutlet F file)
+        (old new : List Request) → GoesOn accepts o old new → AreUsed opened outlets old → slice_get opened (length outlets) ≡ Some one
+        → Has (Used (string_bytes one.name) (asked_of outlet)) new → AreUsed opened (outlets ++ outlet ∷ []) new
+    used_more [] [] one outlet old new goes are there has = absurd (cc)
+    used_more (other ∷ opened) [] one outlet old new goes are there has =
+        let P : OpenedName → Type 0 = λ it. Has (Used (string_bytes it.name) (asked_of outlet)) new in
+        (subst P (sym (some_is other one there)) has, tt)
+    used_more [] (other ∷ outlets) one outlet old new goes are there has = are
+    used_more (another ∷ opened) (other ∷ outlets) one outlet old new goes are there has =
+        (goes.later _ are.0, used_more opened outlets one outlet old new goes are.1 there has)
+
+  -- a name that is written is apart from all that is read
+  pub apart_all : (name place : List ℕ) (a b c d e : List Request) → Has (Placed name (Ok place)) a → GoesOn accepts o a b
+      → IsElsewhere place o.net b → GoesOn accepts o b c → IsElsewhere place o.inputs c → GoesOn accepts o c d
+      → IfAsked o.script (IsElsewhere place) d → GoesOn accepts o d e → IfAsked o.state (IsOutside place) e
+      → IsApart o name e
+  apart_all name place a b c d e placed ab net bc inputs cd script de state = record {
+    place = place;
+    placed = de.later _ (cd.later _ (bc.later _ (ab.later _ placed)));
+    net = elsewhere_later accepts o place b e (λ r h. de.later r (cd.later r (bc.later r h))) o.net net;
+    inputs = elsewhere_later accepts o place c e (λ r h. de.later r (cd.later r h)) o.inputs inputs;
+    script = asked_later accepts o o.script (IsElsewhere place) d e (elsewhere_later accepts o place d e de.later) script;
+    state = state;
+  }
+
+pub made_at : (made : ℕ) (paths : List (String Global)) (e : List Request) (k : ℕ) (path : String Global) → AreMade made paths e → k < made
+    → slice_get paths k ≡ Some path → Has (MadeFile (string_bytes path) (Ok tt)) e
+made_at zero paths e k path are below there = absurd (omega (arith, below))
+made_at (suc made) [] e k path are below there = absurd are
+made_at (suc made) (other ∷ paths) e zero path are below there =
+    let P : String Global → Type 0 = λ p. Has (MadeFile (string_bytes p) (Ok tt)) e in subst P (some_is other path there) are.0
+made_at (suc made) (other ∷ paths) e (suc k) path are below there = made_at made paths e k path are.1 (omega (arith, below)) there
+
+pub opened_at : (folder : List ℕ) (opened : List OpenedName) (e : List Request) (k : ℕ) (one : OpenedName) → AreOpened folder opened e
+    → slice_get opened k ≡ Some one → Has (Opened folder (string_bytes one.name) (Ok one.bytes.value.items)) e
+opened_at folder [] e k it are there = absurd (cc)
+opened_at folder (other ∷ opened) e zero it are there =
+    let P : OpenedName → Type 0 = λ o. Has (Opened folder (string_bytes o.name) (Ok o.bytes.value.items)) e in
+    subst P (some_is other it there) are.0
+opened_at folder (other ∷ opened) e (suc k) it are there = opened_at folder opened e k it are.1 there
+
+-- the same request in other words
+pub under_as : (folder path other bytes text : List ℕ) (e : List Request) → path ≡ other → bytes ≡ text
+    → HasUnder folder (Read path (Ok bytes)) e → HasUnder folder (Read other (Ok text)) e
+under_as folder path other bytes text e same equal h =
+    let P : List ℕ → Type 0 = λ p. HasUnder folder (Read p (Ok bytes)) e in
+    let Q : List ℕ → Type 0 = λ b. HasUnder folder (Read other (Ok b)) e in
+    subst Q equal (subst P same h)
+
+module _ (accepts : Given → Type 0) (o : Wanted) where
+  -- a request that may change the lock
+  pub rules_by : (r : Request) (old new : List Request) → new ≡ r ∷ old → rule accepts o r old → Each (rule accepts o) old
+      → Each (rule accepts o) new
+  rules_by r old new is kept each = let P : List Request → Type 0 = λ e. Each (rule accepts o) e in subst P (sym is) (kept, each)
+
+pub later_by : (r : Request) (old new : List Request) → new ≡ r ∷ old → Later old new
+later_by r old new is s h = let P : List Request → Type 0 = λ e. Has s e in subst P (sym is) (inr h)
+
+pub held_now : (folder : List ℕ) (old new : List Request) → new ≡ Locked folder (Ok tt) ∷ old → IsHeld folder new
+held_now folder old new is = let P : List Request → Type 0 = λ e. IsHeld folder e in subst P (sym is) refl
+
+pub free_still : (folder : List ℕ) (fault : HostFault) (old new : List Request) → new ≡ Locked folder (Err fault) ∷ old → IsFree old
+    → IsFree new
+free_still folder fault old new is free = let P : List Request → Type 0 = λ e. IsFree e in subst P (sym is) free
+
+pub free_now : (folder : List ℕ) (old new : List Request) → new ≡ Unlocked folder ∷ old → IsFree new
+free_now folder old new is = let P : List Request → Type 0 = λ e. IsFree e in subst P (sym is) tt
+
+pub opened_as : (folder name : List ℕ) (a b : Vec ℕ Global) (e : List Request) → a ≡ b → Has (Opened folder name (Ok b.items)) e
+    → Has (Opened folder name (Ok a.items)) e
+opened_as folder name a b e same h =
+    let P : Vec ℕ Global → Type 0 = λ v. Has (Opened folder name (Ok v.items)) e in subst P (sym same) h
+
+pub one_longer : {A : Type 0} (count : ℕ) (xs : List A) (x : A) → count ≡ length xs → count + 1 ≡ length (xs ++ x ∷ [])
+one_longer count xs x same = omega (arith, same, length-append xs (x ∷ []))
+
+pub no_items : {A : Type 0} (items : List A) → length items ≡ 0 → items ≡ []
+no_items [] none = refl
+no_items (item ∷ items) none = absurd (cc)
+
+module _ (accepts : Given → Type 0) (o : Wanted) where
+  -- the lock that is held is let go of
+  pub rules_unlocked : (folder other : List ℕ) (old new : List Request) → new ≡ Unlocked other ∷ old → other ≡ folder → IsHeld folder old
+      → Each (rule accepts o) old → Each (rule accepts o) new
+  rules_unlocked folder other old new is same held each =
+      let P : List ℕ → Type 0 = λ f. IsHeld f old in rules_by accepts o (Unlocked other) old new is (subst P (sym same) held) each

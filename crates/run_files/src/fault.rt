@@ -29,6 +29,11 @@ pub struct Refused {
 }
 
 impl From<AllocError> for Refused {
+    ghost use Rattle.std.specs.Prelude.{◌≡◌};
+    ghost use Rattle.run_files.specs.declared.fault.FilesFault.TheVariants.{NoMemory};
+
+    ghost from_gives = { λ _ refused. refused.fault ≡ NoMemory };
+
     fn from(_: AllocError) -> Self {
         Refused {
             fault: FilesFault::NoMemory,
@@ -38,6 +43,11 @@ impl From<AllocError> for Refused {
 }
 
 impl<T: Drop> From<AllocFailed<T>> for Refused {
+    ghost use Rattle.std.specs.Prelude.{◌≡◌};
+    ghost use Rattle.run_files.specs.declared.fault.FilesFault.TheVariants.{NoMemory};
+
+    ghost from_gives = { λ _ refused. refused.fault ≡ NoMemory };
+
     fn from(_: AllocFailed<T>) -> Self {
         Refused {
             fault: FilesFault::NoMemory,

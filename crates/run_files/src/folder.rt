@@ -1,6 +1,6 @@
 // The folder in which what left outlasts the run: the texts of the network and of the inputs, a file of lines for each output, and a file
 // whose lock says that a run is at work.
-ghost use Rattle.std.specs.Prelude.{◌≡◌, ◌≢◌, ◌<◌, ◌++◌, ◌⊎◌, [], ℕ, List, IfOk, IfErr, OnOk, OnErr, Ok, Err, Some, length, slice_get, string_bytes};
+ghost use Rattle.std.specs.Prelude.{◌≡◌, ◌≢◌, ◌<◌, ◌++◌, ◌⊎◌, [], ℕ, List, IfOk, IfErr, IfSome, OnOk, OnErr, IsTrue, Ok, Err, Some, false, length, slice_get, string_bytes};
 ghost use Rattle.host.specs.Requests.{Each, Has, HasUnder, IsFree, IsHeld, Later, Locked, MadeFile, MadeFolder, Opened, Read, Used};
 ghost use Rattle.output_file.specs.Output.{asked_of};
 ghost use Rattle.run_files.specs.Opening.{AreMade, AreOpened, AreUsed};
@@ -13,7 +13,7 @@ use crate::asking::{cut, make_file, make_folder, open_lines, read, remove_file, 
 use crate::fault::{FilesFault, Refused};
 use crate::happened::{MAX_NAMES, fresh_name};
 use crate::names::{Judge, Names};
-use crate::words::{refused, refused_by};
+use crate::words::{no_memory, refused, refused_by};
 use host::{Host, HostFault, LineFile};
 use output_file::{HeldItems, LinesFault, ResumedOutlet, read_items};
 use std::alloc::{AllocError, Global};
@@ -67,6 +67,14 @@ fn home_of(alloc: Global, folder: &str) -> Result<String, AllocError> {
     }
 }
 
+// Whether these are the same bytes.
+fn is_same(bytes: &Vec<u8>, text: &Vec<u8>) -> bool
+    ensures same { IsTrue result → bytes.now.items ≡ text.now.items }
+    ensures other { result ≡ false → bytes.now.items ≢ text.now.items }
+{
+    bytes.as_slice() == text.as_slice()
+}
+
 // Refuses unless a file of the folder holds exactly this text.
 fn compare<H: Host, J: Judge>(
     host: &mut H,
@@ -85,9 +93,11 @@ fn compare<H: Host, J: Judge>(
         ((bytes : List ℕ) × Has (Read (string_bytes folder.now ++ tail.now) (Ok bytes)) (H.asked host.new) × (bytes ≢ text.now.items))
         ⊎ Has (Read (string_bytes folder.now ++ tail.now) (Err host_fault.NotThere)) (H.asked host.new)) }
 {
-    let path = in_folder(alloc, folder, tail)?;
+    let Ok(path) = in_folder(alloc, folder, tail) else {
+        return Err(no_memory());
+    };
     match read::<H, J>(host, names, &path) {
-        Ok(bytes) => if bytes.as_slice() == text.as_slice() {
+        Ok(bytes) => if is_same(&bytes, text) {
             Ok(())
         } else {
             Err(refused(FilesFault::OtherState, other_text(alloc, &path, &bytes, text)))
@@ -177,6 +187,16 @@ fn fill<H: Host, J: Judge>(
     (made, None)
 }
 
+// Takes a file away, if it was made.
+fn remove_if<H: Host, J: Judge>(host: &mut H, names: &Names, path: &String, is_made: bool)
+    requires { IsTrue is_made → Has (MadeFile (string_bytes path.now) (Ok tt)) (H.asked host.old) }
+    ensures { GoesOn J.accepts (wanted_of names.now) (H.asked host.old) (H.asked host.new) }
+{
+    if is_made {
+        remove_file::<H, J>(host, names, path);
+    }
+}
+
 // Takes away what was made of a folder that doesn't get its name.
 fn clear<H: Host, J: Judge>(
     host: &mut H,
@@ -190,9 +210,7 @@ fn clear<H: Host, J: Judge>(
     ensures { GoesOn J.accepts (wanted_of names.now) (H.asked host.old) (H.asked host.new) }
 {
     for (nth, path) in paths.iter().enumerate() {
-        if nth < made {
-            remove_file::<H, J>(host, names, path);
-        }
+        remove_if::<H, J>(host, names, path, nth < made);
     }
     remove_folder::<H, J>(host, names, making);
 }
@@ -260,6 +278,32 @@ fn give_name<H: Host, J: Judge>(
     }
 }
 
+// Fills a folder that was made, and gives it its name: how many of its files were made, and whether it got the name.
+fn fill_and_name<H: Host, J: Judge>(
+    host: &mut H,
+    alloc: Global,
+    names: &Names,
+    making: &String,
+    folder: &String,
+    paths: &[String],
+    texts: FolderTexts<'_>,
+) -> (usize, Result<bool, Refused>)
+    requires ready { IsReady J.accepts (wanted_of names.now) (H.asked host.old) }
+    requires made { Has (MadeFolder (string_bytes making.now) (Ok tt)) (H.asked host.old) }
+    requires wanted { (wanted_of names.now).state ≡ Some (string_bytes folder.now) }
+    ensures goes { GoesOn J.accepts (wanted_of names.now) (H.asked host.old) (H.asked host.new) }
+    ensures made { AreMade result.0 paths.now (H.asked host.new) }
+{
+    let (made, failed) = fill::<H, J>(host, alloc, names, paths, texts);
+    match failed {
+        Some(refused) => (made, Err(refused)),
+        None => {
+            let named = give_name::<H, J>(host, alloc, names, making, folder, paths);
+            (made, named)
+        }
+    }
+}
+
 // Makes the folder under another name, and renames it once it is whole. False where something stood there by then: what was made is
 // taken away then, and so it is where it fails.
 fn make<H: Host, J: Judge>(
@@ -282,19 +326,17 @@ fn make<H: Host, J: Judge>(
             return Err(Refused::from(error));
         }
     };
-    let (made, failed) = fill::<H, J>(host, alloc, names, &paths, texts);
-    let named = match failed {
-        Some(refused) => Err(refused),
-        None => give_name::<H, J>(host, alloc, names, &making, folder, &paths),
-    };
+    let all = paths.as_slice();
+    let (made, named) =
+        fill_and_name::<H, J>(host, alloc, names, &making, folder, all, texts);
     match named {
         Ok(true) => Ok(true),
         Ok(false) => {
-            clear::<H, J>(host, names, &making, &paths, made);
+            clear::<H, J>(host, names, &making, all, made);
             Ok(false)
         }
         Err(refused) => {
-            clear::<H, J>(host, names, &making, &paths, made);
+            clear::<H, J>(host, names, &making, all, made);
             Err(refused)
         }
     }
@@ -357,6 +399,33 @@ fn items_of(alloc: Global, path: &String, bytes: &Vec<u8>) -> Result<HeldItems, 
     }
 }
 
+// Takes off what stands behind the first bytes of a file, if anything does.
+fn cut_tail<H: Host, J: Judge>(
+    host: &mut H,
+    alloc: Global,
+    names: &Names,
+    folder: &String,
+    name: &String,
+    file: &mut H::Lines,
+    bytes: &Vec<u8>,
+    len: u64,
+) -> Result<(), Refused>
+    requires ready { IsReady J.accepts (wanted_of names.now) (H.asked host.old) }
+    requires held { IsHeld (string_bytes folder.now) (H.asked host.old) }
+    requires opened { Has (Opened (string_bytes folder.now) (string_bytes name.now) (Ok bytes.now.items)) (H.asked host.old) }
+    requires name { H.Lines.name_of file.old ≡ string_bytes name.now }
+    ensures goes { GoesOn J.accepts (wanted_of names.now) (H.asked host.old) (H.asked host.new) }
+    ensures same { H.Lines.asked file.new ≡ H.Lines.asked file.old }
+{
+    if bytes.len() as u64 <= len {
+        return Ok(());
+    }
+    match cut::<H, J>(host, names, folder, name, file, bytes, len) {
+        Ok(()) => Ok(()),
+        Err(fault) => Err(refused_by(host, alloc, FilesFault::Failed, fault, name)),
+    }
+}
+
 // The file of an output, with what it holds. A line that was cut off is taken off.
 fn open_one<H: Host, J: Judge>(
     host: &mut H,
@@ -379,11 +448,7 @@ fn open_one<H: Host, J: Judge>(
         Err(fault) => return Err(refused_by(host, alloc, FilesFault::Failed, fault, name)),
     };
     let held = items_of(alloc, name, &bytes)?;
-    if held.bytes < bytes.len() as u64 {
-        if let Err(fault) = cut::<H, J>(host, names, folder, name, &mut file, &bytes, held.bytes) {
-            return Err(refused_by(host, alloc, FilesFault::Failed, fault, name));
-        }
-    }
+    cut_tail::<H, J>(host, alloc, names, folder, name, &mut file, &bytes, held.bytes)?;
     Ok((HeldFile { file, held }, Snapshot::of(&bytes)))
 }
 
@@ -459,9 +524,9 @@ pub fn open_folder<H: Host, J: Judge>(
     requires inputs { Has (Read (wanted_of names.now).inputs (Ok texts.inputs.now.items)) (H.asked host.old) }
     ensures rules { Each (rule J.accepts (wanted_of names.now)) (H.asked host.old) → Each (rule J.accepts (wanted_of names.now)) (H.asked host.new) }
     ensures later { Later (H.asked host.old) (H.asked host.new) }
-    ensures held { IfOk result (λ open. IsHeld (string_bytes folder.now) (H.asked host.new)) }
-    ensures lock { IfOk result (λ open. H.folder_of open.lock ≡ string_bytes folder.now) }
-    ensures opened { IfOk result (λ open. AreOpened (string_bytes folder.now) open.opened.items (H.asked host.new)) }
+    ensures held { IfOk result (λ all. IsHeld (string_bytes folder.now) (H.asked host.new)) }
+    ensures lock { IfOk result (λ all. H.folder_of all.lock ≡ string_bytes folder.now) }
+    ensures opened { IfOk result (λ all. AreOpened (string_bytes folder.now) all.opened.items (H.asked host.new)) }
     ensures err { OnErr result (IsFree (H.asked host.new)) }
 {
     make_if_missing::<H, J>(host, alloc, names, folder, texts, outputs.as_slice())?;
@@ -518,6 +583,13 @@ fn give_one<H: Host, J: Judge>(
     Ok(())
 }
 
+// The name at this place, if there are so many.
+fn nth_of(opened: &[OpenedName], nth: usize) -> Option<&OpenedName>
+    ensures { IfSome result (λ one. slice_get opened.now nth ≡ Some one.now) }
+{
+    opened.get(nth)
+}
+
 /// Gives the files of a run that is over back to the host: what each was asked stands in the log from now on.
 pub fn give_back<H: Host, J: Judge>(
     host: &mut H,
@@ -533,7 +605,7 @@ pub fn give_back<H: Host, J: Judge>(
 {
     let mut next = 0;
     for outlet in outlets {
-        let Some(one) = opened.get(next) else {
+        let Some(one) = nth_of(opened, next) else {
             return Err(refused(FilesFault::Failed, format!(in alloc; "{folder}: more files came back than were opened")));
         };
         give_one::<H, J>(host, alloc, names, folder, one, outlet)?;

@@ -6,6 +6,16 @@ use crate::fault::{FilesFault, Refused};
 use host::{Host, HostFault};
 use std::alloc::{AllocError, Global};
 
+/// A refusal for want of memory.
+pub fn no_memory() -> Refused
+    ensures { result.fault ≡ FilesFault.NoMemory }
+{
+    Refused {
+        fault: FilesFault::NoMemory,
+        words: None,
+    }
+}
+
 /// A refusal with these words, where there is memory for them.
 pub fn refused(fault: FilesFault, words: Result<String, AllocError>) -> Refused
     ensures { result.fault ≡ fault }

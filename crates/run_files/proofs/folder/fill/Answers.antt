@@ -1,0 +1,23 @@
+use Rattle.std.proofs.Common.{rules, refl, sym, arith, length}
+use Rattle.run_files.proofs.Going.{goes_then, made_goes, made_next, goes_still, ready_goes}
+use Rattle.run_files.proofs.folder.fill.Goals as goal
+
+pub make_file-requires-after_bounds : goal.make_file-requires-after_bounds
+make_file-requires-after_bounds g c κs within = ready_goes _ _ _ _ c.loop-path.invariant.goes c.requires
+
+pub returns-in-Err-clause-goes : goal.returns-in-Err-clause-goes
+returns-in-Err-clause-goes g c = goes_then _ _ _ _ _ c.loop-path.invariant.goes c.make_file.ensures.goes
+
+pub returns-in-Err-clause-made : goal.returns-in-Err-clause-made
+returns-in-Err-clause-made g c = made_goes _ _ _ _ _ _ c.make_file.ensures.goes c.loop-path.invariant.made
+
+pub loop-path-preserved : goal.loop-path-preserved
+loop-path-preserved g c = record {
+  goes = goes_then _ _ _ _ _ c.loop-path.invariant.goes c.make_file.ensures.goes;
+  count = search rules;
+  made = made_next _ _ _ _ _ _ _ _ c.make_file.ensures.goes c.loop-path.invariant.made c.loop-path.invariant.count c.path-item.is c.loop-path-test.true
+      c.in_default.ensures.made;
+}
+
+pub loop-path-init : goal.loop-path-init
+loop-path-init g c = record { goes = goes_still _ _ _; count = refl; made = tt }

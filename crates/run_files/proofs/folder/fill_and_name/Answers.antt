@@ -1,0 +1,15 @@
+use Rattle.std.proofs.Common.{rules, refl, sym, subst, arith, length}
+use Rattle.run_files.proofs.Going.{goes_then, has_goes, made_goes, ready_goes}
+use Rattle.run_files.proofs.folder.fill_and_name.Goals as goal
+
+pub give_name-named-requires-clause-ready : goal.give_name-named-requires-clause-ready
+give_name-named-requires-clause-ready g c κs within = ready_goes _ _ _ _ c.fill-made.ensures.goes c.requires.ready
+
+pub give_name-named-requires-clause-made : goal.give_name-named-requires-clause-made
+give_name-named-requires-clause-made g c κs within = has_goes _ _ _ _ _ c.fill-made.ensures.goes c.requires.made
+
+pub returns-in-None-clause-goes : goal.returns-in-None-clause-goes
+returns-in-None-clause-goes g c = search (rules, goes_then)
+
+pub returns-in-None-clause-made : goal.returns-in-None-clause-made
+returns-in-None-clause-made g c = made_goes _ _ _ _ _ _ c.give_name-named.ensures c.fill-made.ensures.made

@@ -1,0 +1,29 @@
+use Rattle.std.proofs.Common.{rules, sym, subst, string_bytes}
+use Rattle.run_files.specs.Opening.{AreOpened}
+use Rattle.run_files.proofs.Going.{goes_then, opened_more, ready_goes, same_goes}
+use Rattle.run_files.proofs.folder.open_each.Goals as goal
+
+pub open_one-requires-clause-ready : goal.open_one-requires-clause-ready
+open_one-requires-clause-ready g c κs within = ready_goes _ _ _ _ c.loop-name.invariant.goes c.requires.ready
+
+pub open_one-requires-clause-held : goal.open_one-requires-clause-held
+open_one-requires-clause-held g c κs within = c.loop-name.invariant.goes.held _ c.requires.held
+
+pub open_one-requires-clause-same : goal.open_one-requires-clause-same
+open_one-requires-clause-same g c κs within = same_goes _ _ _ _ _ c.loop-name.invariant.goes c.requires.same
+
+pub returns-in_err-file-clause-goes : goal.returns-in_err-file-clause-goes
+returns-in_err-file-clause-goes g c = goes_then _ _ _ _ _ c.loop-name.invariant.goes c.open_one.ensures.goes
+
+pub returns-in_err-push-clause-goes : goal.returns-in_err-push-clause-goes
+returns-in_err-push-clause-goes g c = goes_then _ _ _ _ _ c.loop-name.invariant.goes c.open_one.ensures.goes
+
+pub loop-name-preserved : goal.loop-name-preserved
+loop-name-preserved g c = record {
+  goes = goes_then _ _ _ _ _ c.loop-name.invariant.goes c.open_one.ensures.goes;
+  opened = subst (λ items. AreOpened (string_bytes c.args.folder.now) items (g.H.Host.asked c.open_one.new.host)) (sym c.in_ok-push-2.ensures.items)
+      (opened_more _ _ _ _ _ _ _ c.open_one.ensures.goes c.loop-name.invariant.opened c.in_ok-file.ensures.opened);
+}
+
+pub returns-in_err-push-2-clause-goes : goal.returns-in_err-push-2-clause-goes
+returns-in_err-push-2-clause-goes g c = goes_then _ _ _ _ _ c.loop-name.invariant.goes c.open_one.ensures.goes

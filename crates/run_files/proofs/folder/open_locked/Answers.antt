@@ -1,0 +1,52 @@
+use Rattle.std.proofs.Common.{rules}
+use Rattle.run_files.proofs.Going.{goes_then, has_goes, ready_goes, same_goes}
+use Rattle.run_files.proofs.folder.open_locked.Goals as goal
+
+pub compare-requires-2-after_bounds : goal.compare-requires-2-after_bounds
+compare-requires-2-after_bounds g c κs within = c.compare.ensures.goes.held _ c.requires.held
+
+pub returns-in_err-compare-2-clause-goes : goal.returns-in_err-compare-2-clause-goes
+returns-in_err-compare-2-clause-goes g c = search (rules, goes_then)
+
+pub returns-in_err-paths-clause-goes : goal.returns-in_err-paths-clause-goes
+returns-in_err-paths-clause-goes g c = search (rules, goes_then)
+
+pub settle-requires-after_bounds : goal.settle-requires-after_bounds
+settle-requires-after_bounds g c κs within = ready_goes _ _ _ _ (goes_then _ _ _ _ _ c.compare.ensures.goes c.compare-2.ensures.goes) c.requires.ready
+
+pub returns-in_err-settle-clause-goes : goal.returns-in_err-settle-clause-goes
+returns-in_err-settle-clause-goes g c = search (rules, goes_then)
+
+pub settle_one-requires-after_bounds : goal.settle_one-requires-after_bounds
+settle_one-requires-after_bounds g c κs within = ready_goes _ _ _ _ (goes_then _ _ _ _ _ (goes_then _ _ _ _ _ c.compare.ensures.goes c.compare-2.ensures.goes) c.settle.ensures) c.requires.ready
+
+pub returns-in_err-settle_one-clause-goes : goal.returns-in_err-settle_one-clause-goes
+returns-in_err-settle_one-clause-goes g c = search (rules, goes_then)
+
+pub returns-in_err-home-clause-goes : goal.returns-in_err-home-clause-goes
+returns-in_err-home-clause-goes g c = search (rules, goes_then)
+
+pub settle_one-requires-2-after_bounds : goal.settle_one-requires-2-after_bounds
+settle_one-requires-2-after_bounds g c κs within = ready_goes _ _ _ _ (goes_then _ _ _ _ _ (goes_then _ _ _ _ _ (goes_then _ _ _ _ _ c.compare.ensures.goes c.compare-2.ensures.goes) c.settle.ensures) c.settle_one.ensures) c.requires.ready
+
+pub returns-in_err-settle_one-2-clause-goes : goal.returns-in_err-settle_one-2-clause-goes
+returns-in_err-settle_one-2-clause-goes g c = search (rules, goes_then)
+
+pub open_each-requires-clause-ready : goal.open_each-requires-clause-ready
+open_each-requires-clause-ready g c κs within = ready_goes _ _ _ _ (goes_then _ _ _ _ _ (goes_then _ _ _ _ _ (goes_then _ _ _ _ _ (goes_then _ _ _ _ _ c.compare.ensures.goes c.compare-2.ensures.goes) c.settle.ensures) c.settle_one.ensures) c.settle_one-2.ensures) c.requires.ready
+
+pub open_each-requires-clause-held : goal.open_each-requires-clause-held
+open_each-requires-clause-held g c κs within = (goes_then _ _ _ _ _ (goes_then _ _ _ _ _ (goes_then _ _ _ _ _ (goes_then _ _ _ _ _ c.compare.ensures.goes c.compare-2.ensures.goes) c.settle.ensures) c.settle_one.ensures) c.settle_one-2.ensures).held _ c.requires.held
+
+pub open_each-requires-clause-same : goal.open_each-requires-clause-same
+open_each-requires-clause-same g c κs within = record {
+  net = c.args.texts.net.now.items;
+  inputs = c.args.texts.inputs.now.items;
+  net_read = (goes_then _ _ _ _ _ c.compare.ensures.goes (goes_then _ _ _ _ _ c.compare-2.ensures.goes (goes_then _ _ _ _ _ c.settle.ensures (goes_then _ _ _ _ _ c.settle_one.ensures c.settle_one-2.ensures)))).later _ c.requires.net;
+  inputs_read = (goes_then _ _ _ _ _ c.compare.ensures.goes (goes_then _ _ _ _ _ c.compare-2.ensures.goes (goes_then _ _ _ _ _ c.settle.ensures (goes_then _ _ _ _ _ c.settle_one.ensures c.settle_one-2.ensures)))).later _ c.requires.inputs;
+  same_net = (goes_then _ _ _ _ _ c.compare-2.ensures.goes (goes_then _ _ _ _ _ c.settle.ensures (goes_then _ _ _ _ _ c.settle_one.ensures c.settle_one-2.ensures))).under _ _ c.in_ok-compare.ensures.same;
+  same_inputs = (goes_then _ _ _ _ _ c.settle.ensures (goes_then _ _ _ _ _ c.settle_one.ensures c.settle_one-2.ensures)).under _ _ c.in_ok-compare-2.ensures.same;
+}
+
+pub returns-clause-goes : goal.returns-clause-goes
+returns-clause-goes g c = search (rules, goes_then)

@@ -1,0 +1,24 @@
+use Rattle.std.proofs.Common.{rules}
+use Rattle.run_files.proofs.Going.{goes_then, apart_all}
+use Rattle.run_files.proofs.places.is_apart.Goals as goal
+
+pub returns-in_err-differ-clause-goes : goal.returns-in_err-differ-clause-goes
+returns-in_err-differ-clause-goes g c = search (rules, goes_then)
+
+pub returns-in_err-differ-2-clause-goes : goal.returns-in_err-differ-2-clause-goes
+returns-in_err-differ-2-clause-goes g c = search (rules, goes_then)
+
+pub returns-in_err-differ_from_script-clause-goes : goal.returns-in_err-differ_from_script-clause-goes
+returns-in_err-differ_from_script-clause-goes g c = search (rules, goes_then)
+
+pub returns-in_err-stay_outside_if_asked-clause-goes : goal.returns-in_err-stay_outside_if_asked-clause-goes
+returns-in_err-stay_outside_if_asked-clause-goes g c = search (rules, goes_then)
+
+pub returns-clause-goes : goal.returns-clause-goes
+returns-clause-goes g c = search (rules, goes_then)
+
+pub returns-clause-apart : goal.returns-clause-apart
+returns-clause-apart g c =
+    apart_all _ _ _ _ _ _ _ _ _ c.in-Ok.ensures.placed c.differ.ensures.goes c.in_ok-differ.ensures.apart c.differ-2.ensures.goes
+    c.in_ok-differ-2.ensures.apart c.differ_from_script.ensures.goes c.in_ok-differ_from_script.ensures.apart
+    c.stay_outside_if_asked.ensures.goes c.in_ok-stay_outside_if_asked.ensures.apart
