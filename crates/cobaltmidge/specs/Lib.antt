@@ -5,5 +5,6 @@ pub mod Errors
 pub mod Names
 pub mod Turning
 pub mod Resting
+pub mod Reasons
 pub mod Runs
 pub mod Scripts

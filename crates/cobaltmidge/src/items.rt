@@ -9,7 +9,7 @@ ghost use Rattle.cobaltmidge.specs.declared.error.Error.TheVariants.{NoMemory};
 
 use crate::error::{Error, inputs_error};
 use crate::network::Network;
-use net_check::{Inputs, bind};
+use net_check::{Inputs, Net, bind};
 use net_text::{InputLine, Name, RawInputs};
 use std::alloc::{AllocError, Global};
 
@@ -31,6 +31,22 @@ fn line_of(alloc: Global, before: usize, name: &str, items: &[i64]) -> Result<In
         name: Name::new(String::from_str(alloc, name)?, before + 1),
         items: Vec::from_slice(alloc, items)?,
     })
+}
+
+// The items of such lines for a network's inputs.
+fn inputs_of_lines(alloc: Global, net: &Net, lines: Vec<InputLine>) -> Result<Inputs, Error>
+    ensures inputs { IfOk result (Binds net.now.channel_names.items (network_of net.now.program)
+        (map input_tree lines.items)) }
+    ensures fitting { IfOk result (Fits (network_of net.now.program)) }
+    ensures err { IfErr result (IsItemsError net.now (map input_tree lines.items)) }
+    ensures accepted { (lists : List (List ℤ)) → Binds net.now.channel_names.items
+        (network_of net.now.program) (map input_tree lines.items) lists
+        → IsOkUnless result NoMemory }
+{
+    match bind(alloc, net, RawInputs { lines }) {
+        Ok(inputs) => Ok(inputs),
+        Err(fault) => Err(inputs_error(fault)),
+    }
 }
 
 impl<'a> Items<'a> {
@@ -93,9 +109,6 @@ impl<'a> Items<'a> {
             network,
             lines,
         } = self;
-        match bind(alloc, &network.net, RawInputs { lines }) {
-            Ok(inputs) => Ok(inputs),
-            Err(fault) => Err(inputs_error(fault)),
-        }
+        inputs_of_lines(alloc, &network.net, lines)
     }
 }

@@ -1,9 +1,6 @@
 //! Why a run ended, in words.
 
-ghost use Rattle.std.specs.Prelude.{◌≡◌, ◌↔◌, ◌≤◌, length};
-ghost use Rattle.protocol.specs.Node.Common.{MAX_CHANNELS};
-ghost use Rattle.runtime.specs.declared.ending.RunEnd.TheVariants as end;
-ghost use Rattle.cobaltmidge.specs.declared.reason.Reason.TheVariants as reason;
+ghost use Rattle.cobaltmidge.specs.Reasons.{IsOfRounds, IsReasonOf};
 
 use crate::ending::RunWorld;
 use crate::settings::{DEFAULT_ROUNDS, Settings};
@@ -146,7 +143,9 @@ fn full_channel<'a, O: Outlet>(net: &'a Net, world: &RunWorld<O>) -> Option<(&'a
 }
 
 // Why a run ended of which the rounds are over.
-fn rounds_over<'a, O: Outlet>(net: &'a Net, world: &RunWorld<O>, rounds: u64) -> Reason<'a> {
+fn rounds_over<'a, O: Outlet>(net: &'a Net, world: &RunWorld<O>, rounds: u64) -> Reason<'a>
+    ensures { IsOfRounds rounds result }
+{
     match full_channel(net, world) {
         Some((channel, items)) => Reason::Full {
             rounds,
@@ -167,15 +166,14 @@ pub fn reason_of<'a, O: Outlet>(
     end: RunEnd,
     settings: Settings,
 ) -> Reason<'a>
-    ensures complete { (result ≡ reason.Complete) ↔ (end ≡ end.Complete) }
-    ensures stopped { (result ≡ reason.Stopped) ↔ (end ≡ end.Stopped) }
+    // It is the reason of just this end, with the settings' numbers.
+    ensures { IsReasonOf end settings result }
 {
     match end {
         RunEnd::Complete => Reason::Complete,
         RunEnd::Rounds => rounds_over(net, world, settings.rounds),
-        RunEnd::Items => match settings.items {
-            Some(items) => Reason::Items { items },
-            None => Reason::Items { items: 0 },
+        RunEnd::Items => Reason::Items {
+            items: settings.items.unwrap_or(0),
         },
         RunEnd::Stopped => Reason::Stopped,
         RunEnd::Refused(_) => Reason::Refused,

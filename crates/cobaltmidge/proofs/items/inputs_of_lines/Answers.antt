@@ -1,7 +1,7 @@
 use Rattle.std.proofs.Common.{◌∙◌, ap}
 use Rattle.cobaltmidge.specs.Errors.{inputs_error}
 use Rattle.cobaltmidge.specs.Texts.{bad_items}
-use Rattle.cobaltmidge.proofs.items.Items.inputs.Goals as goal
+use Rattle.cobaltmidge.proofs.items.inputs_of_lines.Goals as goal
 
 pub returns-in-Err-clause-err : goal.returns-in-Err-clause-err
 returns-in-Err-clause-err c = bad_items c.in-Err.fault c.in-Err.ensures.fault c.inputs_error.ensures
