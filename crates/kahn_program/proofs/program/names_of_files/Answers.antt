@@ -1,0 +1,8 @@
+use Rattle.std.proofs.Common.{rules}
+use Rattle.kahn_program.proofs.program.names_of_files.Goals as goal
+
+pub loop-number-preserved : goal.loop-number-preserved
+loop-number-preserved c = ?
+
+pub returns : goal.returns
+returns c = ?
