@@ -637,6 +637,7 @@ fn say_report<H: Host>(
     report: Report,
 ) -> u8
     ensures goes { GoesOn IsAccepted (wanted_of names.now) (H.asked host.old) (H.asked host.new) }
+    ensures status { result ≤ 3 }
 {
     let Report {
         bytes,
@@ -713,6 +714,7 @@ fn main_by_names<H: Host, P: RunWatch + TurnWatch + Sync, R: Threads + Wait + Sy
     requires free { IsFree (H.asked host.old) }
     requires wanted { wanted_of names.now ≡ asked_files options.now }
     ensures keeps { Keeps (wanted_of names.now) (H.asked host.old) (H.asked host.new) }
+    ensures status { result ≤ 3 }
 {
     match report_asked(rt, alloc, host, options, names, watch) {
         Ok(report) => say_report(host, alloc, options, names, report),

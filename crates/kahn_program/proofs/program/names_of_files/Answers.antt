@@ -1,4 +1,5 @@
 use Rattle.std.proofs.Common.{rules}
+use Rattle.kahn_program.proofs.Naming.{named_more, names_at}
 use Rattle.kahn_program.proofs.program.names_of_files.Goals as goal
 
 pub loop-number-preserved : goal.loop-number-preserved

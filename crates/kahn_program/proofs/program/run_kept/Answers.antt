@@ -1,0 +1,30 @@
+use Rattle.std.proofs.Common.{rules}
+use Rattle.run_files.proofs.Going.{ready_later}
+use Rattle.kahn_program.proofs.program.run_kept.Goals as goal
+
+pub run_locked-requires-clause-ready : goal.run_locked-requires-clause-ready
+run_locked-requires-clause-ready g c κs within = ready_later _ _ _ _ c.open_folder.ensures.later c.requires.ready
+
+pub let_go-requires-clause-held : goal.let_go-requires-clause-held
+let_go-requires-clause-held g c κs within = c.run_locked.ensures.goes.held _ c.in_ok-open.ensures.held
+
+pub returns-in-Ok : goal.returns-in-Ok
+returns-in-Ok g c = record {
+  keeps = record {
+    rules = λ each. c.let_go.ensures.rules (c.run_locked.ensures.goes.rules (c.open_folder.ensures.rules each));
+    later = λ r h. c.let_go.ensures.later r (c.run_locked.ensures.goes.later r (c.open_folder.ensures.later r h));
+    free = λ free. c.let_go.ensures.free;
+  };
+}
+
+pub let_go-requires-in-Err-clause-held : goal.let_go-requires-in-Err-clause-held
+let_go-requires-in-Err-clause-held g c κs within = c.run_locked.ensures.goes.held _ c.in_ok-open.ensures.held
+
+pub returns : goal.returns
+returns g c = record {
+  keeps = record {
+    rules = λ each. c.let_go-in-Err.ensures.rules (c.run_locked.ensures.goes.rules (c.open_folder.ensures.rules each));
+    later = λ r h. c.let_go-in-Err.ensures.later r (c.run_locked.ensures.goes.later r (c.open_folder.ensures.later r h));
+    free = λ free. c.let_go-in-Err.ensures.free;
+  };
+}
