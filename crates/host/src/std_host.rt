@@ -43,11 +43,19 @@ pub struct HeldLock {
     folder: String,
 }
 
-// What stands under a name.
+// Whether a name is a link. A file that is renamed would take the link's place, as that of /dev/stdout.
+fn is_link(rt: &HostRuntime, path: &str) -> bool {
+    match fs::symlink_metadata(rt, path) {
+        Ok(metadata) => metadata.is_symlink(),
+        Err(_) => false,
+    }
+}
+
+// What stands under a name. A link to a file is told as what is no file: it is opened as a device then, which refuses a file.
 fn standing(rt: &HostRuntime, path: &str) -> io::Result<Standing> {
     match fs::metadata(rt, path) {
         Ok(metadata) => Ok(if metadata.is_file() {
-            Standing::File
+            if is_link(rt, path) { Standing::Device } else { Standing::File }
         } else if metadata.is_dir() {
             Standing::Folder
         } else {

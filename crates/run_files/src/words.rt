@@ -16,13 +16,24 @@ pub fn no_memory() -> Refused
     }
 }
 
+// These words as a line, where there is memory for them.
+fn line_of(words: Result<String, AllocError>) -> Option<String> {
+    let Ok(mut line) = words else {
+        return None;
+    };
+    match line.push_str("\n") {
+        Ok(()) => Some(line),
+        Err(_) => None,
+    }
+}
+
 /// A refusal with these words, where there is memory for them.
 pub fn refused(fault: FilesFault, words: Result<String, AllocError>) -> Refused
     ensures { result.fault ≡ fault }
 {
     Refused {
         fault,
-        words: words.ok(),
+        words: line_of(words),
     }
 }
 
@@ -37,7 +48,7 @@ pub fn refused_by<H: Host>(
     ensures { result.fault ≡ or_memory refusal fault }
 {
     let words = match host.words(alloc) {
-        Ok(words) => format!(in alloc; "{path}: {words}").ok(),
+        Ok(words) => line_of(format!(in alloc; "{path}: {words}")),
         Err(_) => None,
     };
     Refused {
