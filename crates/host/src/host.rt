@@ -1,5 +1,5 @@
 //! The host as a program sees it: what it may be asked, and what it was asked.
-ghost use Rattle.std.specs.Prelude.{◌≡◌, [], ◌∷◌, List, ℕ, IfOk, IsTrue, Ok, string_bytes};
+ghost use Rattle.std.specs.Prelude.{◌≡◌, [], ◌∷◌, List, ℕ, IfOk, string_bytes};
 ghost use Rattle.host.specs.Answers.{answered};
 ghost use Rattle.host.specs.Requests.{Request, Read, Looked, Placed, MadeFile, MadeFolder, OpenedDevice, Wrote, Synced, Renamed, RemovedFile, RemovedFolder};
 ghost use Rattle.host.specs.Requests.{Locked, Unlocked, Opened, Cut, Used, Said, Told};
@@ -96,7 +96,12 @@ pub trait Host {
 
     /// The file of lines of this name, in a folder whose lock is held, and what it holds. Where it waits, each put is synced. It has a share
     /// of the lock from now on.
-    fn open_lines(&mut self, lock: &Self::Lock, name: &String, waits: bool) -> Result<(Self::Lines, Vec<u8>), HostFault>
+    fn open_lines(
+        &mut self,
+        lock: &Self::Lock,
+        name: &String,
+        waits: bool,
+    ) -> Result<(Self::Lines, Vec<u8>), HostFault>
         ensures asked { asked self.new ≡ Opened (folder_of lock.now) (string_bytes name.now) (answered (λ opened. opened.1.items) result)
             ∷ asked self.old }
         ensures name { IfOk result (λ opened. Self.Lines.name_of opened.0 ≡ string_bytes name.now) }
@@ -119,9 +124,6 @@ pub trait Host {
     /// Writes these bytes to standard error.
     fn tell(&mut self, bytes: &Vec<u8>) -> Result<(), HostFault>
         ensures { asked self.new ≡ Told bytes.now.items result ∷ asked self.old };
-
-    /// Whether standard error is a terminal.
-    fn tells_a_terminal(&self) -> bool;
 
     /// Why the newest request wasn't done, in the host's own words.
     fn words(&self, alloc: Global) -> Result<String, AllocError>;

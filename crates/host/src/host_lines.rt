@@ -1,5 +1,5 @@
 // Lines that are put to a file by calls of the system.
-ghost use Rattle.std.specs.Prelude.{◌≡◌, ◌∷◌, ◌++◌, [], true, ℕ, List, IsTrue, string_bytes};
+ghost use Rattle.std.specs.Prelude.{◌≡◌, ◌∷◌, ◌++◌, [], true, List, IsTrue, string_bytes};
 ghost use Rattle.host.specs.LineRequests.{Put, Synced};
 ghost use Rattle.host.specs.HostLines.{writes_of};
 ghost use Rattle.host.specs.Writes.{Write, Synced as SyncedWrite, taken};

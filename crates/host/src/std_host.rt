@@ -10,7 +10,7 @@ use crate::host::{Host, Standing};
 use crate::host_lines::{HostLines, LockedFile};
 use std::alloc::{AllocError, Global};
 use std::fs::{File, OpenOptions, TryLockError};
-use std::io::{IsTerminal, Read, Write};
+use std::io::{Read, Write};
 use std::path::Path;
 use std::snapshot::Snapshot;
 use std::time::{Clock, Duration};
@@ -55,7 +55,11 @@ fn is_link(rt: &HostRuntime, path: &str) -> bool {
 fn standing(rt: &HostRuntime, path: &str) -> io::Result<Standing> {
     match fs::metadata(rt, path) {
         Ok(metadata) => Ok(if metadata.is_file() {
-            if is_link(rt, path) { Standing::Device } else { Standing::File }
+            if is_link(rt, path) {
+                Standing::Device
+            } else {
+                Standing::File
+            }
         } else if metadata.is_dir() {
             Standing::Folder
         } else {
@@ -71,7 +75,13 @@ fn standing(rt: &HostRuntime, path: &str) -> io::Result<Standing> {
 // The folder in which this name stands.
 fn home_of(path: Path<'_>) -> Path<'_> {
     match path.parent() {
-        Some(home) => { if home.as_str().is_empty() { Path::new(".") } else { home } }
+        Some(home) => {
+            if home.as_str().is_empty() {
+                Path::new(".")
+            } else {
+                home
+            }
+        }
         None => Path::new("/"),
     }
 }
@@ -96,7 +106,10 @@ fn make_file(rt: &HostRuntime, path: &String) -> io::Result<MadeFile>
 {
     let path = path.clone()?;
     let mut options = OpenOptions::new();
-    let file = options.write(true).create_new(true).open(rt, path.as_str())?;
+    let file = options
+        .write(true)
+        .create_new(true)
+        .open(rt, path.as_str())?;
     Ok(MadeFile { file, path })
 }
 
@@ -129,9 +142,7 @@ fn take_lock(clock: &HostRuntime, file: &File) -> io::Result<()> {
         match file.try_lock() {
             Ok(()) => return Ok(()),
             Err(TryLockError::Error(error)) => return Err(error),
-            Err(TryLockError::WouldBlock) => {
-                thread::sleep(clock, Duration::from_millis(PAUSE))
-            }
+            Err(TryLockError::WouldBlock) => { thread::sleep(clock, Duration::from_millis(PAUSE)) }
         }
     }
     Err(io::Error::from(io::ErrorKind::WouldBlock))
@@ -158,7 +169,10 @@ fn open_lines(
     ensures name { IfOk result (λ opened. lines_name opened.0 ≡ string_bytes name.now) }
     ensures fresh { IfOk result (λ opened. lines_requests opened.0 ≡ []) }
 {
-    let HeldLock { file: shared, folder } = lock;
+    let HeldLock {
+        file: shared,
+        folder,
+    } = lock;
     let path = format!(in rt.alloc(); "{folder}/{name}")?;
     let mut options = OpenOptions::new();
     let mut file = options.read(true).write(true).open(rt, path.as_str())?;
@@ -360,7 +374,11 @@ impl Host for StdHost {
             }
             Err(error) => {
                 let fault = self.failed(error);
-                self.note(&Noted::Opened(Snapshot::of(&lock.folder), Snapshot::of(name), Err(fault)));
+                self.note(&Noted::Opened(
+                    Snapshot::of(&lock.folder),
+                    Snapshot::of(name),
+                    Err(fault),
+                ));
                 Err(fault)
             }
         }
@@ -388,10 +406,6 @@ impl Host for StdHost {
         let answer = self.done(answer);
         self.note(&Noted::Told(Snapshot::of(bytes), answer));
         answer
-    }
-
-    fn tells_a_terminal(&self) -> bool {
-        self.rt.stderr().is_terminal()
     }
 
     fn words(&self, alloc: Global) -> Result<String, AllocError> {

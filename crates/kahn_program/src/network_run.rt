@@ -19,7 +19,8 @@ use crate::failure::Failure;
 use crate::keeper::Keeper;
 use crate::reporting::{Stream, report};
 use cobaltmidge::{
-    Ended, History, RunEnd, RunFault, RunWatch, RunWorld, TurnWatch, cut, run_network, write_history,
+    Ended, History, RunEnd, RunFault, RunWatch, RunWorld, TurnWatch, cut, run_network,
+    write_history,
 };
 use kahn_net::{Channel, Port};
 use net_check::{Inputs, Net};

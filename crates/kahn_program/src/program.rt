@@ -1,16 +1,13 @@
 //! The whole program over its host.
 
-ghost use Rattle.std.specs.Prelude.{◌≡◌, ◌++◌, ◌≤◌, [], Bool, IfOk, OnOk, Ok, Some, codes, length, map, string_bytes};
+ghost use Rattle.std.specs.Prelude.{◌≡◌, ◌++◌, ◌≤◌, [], IfOk, OnOk, Ok, Some, codes, length, map, string_bytes};
 ghost use Rattle.std.specs.Option.{option_map};
-ghost use Rattle.host.specs.Requests.{Each, Has, IsFree, Read, Said};
+ghost use Rattle.host.specs.Requests.{Each, Has, IsFree, Read};
 ghost use Rattle.protocol.specs.Node.Common.{Fits, MAX_NODES, network_of, node_count};
-ghost use Rattle.cobaltmidge.specs.Scripts.{scripted_of};
 ghost use Rattle.cobaltmidge.specs.Texts.{AreInputsOf, IsNetOf};
 ghost use Rattle.fail_script.specs.Lines.{IsScript};
-ghost use Rattle.kahn_program.specs.Program.{AreKept, AreKeptIn, HasReport, IsAccepted, IsDone, IsOpenIfAsked, IsWrittenIfAsked, Keeps, asked_files, file_names, given_of, name_if_output};
-ghost use Rattle.kahn_program.specs.Runs.{IsReport, IsReportOf};
+ghost use Rattle.kahn_program.specs.Program.{IsAccepted, IsOpenIfAsked, IsWrittenIfAsked, Keeps, asked_files, file_names, given_of, name_if_output};
 ghost use Rattle.kahn_program.specs.Scripts.{AreLinesOf};
-ghost use Rattle.kahn_program.specs.Statuses.{status_of_run};
 ghost use Rattle.run_files.specs.Opening.{AreOpened};
 ghost use Rattle.run_files.specs.Rules.{GoesOn, IsReady, WasReadIf, WereRead, rule};
 ghost use Rattle.run_files.specs.Wanted.{wanted_of};
@@ -82,8 +79,12 @@ impl From<Refused> for Stop {
             failure: match refused.fault {
                 FilesFault::NoMemory => Failure::NoMemory,
                 FilesFault::InUse => Failure::InUse,
-                FilesFault::OtherState => Failure::State { number: OTHER_STATE },
-                FilesFault::Failed => Failure::State { number: FILE_FAILED },
+                FilesFault::OtherState => Failure::State {
+                    number: OTHER_STATE,
+                },
+                FilesFault::Failed => Failure::State {
+                    number: FILE_FAILED,
+                },
                 FilesFault::Unwritten => Failure::Unwritten,
             },
             words: refused.words,
@@ -296,8 +297,15 @@ fn read_all<H: Host>(
     let net = net_of(alloc, options, &net_text)?;
     let inputs_text = read_bytes(host, alloc, names, Source::Inputs, &names.inputs)?;
     let inputs = inputs_of(alloc, options, &net_text, &inputs_text, &net)?;
-    let (script, lines) =
-        read_lines(host, alloc, options, names, &net_text, &inputs_text, node_count(&net))?;
+    let (script, lines) = read_lines(
+        host,
+        alloc,
+        options,
+        names,
+        &net_text,
+        &inputs_text,
+        node_count(&net),
+    )?;
     let texts = Texts {
         net: net_text,
         inputs: inputs_text,
@@ -321,7 +329,12 @@ fn file_name(alloc: Global, output: &str) -> Result<String, AllocError>
 }
 
 // Adds the name of a channel's file, if it is an output.
-fn add_name(alloc: Global, names: &mut Vec<String>, channel: &Channel, name: &Name) -> Result<(), AllocError>
+fn add_name(
+    alloc: Global,
+    names: &mut Vec<String>,
+    channel: &Channel,
+    name: &Name,
+) -> Result<(), AllocError>
     ensures { OnOk result (map string_bytes names.new.items
         ≡ map string_bytes names.old.items ++ name_if_output channel.now.consumer name.now []) }
 {
@@ -336,11 +349,19 @@ fn file_names(alloc: Global, net: &Net) -> Result<Vec<String>, AllocError>
     ensures { IfOk result (λ names. map string_bytes names.items
         ≡ file_names net.now.program.channels.items net.now.channel_names.items) }
 {
-    names_of_files(alloc, net.program.channels.as_slice(), net.channel_names.as_slice())
+    names_of_files(
+        alloc,
+        net.program.channels.as_slice(),
+        net.channel_names.as_slice(),
+    )
 }
 
 // Those of these channels with these names.
-fn names_of_files(alloc: Global, channels: &[Channel], names: &[Name]) -> Result<Vec<String>, AllocError>
+fn names_of_files(
+    alloc: Global,
+    channels: &[Channel],
+    names: &[Name],
+) -> Result<Vec<String>, AllocError>
     requires { length names.now ≡ length channels.now }
     ensures { IfOk result (λ files. map string_bytes files.items ≡ file_names channels.now names.now) }
 {
@@ -589,7 +610,9 @@ fn run_asked<H: Host, P: RunWatch + TurnWatch + Sync, R: Threads + Wait + Sync>(
         script: script_text(&texts),
     };
     match &names.state {
-        Some(folder) => run_kept(rt, alloc, host, options, names, folder, &texts, asked, watch),
+        Some(folder) => run_kept(
+            rt, alloc, host, options, names, folder, &texts, asked, watch,
+        ),
         None => run_over::<H, ListOutlet, _, _, _>(
             rt,
             alloc,
@@ -645,15 +668,21 @@ fn say_report<H: Host>(
         ending,
     } = report;
     if say::<H, Accepted>(host, names, &bytes).is_err() {
-        if options.explain {
-            tell_words(host, names, words_of(host, alloc, "standard output"));
-        }
+        let words = if options.explain {
+            words_of(host, alloc, "standard output")
+        } else {
+            None
+        };
+        tell_words(host, names, words);
         return 1;
     }
-    if !ending.is_empty() {
-        tell_words(host, names, Some(ending));
-    }
+    tell_words(host, names, unless_empty(ending));
     if complete { 0 } else { 3 }
+}
+
+// These words, if they are any.
+fn unless_empty(words: String) -> Option<String> {
+    if words.is_empty() { None } else { Some(words) }
 }
 
 // Writes these words to standard error, if there are some. That they can't be written is no failure of the run.
@@ -683,9 +712,8 @@ fn tell_stop<H: Host>(
     if tell::<H, Accepted>(host, names, &line.into_bytes()).is_err() {
         return 1;
     }
-    if options.explain {
-        tell_words(host, names, words);
-    }
+    let words = if options.explain { words } else { None };
+    tell_words(host, names, words);
     failure.status()
 }
 

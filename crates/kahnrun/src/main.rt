@@ -22,11 +22,10 @@ use host::StdHost;
 use kahn_program::{Failure, Options, main_of, not_text, options, print_failure};
 use progress::Progress;
 use std::alloc::Global;
-use std::env;
-use std::io;
 use std::io::IsTerminal;
 use std::process::ExitCode;
 use std::rt::Env;
+use std::{env, io};
 
 /// The exit status where the command line is refused.
 const REFUSED: u8 = 2;

@@ -7,9 +7,9 @@ ghost use Rattle.host.specs.LineRequests.{Synced, bytes_put, has_failed, go_on_f
 ghost use Rattle.output_file.specs.Writing.{IsWritten, is_refusing, HasSameItems, Appends};
 ghost use Rattle.output_file.specs.declared.TheConstants.{BLOCK_BYTES};
 
-use host::LineFile;
 use crate::line_block::LineBlock;
 use crate::reading::HeldItems;
+use host::LineFile;
 use outlet::{Outlet, OutletFault};
 use sector_disk::Past;
 use std::alloc::{AllocError, Global};

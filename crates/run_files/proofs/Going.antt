@@ -1,12 +1,12 @@
 -- How a log goes on.
-use Rattle.std.proofs.Common.{Vec, ◌≡◌, ◌⊎◌, inl, inr, ℕ, zero, suc, ◌+◌, ◌<◌, get_or, add-one, length-append, List, [], ◌∷◌, ◌++◌, length, slice_get, Option, Some, None, Ok, Err, refl, sym, subst, arith}
+use Rattle.std.proofs.Common.{Vec, ◌≡◌, inl, inr, ℕ, zero, suc, ◌+◌, ◌<◌, get_or, add-one, length-append, List, [], ◌∷◌, ◌++◌, length, slice_get, Option, Some, None, Ok, Err, refl, sym, subst, arith}
 use Rattle.std.proofs.lemmas.Option.{slice_get_read}
 use Rattle.std.specs.Option.{option_map}
 use Rattle.std.specs.Prelude.{IfSome, string_bytes}
 use Rattle.std.specs.declared.alloc.Global.{Global}
 use Rattle.std.specs.declared.string.String.{String}
-use Rattle.host.specs.Requests.{Locked, MadeFile, Opened, OpenedDevice, Placed, Read, Renamed, Unlocked, Used, Wrote}
-use Rattle.host.specs.Requests.{Request, Has, HasUnder, Later, Each, IsHeld, IsFree, lock_change, Leaves, held_by, free_by, under_by, LockChange}
+use Rattle.host.specs.Requests.{Locked, MadeFile, Opened, Placed, Read, Renamed, Unlocked, Used, Wrote}
+use Rattle.host.specs.Requests.{Request, Has, HasUnder, Later, Each, IsHeld, IsFree}
 use Rattle.run_files.specs.Rules.{rule, GoesOn, Given, HasSameTexts, IfAsked, IsApart, IsElsewhere, IsOutside, IsReady, WasReadIf, WereRead}
 use Rattle.host.specs.declared.fault.HostFault.{HostFault}
 use Rattle.host.specs.declared.line_file.LineFile.{Ghosts as FileWords}
@@ -32,22 +32,6 @@ module _ (accepts : Given → Type 0) (o : Wanted) where
     under = λ f r h. second.under f r (first.under f r h);
     free = λ h. second.free (first.free h);
   }
-
-  -- a request that leaves the lock as it was, and keeps its rule
-  one : (r : Request) (e : List Request) → lock_change r ≡ Leaves → rule accepts o r e → GoesOn accepts o e (r ∷ e)
-  one r e leaves kept = record {
-    rules = λ h. (kept, h);
-    later = λ s h. inr h;
-    held = λ f h. (let P : LockChange → Type 0 = λ change. held_by f change (IsHeld f e) in subst P (sym leaves) h);
-    under = λ f s h. (let P : LockChange → Type 0 = λ change. under_by change ((s ≡ r) × IsHeld f e) (HasUnder f s e) in
-        subst P (sym leaves) (inr h));
-    free = λ h. (let P : LockChange → Type 0 = λ change. free_by change (IsFree e) in subst P (sym leaves) h);
-  }
-
-  pub goes_by : (r : Request) (old new : List Request) → new ≡ r ∷ old → lock_change r ≡ Leaves → rule accepts o r old
-      → GoesOn accepts o old new
-  goes_by r old new is leaves kept =
-      let P : List Request → Type 0 = λ e. GoesOn accepts o old e in subst P (sym is) (one r old leaves kept)
 
   script_later : (path bytes : Option (List ℕ)) (old new : List Request) → Later old new → WasReadIf path bytes old
       → WasReadIf path bytes new
@@ -110,10 +94,6 @@ module _ (accepts : Given → Type 0) (o : Wanted) where
     same_net = goes.under folder _ same.same_net;
     same_inputs = goes.under folder _ same.same_inputs;
   }
-
--- it is the newest
-pub has_now : (r : Request) (old new : List Request) → new ≡ r ∷ old → Has r new
-has_now r old new is = let P : List Request → Type 0 = λ e. Has r e in subst P (sym is) (inl refl)
 
 some_is : {A : Type 0} (x y : A) → Some x ≡ Some y → x ≡ y
 some_is x y same = cc
@@ -243,9 +223,6 @@ held_now folder old new is = let P : List Request → Type 0 = λ e. IsHeld fold
 pub free_still : (folder : List ℕ) (fault : HostFault) (old new : List Request) → new ≡ Locked folder (Err fault) ∷ old → IsFree old
     → IsFree new
 free_still folder fault old new is free = let P : List Request → Type 0 = λ e. IsFree e in subst P (sym is) free
-
-pub free_now : (folder : List ℕ) (old new : List Request) → new ≡ Unlocked folder ∷ old → IsFree new
-free_now folder old new is = let P : List Request → Type 0 = λ e. IsFree e in subst P (sym is) tt
 
 pub opened_as : (folder name : List ℕ) (a b : Vec ℕ Global) (e : List Request) → a ≡ b → Has (Opened folder name (Ok b.items)) e
     → Has (Opened folder name (Ok a.items)) e

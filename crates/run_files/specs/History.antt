@@ -1,5 +1,5 @@
 -- The file into which what happens is written, before it has its name.
-use Rattle.std.specs.Prelude.{◌≡◌, ℕ, List, Option, Some, None, Ok, string_bytes}
+use Rattle.std.specs.Prelude.{◌≡◌, ℕ, List, Option, Some, None, Ok}
 use Rattle.host.specs.Requests.{Request, MadeFile, OpenedDevice, Has}
 
 -- it was made under another name, or it is a device of this name

@@ -1,5 +1,5 @@
 -- What stands in a host's log of what a run keeps.
-use Rattle.std.specs.Prelude.{◌≡◌, ◌⊎◌, ℕ, ℤ, List, ◌++◌, Option, Some, None, Ok, codes}
+use Rattle.std.specs.Prelude.{◌≡◌, ◌⊎◌, ℕ, ℤ, List, Ok}
 use Rattle.host.specs.LineRequests as lines
 use Rattle.host.specs.LineRequests.{content_after}
 use Rattle.host.specs.Requests.{Request, MadeFile, OpenedDevice, Wrote, Renamed, Opened, Used, Has}

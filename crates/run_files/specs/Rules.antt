@@ -1,5 +1,5 @@
 -- What stands in a host's log before each request of a run.
-use Rattle.std.specs.Prelude.{◌≡◌, ◌≢◌, ◌⊎◌, ℕ, Bool, true, false, List, [], ◌∷◌, ◌++◌, Option, Some, None, Result, Ok, Err, IfSome, codes}
+use Rattle.std.specs.Prelude.{◌≡◌, ◌≢◌, ◌⊎◌, ℕ, false, List, ◌++◌, Option, Some, None, Ok, codes}
 use Rattle.host.specs.Requests.{Request, Read, Looked, Placed, MadeFile, MadeFolder, OpenedDevice, Wrote, Synced, Renamed, RemovedFile, RemovedFolder}
 use Rattle.host.specs.Requests.{Locked, Unlocked, Opened, Cut, Used, Said, Told, Has, HasUnder, Later, Each, IsHeld, IsFree}
 use Rattle.host.specs.declared.host.Standing.TheVariants.{Device}
@@ -62,10 +62,6 @@ pub record HasSameTexts (o : Wanted) (folder : List ℕ) (e : List Request) : Ty
   pub inputs_read : Has (Read o.inputs (Ok inputs)) e
   pub same_net : HasUnder folder (Read (folder ++ codes "/net") (Ok net)) e
   pub same_inputs : HasUnder folder (Read (folder ++ codes "/inputs") (Ok inputs)) e
-
--- this run made what stands under this name
-abbrev pub WasMade : List ℕ → List Request → Type 0
-WasMade path e = Has (MadeFile path (Ok tt)) e ⊎ Has (MadeFolder path (Ok tt)) e
 
 -- What stands before a request.
 abbrev pub rule : (Given → Type 0) → Wanted → Request → List Request → Type 0

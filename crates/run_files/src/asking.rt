@@ -113,11 +113,7 @@ pub fn make_folder<H: Host, J: Judge>(
 }
 
 /// Waits until what a file holds, or which names a folder has, stands on the disk.
-pub fn sync<H: Host, J: Judge>(
-    host: &mut H,
-    names: &Names,
-    path: &String,
-) -> Result<(), HostFault>
+pub fn sync<H: Host, J: Judge>(host: &mut H, names: &Names, path: &String) -> Result<(), HostFault>
     requires { IsReady J.accepts (wanted_of names.now) (H.asked host.old) }
     ensures goes { GoesOn J.accepts (wanted_of names.now) (H.asked host.old) (H.asked host.new) }
 {
@@ -237,11 +233,7 @@ pub fn take_back<H: Host, J: Judge>(
 }
 
 /// Writes these bytes to standard output.
-pub fn say<H: Host, J: Judge>(
-    host: &mut H,
-    names: &Names,
-    bytes: &Vec<u8>,
-) -> Result<(), HostFault>
+pub fn say<H: Host, J: Judge>(host: &mut H, names: &Names, bytes: &Vec<u8>) -> Result<(), HostFault>
     ensures goes { GoesOn J.accepts (wanted_of names.now) (H.asked host.old) (H.asked host.new) }
     ensures said { OnOk result (Has (Said bytes.now.items (Ok tt)) (H.asked host.new)) }
 {

@@ -1,7 +1,7 @@
 // The folder in which what left outlasts the run: the texts of the network and of the inputs, a file of lines for each output, and a file
 // whose lock says that a run is at work.
-ghost use Rattle.std.specs.Prelude.{◌≡◌, ◌≢◌, ◌<◌, ◌++◌, ◌⊎◌, [], ℕ, List, IfOk, IfErr, IfSome, OnOk, OnErr, IsTrue, Ok, Err, Some, false, length, slice_get, string_bytes};
-ghost use Rattle.host.specs.Requests.{Each, Has, HasUnder, IsFree, IsHeld, Later, Locked, MadeFile, MadeFolder, Opened, Read, Used};
+ghost use Rattle.std.specs.Prelude.{◌≡◌, ◌≢◌, ◌<◌, ◌++◌, ◌⊎◌, [], ℕ, List, IfOk, IfErr, IfSome, OnOk, OnErr, IsTrue, Ok, Err, Some, false, slice_get, string_bytes};
+ghost use Rattle.host.specs.Requests.{Each, Has, HasUnder, IsFree, IsHeld, Later, MadeFile, MadeFolder, Opened, Read, Used};
 ghost use Rattle.output_file.specs.Output.{asked_of};
 ghost use Rattle.run_files.specs.Opening.{AreMade, AreOpened, AreUsed};
 ghost use Rattle.run_files.specs.Rules.{GoesOn, HasSameTexts, IsReady, rule};
@@ -9,7 +9,10 @@ ghost use Rattle.run_files.specs.Wanted.{wanted_of};
 ghost use Rattle.run_files.specs.declared.fault.FilesFault.TheVariants.{OtherState, InUse};
 ghost use Rattle.host.specs.declared.fault.HostFault.TheVariants as host_fault;
 
-use crate::asking::{cut, make_file, make_folder, open_lines, read, remove_file, remove_folder, rename_folder, sync, take_back};
+use crate::asking::{
+    cut, make_file, make_folder, open_lines, read, remove_file, remove_folder, rename_folder, sync,
+    take_back,
+};
 use crate::fault::{FilesFault, Refused};
 use crate::happened::{MAX_NAMES, fresh_name};
 use crate::names::{Judge, Names};
@@ -62,7 +65,13 @@ fn in_folder(alloc: Global, folder: &String, tail: &str) -> Result<String, Alloc
 // The folder in which a folder of this name stands.
 fn home_of(alloc: Global, folder: &str) -> Result<String, AllocError> {
     match folder.trim_end_matches('/').rsplit_once('/') {
-        Some((home, _)) => { if home.is_empty() { String::from_str(alloc, "/") } else { String::from_str(alloc, home) } }
+        Some((home, _)) => {
+            if home.is_empty() {
+                String::from_str(alloc, "/")
+            } else {
+                String::from_str(alloc, home)
+            }
+        }
         None => String::from_str(alloc, "."),
     }
 }
@@ -100,15 +109,29 @@ fn compare<H: Host, J: Judge>(
         Ok(bytes) => if is_same(&bytes, text) {
             Ok(())
         } else {
-            Err(refused(FilesFault::OtherState, other_text(alloc, &path, &bytes, text)))
+            Err(refused(
+                FilesFault::OtherState,
+                other_text(alloc, &path, &bytes, text),
+            ))
         },
-        Err(HostFault::NotThere) => Err(refused_by(host, alloc, FilesFault::OtherState, HostFault::NotThere, &path)),
+        Err(HostFault::NotThere) => Err(refused_by(
+            host,
+            alloc,
+            FilesFault::OtherState,
+            HostFault::NotThere,
+            &path,
+        )),
         Err(fault) => Err(refused_by(host, alloc, FilesFault::Failed, fault, &path)),
     }
 }
 
 // Which line of a text differs from that of the file.
-fn other_text(alloc: Global, path: &String, held: &Vec<u8>, text: &Vec<u8>) -> Result<String, AllocError> {
+fn other_text(
+    alloc: Global,
+    path: &String,
+    held: &Vec<u8>,
+    text: &Vec<u8>,
+) -> Result<String, AllocError> {
     let mut line: u64 = 1;
     for (a, b) in held.iter().zip(text.iter()) {
         if *a != *b {
@@ -140,7 +163,10 @@ fn make_beside<H: Host, J: Judge>(
             Err(fault) => return Err(refused_by(host, alloc, FilesFault::Failed, fault, &making)),
         }
     }
-    Err(refused(FilesFault::Failed, format!(in alloc; "{folder}.making: too many folders of this name are left")))
+    Err(refused(
+        FilesFault::Failed,
+        format!(in alloc; "{folder}.making: too many folders of this name are left"),
+    ))
 }
 
 // The paths of all files that a folder gets.
@@ -180,7 +206,10 @@ fn fill<H: Host, J: Judge>(
     for path in paths {
         let text = text_of(texts, &nothing, made);
         if let Err(fault) = make_file::<H, J>(host, names, path, text) {
-            return (made, Some(refused_by(host, alloc, FilesFault::Failed, fault, path)));
+            return (
+                made,
+                Some(refused_by(host, alloc, FilesFault::Failed, fault, path)),
+            );
         }
         made += 1;
     }
@@ -327,8 +356,7 @@ fn make<H: Host, J: Judge>(
         }
     };
     let all = paths.as_slice();
-    let (made, named) =
-        fill_and_name::<H, J>(host, alloc, names, &making, folder, all, texts);
+    let (made, named) = fill_and_name::<H, J>(host, alloc, names, &making, folder, all, texts);
     match named {
         Ok(true) => Ok(true),
         Ok(false) => {
@@ -355,7 +383,10 @@ fn is_made<H: Host, J: Judge>(
     match read::<H, J>(host, names, &path) {
         Ok(_) => Ok(true),
         Err(HostFault::NotThere) => Ok(false),
-        Err(HostFault::NoFolder) => Err(refused(FilesFault::OtherState, format!(in alloc; "{folder} is no folder"))),
+        Err(HostFault::NoFolder) => Err(refused(
+            FilesFault::OtherState,
+            format!(in alloc; "{folder} is no folder"),
+        )),
         Err(fault) => Err(refused_by(host, alloc, FilesFault::Failed, fault, &path)),
     }
 }
@@ -384,7 +415,10 @@ fn make_if_missing<H: Host, J: Judge>(
     if is_made::<H, J>(host, alloc, names, folder)? {
         return Ok(());
     }
-    Err(refused(FilesFault::OtherState, format!(in alloc; "{folder} is there, and has no file net")))
+    Err(refused(
+        FilesFault::OtherState,
+        format!(in alloc; "{folder} is there, and has no file net"),
+    ))
 }
 
 // What the lines of a file hold.
@@ -444,11 +478,19 @@ fn open_one<H: Host, J: Judge>(
 {
     let (mut file, bytes) = match open_lines::<H, J>(host, names, lock, folder, name) {
         Ok(opened) => opened,
-        Err(HostFault::NotThere) => return Err(refused_by(host, alloc, FilesFault::OtherState, HostFault::NotThere, name)),
+        Err(HostFault::NotThere) => return Err(refused_by(
+            host,
+            alloc,
+            FilesFault::OtherState,
+            HostFault::NotThere,
+            name,
+        )),
         Err(fault) => return Err(refused_by(host, alloc, FilesFault::Failed, fault, name)),
     };
     let held = items_of(alloc, name, &bytes)?;
-    cut_tail::<H, J>(host, alloc, names, folder, name, &mut file, &bytes, held.bytes)?;
+    cut_tail::<H, J>(
+        host, alloc, names, folder, name, &mut file, &bytes, held.bytes,
+    )?;
     Ok((HeldFile { file, held }, Snapshot::of(&bytes)))
 }
 
@@ -532,7 +574,10 @@ pub fn open_folder<H: Host, J: Judge>(
     make_if_missing::<H, J>(host, alloc, names, folder, texts, outputs.as_slice())?;
     let lock = match host.lock(folder) {
         Ok(lock) => lock,
-        Err(HostFault::InUse) => return Err(refused(FilesFault::InUse, format!(in alloc; "another run is at work in {folder}"))),
+        Err(HostFault::InUse) => return Err(refused(
+            FilesFault::InUse,
+            format!(in alloc; "another run is at work in {folder}"),
+        )),
         Err(fault) => return Err(refused_by(host, alloc, FilesFault::Failed, fault, folder)),
     };
     match open_locked::<H, J>(host, alloc, names, &lock, folder, texts, outputs) {
@@ -577,7 +622,10 @@ fn give_one<H: Host, J: Judge>(
     let file = outlet.into_file();
     let OpenedName { name, bytes } = opened;
     if !file.is_named(name) {
-        return Err(refused(FilesFault::Failed, format!(in alloc; "{name} came back as another file")));
+        return Err(refused(
+            FilesFault::Failed,
+            format!(in alloc; "{name} came back as another file"),
+        ));
     }
     take_back::<H, J>(host, names, folder, name, bytes, file);
     Ok(())
@@ -606,7 +654,10 @@ pub fn give_back<H: Host, J: Judge>(
     let mut next = 0;
     for outlet in outlets {
         let Some(one) = nth_of(opened, next) else {
-            return Err(refused(FilesFault::Failed, format!(in alloc; "{folder}: more files came back than were opened")));
+            return Err(refused(
+                FilesFault::Failed,
+                format!(in alloc; "{folder}: more files came back than were opened"),
+            ));
         };
         give_one::<H, J>(host, alloc, names, folder, one, outlet)?;
         next += 1;

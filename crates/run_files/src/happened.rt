@@ -27,7 +27,12 @@ pub struct HistoryFile<F: Drop> {
 }
 
 // The name that is tried at the nth time.
-pub(crate) fn fresh_name(alloc: Global, path: &str, ending: &str, nth: u64) -> Result<String, AllocError> {
+pub(crate) fn fresh_name(
+    alloc: Global,
+    path: &str,
+    ending: &str,
+    nth: u64,
+) -> Result<String, AllocError> {
     let path = path.trim_end_matches('/');
     if nth == 0 {
         return format!(in alloc; "{path}.{ending}");
@@ -60,7 +65,10 @@ fn make_beside<H: Host, J: Judge>(
             Err(fault) => return Err(refused_by(host, alloc, FilesFault::Unwritten, fault, &made)),
         }
     }
-    Err(refused(FilesFault::Unwritten, format!(in alloc; "{path}.new: too many files of this name are left")))
+    Err(refused(
+        FilesFault::Unwritten,
+        format!(in alloc; "{path}.new: too many files of this name are left"),
+    ))
 }
 
 // A device of this name.
@@ -98,7 +106,10 @@ pub fn open_history<H: Host, J: Judge>(
 {
     match look::<H, J>(host, names, path) {
         Ok(Standing::Device) => open_device::<H, J>(host, alloc, names, path),
-        Ok(Standing::Folder) => Err(refused(FilesFault::Unwritten, format!(in alloc; "{path} is a folder"))),
+        Ok(Standing::Folder) => Err(refused(
+            FilesFault::Unwritten,
+            format!(in alloc; "{path} is a folder"),
+        )),
         Ok(Standing::File) | Ok(Standing::Nothing) => make_beside::<H, J>(host, alloc, names, path),
         Err(fault) => Err(refused_by(host, alloc, FilesFault::Unwritten, fault, path)),
     }

@@ -1,5 +1,5 @@
 // The names that a run writes are told apart from those that it reads.
-ghost use Rattle.std.specs.Prelude.{◌≡◌, ◌≢◌, IsTrue, OnOk, string_bytes};
+ghost use Rattle.std.specs.Prelude.{◌≡◌, OnOk, string_bytes};
 ghost use Rattle.std.specs.Option.{option_map};
 ghost use Rattle.run_files.specs.Places.{ends_or_slash, is_within};
 ghost use Rattle.run_files.specs.Rules.{GoesOn, IfAsked, IsApart, IsElsewhere, IsOutside};
@@ -48,7 +48,10 @@ fn differ<H: Host, J: Judge>(
 {
     match place::<H, J>(host, names, name) {
         Ok(other) => if other.as_str() == at.as_str() {
-            Err(refused(FilesFault::Unwritten, format!(in alloc; "{at} is a text of the run")))
+            Err(refused(
+                FilesFault::Unwritten,
+                format!(in alloc; "{at} is a text of the run"),
+            ))
         } else {
             Ok(())
         },
@@ -85,7 +88,10 @@ fn stay_outside<H: Host, J: Judge>(
 {
     match place::<H, J>(host, names, folder) {
         Ok(other) => if is_within(other.as_bytes(), at.as_bytes()) {
-            Err(refused(FilesFault::Unwritten, format!(in alloc; "{at} is in the folder {folder}")))
+            Err(refused(
+                FilesFault::Unwritten,
+                format!(in alloc; "{at} is in the folder {folder}"),
+            ))
         } else {
             Ok(())
         },

@@ -32,11 +32,11 @@ returns-clause-ok g c =
     let made : c.in-Ok.net.value ≡ net = c.in-Ok.ensures.ok in
     let now = world_of c.in-Ok-run_network.ended.world in
     let happened = happenings c.in-Ok-run_network.ended.history.lines.items in
-    let told = c.in-Ok-report_of_world.report in
+    let told = c.in-Ok-report_of_world in
     let seen : c.deref.result.now ≡ net = c.deref.ensures ∙ made in
     report_is (g.K.Keeper.has_kept c.close_outputs.new.keeper)
     (Appends (g.H.Write.contents c.args.history.now) (g.H.Write.contents c.tell_history.new.history)) options net inputs script
-    happened now told.0.items told.1
+    happened now told.report.items told.complete
     (subst (λ (n : Net). ∥ (now.net ≡ network_of n.program) × (now.inputs ≡ inputs) ∥₁) made
     c.in-Ok-run_network.ensures.same)
     (subst (λ (s : Settings). IsEnd s (network_of net.program) inputs script happened now) c.settings.ensures
@@ -44,8 +44,8 @@ returns-clause-ok g c =
     c.in-Ok-run_network.ensures.end))
     (subst (λ (n : Net). IsRun (network_of n.program) inputs (released_streams (network_of n.program) now.stations)
     (are_quiet now)) made c.in-Ok-run_network.ensures.run)
-    (subst (λ (n : Net). IsToldOf n options.items now told.0.items told.1) seen c.in-Ok-report_of_world.ensures)
+    (subst (λ (n : Net). IsToldOf n options.items now told.report.items told.complete) seen c.in-Ok-report_of_world.ensures)
     c.in_ok-close_outputs.ensures.kept
     (subst (λ (n : Net). IsWrittenIf (is_some options.history)
     (Appends (g.H.Write.contents c.args.history.now) (g.H.Write.contents c.tell_history.new.history))
-    (history_text n happened)) (c.deref-2.ensures ∙ made) c.in_ok-tell_history.ensures.written)
+    (history_text n happened)) (c.deref-3.ensures ∙ made) c.in_ok-tell_history.ensures.written)

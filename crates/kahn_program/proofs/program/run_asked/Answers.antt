@@ -1,19 +1,19 @@
 use Rattle.std.proofs.Common.{rules}
 use Rattle.run_files.proofs.Going.{read_later}
-use Rattle.kahn_program.specs.Program.{given_of}
+use Rattle.kahn_program.specs.Program.{IsAccepted, given_of}
 use Rattle.kahn_program.proofs.Logs.{keeps_goes, keeps_then}
 use Rattle.kahn_program.proofs.program.run_asked.Goals as goal
 
 pub run_kept-requires-clause-ready : goal.run_kept-requires-clause-ready
 run_kept-requires-clause-ready g c κs within = record {
   given = given_of c.args.all.texts;
-  read = read_later _ _ _ _ _ c.tell_apart.ensures.goes.later c.requires.read;
+  read = read_later IsAccepted _ _ _ _ c.tell_apart.ensures.goes.later c.requires.read;
   accepted = c.requires.accepted;
   apart = c.in_ok-tell_apart.ensures.apart;
 }
 
 pub run_kept-requires-clause-read : goal.run_kept-requires-clause-read
-run_kept-requires-clause-read g c κs within = read_later _ _ _ _ _ c.tell_apart.ensures.goes.later c.requires.read
+run_kept-requires-clause-read g c κs within = read_later IsAccepted _ _ _ _ c.tell_apart.ensures.goes.later c.requires.read
 
 pub returns-in-Some : goal.returns-in-Some
 returns-in-Some g c = record { keeps = keeps_then _ _ _ _ (keeps_goes _ _ _ c.tell_apart.ensures.goes) c.run_kept.ensures.keeps }
@@ -21,7 +21,7 @@ returns-in-Some g c = record { keeps = keeps_then _ _ _ _ (keeps_goes _ _ _ c.te
 pub run_over-requires-clause-ready : goal.run_over-requires-clause-ready
 run_over-requires-clause-ready g c κs within = record {
   given = given_of c.args.all.texts;
-  read = read_later _ _ _ _ _ c.tell_apart.ensures.goes.later c.requires.read;
+  read = read_later IsAccepted _ _ _ _ c.tell_apart.ensures.goes.later c.requires.read;
   accepted = c.requires.accepted;
   apart = c.in_ok-tell_apart.ensures.apart;
 }

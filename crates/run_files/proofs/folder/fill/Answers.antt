@@ -1,4 +1,4 @@
-use Rattle.std.proofs.Common.{rules, refl, sym, arith, length}
+use Rattle.std.proofs.Common.{rules, refl, arith}
 use Rattle.run_files.proofs.Going.{goes_then, made_goes, made_next, goes_still, ready_goes}
 use Rattle.run_files.proofs.folder.fill.Goals as goal
 

@@ -1,4 +1,4 @@
-use Rattle.std.proofs.Common.{rules, refl, sym, subst, arith, length}
+use Rattle.std.proofs.Common.{rules, arith}
 use Rattle.run_files.proofs.Going.{goes_then, has_goes, made_goes, ready_goes}
 use Rattle.run_files.proofs.folder.fill_and_name.Goals as goal
 

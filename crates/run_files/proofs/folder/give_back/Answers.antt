@@ -14,15 +14,17 @@ returns-in_err-give_one-clause-goes g c = goes_then _ _ _ _ _ c.loop-outlet.inva
 pub loop-outlet-preserved : goal.loop-outlet-preserved
 loop-outlet-preserved g c =
     let so_far = c.loop-outlet.invariant.used in record {
-  goes = goes_then _ _ _ _ _ c.loop-outlet.invariant.goes c.give_one.ensures.goes;
-  used = (so_far.0 ++ c.in-Some.outlet ∷ [],
-      used_more _ _ _ _ _ _ _ _ c.give_one.ensures.goes so_far.1
-          (subst (λ k. slice_get c.args.opened.now k ≡ Some c.in-Some-nth_of.one.now) so_far.2 c.in-Some-nth_of.ensures)
-          c.in_ok-give_one.ensures.used,
-      one_longer _ _ _ so_far.2,
-      append_assoc so_far.0 (c.in-Some.outlet ∷ []) (into_iter_items c.next.new.self)
-          ∙ (ap (λ rest. so_far.0 ++ rest) (sym c.in-Some.ensures.steps.0) ∙ so_far.3));
-}
+      goes = goes_then _ _ _ _ _ c.loop-outlet.invariant.goes c.give_one.ensures.goes;
+      used = (
+        so_far.0 ++ c.in-Some.outlet ∷ [],
+        used_more _ _ _ _ _ _ _ _ c.give_one.ensures.goes so_far.1
+            (subst (λ k. slice_get c.args.opened.now k ≡ Some c.in-Some-nth_of.one.now) so_far.2 c.in-Some-nth_of.ensures)
+            c.in_ok-give_one.ensures.used,
+        one_longer _ _ _ so_far.2,
+        append_assoc so_far.0 (c.in-Some.outlet ∷ []) (into_iter_items c.next.new.self)
+            ∙ (ap (λ rest. so_far.0 ++ rest) (sym c.in-Some.ensures.steps.0) ∙ so_far.3),
+      );
+    }
 
 pub returns-clause-used : goal.returns-clause-used
 returns-clause-used g c =

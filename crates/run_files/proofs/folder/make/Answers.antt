@@ -1,4 +1,4 @@
-use Rattle.std.proofs.Common.{rules, refl, sym, arith, length}
+use Rattle.std.proofs.Common.{rules, arith}
 use Rattle.run_files.proofs.Going.{goes_then, has_goes, ready_goes}
 use Rattle.run_files.proofs.folder.make.Goals as goal
 

@@ -1,4 +1,4 @@
-use Rattle.std.proofs.Common.{rules, refl, sym}
+use Rattle.std.proofs.Common.{rules}
 use Rattle.run_files.proofs.Going.{free_still, held_now, later_by, ready_goes, ready_later, rules_by, rules_unlocked}
 use Rattle.run_files.proofs.folder.open_folder.Goals as goal
 

@@ -1,5 +1,5 @@
 use Rattle.std.proofs.Common.{rules}
-use Rattle.run_files.proofs.Going.{goes_then, has_goes, ready_goes, same_goes}
+use Rattle.run_files.proofs.Going.{goes_then, ready_goes}
 use Rattle.run_files.proofs.folder.open_locked.Goals as goal
 
 pub compare-requires-2-after_bounds : goal.compare-requires-2-after_bounds

@@ -1,4 +1,3 @@
-use Rattle.std.proofs.Common.{◌≡◌, ◌<◌, ◌≤◌, length, slice_get, string_bytes}
 use Rattle.run_files.specs.Rules.{GoesOn}
 use Rattle.run_files.specs.Wanted.{wanted_of}
 use Rattle.run_files.proofs.happened.make_beside.Given as goal
