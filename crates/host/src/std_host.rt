@@ -55,7 +55,11 @@ fn is_link(rt: &HostRuntime, path: &str) -> bool {
 fn standing(rt: &HostRuntime, path: &str) -> io::Result<Standing> {
     match fs::metadata(rt, path) {
         Ok(metadata) => Ok(if metadata.is_file() {
-            if is_link(rt, path) { Standing::Device } else { Standing::File }
+            if is_link(rt, path) {
+                Standing::Device
+            } else {
+                Standing::File
+            }
         } else if metadata.is_dir() {
             Standing::Folder
         } else {
