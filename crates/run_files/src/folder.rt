@@ -476,6 +476,7 @@ fn open_one<H: Host, J: Judge>(
     ensures goes { GoesOn J.accepts (wanted_of names.now) (H.asked host.old) (H.asked host.new) }
     ensures opened { IfOk result (λ one. Has (Opened (string_bytes folder.now) (string_bytes name.now) (Ok one.1.value.items)) (H.asked host.new)) }
 {
+    let path = format!(in alloc; "{folder}/{name}")?;
     let (mut file, bytes) = match open_lines::<H, J>(host, names, lock, folder, name) {
         Ok(opened) => opened,
         Err(HostFault::NotThere) => return Err(refused_by(
@@ -485,9 +486,9 @@ fn open_one<H: Host, J: Judge>(
             HostFault::NotThere,
             name,
         )),
-        Err(fault) => return Err(refused_by(host, alloc, FilesFault::Failed, fault, name)),
+        Err(fault) => return Err(refused_by(host, alloc, FilesFault::Failed, fault, &path)),
     };
-    let held = items_of(alloc, name, &bytes)?;
+    let held = items_of(alloc, &path, &bytes)?;
     cut_tail::<H, J>(
         host, alloc, names, folder, name, &mut file, &bytes, held.bytes,
     )?;
