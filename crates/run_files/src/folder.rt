@@ -484,7 +484,7 @@ fn open_one<H: Host, J: Judge>(
             alloc,
             FilesFault::OtherState,
             HostFault::NotThere,
-            name,
+            &path,
         )),
         Err(fault) => return Err(refused_by(host, alloc, FilesFault::Failed, fault, &path)),
     };
