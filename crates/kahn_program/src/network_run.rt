@@ -259,3 +259,36 @@ pub fn report_of_run<
     tell_history(options, &net, &happened, history)?;
     Ok((report, complete, ending))
 }
+
+/// The same by a script of which nothing is told, and without what there is to say of the run's end.
+pub fn report_alone<
+    O: Outlet + Send,
+    K: Keeper<O>,
+    H: Write,
+    P: RunWatch + TurnWatch + Sync,
+    R: Threads + Wait + Sync,
+>(
+    rt: &R,
+    alloc: Global,
+    options: &Options,
+    net: Net,
+    inputs: Inputs,
+    script: Vec<ScriptedEvent>,
+    keeper: &mut K,
+    history: &mut H,
+    watch: &mut P,
+) -> Result<(Vec<u8>, bool), Failure>
+    requires fitting { Fits (network_of net.program) inputs }
+    ensures ok { IfOk result
+        (λ report. IsReport (K.has_kept keeper.new) (Appends (H.contents history.old) (H.contents history.new))
+        options.now net inputs script.items report.0.items report.1) }
+    ensures unasked { is_some options.now.history ≡ false → history.new ≡ history.old }
+    ensures err { IfErr result (IsReportless options.now K.keeps) }
+{
+    match report_of_run(
+        rt, alloc, options, net, inputs, script, None, keeper, history, watch,
+    ) {
+        Ok((report, complete, _)) => Ok((report, complete)),
+        Err(failure) => Err(failure),
+    }
+}

@@ -12,7 +12,7 @@ use crate::approximating::report_of_approximation;
 use crate::asked::Options;
 use crate::failure::Failure;
 use crate::keeper::Keeper;
-use crate::network_run::report_of_run;
+use crate::network_run::report_alone;
 use crate::printing::{print_failure, print_report};
 use crate::reading::{read_inputs, read_net, read_script};
 use cobaltmidge::{RunWatch, TurnWatch, events_of};
@@ -78,10 +78,9 @@ fn report_by_script<
     let Ok(events) = events_of(alloc, &lines) else {
         return Err(Failure::NoMemory);
     };
-    let (report, complete, _) = report_of_run(
-        rt, alloc, options, net, inputs, events, None, keeper, history, watch,
-    )?;
-    Ok((report, complete))
+    report_alone(
+        rt, alloc, options, net, inputs, events, keeper, history, watch,
+    )
 }
 
 /// The report that is asked for of a network on its inputs, and whether it tells `complete`: of an approximation, or of a
