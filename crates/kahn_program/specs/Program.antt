@@ -1,18 +1,19 @@
 -- The whole program over its host: what it accepts, and what stands in the host's log where it is done.
 use Rattle.std.specs.declared.alloc.Global.{Global}
-use Rattle.std.specs.Prelude.{Vec, ℕ, ℤ, false, List, [], ◌∷◌, ◌++◌, Option, Some, None, IfSome, codes, string_bytes}
+use Rattle.std.specs.Prelude.{Vec, ℕ, ℤ, Bool, true, false, List, [], ◌∷◌, ◌++◌, Option, Some, None, Ok, IfSome, codes, string_bytes}
 use Rattle.std.specs.Option.{option_map}
 use Rattle.cobaltmidge.specs.Texts.{IsNetOf, AreInputsOf}
 use Rattle.fail_script.specs.Lines.{IsScript}
 use Rattle.fail_script.specs.declared.act.ScriptLine.{ScriptLine}
-use Rattle.host.specs.Requests.{Request, Each, IsFree, Later}
+use Rattle.host.specs.Requests.{Request, Said, Each, Has, IsFree, Later}
+use Rattle.kahn_program.specs.Runs.{IsReportOf}
 use Rattle.kahn_program.specs.declared.asked.Options.{Options}
 use Rattle.kahn_program.specs.declared.program.Texts.{Texts}
 use Rattle.net_text.specs.Names.{NameTree}
 use Rattle.protocol.specs.Node.Common.{Channel, Port, Outside, Process, Net, network_of, node_count}
-use Rattle.run_files.specs.Keeping.{IsWrittenTo}
+use Rattle.run_files.specs.Keeping.{IsKept, IsWrittenTo}
 use Rattle.run_files.specs.History.{IsOpenFor}
-use Rattle.run_files.specs.Rules.{Given, rule}
+use Rattle.run_files.specs.Rules.{Given, WereRead, rule}
 use Rattle.run_files.specs.declared.happened.HistoryFile.{HistoryFile}
 use Rattle.run_files.specs.Wanted.{Wanted}
 
@@ -61,6 +62,17 @@ file_names [] names = []
 file_names (channel ∷ channels) [] = []
 file_names (channel ∷ channels) (name ∷ names) = name_if_output channel.consumer name (file_names channels names)
 
+-- each output's stream is kept in its own file of the folder
+abbrev pub AreKeptIn : List ℕ → List (List ℕ) → List Request → List (List ℤ) → Type 0
+AreKeptIn folder names e [] = Unit {0}
+AreKeptIn folder [] e (stream ∷ streams) = ⊥
+AreKeptIn folder (name ∷ names) e (stream ∷ streams) = IsKept folder name stream e × AreKeptIn folder names e streams
+
+-- where a folder is asked for
+abbrev pub AreKept : Option (List ℕ) → List (List ℕ) → List Request → List (List ℤ) → Type 0
+AreKept None names e streams = Unit {0}
+AreKept (Some folder) names e streams = AreKeptIn folder names e streams
+
 -- where a file for it is asked for, this is written there
 abbrev pub IsWrittenIfAsked : Option (List ℕ) → List Request → List ℕ → Type 0
 IsWrittenIfAsked None e bytes = Unit {0}
@@ -87,3 +99,21 @@ given_of texts = record {
   inputs = texts.inputs.items;
   script = option_map (λ (script : Vec ℕ Global). script.items) texts.script;
 }
+
+-- What is to be said is the report of a run of the texts that were read, or of an approximation, and tells `complete` or not; each output's
+-- stream is kept, and what happened is written, where that is asked for.
+pub record HasReport (options : Options) (text : List ℕ) (complete : Bool) (e : List Request) : Type 0 where
+  pub given : Given
+  pub read : WereRead (asked_files options) given e
+  pub net : Net
+  pub inputs : List (List ℤ)
+  pub of_net : IsNetOf given.net net
+  pub of_inputs : AreInputsOf given.inputs net inputs
+  pub report : IsReportOf (AreKept (asked_files options).state (file_names net.program.channels.items net.channel_names.items) e)
+      (IsWrittenIfAsked (asked_files options).history e) options net inputs given.script text complete
+
+-- All that is asked for is done: such a report was said.
+pub record IsDone (options : Options) (complete : Bool) (e : List Request) : Type 0 where
+  pub text : List ℕ
+  pub report : HasReport options text complete e
+  pub said : Has (Said text (Ok tt)) e
