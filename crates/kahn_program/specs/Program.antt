@@ -1,18 +1,19 @@
 -- The whole program over its host: what it accepts, and what stands in the host's log where it is done.
 use Rattle.std.specs.declared.alloc.Global.{Global}
-use Rattle.std.specs.Prelude.{Vec, ℕ, ℤ, false, List, [], ◌∷◌, ◌++◌, Option, Some, None, IfSome, codes, string_bytes}
+use Rattle.std.specs.Prelude.{Vec, ℕ, ℤ, Bool, Ok, false, List, [], ◌∷◌, ◌++◌, Option, Some, None, IfSome, codes, string_bytes}
 use Rattle.std.specs.Option.{option_map}
 use Rattle.cobaltmidge.specs.Texts.{IsNetOf, AreInputsOf}
 use Rattle.fail_script.specs.Lines.{IsScript}
 use Rattle.fail_script.specs.declared.act.ScriptLine.{ScriptLine}
-use Rattle.host.specs.Requests.{Request, Each, IsFree, Later}
+use Rattle.host.specs.Requests.{Request, Said, Each, Has, IsFree, Later}
+use Rattle.kahn_program.specs.Runs.{IsReportOf}
 use Rattle.kahn_program.specs.declared.asked.Options.{Options}
 use Rattle.kahn_program.specs.declared.program.Texts.{Texts}
 use Rattle.net_text.specs.Names.{NameTree}
 use Rattle.protocol.specs.Node.Common.{Channel, Port, Outside, Process, Net, network_of, node_count}
 use Rattle.run_files.specs.Keeping.{IsWrittenTo}
 use Rattle.run_files.specs.History.{IsOpenFor}
-use Rattle.run_files.specs.Rules.{Given, rule}
+use Rattle.run_files.specs.Rules.{Given, WereRead, rule}
 use Rattle.run_files.specs.declared.happened.HistoryFile.{HistoryFile}
 use Rattle.run_files.specs.Wanted.{Wanted}
 
@@ -87,3 +88,24 @@ given_of texts = record {
   inputs = texts.inputs.items;
   script = option_map (λ (script : Vec ℕ Global). script.items) texts.script;
 }
+
+-- nothing is said of what the outlets took
+abbrev pub Anything : List (List ℤ) → Type 0
+Anything streams = Unit {0}
+
+-- What is to be said is the report of a run of the texts that were read, or of an approximation, and tells `complete` or not. What happened
+-- in that run is written, where that is asked for.
+pub record HasReport (options : Options) (text : List ℕ) (complete : Bool) (e : List Request) : Type 0 where
+  pub given : Given
+  pub read : WereRead (asked_files options) given e
+  pub net : Net
+  pub inputs : List (List ℤ)
+  pub of_net : IsNetOf given.net net
+  pub of_inputs : AreInputsOf given.inputs net inputs
+  pub report : IsReportOf Anything (IsWrittenIfAsked (asked_files options).history e) options net inputs given.script text complete
+
+-- such a report was said
+pub record IsDone (options : Options) (complete : Bool) (e : List Request) : Type 0 where
+  pub text : List ℕ
+  pub report : HasReport options text complete e
+  pub said : Has (Said text (Ok tt)) e

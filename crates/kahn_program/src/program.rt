@@ -1,13 +1,16 @@
 //! The whole program over its host.
 
-ghost use Rattle.std.specs.Prelude.{◌≡◌, ◌++◌, ◌≤◌, [], IfOk, OnOk, Ok, Some, codes, length, map, string_bytes};
+ghost use Rattle.std.specs.Prelude.{Bool, ◌≡◌, ◌++◌, ◌≤◌, [], IfOk, OnOk, Ok, Some, codes, length, map, string_bytes};
 ghost use Rattle.std.specs.Option.{option_map};
-ghost use Rattle.host.specs.Requests.{Each, Has, IsFree, Read};
+ghost use Rattle.host.specs.Requests.{Each, Has, IsFree, Read, Said};
 ghost use Rattle.protocol.specs.Node.Common.{Fits, MAX_NODES, network_of, node_count};
 ghost use Rattle.cobaltmidge.specs.Texts.{AreInputsOf, IsNetOf};
 ghost use Rattle.fail_script.specs.Lines.{IsScript};
-ghost use Rattle.kahn_program.specs.Program.{IsAccepted, IsOpenIfAsked, IsWrittenIfAsked, Keeps, asked_files, file_names, given_of, name_if_output};
+ghost use Rattle.kahn_program.specs.Program.{IsAccepted, IsOpenIfAsked, IsWrittenIfAsked, Keeps, asked_files, file_names, given_of, name_if_output, Anything, HasReport, IsDone};
+ghost use Rattle.kahn_program.specs.Runs.{IsReport};
 ghost use Rattle.kahn_program.specs.Scripts.{AreLinesOf};
+ghost use Rattle.kahn_program.specs.Statuses.{status_of_run};
+ghost use Rattle.cobaltmidge.specs.Scripts.{scripted_of};
 ghost use Rattle.run_files.specs.Opening.{AreOpened};
 ghost use Rattle.run_files.specs.Rules.{GoesOn, IsReady, WasReadIf, WereRead, rule};
 ghost use Rattle.run_files.specs.Wanted.{wanted_of};
@@ -449,6 +452,9 @@ fn run_over<
     requires ready { IsReady IsAccepted (wanted_of names.now) (H.asked host.old) }
     requires fitting { Fits (network_of asked.net.program) asked.inputs }
     ensures goes { GoesOn IsAccepted (wanted_of names.now) (H.asked host.old) (H.asked host.new) }
+    ensures report { IfOk result (λ report. IsReport Anything
+        (IsWrittenIfAsked (wanted_of names.now).history (H.asked host.new)) options.now asked.entry.net asked.entry.inputs
+        (map scripted_of asked.entry.lines.items) report.bytes.items report.complete) }
 {
     let RunTexts {
         net,
@@ -503,6 +509,9 @@ fn run_locked<H: Host, P: RunWatch + TurnWatch + Sync, R: Threads + Wait + Sync>
     requires fitting { Fits (network_of asked.net.program) asked.inputs }
     requires opened { AreOpened (string_bytes folder.now) opened.now (H.asked host.old) }
     ensures goes { GoesOn IsAccepted (wanted_of names.now) (H.asked host.old) (H.asked host.new) }
+    ensures report { IfOk result (λ report. IsReport Anything
+        (IsWrittenIfAsked (wanted_of names.now).history (H.asked host.new)) options.now asked.entry.net asked.entry.inputs
+        (map scripted_of asked.entry.lines.items) report.bytes.items report.complete) }
 {
     let mut keeper = FileKeeper::new(alloc, files);
     let report = run_over::<H, ResumedOutlet<H::Lines>, _, _, _>(
@@ -537,6 +546,9 @@ fn run_kept<H: Host, P: RunWatch + TurnWatch + Sync, R: Threads + Wait + Sync>(
     requires read { WereRead (wanted_of names.now) (given_of texts.now) (H.asked host.old) }
     requires fitting { Fits (network_of asked.net.program) asked.inputs }
     ensures keeps { Keeps (wanted_of names.now) (H.asked host.old) (H.asked host.new) }
+    ensures report { IfOk result (λ report. IsReport Anything
+        (IsWrittenIfAsked (wanted_of names.now).history (H.asked host.new)) options.now asked.entry.net asked.entry.inputs
+        (map scripted_of asked.entry.lines.items) report.bytes.items report.complete) }
 {
     let outputs = file_names(alloc, &asked.net)?;
     let folder_texts = FolderTexts {
@@ -595,6 +607,9 @@ fn run_asked<H: Host, P: RunWatch + TurnWatch + Sync, R: Threads + Wait + Sync>(
     requires accepted { IsAccepted (given_of all.texts) }
     requires fitting { Fits (network_of all.net.program) all.inputs }
     ensures keeps { Keeps (wanted_of names.now) (H.asked host.old) (H.asked host.new) }
+    ensures report { IfOk result (λ report. IsReport Anything
+        (IsWrittenIfAsked (wanted_of names.now).history (H.asked host.new)) options.now all.net all.inputs
+        (map scripted_of all.lines.items) report.bytes.items report.complete) }
 {
     let Checked {
         texts,
@@ -638,6 +653,7 @@ fn report_asked<H: Host, P: RunWatch + TurnWatch + Sync, R: Threads + Wait + Syn
     requires free { IsFree (H.asked host.old) }
     requires wanted { wanted_of names.now ≡ asked_files options.now }
     ensures keeps { Keeps (wanted_of names.now) (H.asked host.old) (H.asked host.new) }
+    ensures report { IfOk result (λ report. HasReport options.now report.bytes.items report.complete (H.asked host.new)) }
 {
     let all = read_all(host, alloc, options, names)?;
     let Some(n) = options.approx else {
@@ -661,13 +677,15 @@ fn say_report<H: Host>(
 ) -> u8
     ensures goes { GoesOn IsAccepted (wanted_of names.now) (H.asked host.old) (H.asked host.new) }
     ensures status { result ≤ 3 }
+    ensures said { (complete : Bool) → result ≡ status_of_run complete
+        → (complete ≡ report.complete) × Has (Said report.bytes.items (Ok tt)) (H.asked host.new) }
 {
     let Report {
         bytes,
         complete,
         ending,
     } = report;
-    if say::<H, Accepted>(host, names, &bytes).is_err() {
+    if let Err(_) = say::<H, Accepted>(host, names, &bytes) {
         let words = if options.explain {
             words_of(host, alloc, "standard output")
         } else {
@@ -704,6 +722,7 @@ fn tell_stop<H: Host>(
 ) -> u8
     ensures goes { GoesOn IsAccepted (wanted_of names.now) (H.asked host.old) (H.asked host.new) }
     ensures status { result ≤ 2 }
+    ensures none { (complete : Bool) → result ≡ status_of_run complete → ⊥ }
 {
     let Stop { failure, words } = stop;
     let Ok(line) = format!(in alloc; "{failure}\n") else {
@@ -743,6 +762,7 @@ fn main_by_names<H: Host, P: RunWatch + TurnWatch + Sync, R: Threads + Wait + Sy
     requires wanted { wanted_of names.now ≡ asked_files options.now }
     ensures keeps { Keeps (wanted_of names.now) (H.asked host.old) (H.asked host.new) }
     ensures status { result ≤ 3 }
+    ensures done { (complete : Bool) → result ≡ status_of_run complete → IsDone options.now complete (H.asked host.new) }
 {
     match report_asked(rt, alloc, host, options, names, watch) {
         Ok(report) => say_report(host, alloc, options, names, report),
@@ -766,6 +786,9 @@ pub fn main_of<H: Host, P: RunWatch + TurnWatch + Sync, R: Threads + Wait + Sync
         → Each (rule IsAccepted (asked_files options.now)) (H.asked host.new) }
     // No lock is held at the end.
     ensures free { IsFree (H.asked host.new) }
+    // Where the status is 0 or 3, what is said is the report that is asked for, of the texts that were read, and what happened is written where
+    // that is asked for.
+    ensures done { (complete : Bool) → result ≡ status_of_run complete → IsDone options.now complete (H.asked host.new) }
 {
     match names_of(options) {
         Ok(names) => main_by_names(rt, alloc, host, options, &names, watch),

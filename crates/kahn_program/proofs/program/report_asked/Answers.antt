@@ -1,4 +1,6 @@
-use Rattle.std.proofs.Common.{rules}
+use Rattle.std.proofs.Common.{refl}
+use Rattle.kahn_program.specs.Program.{given_of}
+use Rattle.kahn_program.proofs.Said.{approximation_report, if_ok, run_report}
 use Rattle.kahn_program.proofs.Logs.{keeps_goes, keeps_then, script_accepted}
 use Rattle.kahn_program.proofs.program.report_asked.Goals as goal
 
@@ -11,5 +13,16 @@ run_asked-requires-clause-accepted g c κs within = record {
   of_script = script_accepted _ _ _ _ _ c.in_ok-all.ensures.read.script c.in_ok-all.ensures.lines;
 }
 
-pub returns-in_default : goal.returns-in_default
-returns-in_default g c = record { keeps = keeps_then _ _ _ _ (keeps_goes _ _ _ c.read_all.ensures.goes) c.run_asked.ensures.keeps }
+pub returns-in_default-clause-keeps : goal.returns-in_default-clause-keeps
+returns-in_default-clause-keeps g c = keeps_then _ _ _ _ (keeps_goes _ _ _ c.read_all.ensures.goes) c.run_asked.ensures.keeps
+
+pub returns-in_default-clause-report : goal.returns-in_default-clause-report
+returns-in_default-clause-report g c =
+    if_ok _ _ _ (λ report is. run_report _ _ (given_of c.in_ok-all.all.texts) _ _ c.args.names.now.script _ _ _ _ _ c.in_default.is c.requires.wanted refl
+    c.in_ok-all.ensures.read c.run_asked.ensures.keeps.later c.in_ok-all.ensures.net c.in_ok-all.ensures.inputs c.in_ok-all.ensures.lines is)
+    c.run_asked.ensures.report
+
+pub returns-clause-report : goal.returns-clause-report
+returns-clause-report g c =
+    approximation_report _ _ _ (given_of c.in_ok-all.all.texts) _ _ _ _ _ c.in-Some.is c.requires.wanted c.in_ok-all.ensures.read
+    c.in_ok-all.ensures.net c.in_ok-all.ensures.inputs c.in_ok-bytes.ensures.ok

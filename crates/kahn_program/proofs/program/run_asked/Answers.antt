@@ -15,8 +15,8 @@ run_kept-requires-clause-ready g c κs within = record {
 pub run_kept-requires-clause-read : goal.run_kept-requires-clause-read
 run_kept-requires-clause-read g c κs within = read_later IsAccepted _ _ _ _ c.tell_apart.ensures.goes.later c.requires.read
 
-pub returns-in-Some : goal.returns-in-Some
-returns-in-Some g c = record { keeps = keeps_then _ _ _ _ (keeps_goes _ _ _ c.tell_apart.ensures.goes) c.run_kept.ensures.keeps }
+pub returns-in-Some-clause-keeps : goal.returns-in-Some-clause-keeps
+returns-in-Some-clause-keeps g c = keeps_then _ _ _ _ (keeps_goes _ _ _ c.tell_apart.ensures.goes) c.run_kept.ensures.keeps
 
 pub run_over-requires-clause-ready : goal.run_over-requires-clause-ready
 run_over-requires-clause-ready g c κs within = record {
@@ -26,5 +26,5 @@ run_over-requires-clause-ready g c κs within = record {
   apart = c.in_ok-tell_apart.ensures.apart;
 }
 
-pub returns : goal.returns
-returns g c = record { keeps = keeps_then _ _ _ _ (keeps_goes _ _ _ c.tell_apart.ensures.goes) (keeps_goes _ _ _ c.run_over.ensures.goes) }
+pub returns-clause-keeps : goal.returns-clause-keeps
+returns-clause-keeps g c = keeps_then _ _ _ _ (keeps_goes _ _ _ c.tell_apart.ensures.goes) (keeps_goes _ _ _ c.run_over.ensures.goes)

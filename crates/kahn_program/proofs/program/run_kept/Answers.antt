@@ -1,4 +1,5 @@
 use Rattle.std.proofs.Common.{rules}
+use Rattle.kahn_program.proofs.Said.{report_later}
 use Rattle.run_files.proofs.Going.{ready_later}
 use Rattle.kahn_program.proofs.program.run_kept.Goals as goal
 
@@ -8,23 +9,22 @@ run_locked-requires-clause-ready g c κs within = ready_later _ _ _ _ c.open_fol
 pub let_go-requires-clause-held : goal.let_go-requires-clause-held
 let_go-requires-clause-held g c κs within = c.run_locked.ensures.goes.held _ c.in_ok-open.ensures.held
 
-pub returns-in-Ok : goal.returns-in-Ok
-returns-in-Ok g c = record {
-  keeps = record {
-    rules = λ each. c.let_go.ensures.rules (c.run_locked.ensures.goes.rules (c.open_folder.ensures.rules each));
-    later = λ r h. c.let_go.ensures.later r (c.run_locked.ensures.goes.later r (c.open_folder.ensures.later r h));
-    free = λ free. c.let_go.ensures.free;
-  };
+pub returns-in-Ok-clause-keeps : goal.returns-in-Ok-clause-keeps
+returns-in-Ok-clause-keeps g c = record {
+  rules = λ each. c.let_go.ensures.rules (c.run_locked.ensures.goes.rules (c.open_folder.ensures.rules each));
+  later = λ r h. c.let_go.ensures.later r (c.run_locked.ensures.goes.later r (c.open_folder.ensures.later r h));
+  free = λ free. c.let_go.ensures.free;
 }
+
+pub returns-in-Ok-clause-report : goal.returns-in-Ok-clause-report
+returns-in-Ok-clause-report g c = report_later _ _ _ c.args.options.now c.args.asked.net c.args.asked.inputs _ _ _ c.let_go.ensures.later c.in-Ok.ensures.report
 
 pub let_go-requires-in-Err-clause-held : goal.let_go-requires-in-Err-clause-held
 let_go-requires-in-Err-clause-held g c κs within = c.run_locked.ensures.goes.held _ c.in_ok-open.ensures.held
 
-pub returns : goal.returns
-returns g c = record {
-  keeps = record {
-    rules = λ each. c.let_go-in-Err.ensures.rules (c.run_locked.ensures.goes.rules (c.open_folder.ensures.rules each));
-    later = λ r h. c.let_go-in-Err.ensures.later r (c.run_locked.ensures.goes.later r (c.open_folder.ensures.later r h));
-    free = λ free. c.let_go-in-Err.ensures.free;
-  };
+pub returns-clause-keeps : goal.returns-clause-keeps
+returns-clause-keeps g c = record {
+  rules = λ each. c.let_go-in-Err.ensures.rules (c.run_locked.ensures.goes.rules (c.open_folder.ensures.rules each));
+  later = λ r h. c.let_go-in-Err.ensures.later r (c.run_locked.ensures.goes.later r (c.open_folder.ensures.later r h));
+  free = λ free. c.let_go-in-Err.ensures.free;
 }
