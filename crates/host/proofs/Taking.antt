@@ -1,9 +1,9 @@
 -- Bytes that the host takes piece by piece.
 use Rattle.std.proofs.Common.{◌≡◌, ◌⊎◌, ℕ, ◌+◌, ◌^◌, ◌≤◌, ◌<◌, List, [], ◌∷◌, ◌++◌, length, take, drop, Option, Some, None, true, false}
-use Rattle.std.proofs.Common.{◌-◌, refl, ap, ◌∙◌, sym, subst, inl, inr, append-nil, true≢false, arith}
+use Rattle.std.proofs.Common.{◌-◌, refl, ap, ◌∙◌, sym, subst, inl, inr, append_assoc, append-nil, true≢false, arith, Bool, IsTrue}
 use Rattle.std.proofs.Math.Seq.{take-add, take-length}
 use Rattle.std.proofs.lemmas.List.{drop-drop, length-take-le, length-drop}
-use Rattle.host.specs.Writes.{Write, Wrote, taken, ArePuts, HasTakenNone, IsPut}
+use Rattle.host.specs.Writes.{Write, Wrote, Synced, taken, ArePuts, HasTakenNone, IsPut, IsPutAndSynced}
 
 -- these calls were made for the first of these bytes, and the host took so many
 pub record IsPutSoFar (at : ℕ) (bytes : List ℕ) (count : ℕ) (old new : List Write) : Type 0 where
@@ -69,8 +69,10 @@ part_put at bytes count old new fits so why =
       puts = so.puts;
       begun = so.so_far ∙ ap (λ n. take n bytes) (sym so_long);
       whole = λ done. absurd (true≢false (sym done));
-      refused = λ done. (subst (λ n. n < length bytes) (sym so_long) fits,
-          subst (λ n. HasTakenNone so.calls ⊎ (2 ^ 64 ≤ at + n)) (sym so_long) why);
+      refused = λ done. (
+        subst (λ n. n < length bytes) (sym so_long) fits,
+        subst (λ n. HasTakenNone so.calls ⊎ (2 ^ 64 ≤ at + n)) (sym so_long) why,
+      );
     }
 
 pub no_place : (at : ℕ) (bytes : List ℕ) (count : ℕ) (old new : List Write) → count < length bytes → 2 ^ 64 ≤ at + count
@@ -102,3 +104,22 @@ rest_from from next to bytes ordered =
 
 pub part_length : (from to : ℕ) (bytes : List ℕ) → to ≤ length bytes → length (drop from (take to bytes)) ≡ to - from
 part_length from to bytes there = length-drop from (take to bytes) ∙ ap (λ n. n - from) (length-take-le to bytes there)
+
+taken_append : (calls old : List Write) → taken (calls ++ old) ≡ taken old ++ taken calls
+taken_append [] old = sym (append-nil (taken old))
+taken_append (Wrote at bytes (Some count) ∷ calls) old =
+    ap (λ (front : List ℕ). front ++ take count bytes) (taken_append calls old)
+    ∙ append_assoc (taken old) (taken calls) (take count bytes)
+taken_append (Wrote at bytes None ∷ calls) old = taken_append calls old
+taken_append (Synced done ∷ calls) old = taken_append calls old
+
+put_taken : (at : ℕ) (bytes : List ℕ) (old new : List Write) → IsPut at bytes true old new → taken new ≡ taken old ++ bytes
+put_taken at bytes old new put =
+    ap taken put.log ∙ taken_append put.calls old ∙ ap (λ (front : List ℕ). taken old ++ front) (put.whole refl)
+
+-- of a put that is done the host took each byte
+pub put_and_synced_taken : (at : ℕ) (bytes : List ℕ) (waits done : Bool) (old new : List Write)
+    → IsPutAndSynced at bytes waits done old new → IsTrue done → taken new ≡ taken old ++ bytes
+put_and_synced_taken at bytes true true old new asked done = ap taken asked.2 ∙ put_taken at bytes old asked.0 asked.1
+put_and_synced_taken at bytes false true old new asked done = put_taken at bytes old new asked
+put_and_synced_taken at bytes waits false old new asked done = absurd (true≢false (sym done))

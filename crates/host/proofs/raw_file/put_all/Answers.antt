@@ -1,4 +1,4 @@
-use Rattle.std.proofs.Common.{◌≡◌, ◌+◌, ◌-◌, ◌<◌, ◌≤◌, ℕ, List, drop, take, length, Some, arith, subst, sym}
+use Rattle.std.proofs.Common.{◌-◌, ◌<◌, ◌≤◌, ℕ, List, drop, take, length, arith, subst, sym}
 use Rattle.host.proofs.Taking.{IsPutSoFar, some_taken, none_taken, zero_taken, no_place, whole_put, rest_from, part_length}
 use Rattle.host.proofs.raw_file.put_all.Goals as goal
 
