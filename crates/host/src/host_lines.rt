@@ -1,5 +1,6 @@
 // Lines that are put to a file by calls of the system.
 ghost use Rattle.std.specs.Prelude.{◌≡◌, ◌∷◌, ◌++◌, [], true, List, IsTrue, string_bytes};
+ghost use Rattle.std.specs.Result.{result_ok};
 ghost use Rattle.host.specs.LineRequests.{Put, Synced};
 ghost use Rattle.host.specs.HostLines.{writes_of};
 ghost use Rattle.host.specs.Writes.{Write, Synced as SyncedWrite, taken};
@@ -7,7 +8,9 @@ ghost use Rattle.host.specs.Writes.{Write, Synced as SyncedWrite, taken};
 use crate::line_file::{LineFile, LinesAsked};
 use crate::raw_file::{RawFile, put_all};
 use sector_disk::Past;
+use std::alloc::{AllocError, Global};
 use std::fs::File;
+use std::io;
 use std::os::unix::fs::FileExt;
 use std::snapshot::Snapshot;
 
@@ -26,6 +29,8 @@ pub struct LockedFile {
     // a share of the lock: a lock goes with the last of its shares
     lock: File,
     writes: Past<WriteNoted>,
+    // what the system said of the last call that failed
+    failed: Option<io::Error>,
 }
 
 impl RawFile for LockedFile {
@@ -34,14 +39,21 @@ impl RawFile for LockedFile {
     ghost writes = { writes_of };
 
     fn write_at(&mut self, at: u64, bytes: &Vec<u8>, from: usize) -> Option<usize> {
-        let took = self.file.write_at(&bytes[from..], at).ok();
+        let answer = self.file.write_at(&bytes[from..], at);
+        let took = self.took(answer);
         let noted = WriteNoted::Wrote(at, Snapshot::of(bytes), from, took);
         self.writes.note(&noted);
         took
     }
 
     fn sync(&mut self) -> bool {
-        let done = self.file.sync_data().is_ok();
+        let done = match self.file.sync_data() {
+            Ok(()) => true,
+            Err(error) => {
+                self.failed = Some(error);
+                false
+            }
+        };
         let noted = WriteNoted::Synced(done);
         self.writes.note(&noted);
         done
@@ -57,6 +69,28 @@ impl LockedFile {
             file,
             lock,
             writes: Past::new(),
+            failed: None,
+        }
+    }
+
+    // How many bytes the system took. What it says of a failure is kept for its words; one that takes none says nothing itself.
+    fn took(&mut self, answer: io::Result<usize>) -> Option<usize>
+        ensures took { result ≡ result_ok answer }
+        ensures same { writes_of self.new ≡ writes_of self.old }
+    {
+        match answer {
+            Ok(0) => {
+                self.failed = Some(io::Error::new(
+                    io::ErrorKind::WriteZero,
+                    "the host took nothing of it",
+                ));
+                Some(0)
+            }
+            Ok(count) => Some(count),
+            Err(error) => {
+                self.failed = Some(error);
+                None
+            }
         }
     }
 }
@@ -132,6 +166,17 @@ impl LineFile for HostLines {
         let done = self.raw.sync();
         self.asked.note_sync(done);
         done
+    }
+
+    fn name(&self) -> &String {
+        &self.name
+    }
+
+    fn words(&self, alloc: Global) -> Result<String, AllocError> {
+        match self.raw.failed {
+            Some(error) => format!(in alloc; "{error}"),
+            None => Ok(String::new(alloc)),
+        }
     }
 
     fn is_named(&self, name: &String) -> bool {
