@@ -96,7 +96,9 @@ fn difference_words<F: LineFile>(
     let held = *outlet.held_items().get(usize::try_from(position).ok()?)?;
     let name = outlet.file().name();
     let line = position.wrapping_add(1);
-    format!(in alloc; "{folder}/{name}: line {line} is {held}, but the item of this run is {item}\n").ok()
+    format!(in alloc;
+        "{folder}/{name}: line {line} is {held}, but the item of this run is {item}\n"
+    ).ok()
 }
 
 // What there is to say of a put that failed: the file, and why in the host's own words.
