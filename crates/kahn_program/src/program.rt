@@ -487,7 +487,8 @@ fn run_over<
         }
         Err(failure) => {
             drop_if_asked(host, names, history);
-            Err(Stop::from(failure))
+            let words = keeper.take_words();
+            Err(Stop { failure, words })
         }
     }
 }
@@ -514,7 +515,7 @@ fn run_locked<H: Host, P: RunWatch + TurnWatch + Sync, R: Threads + Wait + Sync>
         (IsWrittenIfAsked (wanted_of names.now).history (H.asked host.new)) options.now asked.entry.net asked.entry.inputs
         (map scripted_of asked.entry.lines.items) report.bytes.items report.complete) }
 {
-    let mut keeper = FileKeeper::new(alloc, files);
+    let mut keeper = FileKeeper::new(alloc, folder, files);
     let report = run_over::<H, ResumedOutlet<H::Lines>, _, _, _>(
         rt,
         alloc,
