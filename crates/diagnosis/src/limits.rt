@@ -3,13 +3,11 @@
 use crate::declared::{Kind, Part, Reader, Seen, name_at};
 use crate::explanation::Found;
 use crate::pieces::{Piece, Placed, is_arithmetic, is_comparison};
-use crate::words::{Grouped, Nth, Quoted, with_commas};
+use crate::words::{Say, Told, counted, numbered};
 use kahn_net::{
     MAX_CHANNELS, MAX_NESTED_TIMES, MAX_NODES, MAX_PROCESSES, MAX_UNITS, MAX_VARIABLES,
 };
 use net_text::{Keyword, MAX_NESTING, Symbol};
-use std::alloc::{AllocError, Global};
-use std::fmt;
 
 // Whether a name is that of a variable which is set or read.
 fn is_variable(part: Part) -> bool {
@@ -270,35 +268,8 @@ struct Counts {
     variables: usize,
 }
 
-// What is past a limit, in words.
-#[derive(Clone, Copy)]
-enum Past<'a> {
-    // the declaration of this number, how many there may be, and of what
-    Declaration {
-        count: usize,
-        most: usize,
-        what: &'static str,
-    },
-    Node(&'a str),
-}
-
-impl<'a> fmt::Display for Past<'a> {
-    fn fmt<W: fmt::Write>(&self, f: &mut fmt::Formatter<W>) -> fmt::Result {
-        match *self {
-            Past::Declaration { count, most, what } => {
-                let nth = Nth(count);
-                write!(f, "the {nth} {what}; at most {most}")
-            }
-            Past::Node(number) => {
-                let last = MAX_NODES - 1;
-                write!(f, "node {number}; nodes are 0 to {last}")
-            }
-        }
-    }
-}
-
 // What is past a limit by this declaration, beside those before it.
-fn declared_past(counts: &mut Counts, kind: Kind) -> Option<Past<'static>> {
+fn declared_past(counts: &mut Counts, kind: Kind) -> Option<Told<'static>> {
     let (count, most, what) = match kind {
         Kind::Input | Kind::Inner | Kind::Output => {
             counts.channels = counts.channels.wrapping_add(1);
@@ -317,22 +288,33 @@ fn declared_past(counts: &mut Counts, kind: Kind) -> Option<Past<'static>> {
     if count <= most {
         return None;
     }
-    Some(Past::Declaration { count, most, what })
+    let told = Told::by("the % %; at most %");
+    Some(
+        told.with(Say::Nth(count))
+            .with(Say::Text(what))
+            .with(numbered(most)),
+    )
 }
 
-// What is past a limit by this piece, beside those before it, and at which offset.
-fn piece_past<'a>(text: &'a str, counts: &mut Counts, seen: &Seen) -> Option<(usize, Past<'a>)> {
+// What is past a limit by this piece, beside those before it.
+fn piece_past<'a>(text: &'a str, counts: &mut Counts, seen: &Seen) -> Option<Found<'a>> {
     match seen.part {
-        Part::Declares(kind) => Some((seen.before.start, declared_past(counts, kind)?)),
-        Part::Node(number) if number >= u64::from(MAX_NODES) => {
-            Some((seen.at.start, Past::Node(name_at(text, seen.at))))
-        }
+        Part::Declares(kind) => Some(Found {
+            offset: seen.before.start,
+            told: declared_past(counts, kind)?,
+        }),
+        Part::Node(number) if number >= u64::from(MAX_NODES) => Some(Found {
+            offset: seen.at.start,
+            told: Told::by("node %; nodes are 0 to %")
+                .with(Say::Text(name_at(text, seen.at)))
+                .with(Say::Number(u64::from(MAX_NODES - 1))),
+        }),
         _ => None,
     }
 }
 
-// The first declaration that is past a limit, by its offset.
-fn first_past(text: &str) -> Option<(usize, Past<'_>)> {
+// The first declaration that is past a limit.
+fn first_past(text: &str) -> Option<Found<'_>> {
     let mut reader = Reader::new(text);
     let mut counts = Counts {
         channels: 0,
@@ -348,68 +330,50 @@ fn first_past(text: &str) -> Option<(usize, Past<'_>)> {
     None
 }
 
-/// Where a text is past a limit.
-pub(crate) fn past_limit(alloc: Global, text: &str) -> Result<Option<Found>, AllocError> {
-    if let Some((offset, past)) = first_past(text) {
-        return Found::at(offset, format!(in alloc; "{past}"));
-    }
-    let Some(walk) = first_wanted(text, Wanted::PastLimit) else {
-        return Ok(None);
-    };
+// What is past a limit in this process.
+fn process_past<'a>(text: &'a str, walk: &Walk) -> Option<Found<'a>> {
     if walk.units > MAX_UNITS {
-        let name = Quoted(name_at(text, walk.name));
-        let (units, most) = (with_commas(walk.units), with_commas(MAX_UNITS));
-        let words = format!(in alloc; "the process {name} has {units} units; at most {most}");
-        return Found::at(walk.first.start, words);
+        return Some(Found {
+            offset: walk.first.start,
+            told: Told::by("the process % has % units; at most %")
+                .with(Say::Quoted(name_at(text, walk.name)))
+                .with(counted(walk.units))
+                .with(counted(MAX_UNITS)),
+        });
     }
-    match walk.past {
-        Some((at, times)) => {
-            let (times, most) = (Grouped(times), Grouped(u64::from(MAX_NESTED_TIMES)));
-            let words = format!(in alloc;
-                "repetitions within one another come to {times} passes; at most {most}"
-            );
-            Found::at(at.start, words)
-        }
-        None => Ok(None),
-    }
+    let (at, times) = walk.past?;
+    Some(Found {
+        offset: at.start,
+        told: Told::by("repetitions within one another come to % passes; at most %")
+            .with(Say::Count(times))
+            .with(Say::Count(u64::from(MAX_NESTED_TIMES))),
+    })
 }
 
-// What a loop lacks that may go round without an item: a `get` or a `stop`, or one outside of an `if`.
-#[derive(Clone, Copy)]
-struct Lack<'a> {
-    passing: Option<(Quoted<'a>, usize)>,
-}
-
-impl<'a> fmt::Display for Lack<'a> {
-    fn fmt<W: fmt::Write>(&self, f: &mut fmt::Formatter<W>) -> fmt::Result {
-        match self.passing {
-            Some((word, line)) => write!(
-                f,
-                "the {word} in line {line} stands in an `if`, and may be passed by"
-            ),
-            None => f.write_str("it has no `get` and no `stop`"),
-        }
-    }
-}
-
-fn lack_of(text: &str, passing: Option<Placed>) -> Lack<'_> {
-    match passing {
-        Some(at) => Lack {
-            passing: Some((Quoted(name_at(text, at)), at.line)),
-        },
-        None => Lack { passing: None },
+/// Where a text is past a limit.
+pub(crate) fn past_limit(text: &str) -> Option<Found<'_>> {
+    match first_past(text) {
+        Some(found) => Some(found),
+        None => process_past(text, &first_wanted(text, Wanted::PastLimit)?),
     }
 }
 
 /// Where a loop begins that may go round without an item.
-pub(crate) fn lazy_loop(alloc: Global, text: &str) -> Result<Option<Found>, AllocError> {
-    let Some(walk) = first_wanted(text, Wanted::LazyLoop) else {
-        return Ok(None);
+pub(crate) fn lazy_loop(text: &str) -> Option<Found<'_>> {
+    let walk = first_wanted(text, Wanted::LazyLoop)?;
+    let name = Say::Quoted(name_at(text, walk.name));
+    let told = match walk.passing {
+        Some(at) => Told::by(
+            "the loop of the process % may go round without an item: the % in line % stands in an `if`, and may be passed by",
+        ).with(name)
+            .with(Say::Quoted(name_at(text, at)))
+            .with(numbered(at.line)),
+        None => Told::by(
+            "the loop of the process % may go round without an item: it has no `get` and no `stop`",
+        ).with(name),
     };
-    let name = Quoted(name_at(text, walk.name));
-    let lack = lack_of(text, walk.passing);
-    let words = format!(in alloc;
-        "the loop of the process {name} may go round without an item: {lack}"
-    );
-    Found::at(walk.repeated.start, words)
+    Some(Found {
+        offset: walk.repeated.start,
+        told,
+    })
 }
