@@ -6,7 +6,7 @@ use crate::places::{after, count_to, line_from, line_start, part, rest, word};
 use crate::words::{
     MARK, NO_MORE, Quoted, Say, Told, counted, has_mark, long_name, numbered, too_long,
 };
-use kahn_net::{Channel, MAX_HISTORY_ITEMS, Port};
+use kahn_net::{MAX_HISTORY_ITEMS, Port};
 use net_check::{Net, NetFault};
 use net_text::{MAX_INPUTS_BYTES, MAX_NAME_BYTES, TextFault};
 use std::alloc::{AllocError, Global};
@@ -205,9 +205,9 @@ fn line_of_name(text: &[u8], name: &[u8]) -> Option<usize> {
 
 // What the network says of a name that none of its inputs has: what the channel of this name is, and the line of its declaration.
 fn other_channel(net: &Net, name: &str) -> Option<(Say<'static>, usize)> {
-    let channels = net.program.channels.iter();
-    for (known, channel) in net.channel_names.iter().zip(channels) {
+    for (place, known) in net.channel_names.iter().enumerate() {
         if known.as_str() == name {
+            let channel = net.program.channels.get(place)?;
             let what = match channel.consumer {
                 Port::Outside => "an output",
                 Port::Process(_) => "a channel between processes",
@@ -218,44 +218,35 @@ fn other_channel(net: &Net, name: &str) -> Option<(Say<'static>, usize)> {
     None
 }
 
-/// The names of a network's inputs; or those alone that have no line in a text.
+// The names of a network's inputs; or those alone that have no line in a text.
 #[derive(Clone, Copy)]
-pub(crate) struct InputNames<'a> {
+struct InputNames<'a> {
     net: &'a Net,
     missing_in: Option<&'a [u8]>,
 }
 
 impl<'a> InputNames<'a> {
-    // Whether the channel of this name is one of them.
-    fn has(&self, name: &str, channel: &Channel) -> bool {
+    // The name at this place, if it is one of them.
+    fn name(&self, place: usize) -> Option<&'a str> {
+        let channel = self.net.program.channels.get(place)?;
         if channel.producer != Port::Outside {
-            return false;
+            return None;
         }
+        let name = self.net.channel_names.get(place)?.as_str();
         match self.missing_in {
-            Some(text) => line_of_name(text, name.as_bytes()).is_none(),
-            None => true,
+            Some(text) if line_of_name(text, name.as_bytes()).is_some() => None,
+            _ => Some(name),
         }
-    }
-
-    fn is_empty(&self) -> bool {
-        let channels = self.net.program.channels.iter();
-        for (known, channel) in self.net.channel_names.iter().zip(channels) {
-            if self.has(known.as_str(), channel) {
-                return false;
-            }
-        }
-        true
     }
 }
 
 impl<'a> fmt::Display for InputNames<'a> {
     fn fmt<W: fmt::Write>(&self, f: &mut fmt::Formatter<W>) -> fmt::Result {
         let mut comma = "";
-        let channels = self.net.program.channels.iter();
-        for (known, channel) in self.net.channel_names.iter().zip(channels) {
-            if self.has(known.as_str(), channel) {
+        for place in 0..self.net.channel_names.len() {
+            if let Some(name) = self.name(place) {
                 f.write_str(comma)?;
-                Quoted(known.as_str()).fmt(f)?;
+                Quoted(name).fmt(f)?;
                 comma = ", ";
             }
         }
@@ -263,8 +254,8 @@ impl<'a> fmt::Display for InputNames<'a> {
     }
 }
 
-// What is said of a name that no input has.
-fn unknown_told<'a>(net: &'a Net, name: &'a str) -> Told<'a> {
+// What is said of a name that no input has, beside the names of the inputs.
+fn unknown_told<'a>(net: &Net, name: &'a str, inputs: &'a str) -> Told<'a> {
     let shown = Say::Quoted(name);
     if let Some((what, line)) = other_channel(net, name) {
         return Told::by("the network has no input %; % is %, declared in line % of the network")
@@ -273,16 +264,12 @@ fn unknown_told<'a>(net: &'a Net, name: &'a str) -> Told<'a> {
             .with(what)
             .with(numbered(line));
     }
-    let inputs = InputNames {
-        net,
-        missing_in: None,
-    };
     if inputs.is_empty() {
         return Told::by("the network has no input %, nor any other").with(shown);
     }
     Told::by("the network has no input %; its inputs: %")
         .with(shown)
-        .with(Say::Inputs(inputs))
+        .with(Say::Text(inputs))
 }
 
 // How many items stand on a line behind its colon.
@@ -300,7 +287,13 @@ fn count_items(items: &[u8]) -> usize {
 }
 
 // What is wrong with the name or with the items of the line that begins at an offset, beside the network and the lines before.
-fn meaning_told<'a>(text: &'a str, start: usize, net: &'a Net, fault: NetFault) -> Told<'a> {
+fn meaning_told<'a>(
+    text: &'a str,
+    start: usize,
+    net: &Net,
+    inputs: &'a str,
+    fault: NetFault,
+) -> Told<'a> {
     let line = line_from(text.as_bytes(), start);
     let len = name_of(line).len();
     let name = word(text, start, after(start, len));
@@ -312,7 +305,7 @@ fn meaning_told<'a>(text: &'a str, start: usize, net: &'a Net, fault: NetFault) 
                 .with(numbered(other)),
             None => Told::by(NO_MORE),
         },
-        NetFault::UnknownName { .. } => unknown_told(net, name),
+        NetFault::UnknownName { .. } => unknown_told(net, name, inputs),
         NetFault::Limit { .. } => Told::by("% has % items; at most %")
             .with(shown)
             .with(counted(count_items(rest(line, after(len, 1)))))
@@ -330,20 +323,21 @@ pub fn explain_inputs(
     fault: NetFault,
 ) -> Result<Explanation, AllocError> {
     let bytes = text.as_bytes();
+    let missing_in = match fault.line() {
+        Some(_) => None,
+        None => Some(bytes),
+    };
+    let names = InputNames { net, missing_in };
+    let names = format!(in alloc; "{names}")?;
     let Some(line) = fault.line() else {
-        let names = InputNames {
-            net,
-            missing_in: Some(bytes),
-        };
-        let told = Told::by(
-            "no line for %; a line with the name and a colon alone gives no items",
-        ).with(Say::Inputs(names));
-        return Explanation::whole(alloc, told);
+        let form = "no line for %; a line with the name and a colon alone gives no items";
+        return Explanation::whole(alloc, Told::by(form).with(Say::Text(names.as_str())));
     };
     let start = line_start(bytes, line);
+    let told = meaning_told(text, start, net, names.as_str(), fault);
     let found = Some(Found {
         offset: start,
-        told: meaning_told(text, start, net, fault),
+        told,
     });
     Explanation::at(alloc, bytes, line, found, NO_MORE)
 }

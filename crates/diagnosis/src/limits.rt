@@ -50,6 +50,21 @@ struct Frame {
 // How many frames there may be: a process and what nests in it.
 const FRAMES: usize = MAX_NESTING + 1;
 
+// What is told of a process. Places are offsets.
+#[derive(Clone, Copy)]
+struct Process {
+    // The word `process`, and the process's name.
+    start: usize,
+    name: Placed,
+    units: usize,
+    // The first word `repeat` past its limit, with the passes to which it comes.
+    past: Option<(usize, u64)>,
+    // The word `loop`, a `get` or a `stop` in it, and whether the loop's body was found to pass.
+    repeated: usize,
+    passing: Option<Placed>,
+    is_lazy: bool,
+}
+
 // What is known of the process at hand.
 #[derive(Clone, Copy)]
 struct Walk {
@@ -58,19 +73,11 @@ struct Walk {
     // What the next brace opens, and how often that is made.
     block: Block,
     times: u64,
-    // The word `process`, and the process's name.
-    first: Placed,
-    name: Placed,
     in_variable: bool,
-    units: usize,
-    // The last word `repeat`, and the first one past its limit, with the passes to which it comes.
-    repeat: Placed,
-    past: Option<(Placed, u64)>,
-    // The word `loop`, a `get` or a `stop` in it, and whether the loop's body was found to pass.
-    repeated: Placed,
     in_loop: bool,
-    passing: Option<Placed>,
-    is_lazy: bool,
+    // The last word `repeat`.
+    repeat: usize,
+    process: Process,
 }
 
 const EMPTY: Frame = Frame {
@@ -81,22 +88,24 @@ const EMPTY: Frame = Frame {
 };
 
 impl Walk {
-    fn new(first: Placed) -> Walk {
+    fn new(start: usize) -> Walk {
         Walk {
             frames: [EMPTY; FRAMES],
             depth: 0,
             block: Block::Process,
             times: 1,
-            first,
-            name: Placed::none(),
             in_variable: false,
-            units: 0,
-            repeat: Placed::none(),
-            past: None,
-            repeated: Placed::none(),
             in_loop: false,
-            passing: None,
-            is_lazy: false,
+            repeat: 0,
+            process: Process {
+                start,
+                name: Placed::none(),
+                units: 0,
+                past: None,
+                repeated: 0,
+                passing: None,
+                is_lazy: false,
+            },
         }
     }
 
@@ -123,9 +132,9 @@ impl Walk {
         let times = self.top().times.saturating_mul(self.times);
         if self.block == Block::Again
             && times > u64::from(MAX_NESTED_TIMES)
-            && self.past.is_none()
+            && self.process.past.is_none()
         {
-            self.past = Some((self.repeat, times));
+            self.process.past = Some((self.repeat, times));
         }
         let frame = Frame {
             block: self.block,
@@ -151,7 +160,7 @@ impl Walk {
             Block::Again => frame.passes = frame.passes || closed.passes,
             Block::Loop => {
                 self.in_loop = false;
-                self.is_lazy = !closed.passes;
+                self.process.is_lazy = !closed.passes;
             }
             Block::Process => {}
         }
@@ -163,8 +172,8 @@ impl Walk {
         let mut frame = self.top();
         frame.passes = true;
         self.set_top(frame);
-        if self.in_loop && self.passing.is_none() {
-            self.passing = Some(at);
+        if self.in_loop && self.process.passing.is_none() {
+            self.process.passing = Some(at);
         }
     }
 
@@ -175,11 +184,11 @@ impl Walk {
             Keyword::Else => self.block = Block::Second,
             Keyword::Repeat => {
                 self.block = Block::Again;
-                self.repeat = at;
+                self.repeat = at.start;
             }
             Keyword::Loop => {
                 self.block = Block::Loop;
-                self.repeated = at;
+                self.process.repeated = at.start;
                 self.in_loop = true;
             }
             Keyword::Get | Keyword::Stop => self.pass(at),
@@ -206,7 +215,7 @@ impl Walk {
     // Goes on behind a piece. Whether the process ends with it.
     fn step(&mut self, seen: &Seen) -> bool {
         if self.is_unit(seen) {
-            self.units = self.units.wrapping_add(1);
+            self.process.units = self.process.units.wrapping_add(1);
         }
         match seen.at.piece {
             Piece::Word(Keyword::Var) => self.in_variable = true,
@@ -234,27 +243,27 @@ enum Wanted {
 }
 
 // Whether a process that has ended is what is looked for.
-fn is_wanted(walk: &Walk, wanted: Wanted) -> bool {
+fn is_wanted(process: &Process, wanted: Wanted) -> bool {
     match wanted {
-        Wanted::PastLimit => walk.units > MAX_UNITS || walk.past.is_some(),
-        Wanted::LazyLoop => walk.is_lazy,
+        Wanted::PastLimit => process.units > MAX_UNITS || process.past.is_some(),
+        Wanted::LazyLoop => process.is_lazy,
     }
 }
 
 // The first process that is what is looked for.
-fn first_wanted(text: &str, wanted: Wanted) -> Option<Walk> {
+fn first_wanted(text: &str, wanted: Wanted) -> Option<Process> {
     let mut reader = Reader::new(text);
-    let mut walk = Walk::new(Placed::none());
+    let mut walk = Walk::new(0);
     for _ in 0..text.len() {
         let seen = reader.next_seen()?;
         if seen.at.piece == Piece::Word(Keyword::Process) {
-            walk = Walk::new(seen.at);
+            walk = Walk::new(seen.at.start);
         }
         if is_process_name(seen.part) {
-            walk.name = seen.at;
+            walk.process.name = seen.at;
         }
-        if walk.step(&seen) && is_wanted(&walk, wanted) {
-            return Some(walk);
+        if walk.step(&seen) && is_wanted(&walk.process, wanted) {
+            return Some(walk.process);
         }
     }
     None
@@ -330,20 +339,20 @@ fn first_past(text: &str) -> Option<Found<'_>> {
     None
 }
 
-// What is past a limit in this process.
-fn process_past<'a>(text: &'a str, walk: &Walk) -> Option<Found<'a>> {
-    if walk.units > MAX_UNITS {
+// What is past a limit in a process, as far as it is told.
+fn process_past<'a>(text: &'a str, process: Process) -> Option<Found<'a>> {
+    if process.units > MAX_UNITS {
         return Some(Found {
-            offset: walk.first.start,
+            offset: process.start,
             told: Told::by("the process % has % units; at most %")
-                .with(Say::Quoted(name_at(text, walk.name)))
-                .with(counted(walk.units))
+                .with(Say::Quoted(name_at(text, process.name)))
+                .with(counted(process.units))
                 .with(counted(MAX_UNITS)),
         });
     }
-    let (at, times) = walk.past?;
+    let (offset, times) = process.past?;
     Some(Found {
-        offset: at.start,
+        offset,
         told: Told::by("repetitions within one another come to % passes; at most %")
             .with(Say::Count(times))
             .with(Say::Count(u64::from(MAX_NESTED_TIMES))),
@@ -354,15 +363,14 @@ fn process_past<'a>(text: &'a str, walk: &Walk) -> Option<Found<'a>> {
 pub(crate) fn past_limit(text: &str) -> Option<Found<'_>> {
     match first_past(text) {
         Some(found) => Some(found),
-        None => process_past(text, &first_wanted(text, Wanted::PastLimit)?),
+        None => process_past(text, first_wanted(text, Wanted::PastLimit)?),
     }
 }
 
-/// Where a loop begins that may go round without an item.
-pub(crate) fn lazy_loop(text: &str) -> Option<Found<'_>> {
-    let walk = first_wanted(text, Wanted::LazyLoop)?;
-    let name = Say::Quoted(name_at(text, walk.name));
-    let told = match walk.passing {
+// What is said of the loop of a process that may go round without an item.
+fn lazy_told<'a>(text: &'a str, process: Process) -> Told<'a> {
+    let name = Say::Quoted(name_at(text, process.name));
+    match process.passing {
         Some(at) => Told::by(
             "the loop of the process % may go round without an item: the % in line % stands in an `if`, and may be passed by",
         ).with(name)
@@ -371,9 +379,14 @@ pub(crate) fn lazy_loop(text: &str) -> Option<Found<'_>> {
         None => Told::by(
             "the loop of the process % may go round without an item: it has no `get` and no `stop`",
         ).with(name),
-    };
+    }
+}
+
+/// Where a loop begins that may go round without an item.
+pub(crate) fn lazy_loop(text: &str) -> Option<Found<'_>> {
+    let process = first_wanted(text, Wanted::LazyLoop)?;
     Some(Found {
-        offset: walk.repeated.start,
-        told,
+        offset: process.repeated,
+        told: lazy_told(text, process),
     })
 }

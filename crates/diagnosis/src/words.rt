@@ -1,11 +1,15 @@
 //! Words and numbers as they are shown, and what is said of a text.
 
-use crate::items::InputNames;
 use net_text::MAX_NAME_BYTES;
 use std::fmt;
 
 // The most characters of a word that are shown.
 const MOST_SHOWN: usize = 40;
+
+// How many digits a number of 64 bits has at most, and what the first of them counts.
+const PLACES: u32 = 20;
+
+const GREATEST_POWER: u64 = 10_000_000_000_000_000_000;
 
 /// A number with a comma between thousands, as `57,344`.
 #[derive(Clone, Copy)]
@@ -13,21 +17,18 @@ pub struct Grouped(pub u64);
 
 impl fmt::Display for Grouped {
     fn fmt<W: fmt::Write>(&self, f: &mut fmt::Formatter<W>) -> fmt::Result {
-        let number = self.0;
-        let ones = number % 1_000;
-        let thousands = number / 1_000 % 1_000;
-        let millions = number / 1_000_000;
-        if number < 1_000 {
-            write!(f, "{number}")
-        } else if number < 1_000_000 {
-            write!(f, "{thousands},{ones:03}")
-        } else if number < 1_000_000_000 {
-            write!(f, "{millions},{thousands:03},{ones:03}")
-        } else {
-            let billions = millions / 1_000;
-            let rest = millions % 1_000;
-            write!(f, "{billions},{rest:03},{thousands:03},{ones:03}")
+        let mut power = GREATEST_POWER;
+        for place in 0..PLACES {
+            if self.0 >= power || power == 1 {
+                let digit = self.0 / power % 10;
+                write!(f, "{digit}")?;
+                if power > 1 && place % 3 == 1 {
+                    f.write_char(',')?;
+                }
+            }
+            power = (power / 10).max(1);
         }
+        Ok(())
     }
 }
 
@@ -61,7 +62,6 @@ pub(crate) enum Say<'a> {
     Column(usize),
     /// That it is a variable of the process of this name.
     VariableOf(&'a str),
-    Inputs(InputNames<'a>),
 }
 
 // A character as it may be written to a terminal.
@@ -161,7 +161,6 @@ impl<'a> fmt::Display for Say<'a> {
                 f.write_str("a variable of the process ")?;
                 Quoted(process).fmt(f)
             }
-            Say::Inputs(names) => names.fmt(f),
         }
     }
 }
@@ -190,9 +189,10 @@ pub(crate) struct Told<'a> {
 impl<'a> Told<'a> {
     /// A form, of whose marks nothing is said yet.
     pub(crate) fn by(form: &'static str) -> Told<'a> {
+        let values: [Say<'a>; MOST_VALUES] = [Say::Nothing; MOST_VALUES];
         Told {
             form,
-            values: [Say::Nothing; MOST_VALUES],
+            values,
             count: 0,
         }
     }
