@@ -4,12 +4,13 @@ use crate::explanation::Found;
 use crate::pieces::{Piece, Placed};
 use crate::places::{column, line_start, word};
 use crate::scanner::Scanner;
-use crate::words::quoted;
+use crate::words::Quoted;
 use net_text::Keyword;
 use std::alloc::{AllocError, Global};
+use std::fmt;
 
 /// What a name is declared as.
-#[derive(Clone, Copy, PartialEq, Eq)]
+#[derive(Clone, Copy)]
 pub(crate) enum Kind {
     Input,
     Inner,
@@ -19,16 +20,42 @@ pub(crate) enum Kind {
     Variable(usize),
 }
 
-/// A declaration: of what, its name, and the word with which it begins.
+impl Kind {
+    pub(crate) fn is_channel(self) -> bool {
+        match self {
+            Kind::Input | Kind::Inner | Kind::Output => true,
+            Kind::Process | Kind::Variable(_) => false,
+        }
+    }
+
+    pub(crate) fn is_process(self) -> bool {
+        match self {
+            Kind::Process => true,
+            _ => false,
+        }
+    }
+}
+
+/// One end of a channel: the first use of it, and the process in which that stands.
+#[derive(Clone, Copy)]
+pub(crate) struct End {
+    pub at: Placed,
+    pub process: usize,
+}
+
+/// A declaration: of what, its name, and the word with which it begins; and of a channel the first use of each of its ends, as far as they
+/// are noted.
 #[derive(Clone, Copy)]
 pub(crate) struct Declared {
     pub kind: Kind,
     pub name: Placed,
     pub first: Placed,
+    pub put: Option<End>,
+    pub got: Option<End>,
 }
 
 /// What a piece of a valid text is there for.
-#[derive(Clone, Copy, PartialEq, Eq)]
+#[derive(Clone, Copy)]
 pub(crate) enum Part {
     Declares(Kind),
     /// The number of a process's node.
@@ -136,8 +163,8 @@ fn share_space(one: Kind, other: Kind) -> bool {
     }
 }
 
-/// The declaration of this name in the space of this kind.
-pub(crate) fn find(text: &str, declared: &[Declared], kind: Kind, name: &str) -> Option<Declared> {
+// The declaration of this name in the space of this kind.
+fn find(text: &str, declared: &[Declared], kind: Kind, name: &str) -> Option<Declared> {
     for known in declared {
         if share_space(known.kind, kind) && name_at(text, known.name) == name {
             return Some(*known);
@@ -152,13 +179,15 @@ pub(crate) fn declarations(alloc: Global, text: &str) -> Result<Vec<Declared>, A
     let mut reader = Reader::new(text);
     for _ in 0..text.len() {
         let Some(seen) = reader.next_seen() else {
-            return Ok(declared);
+            break;
         };
         if let Part::Declares(kind) = seen.part {
             declared.push(Declared {
                 kind,
                 name: seen.at,
                 first: seen.before,
+                put: None,
+                got: None,
             })?;
         }
     }
@@ -166,96 +195,101 @@ pub(crate) fn declarations(alloc: Global, text: &str) -> Result<Vec<Declared>, A
 }
 
 /// Where a place stands, as it is told at another one: the line, or on the same line the column.
-pub(crate) fn where_is(
-    alloc: Global,
-    text: &str,
-    place: Placed,
-    told_at: Placed,
-) -> Result<String, AllocError> {
+#[derive(Clone, Copy)]
+pub(crate) enum Where {
+    Line(usize),
+    Column(usize),
+}
+
+impl fmt::Display for Where {
+    fn fmt<W: fmt::Write>(&self, f: &mut fmt::Formatter<W>) -> fmt::Result {
+        match *self {
+            Where::Line(line) => write!(f, "in line {line}"),
+            Where::Column(column) => write!(f, "at column {column} of this line"),
+        }
+    }
+}
+
+/// Where a place stands, as it is told at another one.
+pub(crate) fn where_is(text: &str, place: Placed, told_at: Placed) -> Where {
     let line = place.line;
     if line != told_at.line {
-        return format!(in alloc; "in line {line}");
+        return Where::Line(line);
     }
-    let column = column(line_start(text.as_bytes(), line), place.start);
-    format!(in alloc; "at column {column} of this line")
+    Where::Column(column(line_start(text.as_bytes(), line), place.start))
 }
 
 // The first declaration of a name that its space has already, and the other one.
-fn first_twice(alloc: Global, text: &str) -> Result<Option<(Declared, Declared)>, AllocError> {
-    let mut declared = Vec::new(alloc);
-    let mut reader = Reader::new(text);
-    for _ in 0..text.len() {
-        let Some(seen) = reader.next_seen() else {
-            return Ok(None);
-        };
-        if let Part::Declares(kind) = seen.part {
-            let this = Declared {
-                kind,
-                name: seen.at,
-                first: seen.before,
-            };
-            if let Some(other) = find(text, &declared, kind, name_at(text, seen.at)) {
-                return Ok(Some((this, other)));
-            }
-            declared.push(this)?;
+fn first_twice(text: &str, declared: &[Declared]) -> Option<(Declared, Declared)> {
+    for (count, this) in declared.iter().enumerate() {
+        let name = name_at(text, this.name);
+        if let Some(other) = find(text, &declared[..count], this.kind, name) {
+            return Some((*this, other));
         }
     }
-    Ok(None)
+    None
 }
 
 /// Where a name is declared that its space has already.
 pub(crate) fn twice_named(alloc: Global, text: &str) -> Result<Option<Found>, AllocError> {
-    let Some((this, other)) = first_twice(alloc, text)? else {
+    let declared = declarations(alloc, text)?;
+    let Some((this, other)) = first_twice(text, &declared) else {
         return Ok(None);
     };
-    let name = quoted(alloc, name_at(text, this.name))?;
-    let place = where_is(alloc, text, other.name, this.name)?;
+    let name = Quoted(name_at(text, this.name));
+    let place = where_is(text, other.name, this.name);
     let what = match this.kind {
         Kind::Process => "the process ",
         Kind::Variable(_) => "the variable ",
         Kind::Input | Kind::Inner | Kind::Output => "",
     };
-    Ok(Some(Found {
-        offset: this.name.start,
-        words: format!(in alloc; "{what}{name} is declared twice: it is declared {place}")?,
-    }))
+    let words = format!(in alloc; "{what}{name} is declared twice: it is declared {place}");
+    Found::at(this.name.start, words)
 }
 
-// The name of the process of this number.
-fn process_name(
-    alloc: Global,
-    text: &str,
-    declared: &[Declared],
-    number: usize,
-) -> Result<String, AllocError> {
+/// The name of the process of this number.
+pub(crate) fn process_name<'a>(text: &'a str, declared: &[Declared], number: usize) -> Quoted<'a> {
     let mut count: usize = 0;
     for known in declared {
-        if known.kind == Kind::Process {
+        if known.kind.is_process() {
             if count == number {
-                return quoted(alloc, name_at(text, known.name));
+                return Quoted(name_at(text, known.name));
             }
             count = count.wrapping_add(1);
         }
     }
-    Ok(String::new(alloc))
+    Quoted("")
 }
 
-// What a name is declared as, in words.
-fn kind_words(
-    alloc: Global,
-    text: &str,
-    declared: &[Declared],
+// What a name is declared as, in words; and of which process, where it is a variable.
+#[derive(Clone, Copy)]
+struct KindWords<'a> {
     kind: Kind,
-) -> Result<String, AllocError> {
-    match kind {
-        Kind::Input => String::from_str(alloc, "an input"),
-        Kind::Inner => String::from_str(alloc, "a channel"),
-        Kind::Output => String::from_str(alloc, "an output"),
-        Kind::Process => String::from_str(alloc, "a process"),
-        Kind::Variable(number) => {
-            let process = process_name(alloc, text, declared, number)?;
-            format!(in alloc; "a variable of the process {process}")
+    process: Quoted<'a>,
+}
+
+impl<'a> fmt::Display for KindWords<'a> {
+    fn fmt<W: fmt::Write>(&self, f: &mut fmt::Formatter<W>) -> fmt::Result {
+        let process = self.process;
+        match self.kind {
+            Kind::Input => f.write_str("an input"),
+            Kind::Inner => f.write_str("a channel"),
+            Kind::Output => f.write_str("an output"),
+            Kind::Process => f.write_str("a process"),
+            Kind::Variable(_) => write!(f, "a variable of the process {process}"),
         }
+    }
+}
+
+// What a declaration is of, in words.
+fn kind_words<'a>(text: &'a str, declared: &[Declared], kind: Kind) -> KindWords<'a> {
+    let number = match kind {
+        Kind::Variable(number) => number,
+        _ => 0,
+    };
+    KindWords {
+        kind,
+        process: process_name(text, declared, number),
     }
 }
 
@@ -265,14 +299,12 @@ fn first_unknown(text: &str, declared: &[Declared]) -> Option<Seen> {
     for _ in 0..text.len() {
         let seen = reader.next_seen()?;
         let kind = match seen.part {
-            Part::Get | Part::Put => Some(Kind::Inner),
-            Part::Variable => Some(Kind::Variable(seen.process())),
-            _ => None,
+            Part::Get | Part::Put => Kind::Inner,
+            Part::Variable => Kind::Variable(seen.process()),
+            _ => continue,
         };
-        if let Some(kind) = kind {
-            if find(text, declared, kind, name_at(text, seen.at)).is_none() {
-                return Some(seen);
-            }
+        if find(text, declared, kind, name_at(text, seen.at)).is_none() {
+            return Some(seen);
         }
     }
     None
@@ -288,28 +320,54 @@ fn find_any(text: &str, declared: &[Declared], name: &str) -> Option<Declared> {
     None
 }
 
+// What a name lacks that isn't declared as what it is used as: as a variable of this process, or as a channel.
+#[derive(Clone, Copy)]
+struct Lacking<'a> {
+    name: Quoted<'a>,
+    process: Option<Quoted<'a>>,
+}
+
+impl<'a> fmt::Display for Lacking<'a> {
+    fn fmt<W: fmt::Write>(&self, f: &mut fmt::Formatter<W>) -> fmt::Result {
+        let name = self.name;
+        match self.process {
+            Some(process) => {
+                write!(f, "no variable {name} is declared in the process {process}")
+            }
+            None => write!(f, "no channel {name} is declared"),
+        }
+    }
+}
+
+// What is said of a name that isn't declared as what it is used as.
+fn unknown_words(
+    alloc: Global,
+    text: &str,
+    declared: &[Declared],
+    seen: &Seen,
+) -> Result<String, AllocError> {
+    let word = name_at(text, seen.at);
+    let name = Quoted(word);
+    let process = match seen.part {
+        Part::Variable => Some(process_name(text, declared, seen.process())),
+        _ => None,
+    };
+    let lacking = Lacking { name, process };
+    match find_any(text, declared, word) {
+        Some(other) => {
+            let kind = kind_words(text, declared, other.kind);
+            let place = where_is(text, other.name, seen.at);
+            format!(in alloc; "{lacking}; {name} is {kind}, declared {place}")
+        }
+        None => format!(in alloc; "{lacking}"),
+    }
+}
+
 /// Where a name is used that isn't declared as what it is used as.
 pub(crate) fn unknown_name(alloc: Global, text: &str) -> Result<Option<Found>, AllocError> {
     let declared = declarations(alloc, text)?;
-    let Some(seen) = first_unknown(text, &declared) else {
-        return Ok(None);
-    };
-    let name = quoted(alloc, name_at(text, seen.at))?;
-    let mut words = match seen.part {
-        Part::Variable => {
-            let process = process_name(alloc, text, &declared, seen.process())?;
-            format!(in alloc; "no variable {name} is declared in the process {process}")?
-        }
-        _ => format!(in alloc; "no channel {name} is declared")?,
-    };
-    if let Some(other) = find_any(text, &declared, name_at(text, seen.at)) {
-        let kind = kind_words(alloc, text, &declared, other.kind)?;
-        let place = where_is(alloc, text, other.name, seen.at)?;
-        let more = format!(in alloc; "; {name} is {kind}, declared {place}")?;
-        words.push_str(more.as_str())?;
+    match first_unknown(text, &declared) {
+        Some(seen) => Found::at(seen.at.start, unknown_words(alloc, text, &declared, &seen)),
+        None => Ok(None),
     }
-    Ok(Some(Found {
-        offset: seen.at.start,
-        words,
-    }))
 }

@@ -1,8 +1,8 @@
 //! Why a text is refused, and where in it.
 
 use crate::places::{column, line_from, line_start};
-use crate::shown::push_line;
-use crate::words::with_commas;
+use crate::shown::Marked;
+use crate::words::{NO_MORE, with_commas};
 use std::alloc::{AllocError, Global};
 use std::str;
 
@@ -24,7 +24,25 @@ pub(crate) struct Found {
     pub words: String,
 }
 
+impl Found {
+    /// These words at this offset, once there was memory for them.
+    pub(crate) fn at(
+        offset: usize,
+        words: Result<String, AllocError>,
+    ) -> Result<Option<Found>, AllocError> {
+        match words {
+            Ok(words) => Ok(Some(Found { offset, words })),
+            Err(error) => Err(error),
+        }
+    }
+}
+
 impl Explanation {
+    /// What is said where memory ran out before anything was found.
+    pub(crate) fn no_memory(alloc: Global) -> Result<Explanation, AllocError> {
+        Ok(Explanation::whole(String::from_str(alloc, "no memory")?))
+    }
+
     /// An explanation without a place.
     pub(crate) fn whole(words: String) -> Explanation {
         Explanation {
@@ -64,10 +82,9 @@ impl Explanation {
         let (Some(line), Some(column)) = (self.line, self.column) else {
             return format!(in alloc; "{name}: {words}\n");
         };
-        let mut lines = format!(in alloc; "{name}:{line}:{column}: {words}\n")?;
         let shown = line_from(text, line_start(text, line));
-        push_line(alloc, &mut lines, line, shown, column.saturating_sub(1))?;
-        Ok(lines)
+        let marked = Marked::new(line, shown, column.saturating_sub(1));
+        format!(in alloc; "{name}:{line}:{column}: {words}\n{marked}")
     }
 }
 
@@ -96,10 +113,10 @@ pub fn explain_bytes(alloc: Global, bytes: &[u8]) -> Result<Option<Explanation>,
     let words = match bytes.get(offset) {
         Some(byte) => {
             let byte = *byte;
-            format!(in alloc; "not UTF-8: the byte 0x{byte:02X} at offset {at}")?
+            format!(in alloc; "not UTF-8: the byte 0x{byte:02X} at offset {at}")
         }
-        None => format!(in alloc; "not UTF-8: the text ends within a character")?,
+        None => String::from_str(alloc, "not UTF-8: the text ends within a character"),
     };
-    let found = Found { offset, words };
-    Ok(Some(Explanation::at(alloc, bytes, line, Some(found), "")?))
+    let found = Found::at(offset, words)?;
+    Ok(Some(Explanation::at(alloc, bytes, line, found, NO_MORE)?))
 }

@@ -3,25 +3,65 @@
 use crate::explanation::{Explanation, Found};
 use crate::pieces::{digits_len, starts_word, word_len};
 use crate::places::{after, count_to, line_from, line_start, part, rest, word};
-use crate::words::{MARK, character_words, has_mark, quoted, with_commas};
-use kahn_net::{MAX_HISTORY_ITEMS, Port};
+use crate::words::{MARK, NO_MORE, Quoted, Shown, TooLong, has_mark, with_commas};
+use kahn_net::{Channel, MAX_HISTORY_ITEMS, Port};
 use net_check::{Net, NetFault};
 use net_text::{MAX_INPUTS_BYTES, MAX_NAME_BYTES, TextFault};
 use std::alloc::{AllocError, Global};
+use std::fmt;
 
-// What is said where a text has no such fault at this line.
-const NO_MORE: &str = "the text is refused here";
+// What is wrong at a place of a line.
+#[derive(Clone, Copy)]
+enum Wrong<'a> {
+    // What was found, and what was expected; none at the line's end.
+    Unexpected {
+        found: Option<Shown>,
+        expected: &'static str,
+    },
+    // A number past the greatest item, or below the least.
+    TooGreat(Quoted<'a>),
+    TooLittle(Quoted<'a>),
+    // The bytes of a name that is too long.
+    LongName(usize),
+}
 
-// What stands at an offset of a line, in words, and what was expected there.
-fn found_at(alloc: Global, line: &str, offset: usize, expected: &str) -> Result<Found, AllocError> {
-    let words = match word(line, offset, line.len()).chars().next() {
-        Some(character) => {
-            let found = character_words(alloc, Some(character))?;
-            format!(in alloc; "found {found}, expected {expected}")?
+impl<'a> fmt::Display for Wrong<'a> {
+    fn fmt<W: fmt::Write>(&self, f: &mut fmt::Formatter<W>) -> fmt::Result {
+        match *self {
+            Wrong::Unexpected {
+                found: Some(found),
+                expected,
+            } => write!(f, "found {found}, expected {expected}"),
+            Wrong::Unexpected {
+                found: None,
+                expected,
+            } => write!(f, "the line ends here, expected {expected}"),
+            Wrong::TooGreat(number) => {
+                let greatest = i64::MAX;
+                write!(f, "{number} is past {greatest}, the greatest item")
+            }
+            Wrong::TooLittle(number) => {
+                let least = i64::MIN;
+                write!(f, "{number} is below {least}, the least item")
+            }
+            Wrong::LongName(len) => {
+                let count = with_commas(len);
+                write!(f, "a name of {count} bytes; at most {MAX_NAME_BYTES}")
+            }
         }
-        None => format!(in alloc; "the line ends here, expected {expected}")?,
+    }
+}
+
+// A fault of a line, and the offset in it.
+type Fault<'a> = (usize, Wrong<'a>);
+
+// What stands at an offset of a line, and what was expected there.
+fn found_at<'a>(line: &'a str, offset: usize, expected: &'static str) -> Fault<'a> {
+    let found = match word(line, offset, line.len()).chars().next() {
+        Some(character) => Some(Shown(character)),
+        None => None,
     };
-    Ok(Found { offset, words })
+    (offset, Wrong::Unexpected { found, expected })
 }
 
 // How many spaces stand at the front.
@@ -52,12 +92,8 @@ fn digits_within(digits: &[u8], is_negative: bool) -> usize {
     digits.len()
 }
 
-// What is wrong with the item that begins at an offset of a line; or the offset behind it.
-fn behind_item(
-    alloc: Global,
-    line: &str,
-    start: usize,
-) -> Result<Result<usize, Found>, AllocError> {
+// The item that begins at an offset of a line: the offset behind it, or what is wrong with it.
+fn behind_item(line: &str, start: usize) -> Result<usize, Fault<'_>> {
     let bytes = line.as_bytes();
     let is_negative = bytes.get(start) == Some(&b'-');
     let first = if is_negative { after(start, 1) } else { start };
@@ -65,33 +101,30 @@ fn behind_item(
     let len = digits_len(behind);
     if len == 0 {
         let expected = if is_negative { "a digit" } else { "an item" };
-        return Ok(Err(found_at(alloc, line, first, expected)?));
+        return Err(found_at(line, first, expected));
     }
     let within = digits_within(part(behind, 0, len), is_negative);
-    if within < len {
-        let number = quoted(alloc, word(line, start, after(first, len)))?;
-        let words = if is_negative {
-            let least = i64::MIN;
-            format!(in alloc; "{number} is below {least}, the least item")?
-        } else {
-            let greatest = i64::MAX;
-            format!(in alloc; "{number} is past {greatest}, the greatest item")?
-        };
-        let offset = after(first, within);
-        return Ok(Err(Found { offset, words }));
+    if within == len {
+        return Ok(after(first, len));
     }
-    Ok(Ok(after(first, len)))
+    let number = Quoted(word(line, start, after(first, len)));
+    let wrong = if is_negative {
+        Wrong::TooLittle(number)
+    } else {
+        Wrong::TooGreat(number)
+    };
+    Err((after(first, within), wrong))
 }
 
 // What is wrong with the items of a line, from behind its colon on.
-fn items_fault(alloc: Global, line: &str, start: usize) -> Result<Option<Found>, AllocError> {
+fn items_fault(line: &str, start: usize) -> Option<Fault<'_>> {
     let bytes = line.as_bytes();
     let mut place = start;
     for turn in 0..=bytes.len() {
         let gap = spaces_len(rest(bytes, place));
         let next = after(place, gap);
         if next >= bytes.len() {
-            return Ok(None);
+            return None;
         }
         if gap == 0 {
             let expected = if turn == 0 {
@@ -99,14 +132,14 @@ fn items_fault(alloc: Global, line: &str, start: usize) -> Result<Option<Found>,
             } else {
                 "a digit, a space or the line's end"
             };
-            return Ok(Some(found_at(alloc, line, place, expected)?));
+            return Some(found_at(line, place, expected));
         }
-        place = match behind_item(alloc, line, next)? {
-            Ok(place) => place,
-            Err(found) => return Ok(Some(found)),
-        };
+        match behind_item(line, next) {
+            Ok(behind) => place = behind,
+            Err(fault) => return Some(fault),
+        }
     }
-    Ok(None)
+    None
 }
 
 // Whether a line is passed over.
@@ -115,55 +148,46 @@ fn is_blank(line: &[u8]) -> bool {
 }
 
 // What is wrong with a line.
-fn line_fault(alloc: Global, line: &str) -> Result<Option<Found>, AllocError> {
+fn line_fault(line: &str) -> Option<Fault<'_>> {
     let bytes = line.as_bytes();
     if is_blank(bytes) {
-        return Ok(None);
+        return None;
     }
     let is_word = match bytes.first() {
         Some(first) => starts_word(*first),
         None => false,
     };
     if !is_word {
-        return Ok(Some(found_at(alloc, line, 0, "an input's name")?));
+        return Some(found_at(line, 0, "an input's name"));
     }
     let len = word_len(bytes);
     if len > MAX_NAME_BYTES {
-        let count = with_commas(len);
-        return Ok(Some(Found {
-            offset: MAX_NAME_BYTES,
-            words: format!(in alloc; "a name of {count} bytes; at most {MAX_NAME_BYTES}")?,
-        }));
+        return Some((MAX_NAME_BYTES, Wrong::LongName(len)));
     }
     if bytes.get(len) != Some(&b':') {
-        return Ok(Some(found_at(alloc, line, len, "`:`")?));
+        return Some(found_at(line, len, "`:`"));
     }
-    items_fault(alloc, line, after(len, 1))
+    items_fault(line, after(len, 1))
 }
 
 // What is wrong with a line of a text, by its number from 1.
 fn text_fault(alloc: Global, text: &str, line: usize) -> Result<Option<Found>, AllocError> {
     let bytes = text.as_bytes();
     if bytes.len() > MAX_INPUTS_BYTES {
-        let len = with_commas(bytes.len());
-        return Ok(Some(Found {
-            offset: 0,
-            words: format!(in alloc; "a text of {len} bytes; at most 16,777,216")?,
-        }));
+        let long = TooLong {
+            what: "a text",
+            len: bytes.len(),
+            most: MAX_INPUTS_BYTES,
+        };
+        return Found::at(0, format!(in alloc; "{long}"));
     }
     if line == 1 && has_mark(text) {
-        return Ok(Some(Found {
-            offset: 0,
-            words: String::from_str(alloc, MARK)?,
-        }));
+        return Found::at(0, String::from_str(alloc, MARK));
     }
     let start = line_start(bytes, line);
     let len = line_from(bytes, start).len();
-    match line_fault(alloc, word(text, start, after(start, len)))? {
-        Some(found) => Ok(Some(Found {
-            offset: after(start, found.offset),
-            words: found.words,
-        })),
+    match line_fault(word(text, start, after(start, len))) {
+        Some((offset, wrong)) => Found::at(after(start, offset), format!(in alloc; "{wrong}")),
         None => Ok(None),
     }
 }
@@ -174,11 +198,13 @@ pub fn explain_inputs_text(
     text: &str,
     fault: TextFault,
 ) -> Result<Explanation, AllocError> {
-    let Some(line) = fault.line() else {
-        return Ok(Explanation::whole(String::from_str(alloc, "no memory")?));
-    };
-    let found = text_fault(alloc, text, line)?;
-    Explanation::at(alloc, text.as_bytes(), line, found, NO_MORE)
+    match fault.line() {
+        Some(line) => {
+            let found = text_fault(alloc, text, line)?;
+            Explanation::at(alloc, text.as_bytes(), line, found, NO_MORE)
+        }
+        None => Explanation::no_memory(alloc),
+    }
 }
 
 // The name with which a line begins; none where the line is passed over.
@@ -208,42 +234,94 @@ fn line_of_name(text: &[u8], name: &[u8]) -> Option<usize> {
     None
 }
 
+// A channel of a network that has a name which none of its inputs has: whether it is an output, and the line of its declaration.
+#[derive(Clone, Copy)]
+struct Other {
+    is_output: bool,
+    line: usize,
+}
+
+impl fmt::Display for Other {
+    fn fmt<W: fmt::Write>(&self, f: &mut fmt::Formatter<W>) -> fmt::Result {
+        let line = self.line;
+        let what = if self.is_output {
+            "an output"
+        } else {
+            "a channel between processes"
+        };
+        write!(f, "{what}, declared in line {line} of the network")
+    }
+}
+
 // What the network says of a name that none of its inputs has.
-fn other_channel(alloc: Global, net: &Net, name: &str) -> Result<Option<String>, AllocError> {
+fn other_channel(net: &Net, name: &str) -> Option<Other> {
     let channels = net.program.channels.iter();
     for (known, channel) in net.channel_names.iter().zip(channels) {
         if known.as_str() == name {
-            let line = known.line();
-            let what = match channel.consumer {
-                Port::Outside => "an output",
-                Port::Process(_) => "a channel between processes",
-            };
-            return Ok(Some(format!(in alloc; "{what}, declared in line {line} of the network")?));
+            return Some(Other {
+                is_output: channel.consumer == Port::Outside,
+                line: known.line(),
+            });
         }
     }
-    Ok(None)
+    None
 }
 
-// The names of a network's inputs.
-fn input_names(alloc: Global, net: &Net) -> Result<String, AllocError> {
-    let mut names = String::new(alloc);
-    let channels = net.program.channels.iter();
-    for (known, channel) in net.channel_names.iter().zip(channels) {
-        if channel.producer == Port::Outside {
-            names.push_str(if names.is_empty() { "" } else { ", " })?;
-            names.push_str(quoted(alloc, known.as_str())?.as_str())?;
+// The names of a network's inputs; or those alone that have no line in a text.
+#[derive(Clone, Copy)]
+struct InputNames<'a> {
+    net: &'a Net,
+    missing_in: Option<&'a [u8]>,
+}
+
+impl<'a> InputNames<'a> {
+    // Whether the channel of this name is one of them.
+    fn has(&self, name: &str, channel: &Channel) -> bool {
+        if channel.producer != Port::Outside {
+            return false;
+        }
+        match self.missing_in {
+            Some(text) => line_of_name(text, name.as_bytes()).is_none(),
+            None => true,
         }
     }
-    Ok(names)
+
+    fn is_empty(&self) -> bool {
+        let channels = self.net.program.channels.iter();
+        for (known, channel) in self.net.channel_names.iter().zip(channels) {
+            if self.has(known.as_str(), channel) {
+                return false;
+            }
+        }
+        true
+    }
+}
+
+impl<'a> fmt::Display for InputNames<'a> {
+    fn fmt<W: fmt::Write>(&self, f: &mut fmt::Formatter<W>) -> fmt::Result {
+        let mut comma = "";
+        let channels = self.net.program.channels.iter();
+        for (known, channel) in self.net.channel_names.iter().zip(channels) {
+            if self.has(known.as_str(), channel) {
+                let name = Quoted(known.as_str());
+                write!(f, "{comma}{name}")?;
+                comma = ", ";
+            }
+        }
+        Ok(())
+    }
 }
 
 // What is said of a name that no input has.
 fn unknown_words(alloc: Global, net: &Net, name: &str) -> Result<String, AllocError> {
-    let shown = quoted(alloc, name)?;
-    if let Some(other) = other_channel(alloc, net, name)? {
+    let shown = Quoted(name);
+    if let Some(other) = other_channel(net, name) {
         return format!(in alloc; "the network has no input {shown}; {shown} is {other}");
     }
-    let inputs = input_names(alloc, net)?;
+    let inputs = InputNames {
+        net,
+        missing_in: None,
+    };
     if inputs.is_empty() {
         return format!(in alloc; "the network has no input {shown}, nor any other");
     }
@@ -275,7 +353,7 @@ fn meaning_words(
     let line = line_from(text.as_bytes(), start);
     let len = name_of(line).len();
     let name = word(text, start, after(start, len));
-    let shown = quoted(alloc, name)?;
+    let shown = Quoted(name);
     match fault {
         NetFault::TwiceNamed { .. } => match line_of_name(text.as_bytes(), name.as_bytes()) {
             Some(other) => format!(in alloc; "{shown} has its items already, in line {other}"),
@@ -292,21 +370,6 @@ fn meaning_words(
     }
 }
 
-// The names of the inputs that have no line in a text.
-fn missing_names(alloc: Global, text: &[u8], net: &Net) -> Result<String, AllocError> {
-    let mut names = String::new(alloc);
-    let channels = net.program.channels.iter();
-    for (known, channel) in net.channel_names.iter().zip(channels) {
-        let is_missing = channel.producer == Port::Outside
-            && line_of_name(text, known.as_str().as_bytes()).is_none();
-        if is_missing {
-            names.push_str(if names.is_empty() { "" } else { ", " })?;
-            names.push_str(quoted(alloc, known.as_str())?.as_str())?;
-        }
-    }
-    Ok(names)
-}
-
 /// Why the lines of a text aren't the items of a network's inputs: `fault` is what `net_check::bind` refused them by. Refuses for want of
 /// memory alone.
 pub fn explain_inputs(
@@ -317,16 +380,16 @@ pub fn explain_inputs(
 ) -> Result<Explanation, AllocError> {
     let bytes = text.as_bytes();
     let Some(line) = fault.line() else {
-        let names = missing_names(alloc, bytes, net)?;
+        let names = InputNames {
+            net,
+            missing_in: Some(bytes),
+        };
         let words = format!(in alloc;
             "no line for {names}; a line with the name and a colon alone gives no items"
         )?;
         return Ok(Explanation::whole(words));
     };
     let start = line_start(bytes, line);
-    let found = Found {
-        offset: start,
-        words: meaning_words(alloc, text, start, net, fault)?,
-    };
-    Explanation::at(alloc, bytes, line, Some(found), NO_MORE)
+    let found = Found::at(start, meaning_words(alloc, text, start, net, fault))?;
+    Explanation::at(alloc, bytes, line, found, NO_MORE)
 }

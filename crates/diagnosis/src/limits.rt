@@ -3,12 +3,29 @@
 use crate::declared::{Kind, Part, Reader, Seen, name_at};
 use crate::explanation::Found;
 use crate::pieces::{Piece, Placed, is_arithmetic, is_comparison};
-use crate::words::{Grouped, Nth, quoted, with_commas};
+use crate::words::{Grouped, Nth, Quoted, with_commas};
 use kahn_net::{
     MAX_CHANNELS, MAX_NESTED_TIMES, MAX_NODES, MAX_PROCESSES, MAX_UNITS, MAX_VARIABLES,
 };
 use net_text::{Keyword, MAX_NESTING, Symbol};
 use std::alloc::{AllocError, Global};
+use std::fmt;
+
+// Whether a name is that of a variable which is set or read.
+fn is_variable(part: Part) -> bool {
+    match part {
+        Part::Variable => true,
+        _ => false,
+    }
+}
+
+// Whether a name is that of a process which is declared.
+fn is_process_name(part: Part) -> bool {
+    match part {
+        Part::Declares(kind) => kind.is_process(),
+        _ => false,
+    }
+}
 
 // What a brace opens.
 #[derive(Clone, Copy, PartialEq, Eq)]
@@ -183,7 +200,7 @@ impl Walk {
             | Piece::Word(Keyword::If)
             | Piece::Word(Keyword::Repeat)
             | Piece::Number(_) => true,
-            Piece::Name => seen.part == Part::Variable,
+            Piece::Name => is_variable(seen.part),
             _ => is_arithmetic(seen.at.piece) || is_comparison(seen.at.piece),
         }
     }
@@ -235,7 +252,7 @@ fn first_wanted(text: &str, wanted: Wanted) -> Option<Walk> {
         if seen.at.piece == Piece::Word(Keyword::Process) {
             walk = Walk::new(seen.at);
         }
-        if seen.part == Part::Declares(Kind::Process) {
+        if is_process_name(seen.part) {
             walk.name = seen.at;
         }
         if walk.step(&seen) && is_wanted(&walk, wanted) {
@@ -253,13 +270,35 @@ struct Counts {
     variables: usize,
 }
 
+// What is past a limit, in words.
+#[derive(Clone, Copy)]
+enum Past<'a> {
+    // the declaration of this number, how many there may be, and of what
+    Declaration {
+        count: usize,
+        most: usize,
+        what: &'static str,
+    },
+    Node(&'a str),
+}
+
+impl<'a> fmt::Display for Past<'a> {
+    fn fmt<W: fmt::Write>(&self, f: &mut fmt::Formatter<W>) -> fmt::Result {
+        match *self {
+            Past::Declaration { count, most, what } => {
+                let nth = Nth(count);
+                write!(f, "the {nth} {what}; at most {most}")
+            }
+            Past::Node(number) => {
+                let last = MAX_NODES - 1;
+                write!(f, "node {number}; nodes are 0 to {last}")
+            }
+        }
+    }
+}
+
 // What is past a limit by this declaration, beside those before it.
-fn declared_past(
-    alloc: Global,
-    counts: &mut Counts,
-    seen: &Seen,
-    kind: Kind,
-) -> Result<Option<Found>, AllocError> {
+fn declared_past(counts: &mut Counts, kind: Kind) -> Option<Past<'static>> {
     let (count, most, what) = match kind {
         Kind::Input | Kind::Inner | Kind::Output => {
             counts.channels = counts.channels.wrapping_add(1);
@@ -276,37 +315,24 @@ fn declared_past(
         }
     };
     if count <= most {
-        return Ok(None);
+        return None;
     }
-    let nth = Nth(count);
-    Ok(Some(Found {
-        offset: seen.before.start,
-        words: format!(in alloc; "the {nth} {what}; at most {most}")?,
-    }))
+    Some(Past::Declaration { count, most, what })
 }
 
-// What is past a limit by this piece, beside those before it.
-fn piece_past(
-    alloc: Global,
-    text: &str,
-    counts: &mut Counts,
-    seen: &Seen,
-) -> Result<Option<Found>, AllocError> {
+// What is past a limit by this piece, beside those before it, and at which offset.
+fn piece_past<'a>(text: &'a str, counts: &mut Counts, seen: &Seen) -> Option<(usize, Past<'a>)> {
     match seen.part {
-        Part::Declares(kind) => declared_past(alloc, counts, seen, kind),
+        Part::Declares(kind) => Some((seen.before.start, declared_past(counts, kind)?)),
         Part::Node(number) if number >= u64::from(MAX_NODES) => {
-            let number = name_at(text, seen.at);
-            Ok(Some(Found {
-                offset: seen.at.start,
-                words: format!(in alloc; "node {number}; nodes are 0 to 15")?,
-            }))
+            Some((seen.at.start, Past::Node(name_at(text, seen.at))))
         }
-        _ => Ok(None),
+        _ => None,
     }
 }
 
-// The first declaration that is past a limit.
-fn first_past(alloc: Global, text: &str) -> Result<Option<Found>, AllocError> {
+// The first declaration that is past a limit, by its offset.
+fn first_past(text: &str) -> Option<(usize, Past<'_>)> {
     let mut reader = Reader::new(text);
     let mut counts = Counts {
         channels: 0,
@@ -314,55 +340,64 @@ fn first_past(alloc: Global, text: &str) -> Result<Option<Found>, AllocError> {
         variables: 0,
     };
     for _ in 0..text.len() {
-        let Some(seen) = reader.next_seen() else {
-            return Ok(None);
-        };
-        if let Some(found) = piece_past(alloc, text, &mut counts, &seen)? {
-            return Ok(Some(found));
+        let seen = reader.next_seen()?;
+        if let Some(past) = piece_past(text, &mut counts, &seen) {
+            return Some(past);
         }
     }
-    Ok(None)
+    None
 }
 
 /// Where a text is past a limit.
 pub(crate) fn past_limit(alloc: Global, text: &str) -> Result<Option<Found>, AllocError> {
-    if let Some(found) = first_past(alloc, text)? {
-        return Ok(Some(found));
+    if let Some((offset, past)) = first_past(text) {
+        return Found::at(offset, format!(in alloc; "{past}"));
     }
     let Some(walk) = first_wanted(text, Wanted::PastLimit) else {
         return Ok(None);
     };
     if walk.units > MAX_UNITS {
-        let name = quoted(alloc, name_at(text, walk.name))?;
-        let units = with_commas(walk.units);
-        return Ok(Some(Found {
-            offset: walk.first.start,
-            words: format!(in alloc; "the process {name} has {units} units; at most 4,096")?,
-        }));
+        let name = Quoted(name_at(text, walk.name));
+        let (units, most) = (with_commas(walk.units), with_commas(MAX_UNITS));
+        let words = format!(in alloc; "the process {name} has {units} units; at most {most}");
+        return Found::at(walk.first.start, words);
     }
     match walk.past {
         Some((at, times)) => {
-            let times = Grouped(times);
-            Ok(Some(Found {
-                offset: at.start,
-                words: format!(in alloc;
-                    "repetitions within one another come to {times} passes; at most 1,000,000"
-                )?,
-            }))
+            let (times, most) = (Grouped(times), Grouped(u64::from(MAX_NESTED_TIMES)));
+            let words = format!(in alloc;
+                "repetitions within one another come to {times} passes; at most {most}"
+            );
+            Found::at(at.start, words)
         }
         None => Ok(None),
     }
 }
 
-// What a loop lacks that may go round without an item.
-fn lack_words(alloc: Global, text: &str, passing: Option<Placed>) -> Result<String, AllocError> {
-    match passing {
-        Some(at) => {
-            let word = quoted(alloc, name_at(text, at))?;
-            let line = at.line;
-            format!(in alloc; "the {word} in line {line} stands in an `if`, and may be passed by")
+// What a loop lacks that may go round without an item: a `get` or a `stop`, or one outside of an `if`.
+#[derive(Clone, Copy)]
+struct Lack<'a> {
+    passing: Option<(Quoted<'a>, usize)>,
+}
+
+impl<'a> fmt::Display for Lack<'a> {
+    fn fmt<W: fmt::Write>(&self, f: &mut fmt::Formatter<W>) -> fmt::Result {
+        match self.passing {
+            Some((word, line)) => write!(
+                f,
+                "the {word} in line {line} stands in an `if`, and may be passed by"
+            ),
+            None => f.write_str("it has no `get` and no `stop`"),
         }
-        None => String::from_str(alloc, "it has no `get` and no `stop`"),
+    }
+}
+
+fn lack_of(text: &str, passing: Option<Placed>) -> Lack<'_> {
+    match passing {
+        Some(at) => Lack {
+            passing: Some((Quoted(name_at(text, at)), at.line)),
+        },
+        None => Lack { passing: None },
     }
 }
 
@@ -371,12 +406,10 @@ pub(crate) fn lazy_loop(alloc: Global, text: &str) -> Result<Option<Found>, Allo
     let Some(walk) = first_wanted(text, Wanted::LazyLoop) else {
         return Ok(None);
     };
-    let name = quoted(alloc, name_at(text, walk.name))?;
-    let lack = lack_words(alloc, text, walk.passing)?;
-    Ok(Some(Found {
-        offset: walk.repeated.start,
-        words: format!(in alloc;
-            "the loop of the process {name} may go round without an item: {lack}"
-        )?,
-    }))
+    let name = Quoted(name_at(text, walk.name));
+    let lack = lack_of(text, walk.passing);
+    let words = format!(in alloc;
+        "the loop of the process {name} may go round without an item: {lack}"
+    );
+    Found::at(walk.repeated.start, words)
 }

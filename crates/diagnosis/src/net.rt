@@ -8,13 +8,12 @@ use crate::pieces::{Piece, Placed, is_comparison};
 use crate::places::word;
 use crate::scanner::Scanner;
 use crate::uses::{second_consumer, second_producer, without_consumer, without_producer};
-use crate::words::{MARK, character_words, has_mark, quoted, with_commas};
+use crate::words::{Grouped, MARK, NO_MORE, Quoted, Shown, TooLong, has_mark, with_commas};
+use kahn_net::MAX_TIMES;
 use net_check::NetFault;
 use net_text::{Keyword, MAX_NAME_BYTES, MAX_NESTING, MAX_TEXT_BYTES, TextFault};
 use std::alloc::{AllocError, Global};
-
-// What is said where a text has no such fault at this line.
-const NO_MORE: &str = "the text is refused here";
+use std::fmt;
 
 // Where a text can't go on, and what stood before.
 #[derive(Clone, Copy)]
@@ -118,17 +117,37 @@ fn wants_name(next: Next) -> bool {
 }
 
 // What was found, in words.
-fn found_words(alloc: Global, text: &str, stuck: &Stuck) -> Result<String, AllocError> {
-    let at = stuck.at;
-    let found = word(text, at.start, at.end);
-    match at.piece {
-        Piece::End => String::from_str(alloc, "the end of the text"),
-        Piece::Bad => { character_words(alloc, word(text, at.start, text.len()).chars().next()) }
-        Piece::Word(_) if wants_name(stuck.grammar.next) => {
-            let found = quoted(alloc, found)?;
-            format!(in alloc; "the keyword {found}")
+#[derive(Clone, Copy)]
+enum Met<'a> {
+    End,
+    Character(Shown),
+    Keyword(Quoted<'a>),
+    Piece(Quoted<'a>),
+}
+
+impl<'a> fmt::Display for Met<'a> {
+    fn fmt<W: fmt::Write>(&self, f: &mut fmt::Formatter<W>) -> fmt::Result {
+        match *self {
+            Met::End => f.write_str("the end of the text"),
+            Met::Character(character) => write!(f, "{character}"),
+            Met::Keyword(word) => write!(f, "the keyword {word}"),
+            Met::Piece(piece) => write!(f, "{piece}"),
         }
-        _ => quoted(alloc, found),
+    }
+}
+
+// What a text has where it is stuck.
+fn what_stands<'a>(text: &'a str, stuck: &Stuck) -> Met<'a> {
+    let at = stuck.at;
+    let piece = Quoted(word(text, at.start, at.end));
+    match at.piece {
+        Piece::End => Met::End,
+        Piece::Bad => match word(text, at.start, text.len()).chars().next() {
+            Some(character) => Met::Character(Shown(character)),
+            None => Met::End,
+        },
+        Piece::Word(_) if wants_name(stuck.grammar.next) => Met::Keyword(piece),
+        _ => Met::Piece(piece),
     }
 }
 
@@ -154,21 +173,21 @@ fn is_late_variable(stuck: &Stuck) -> bool {
 
 // What was found and what was expected.
 fn unexpected(alloc: Global, text: &str, stuck: &Stuck) -> Result<String, AllocError> {
-    let at = stuck.at;
-    let found = found_words(alloc, text, stuck)?;
+    let found = what_stands(text, stuck);
     let expected = expected(&stuck.grammar);
     if is_of_second_edition(stuck) {
         return format!(in alloc; "{found} needs `kahn 2;`: this text begins with `kahn 1;`");
     }
-    if stuck.grammar.next == Next::Operator && is_comparison(at.piece) {
+    let is_operator = stuck.grammar.next == Next::Operator;
+    if is_operator && is_comparison(stuck.at.piece) {
         return format!(in alloc; "found {found} behind a comparison, which isn't compared again");
     }
-    if is_late_variable(stuck) {
-        return format!(in alloc;
-            "found {found}, expected {expected}: variables are declared before the first statement"
-        );
-    }
-    format!(in alloc; "found {found}, expected {expected}")
+    let more = if is_late_variable(stuck) {
+        ": variables are declared before the first statement"
+    } else {
+        ""
+    };
+    format!(in alloc; "found {found}, expected {expected}{more}")
 }
 
 // What is said of a character that begins no token.
@@ -176,7 +195,7 @@ fn bad_token(alloc: Global, text: &str, stuck: &Stuck) -> Result<String, AllocEr
     if stuck.at.start == 0 && has_mark(text) {
         return String::from_str(alloc, MARK);
     }
-    let found = found_words(alloc, text, stuck)?;
+    let found = what_stands(text, stuck);
     let expected = expected(&stuck.grammar);
     format!(in alloc; "found {found}, which begins no token, expected {expected}")
 }
@@ -190,7 +209,7 @@ fn is_least(text: &str, stuck: &Stuck) -> bool {
 
 // What is said of a number past its range.
 fn large_number(alloc: Global, text: &str, stuck: &Stuck) -> Result<String, AllocError> {
-    let found = found_words(alloc, text, stuck)?;
+    let found = what_stands(text, stuck);
     let greatest = i64::MAX;
     if is_least(text, stuck) {
         return format!(in alloc;
@@ -211,16 +230,33 @@ fn stuck_words(alloc: Global, text: &str, stuck: &Stuck) -> Result<String, Alloc
             format!(in alloc; "a name of {len} bytes; at most {MAX_NAME_BYTES}")
         }
         (_, Stop::TooDeep) => {
-            let found = found_words(alloc, text, stuck)?;
+            let found = what_stands(text, stuck);
             format!(in alloc;
                 "{found} opens more than {MAX_NESTING} blocks, parentheses and minus signs within one another"
             )
         }
         (_, Stop::Times) => {
-            let found = found_words(alloc, text, stuck)?;
-            format!(in alloc; "{found} times; a block is repeated 1 to 1,000 times")
+            let found = what_stands(text, stuck);
+            let most = Grouped(MAX_TIMES as u64);
+            format!(in alloc; "{found} times; a block is repeated 1 to {most} times")
         }
         (_, Stop::Unexpected) => unexpected(alloc, text, stuck),
+    }
+}
+
+// Where a text is none of a network's, and why.
+fn text_fault(alloc: Global, text: &str) -> Result<Option<Found>, AllocError> {
+    if text.len() > MAX_TEXT_BYTES {
+        let long = TooLong {
+            what: "a text",
+            len: text.len(),
+            most: MAX_TEXT_BYTES,
+        };
+        return Found::at(0, format!(in alloc; "{long}"));
+    }
+    match stuck_in(text) {
+        Some(stuck) => Found::at(stuck.at.start, stuck_words(alloc, text, &stuck)),
+        None => Ok(None),
     }
 }
 
@@ -230,25 +266,13 @@ pub fn explain_net_text(
     text: &str,
     fault: TextFault,
 ) -> Result<Explanation, AllocError> {
-    let Some(line) = fault.line() else {
-        return Ok(Explanation::whole(String::from_str(alloc, "no memory")?));
-    };
-    let found = if text.len() > MAX_TEXT_BYTES {
-        let len = with_commas(text.len());
-        Some(Found {
-            offset: 0,
-            words: format!(in alloc; "a text of {len} bytes; at most 1,048,576")?,
-        })
-    } else {
-        match stuck_in(text) {
-            Some(stuck) => Some(Found {
-                offset: stuck.at.start,
-                words: stuck_words(alloc, text, &stuck)?,
-            }),
-            None => None,
+    match fault.line() {
+        Some(line) => {
+            let found = text_fault(alloc, text)?;
+            Explanation::at(alloc, text.as_bytes(), line, found, NO_MORE)
         }
-    };
-    Explanation::at(alloc, text.as_bytes(), line, found, NO_MORE)
+        None => Explanation::no_memory(alloc),
+    }
 }
 
 // Where a text has this fault, and what is wrong there.
@@ -268,9 +292,11 @@ fn found_in(alloc: Global, text: &str, fault: NetFault) -> Result<Option<Found>,
 
 /// Why the network of a text isn't valid: `fault` is what `net_check::check` refused it by. Refuses for want of memory alone.
 pub fn explain_net(alloc: Global, text: &str, fault: NetFault) -> Result<Explanation, AllocError> {
-    let Some(line) = fault.line() else {
-        return Ok(Explanation::whole(String::from_str(alloc, NO_MORE)?));
-    };
-    let found = found_in(alloc, text, fault)?;
-    Explanation::at(alloc, text.as_bytes(), line, found, NO_MORE)
+    match fault.line() {
+        Some(line) => {
+            let found = found_in(alloc, text, fault)?;
+            Explanation::at(alloc, text.as_bytes(), line, found, NO_MORE)
+        }
+        None => Explanation::no_memory(alloc),
+    }
 }

@@ -1,53 +1,17 @@
 //! Who puts on the channels of a network's text and who gets from them.
 
-use crate::declared::{Declared, Kind, Part, Reader, Seen, declarations, name_at, where_is};
+use crate::declared::{
+    Declared, End, Kind, Part, Reader, Seen, declarations, name_at, process_name, where_is,
+};
 use crate::explanation::Found;
-use crate::pieces::Placed;
-use crate::words::quoted;
+use crate::words::Quoted;
 use std::alloc::{AllocError, Global};
+use std::fmt;
 
-// One end of a channel: the first use of it, and the process in which that stands.
-#[derive(Clone, Copy)]
-struct First {
-    at: Placed,
-    process: usize,
-}
-
-// A channel, and the first use of each of its ends.
-#[derive(Clone, Copy)]
-struct Channel {
-    declared: Declared,
-    put: Option<First>,
-    got: Option<First>,
-}
-
-fn is_channel(kind: Kind) -> bool {
-    match kind {
-        Kind::Input | Kind::Inner | Kind::Output => true,
-        Kind::Process | Kind::Variable(_) => false,
-    }
-}
-
-// The channels of a text, of which nothing is known yet but that they are declared.
-fn channels(alloc: Global, text: &str) -> Result<Vec<Channel>, AllocError> {
-    let declared = declarations(alloc, text)?;
-    let mut channels = Vec::new(alloc);
-    for known in &declared {
-        if is_channel(known.kind) {
-            channels.push(Channel {
-                declared: *known,
-                put: None,
-                got: None,
-            })?;
-        }
-    }
-    Ok(channels)
-}
-
-// The place of the channel of this name.
-fn place_of(text: &str, channels: &[Channel], name: &str) -> Option<usize> {
-    for (place, channel) in channels.iter().enumerate() {
-        if name_at(text, channel.declared.name) == name {
+// The place of the channel of this name among what is declared.
+fn place_of(text: &str, declared: &[Declared], name: &str) -> Option<usize> {
+    for (place, known) in declared.iter().enumerate() {
+        if known.kind.is_channel() && name_at(text, known.name) == name {
             return Some(place);
         }
     }
@@ -55,192 +19,228 @@ fn place_of(text: &str, channels: &[Channel], name: &str) -> Option<usize> {
 }
 
 // Notes a use, if it is the first one of its end.
-fn note(channels: &mut [Channel], place: usize, seen: &Seen) {
-    if place >= channels.len() {
+fn note(declared: &mut [Declared], place: usize, seen: &Seen) {
+    if place >= declared.len() {
         return;
     }
-    let mut channel = channels[place];
-    let first = First {
+    let end = End {
         at: seen.at,
         process: seen.process(),
     };
+    let channel = &mut declared[place];
     match seen.part {
-        Part::Put if channel.put.is_none() => channel.put = Some(first),
-        Part::Get if channel.got.is_none() => channel.got = Some(first),
+        Part::Put if channel.put.is_none() => channel.put = Some(end),
+        Part::Get if channel.got.is_none() => channel.got = Some(end),
         _ => {}
     }
-    channels[place] = channel;
 }
 
-fn is_use(part: Part) -> bool {
-    part == Part::Put || part == Part::Get
+// Which end of a channel is used.
+#[derive(Clone, Copy)]
+enum Side {
+    Puts,
+    Gets,
 }
 
-// The first use of an end at which something else stands, of this part; or None, and all uses are noted then.
-fn first_second(text: &str, channels: &mut [Channel], part: Part) -> Option<(Seen, Channel)> {
-    let mut reader = Reader::new(text);
-    for _ in 0..text.len() {
-        let seen = reader.next_seen()?;
-        if is_use(seen.part) {
-            let place = place_of(text, channels, name_at(text, seen.at));
-            if let Some(place) = place {
-                if let Some(channel) = taken(channels, place, &seen, part) {
-                    return Some((seen, channel));
-                }
-                note(channels, place, &seen);
-            }
-        }
+// The end that a piece uses, if it uses one.
+fn side_of(part: Part) -> Option<Side> {
+    match part {
+        Part::Put => Some(Side::Puts),
+        Part::Get => Some(Side::Gets),
+        _ => None,
     }
-    None
 }
 
-// The channel, if something else stands at this end of it.
-fn taken(channels: &[Channel], place: usize, seen: &Seen, part: Part) -> Option<Channel> {
-    let channel = *channels.get(place)?;
-    if seen.part != part {
-        return None;
-    }
-    let (outside, first) = match part {
-        Part::Put => (Kind::Input, channel.put),
-        _ => (Kind::Output, channel.got),
+// What stands at this end of a channel already.
+#[derive(Clone, Copy)]
+struct Taken {
+    channel: Declared,
+    // the process's first use of it; none where the channel goes outside there
+    end: Option<End>,
+}
+
+// What stands at the end that is used here, unless it is this process.
+fn stands_at(channel: Declared, side: Side, process: usize) -> Option<Taken> {
+    let (end, is_outside) = match (side, channel.kind) {
+        (Side::Puts, Kind::Input) => (channel.put, true),
+        (Side::Puts, _) => (channel.put, false),
+        (Side::Gets, Kind::Output) => (channel.got, true),
+        (Side::Gets, _) => (channel.got, false),
     };
-    let is_taken = match first {
-        Some(first) => first.process != seen.process(),
+    let is_other = match end {
+        Some(end) => end.process != process,
         None => false,
     };
-    if is_taken || channel.declared.kind == outside {
-        Some(channel)
+    if is_other || is_outside {
+        Some(Taken { channel, end })
     } else {
         None
     }
 }
 
-// The name of the process of this number.
-fn process_at(alloc: Global, text: &str, number: usize) -> Result<String, AllocError> {
-    let declared = declarations(alloc, text)?;
-    let mut count: usize = 0;
-    for known in &declared {
-        if known.kind == Kind::Process {
-            if count == number {
-                return quoted(alloc, name_at(text, known.name));
-            }
-            count = count.wrapping_add(1);
-        }
+// Whether this is the end that is looked for.
+fn is_wanted(wanted: Option<Side>, side: Side) -> bool {
+    match (wanted, side) {
+        (Some(Side::Puts), Side::Puts) | (Some(Side::Gets), Side::Gets) => true,
+        _ => false,
     }
-    Ok(String::new(alloc))
+}
+
+// Goes through the uses of all channels and notes each. The first one of the end that is looked for, if one is, at which something else
+// stands.
+fn first_second(
+    text: &str,
+    declared: &mut [Declared],
+    wanted: Option<Side>,
+) -> Option<(Seen, Taken)> {
+    let mut reader = Reader::new(text);
+    for _ in 0..text.len() {
+        let seen = reader.next_seen()?;
+        let Some(side) = side_of(seen.part) else {
+            continue;
+        };
+        let Some(place) = place_of(text, declared, name_at(text, seen.at)) else {
+            continue;
+        };
+        if is_wanted(wanted, side) && place < declared.len() {
+            if let Some(taken) = stands_at(declared[place], side, seen.process()) {
+                return Some((seen, taken));
+            }
+        }
+        note(declared, place, &seen);
+    }
+    None
 }
 
 // What stands at an end of a channel besides.
 fn other_words(
     alloc: Global,
     text: &str,
+    declared: &[Declared],
     seen: &Seen,
-    channel: &Channel,
-    first: Option<First>,
+    taken: Taken,
+    what: &str,
     does: &str,
     outside: &str,
 ) -> Result<String, AllocError> {
-    let name = quoted(alloc, name_at(text, seen.at))?;
-    match first {
-        Some(first) => {
-            let process = process_at(alloc, text, first.process)?;
-            let place = where_is(alloc, text, first.at, seen.at)?;
-            format!(in alloc; "the process {process} {does} {name} too, {place}")
+    let name = Quoted(name_at(text, seen.at));
+    match taken.end {
+        Some(end) => {
+            let process = process_name(text, declared, end.process);
+            let place = where_is(text, end.at, seen.at);
+            format!(in alloc; "{what}: the process {process} {does} {name} too, {place}")
         }
         None => {
-            let place = where_is(alloc, text, channel.declared.name, seen.at)?;
-            format!(in alloc; "{name} is {outside}, declared {place}")
+            let place = where_is(text, taken.channel.name, seen.at);
+            format!(in alloc; "{what}: {name} is {outside}, declared {place}")
         }
     }
 }
 
 /// Where a process puts on a channel on which another one does, or on an input.
 pub(crate) fn second_producer(alloc: Global, text: &str) -> Result<Option<Found>, AllocError> {
-    let mut channels = channels(alloc, text)?;
-    let Some((seen, channel)) = first_second(text, &mut channels, Part::Put) else {
+    let mut declared = declarations(alloc, text)?;
+    let Some((seen, taken)) = first_second(text, &mut declared, Some(Side::Puts)) else {
         return Ok(None);
     };
-    let outside = "an input, whose items come from outside";
-    let other = other_words(
+    let words = other_words(
         alloc,
         text,
+        &declared,
         &seen,
-        &channel,
-        channel.put,
+        taken,
+        "a second producer",
         "puts on",
-        outside,
-    )?;
-    Ok(Some(Found {
-        offset: seen.at.start,
-        words: format!(in alloc; "a second producer: {other}")?,
-    }))
+        "an input, whose items come from outside",
+    );
+    Found::at(seen.at.start, words)
 }
 
 /// Where a process gets from a channel from which another one does, or from an output.
 pub(crate) fn second_consumer(alloc: Global, text: &str) -> Result<Option<Found>, AllocError> {
-    let mut channels = channels(alloc, text)?;
-    let Some((seen, channel)) = first_second(text, &mut channels, Part::Get) else {
+    let mut declared = declarations(alloc, text)?;
+    let Some((seen, taken)) = first_second(text, &mut declared, Some(Side::Gets)) else {
         return Ok(None);
     };
-    let outside = "an output, whose items go outside";
-    let other = other_words(
+    let words = other_words(
         alloc,
         text,
+        &declared,
         &seen,
-        &channel,
-        channel.got,
+        taken,
+        "a second consumer",
         "gets from",
-        outside,
-    )?;
-    Ok(Some(Found {
-        offset: seen.at.start,
-        words: format!(in alloc; "a second consumer: {other}")?,
-    }))
-}
-
-// The channels of a text with the first use of each end.
-fn used_channels(alloc: Global, text: &str) -> Result<Vec<Channel>, AllocError> {
-    let mut channels = channels(alloc, text)?;
-    let _ = first_second(text, &mut channels, Part::Other);
-    Ok(channels)
+        "an output, whose items go outside",
+    );
+    Found::at(seen.at.start, words)
 }
 
 // What a channel is, with its name.
-fn channel_words(alloc: Global, text: &str, channel: &Channel) -> Result<String, AllocError> {
-    let name = quoted(alloc, name_at(text, channel.declared.name))?;
-    match channel.declared.kind {
-        Kind::Input => format!(in alloc; "the input {name}"),
-        Kind::Output => format!(in alloc; "the output {name}"),
-        _ => format!(in alloc; "the channel {name}"),
+#[derive(Clone, Copy)]
+struct ChannelWords<'a> {
+    kind: Kind,
+    name: Quoted<'a>,
+}
+
+impl<'a> fmt::Display for ChannelWords<'a> {
+    fn fmt<W: fmt::Write>(&self, f: &mut fmt::Formatter<W>) -> fmt::Result {
+        let name = self.name;
+        match self.kind {
+            Kind::Input => write!(f, "the input {name}"),
+            Kind::Output => write!(f, "the output {name}"),
+            _ => write!(f, "the channel {name}"),
+        }
+    }
+}
+
+fn channel_words<'a>(text: &'a str, channel: &Declared) -> ChannelWords<'a> {
+    ChannelWords {
+        kind: channel.kind,
+        name: Quoted(name_at(text, channel.name)),
+    }
+}
+
+// The first channel on which nobody puts, or from which nobody gets.
+fn first_without(declared: &[Declared], side: Side) -> Option<Declared> {
+    for known in declared {
+        let is_without = match (side, known.kind) {
+            (_, Kind::Process) | (_, Kind::Variable(_)) => false,
+            (Side::Puts, Kind::Input) | (Side::Gets, Kind::Output) => false,
+            (Side::Puts, _) => known.put.is_none(),
+            (Side::Gets, _) => known.got.is_none(),
+        };
+        if is_without {
+            return Some(*known);
+        }
+    }
+    None
+}
+
+// Where the first channel is declared at which nobody is, and what is said of it.
+fn without(
+    alloc: Global,
+    text: &str,
+    side: Side,
+    nobody: &str,
+) -> Result<Option<Found>, AllocError> {
+    let mut declared = declarations(alloc, text)?;
+    let _ = first_second(text, &mut declared, None);
+    match first_without(&declared, side) {
+        Some(channel) => {
+            let name = channel_words(text, &channel);
+            let words = format!(in alloc; "{nobody} {name}");
+            Found::at(channel.first.start, words)
+        }
+        None => Ok(None),
     }
 }
 
 /// Where the first channel is declared on which nobody puts.
 pub(crate) fn without_producer(alloc: Global, text: &str) -> Result<Option<Found>, AllocError> {
-    let channels = used_channels(alloc, text)?;
-    for channel in &channels {
-        if channel.declared.kind != Kind::Input && channel.put.is_none() {
-            let name = channel_words(alloc, text, channel)?;
-            return Ok(Some(Found {
-                offset: channel.declared.first.start,
-                words: format!(in alloc; "no process puts on {name}")?,
-            }));
-        }
-    }
-    Ok(None)
+    without(alloc, text, Side::Puts, "no process puts on")
 }
 
 /// Where the first channel is declared from which nobody gets.
 pub(crate) fn without_consumer(alloc: Global, text: &str) -> Result<Option<Found>, AllocError> {
-    let channels = used_channels(alloc, text)?;
-    for channel in &channels {
-        if channel.declared.kind != Kind::Output && channel.got.is_none() {
-            let name = channel_words(alloc, text, channel)?;
-            return Ok(Some(Found {
-                offset: channel.declared.first.start,
-                words: format!(in alloc; "no process gets from {name}")?,
-            }));
-        }
-    }
-    Ok(None)
+    without(alloc, text, Side::Gets, "no process gets from")
 }

@@ -1,6 +1,5 @@
 //! Words and numbers as they are shown.
 
-use std::alloc::{AllocError, Global};
 use std::fmt;
 
 // The most characters of a word that are shown.
@@ -62,36 +61,68 @@ fn harmless(character: char) -> char {
 }
 
 /// A word between backquotes, which is cut where it is long.
-pub(crate) fn quoted(alloc: Global, word: &str) -> Result<String, AllocError> {
-    let mut quoted = String::from_str(alloc, "`")?;
-    for (count, character) in word.chars().enumerate() {
-        if count == MOST_SHOWN {
-            quoted.push_str("..")?;
-            break;
+#[derive(Clone, Copy)]
+pub(crate) struct Quoted<'a>(pub &'a str);
+
+impl<'a> fmt::Display for Quoted<'a> {
+    fn fmt<W: fmt::Write>(&self, f: &mut fmt::Formatter<W>) -> fmt::Result {
+        f.write_str("`")?;
+        for (count, character) in self.0.chars().enumerate() {
+            if count == MOST_SHOWN {
+                return f.write_str("..`");
+            }
+            f.write_char(harmless(character))?;
         }
-        quoted.push(harmless(character))?;
+        f.write_str("`")
     }
-    quoted.push_str("`")?;
-    Ok(quoted)
+}
+
+// What a character is called that can't be shown by itself.
+fn name_of(character: char) -> Option<&'static str> {
+    match character {
+        ' ' => Some("a space"),
+        '\t' => Some("a tab"),
+        '\r' => Some("a carriage return"),
+        '\u{feff}' => Some("a byte-order mark"),
+        _ => None,
+    }
 }
 
 /// A character in words, as it is found where it can't stand.
-pub(crate) fn character_words(
-    alloc: Global,
-    character: Option<char>,
-) -> Result<String, AllocError> {
-    let Some(character) = character else {
-        return String::from_str(alloc, "nothing");
-    };
-    let code = character as u32;
-    match character {
-        ' ' => String::from_str(alloc, "a space"),
-        '\t' => String::from_str(alloc, "a tab"),
-        '\r' => String::from_str(alloc, "a carriage return"),
-        '\u{feff}' => String::from_str(alloc, "a byte-order mark"),
-        _ if character.is_control() => format!(in alloc; "the character U+{code:04X}"),
-        _ if code < 128 => format!(in alloc; "`{character}`"),
-        _ => format!(in alloc; "`{character}` (U+{code:04X})"),
+#[derive(Clone, Copy)]
+pub(crate) struct Shown(pub char);
+
+impl fmt::Display for Shown {
+    fn fmt<W: fmt::Write>(&self, f: &mut fmt::Formatter<W>) -> fmt::Result {
+        let character = self.0;
+        let code = character as u32;
+        if let Some(name) = name_of(character) {
+            return f.write_str(name);
+        }
+        if character.is_control() {
+            return write!(f, "the character U+{code:04X}");
+        }
+        write!(f, "`{character}`")?;
+        if code < 128 {
+            return Ok(());
+        }
+        write!(f, " (U+{code:04X})")
+    }
+}
+
+/// A text that is longer than one may be: what it is, its bytes, and how many it may have.
+#[derive(Clone, Copy)]
+pub(crate) struct TooLong {
+    pub what: &'static str,
+    pub len: usize,
+    pub most: usize,
+}
+
+impl fmt::Display for TooLong {
+    fn fmt<W: fmt::Write>(&self, f: &mut fmt::Formatter<W>) -> fmt::Result {
+        let what = self.what;
+        let (len, most) = (with_commas(self.len), with_commas(self.most));
+        write!(f, "{what} of {len} bytes; at most {most}")
     }
 }
 
@@ -99,6 +130,9 @@ pub(crate) fn character_words(
 pub(crate) fn has_mark(text: &str) -> bool {
     text.as_bytes().starts_with(b"\xef\xbb\xbf")
 }
+
+/// What is said where a text has no such fault at its line.
+pub(crate) const NO_MORE: &str = "the text is refused here";
 
 /// What is said of that mark.
 pub(crate) const MARK: &str = "a byte-order mark: the text has to begin without one";

@@ -3,3 +3,4 @@ mod Follows
 mod Rewrites
 mod Goes
 mod Keeping
+mod Asking

@@ -1,5 +1,6 @@
 pub mod LineRequests
 pub mod LinesAsked
+pub mod StdFile
 pub mod HostLines
 pub mod Writes
 pub mod Answers

@@ -1,73 +1,19 @@
 // Lines that are put to a file by calls of the system.
 ghost use Rattle.std.specs.Prelude.{◌≡◌, ◌∷◌, ◌++◌, [], true, List, IsTrue, string_bytes};
 ghost use Rattle.host.specs.LineRequests.{Put, Synced};
-ghost use Rattle.host.specs.HostLines.{writes_of};
-ghost use Rattle.host.specs.Writes.{Write, Synced as SyncedWrite, taken};
+ghost use Rattle.host.specs.StdFile.{writes_of};
+ghost use Rattle.host.specs.Writes.{Write, Synced as SyncedWrite, IsPutAndSynced, taken};
 
 use crate::line_file::{LineFile, LinesAsked};
 use crate::raw_file::{RawFile, put_all};
-use sector_disk::Past;
-use std::fs::File;
-use std::os::unix::fs::FileExt;
-use std::snapshot::Snapshot;
-
-// A call of the system for a file of lines, and its answer.
-#[derive(Drop)]
-enum WriteNoted {
-    // these bytes, but for so many at their beginning, from an offset on
-    Wrote(u64, Snapshot<Vec<u8>>, usize, Option<usize>),
-    Synced(bool),
-}
-
-/// A file of a folder whose lock stays held as long as it is there.
-#[derive(Drop)]
-pub struct LockedFile {
-    pub(crate) file: File,
-    // a share of the lock: a lock goes with the last of its shares
-    lock: File,
-    writes: Past<WriteNoted>,
-}
-
-impl RawFile for LockedFile {
-    ghost use Rattle.host.specs.HostLines.{writes_of};
-
-    ghost writes = { writes_of };
-
-    fn write_at(&mut self, at: u64, bytes: &Vec<u8>, from: usize) -> Option<usize> {
-        let took = self.file.write_at(&bytes[from..], at).ok();
-        let noted = WriteNoted::Wrote(at, Snapshot::of(bytes), from, took);
-        self.writes.note(&noted);
-        took
-    }
-
-    fn sync(&mut self) -> bool {
-        let done = self.file.sync_data().is_ok();
-        let noted = WriteNoted::Synced(done);
-        self.writes.note(&noted);
-        done
-    }
-}
-
-impl LockedFile {
-    /// A file that was just opened, and a share of the lock of its folder.
-    pub fn new(file: File, lock: File) -> LockedFile
-        ensures { writes_of result ≡ [] }
-    {
-        LockedFile {
-            file,
-            lock,
-            writes: Past::new(),
-        }
-    }
-}
+use crate::std_file::StdFile;
+use std::alloc::{AllocError, Global};
 
 // Puts all of these bytes, and waits for the disk where that is asked for.
 fn put<F: RawFile>(raw: &mut F, at: u64, bytes: &Vec<u8>, waits: bool) -> bool
-    ensures whole { IsTrue result → taken (F.writes raw.new) ≡ taken (F.writes raw.old) ++ bytes.now.items }
-    ensures synced { IsTrue result → IsTrue waits
-        → (earlier : List Write) × (F.writes raw.new ≡ SyncedWrite true ∷ earlier) }
+    ensures { IsPutAndSynced at bytes.now.items waits result (F.writes raw.old) (F.writes raw.new) }
 {
-    if !put_all(raw, at, bytes) {
+    if !put_all(raw, at, bytes, 0, bytes.len()) {
         return false;
     }
     if waits {
@@ -82,7 +28,7 @@ fn put<F: RawFile>(raw: &mut F, at: u64, bytes: &Vec<u8>, waits: bool) -> bool
 /// it that succeeded, or of a file that waits for each put, it outlasts a loss of power.
 #[derive(Drop)]
 pub struct HostLines {
-    pub(crate) raw: LockedFile,
+    pub(crate) raw: StdFile,
     pub(crate) name: String,
     // whether a put waits until it stands on the disk
     waits: bool,
@@ -93,7 +39,7 @@ impl HostLines {
     ghost use Rattle.host.specs.HostLines.{requests_of, lines_name, raw_of, is_waiting};
 
     /// A file that was just opened by this name for writing. Where it waits, each put takes as long as one and a sync.
-    pub fn new(raw: LockedFile, name: String, waits: bool) -> HostLines
+    pub fn new(raw: StdFile, name: String, waits: bool) -> HostLines
         ensures fresh { requests_of result ≡ [] }
         ensures name { lines_name result ≡ string_bytes name }
         ensures waits { is_waiting result ≡ waits }
@@ -117,6 +63,9 @@ impl LineFile for HostLines {
 
     fn put(&mut self, at: u64, bytes: &Vec<u8>) -> bool
         ensures asked { requests_of self.new ≡ Put at bytes.now.items result ∷ requests_of self.old }
+        // What the system was asked is that put, each byte at its place, and where the file waits a sync behind it.
+        ensures asked_only { IsPutAndSynced at bytes.now.items (is_waiting self.old) result
+            (writes_of (raw_of self.old)) (writes_of (raw_of self.new)) }
         // A put that succeeded is one of which the host took each byte, in order.
         ensures whole { IsTrue result → taken (writes_of (raw_of self.new)) ≡ taken (writes_of (raw_of self.old)) ++ bytes.now.items }
         // And of a file that waits the newest call is a sync that succeeded.
@@ -132,6 +81,14 @@ impl LineFile for HostLines {
         let done = self.raw.sync();
         self.asked.note_sync(done);
         done
+    }
+
+    fn name(&self) -> &String {
+        &self.name
+    }
+
+    fn words(&self, alloc: Global) -> Result<String, AllocError> {
+        self.raw.words(alloc)
     }
 
     fn is_named(&self, name: &String) -> bool {

@@ -11,12 +11,14 @@ mod host;
 mod host_lines;
 mod line_file;
 mod raw_file;
+mod std_file;
 mod std_host;
 
 pub use asked::{Asked, Noted};
 pub use fault::HostFault;
 pub use host::{Host, Standing};
-pub use host_lines::{HostLines, LockedFile};
+pub use host_lines::HostLines;
 pub use line_file::{LineFile, LinesAsked};
 pub use raw_file::{RawFile, put_all};
+pub use std_file::StdFile;
 pub use std_host::{HeldLock, MadeFile, StdHost};

@@ -7,7 +7,8 @@ ghost use Rattle.host.specs.StdHost.{held_folder, made_path, requests_of};
 use crate::asked::{Answer, Asked, Noted};
 use crate::fault::HostFault;
 use crate::host::{Host, Standing};
-use crate::host_lines::{HostLines, LockedFile};
+use crate::host_lines::HostLines;
+use crate::std_file::StdFile;
 use std::alloc::{AllocError, Global};
 use std::fs::{File, OpenOptions, TryLockError};
 use std::io::{Read, Write};
@@ -178,7 +179,7 @@ fn open_lines(
     let mut file = options.read(true).write(true).open(rt, path.as_str())?;
     let mut bytes = Vec::new(rt.alloc());
     file.read_to_end(&mut bytes)?;
-    let raw = LockedFile::new(file, shared.try_clone()?);
+    let raw = StdFile::locked(file, shared.try_clone()?);
     Ok((HostLines::new(raw, name.clone()?, waits), bytes))
 }
 
