@@ -53,7 +53,7 @@ pub(crate) enum Say<'a> {
     Nth(usize),
     /// What may stand somewhere, and from which number to which.
     Range {
-        what: &'static str,
+        what: &'a str,
         least: u64,
         most: u64,
     },
