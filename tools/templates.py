@@ -1,8 +1,11 @@
 """The programs that the gate doesn't prove: those of bench/crates, which only measure, and those of tables, which run tables of cases.
 
 A source of Rattle may stand in a crate of crates.txt alone. So these programs are no crates: their sources have names that end in
-`.template`, and each program has a line in its home's file `lines`, as crates.txt has one for each crate. Here a crate is made of one, also
-in a copy of the tree."""
+`.template`, and each has a line in its home's file `lines`, as crates.txt has one for each crate. Here a crate is made of one, also in a copy
+of the tree.
+
+Those of tables are libraries, with a function `run_program`. One program is made of them, which runs the one that its first word names: so
+what they all stand on is read and compiled once. Beside them stands a library that they share (`case_table`), which has no such function."""
 
 import pathlib
 import shutil
@@ -11,6 +14,8 @@ ROOT = pathlib.Path(__file__).resolve().parent.parent
 BENCH = ROOT / "bench/crates"
 TABLES = ROOT / "tables"
 ENDING = ".template"
+ALL = "all_tables"      # the program that is made of those of tables
+RUN = "pub fn run_program"
 
 
 def crate_lines(file):
@@ -47,13 +52,56 @@ def make_crate(name, crate):
         shutil.copyfile(path, crate / place)
 
 
-def tree_with(name, tree):
-    """A copy of the tree in which it is a crate."""
+def below(name):
+    """The libraries of its home on which such a program stands."""
+    lines = crate_lines(home_of(name) / "lines")
+    return [it for it in lines[name].partition(":")[2].split() if it in lines]
+
+
+def root_of(name):
+    """The text of the source with which a library of tables begins."""
+    return (TABLES / name / f"src/lib.rt{ENDING}").read_text()
+
+
+def programs():
+    """The programs of tables."""
+    return [name for name in crate_lines(TABLES / "lines") if RUN in root_of(name)]
+
+
+def main_of(names):
+    """The program that runs one of these programs of tables: the one that its first word names."""
+    handed = {name: "&rt, &rt" if f"{RUN}<" in root_of(name) else "&rt" for name in names}
+    arms = "".join(f'            "{name}" => {name}::run_program({handed[name]}),\n' for name in names)
+    return f"""#![tactic(auto)]
+
+use std::env;
+
+fn main(rt: HostRuntime) -> anyhow::Result<()> {{
+    match env::args(&rt)?.nth(1) {{
+        Some(word) => match word.as_str() {{
+{arms}            _ => anyhow::bail!("no program of this name"),
+        }},
+        None => anyhow::bail!("the name of a program is wanted"),
+    }}
+}}
+"""
+
+
+def tree_with(names, tree):
+    """A copy of the tree in which these are crates; and the name of the program there, which of programs of tables is made of them all."""
     lines = crate_lines(ROOT / "crates.txt")
     for crate in lines:
         for part in ("src", "specs", "proofs"):
             if (ROOT / "crates" / crate / part).is_dir():
                 shutil.copytree(ROOT / "crates" / crate / part, tree / "crates" / crate / part)
-    make_crate(name, tree / "crates" / name)
-    (tree / "crates.txt").write_text("".join(f"{it}\n" for it in [*lines.values(), line_of(name)]))
-    return tree
+    made = list(dict.fromkeys(it for name in names for it in [*below(name), name]))
+    for name in made:
+        make_crate(name, tree / "crates" / name)
+    found, program = [*lines.values(), *map(line_of, made)], names[0]
+    if home_of(names[0]) == TABLES:
+        program = ALL
+        (tree / "crates" / ALL / "src").mkdir(parents=True)
+        (tree / "crates" / ALL / "src/main.rt").write_text(main_of(names))
+        found.append(f"{ALL}: {' '.join(names)} anyhow")
+    (tree / "crates.txt").write_text("".join(f"{it}\n" for it in found))
+    return program

@@ -1,6 +1,8 @@
 //! Why a run ended, in words.
 
-ghost use Rattle.cobaltmidge.specs.Reasons.{IsOfRounds, IsReasonOf};
+ghost use Rattle.std.specs.Prelude.{◌≡◌};
+ghost use Rattle.world.specs.WholeView.{world_of};
+ghost use Rattle.cobaltmidge.specs.Reasons.{IsOfRounds, IsReasonOf, is_stuck};
 
 use crate::ending::RunWorld;
 use crate::settings::{DEFAULT_ROUNDS, Settings};
@@ -22,10 +24,16 @@ pub enum Reason<'a> {
         rounds: u64,
         is_default: bool,
     },
-    /// So many rounds are over, and a channel has as many items as its share of a record lets it have. Either the receiver is slow, or the
-    /// run stands still for want of room: the world has no question that tells these apart.
+    /// So many rounds are over, and a channel has as many items as its share of a record lets it have. The run would go on: the channel's
+    /// receiver is slow.
     Full {
         rounds: u64,
+        channel: &'a str,
+        items: u64,
+    },
+    /// Nothing is to be done at any node, though the run isn't complete, and this channel has as many items as its share lets it have. More
+    /// rounds wouldn't change it.
+    StandsStill {
         channel: &'a str,
         items: u64,
     },
@@ -74,6 +82,10 @@ impl<'a> fmt::Display for Reason<'a> {
                 let over = RoundsOver(rounds);
                 let items = Grouped(items);
                 write!(f, "{over}, and channel {channel} is full: {items} items")
+            }
+            Reason::StandsStill { channel, items } => {
+                let items = Grouped(items);
+                write!(f, "stands still: channel {channel} is full, {items} items")
             }
             Reason::Items { items } => {
                 write!(f, "the items asked for have left: --items {items}")
@@ -142,15 +154,26 @@ fn full_channel<'a, O: Outlet>(net: &'a Net, world: &RunWorld<O>) -> Option<(&'a
     None
 }
 
+// Whether nothing is to be done any more in a world that isn't complete.
+fn is_stuck<O: Outlet>(world: &RunWorld<O>) -> bool
+    ensures { result ≡ is_stuck (world_of world.now) }
+{
+    world.is_still() && !world.complete()
+}
+
 // Why a run ended of which the rounds are over.
 fn rounds_over<'a, O: Outlet>(net: &'a Net, world: &RunWorld<O>, rounds: u64) -> Reason<'a>
-    ensures { IsOfRounds rounds result }
+    ensures { IsOfRounds (world_of world.now) rounds result }
 {
     match full_channel(net, world) {
-        Some((channel, items)) => Reason::Full {
-            rounds,
-            channel,
-            items,
+        Some((channel, items)) => if is_stuck(world) {
+            Reason::StandsStill { channel, items }
+        } else {
+            Reason::Full {
+                rounds,
+                channel,
+                items,
+            }
         },
         None => Reason::Rounds {
             rounds,
@@ -166,8 +189,8 @@ pub fn reason_of<'a, O: Outlet>(
     end: RunEnd,
     settings: Settings,
 ) -> Reason<'a>
-    // It is the reason of just this end, with the settings' numbers.
-    ensures { IsReasonOf end settings result }
+    // It is the reason of just this end and world, with the settings' numbers.
+    ensures { IsReasonOf (world_of world.now) end settings result }
 {
     match end {
         RunEnd::Complete => Reason::Complete,

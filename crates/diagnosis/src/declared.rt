@@ -4,12 +4,12 @@ use crate::explanation::Found;
 use crate::pieces::{Piece, Placed};
 use crate::places::{column, line_start, word};
 use crate::scanner::Scanner;
-use crate::words::quoted;
+use crate::words::{Say, Told};
 use net_text::Keyword;
 use std::alloc::{AllocError, Global};
 
 /// What a name is declared as.
-#[derive(Clone, Copy, PartialEq, Eq)]
+#[derive(Clone, Copy)]
 pub(crate) enum Kind {
     Input,
     Inner,
@@ -19,16 +19,42 @@ pub(crate) enum Kind {
     Variable(usize),
 }
 
-/// A declaration: of what, its name, and the word with which it begins.
+impl Kind {
+    pub(crate) fn is_channel(self) -> bool {
+        match self {
+            Kind::Input | Kind::Inner | Kind::Output => true,
+            Kind::Process | Kind::Variable(_) => false,
+        }
+    }
+
+    pub(crate) fn is_process(self) -> bool {
+        match self {
+            Kind::Process => true,
+            _ => false,
+        }
+    }
+}
+
+/// One end of a channel: the first use of it, and the process in which that stands.
+#[derive(Clone, Copy)]
+pub(crate) struct End {
+    pub at: Placed,
+    pub process: usize,
+}
+
+/// A declaration: of what, its name, and the offset at which it begins; and of a channel the first use of each of its ends, as far as they
+/// are noted.
 #[derive(Clone, Copy)]
 pub(crate) struct Declared {
     pub kind: Kind,
     pub name: Placed,
-    pub first: Placed,
+    pub start: usize,
+    pub put: Option<End>,
+    pub got: Option<End>,
 }
 
 /// What a piece of a valid text is there for.
-#[derive(Clone, Copy, PartialEq, Eq)]
+#[derive(Clone, Copy)]
 pub(crate) enum Part {
     Declares(Kind),
     /// The number of a process's node.
@@ -136,11 +162,11 @@ fn share_space(one: Kind, other: Kind) -> bool {
     }
 }
 
-/// The declaration of this name in the space of this kind.
-pub(crate) fn find(text: &str, declared: &[Declared], kind: Kind, name: &str) -> Option<Declared> {
+// The declaration of this name in the space of this kind.
+fn find<'d>(text: &str, declared: &'d [Declared], kind: Kind, name: &str) -> Option<&'d Declared> {
     for known in declared {
         if share_space(known.kind, kind) && name_at(text, known.name) == name {
-            return Some(*known);
+            return Some(known);
         }
     }
     None
@@ -152,13 +178,15 @@ pub(crate) fn declarations(alloc: Global, text: &str) -> Result<Vec<Declared>, A
     let mut reader = Reader::new(text);
     for _ in 0..text.len() {
         let Some(seen) = reader.next_seen() else {
-            return Ok(declared);
+            break;
         };
         if let Part::Declares(kind) = seen.part {
             declared.push(Declared {
                 kind,
                 name: seen.at,
-                first: seen.before,
+                start: seen.before.start,
+                put: None,
+                got: None,
             })?;
         }
     }
@@ -166,96 +194,76 @@ pub(crate) fn declarations(alloc: Global, text: &str) -> Result<Vec<Declared>, A
 }
 
 /// Where a place stands, as it is told at another one: the line, or on the same line the column.
-pub(crate) fn where_is(
-    alloc: Global,
-    text: &str,
-    place: Placed,
-    told_at: Placed,
-) -> Result<String, AllocError> {
+pub(crate) fn where_is(text: &str, place: Placed, told_at: Placed) -> Say<'static> {
     let line = place.line;
     if line != told_at.line {
-        return format!(in alloc; "in line {line}");
+        return Say::Line(line);
     }
-    let column = column(line_start(text.as_bytes(), line), place.start);
-    format!(in alloc; "at column {column} of this line")
+    Say::Column(column(line_start(text.as_bytes(), line), place.start))
 }
 
-// The first declaration of a name that its space has already, and the other one.
-fn first_twice(alloc: Global, text: &str) -> Result<Option<(Declared, Declared)>, AllocError> {
-    let mut declared = Vec::new(alloc);
-    let mut reader = Reader::new(text);
-    for _ in 0..text.len() {
-        let Some(seen) = reader.next_seen() else {
-            return Ok(None);
-        };
-        if let Part::Declares(kind) = seen.part {
-            let this = Declared {
-                kind,
-                name: seen.at,
-                first: seen.before,
-            };
-            if let Some(other) = find(text, &declared, kind, name_at(text, seen.at)) {
-                return Ok(Some((this, other)));
-            }
-            declared.push(this)?;
+// What is said of a name that its space has already.
+fn twice_told<'a>(text: &'a str, this: &Declared, other: &Declared) -> Told<'a> {
+    let form = match this.kind {
+        Kind::Process => "the process % is declared twice: it is declared %",
+        Kind::Variable(_) => "the variable % is declared twice: it is declared %",
+        _ => "% is declared twice: it is declared %",
+    };
+    Told::by(form)
+        .with(Say::Quoted(name_at(text, this.name)))
+        .with(where_is(text, other.name, this.name))
+}
+
+// The first declaration of a name that its space has already.
+fn first_twice<'a>(text: &'a str, declared: &[Declared]) -> Option<Found<'a>> {
+    for (count, this) in declared.iter().enumerate() {
+        let name = name_at(text, this.name);
+        if let Some(other) = find(text, part_before(declared, count), this.kind, name) {
+            return Some(Found {
+                offset: this.name.start,
+                told: twice_told(text, this, other),
+            });
         }
     }
-    Ok(None)
+    None
+}
+
+// The first ones of what is declared.
+fn part_before(declared: &[Declared], count: usize) -> &[Declared] {
+    match declared.get(..count) {
+        Some(part) => part,
+        None => declared,
+    }
 }
 
 /// Where a name is declared that its space has already.
-pub(crate) fn twice_named(alloc: Global, text: &str) -> Result<Option<Found>, AllocError> {
-    let Some((this, other)) = first_twice(alloc, text)? else {
-        return Ok(None);
-    };
-    let name = quoted(alloc, name_at(text, this.name))?;
-    let place = where_is(alloc, text, other.name, this.name)?;
-    let what = match this.kind {
-        Kind::Process => "the process ",
-        Kind::Variable(_) => "the variable ",
-        Kind::Input | Kind::Inner | Kind::Output => "",
-    };
-    Ok(Some(Found {
-        offset: this.name.start,
-        words: format!(in alloc; "{what}{name} is declared twice: it is declared {place}")?,
-    }))
+pub(crate) fn twice_named(alloc: Global, text: &str) -> Result<Option<Found<'_>>, AllocError> {
+    let declared = declarations(alloc, text)?;
+    Ok(first_twice(text, &declared))
 }
 
-// The name of the process of this number.
-fn process_name(
-    alloc: Global,
-    text: &str,
-    declared: &[Declared],
-    number: usize,
-) -> Result<String, AllocError> {
+/// The name of the process of this number.
+pub(crate) fn process_name<'a>(text: &'a str, declared: &[Declared], number: usize) -> &'a str {
     let mut count: usize = 0;
     for known in declared {
-        if known.kind == Kind::Process {
+        if known.kind.is_process() {
             if count == number {
-                return quoted(alloc, name_at(text, known.name));
+                return name_at(text, known.name);
             }
             count = count.wrapping_add(1);
         }
     }
-    Ok(String::new(alloc))
+    ""
 }
 
 // What a name is declared as, in words.
-fn kind_words(
-    alloc: Global,
-    text: &str,
-    declared: &[Declared],
-    kind: Kind,
-) -> Result<String, AllocError> {
+fn kind_words<'a>(text: &'a str, declared: &[Declared], kind: Kind) -> Say<'a> {
     match kind {
-        Kind::Input => String::from_str(alloc, "an input"),
-        Kind::Inner => String::from_str(alloc, "a channel"),
-        Kind::Output => String::from_str(alloc, "an output"),
-        Kind::Process => String::from_str(alloc, "a process"),
-        Kind::Variable(number) => {
-            let process = process_name(alloc, text, declared, number)?;
-            format!(in alloc; "a variable of the process {process}")
-        }
+        Kind::Input => Say::Text("an input"),
+        Kind::Inner => Say::Text("a channel"),
+        Kind::Output => Say::Text("an output"),
+        Kind::Process => Say::Text("a process"),
+        Kind::Variable(number) => Say::VariableOf(process_name(text, declared, number)),
     }
 }
 
@@ -265,51 +273,64 @@ fn first_unknown(text: &str, declared: &[Declared]) -> Option<Seen> {
     for _ in 0..text.len() {
         let seen = reader.next_seen()?;
         let kind = match seen.part {
-            Part::Get | Part::Put => Some(Kind::Inner),
-            Part::Variable => Some(Kind::Variable(seen.process())),
-            _ => None,
+            Part::Get | Part::Put => Kind::Inner,
+            Part::Variable => Kind::Variable(seen.process()),
+            _ => continue,
         };
-        if let Some(kind) = kind {
-            if find(text, declared, kind, name_at(text, seen.at)).is_none() {
-                return Some(seen);
-            }
+        if find(text, declared, kind, name_at(text, seen.at)).is_none() {
+            return Some(seen);
         }
     }
     None
 }
 
 // A declaration of this name, of whatever it is.
-fn find_any(text: &str, declared: &[Declared], name: &str) -> Option<Declared> {
+fn find_any<'d>(text: &str, declared: &'d [Declared], name: &str) -> Option<&'d Declared> {
     for known in declared {
         if name_at(text, known.name) == name {
-            return Some(*known);
+            return Some(known);
         }
     }
     None
 }
 
-/// Where a name is used that isn't declared as what it is used as.
-pub(crate) fn unknown_name(alloc: Global, text: &str) -> Result<Option<Found>, AllocError> {
-    let declared = declarations(alloc, text)?;
-    let Some(seen) = first_unknown(text, &declared) else {
-        return Ok(None);
-    };
-    let name = quoted(alloc, name_at(text, seen.at))?;
-    let mut words = match seen.part {
-        Part::Variable => {
-            let process = process_name(alloc, text, &declared, seen.process())?;
-            format!(in alloc; "no variable {name} is declared in the process {process}")?
+// What is said of a name that isn't declared as what it is used as, and what else of this name is declared, if anything is.
+fn unknown_told<'a>(text: &'a str, declared: &[Declared], seen: &Seen) -> Told<'a> {
+    let word = name_at(text, seen.at);
+    let name = Say::Quoted(word);
+    let other = find_any(text, declared, word);
+    let told = match (seen.part, other) {
+        (Part::Variable, Some(_)) => {
+            Told::by("no variable % is declared in the process %; % is %, declared %")
         }
-        _ => format!(in alloc; "no channel {name} is declared")?,
+        (Part::Variable, None) => Told::by("no variable % is declared in the process %"),
+        (_, Some(_)) => Told::by("no channel % is declared; % is %, declared %"),
+        (_, None) => Told::by("no channel % is declared"),
     };
-    if let Some(other) = find_any(text, &declared, name_at(text, seen.at)) {
-        let kind = kind_words(alloc, text, &declared, other.kind)?;
-        let place = where_is(alloc, text, other.name, seen.at)?;
-        let more = format!(in alloc; "; {name} is {kind}, declared {place}")?;
-        words.push_str(more.as_str())?;
+    let told = match seen.part {
+        Part::Variable => {
+            let process = process_name(text, declared, seen.process());
+            told.with(name).with(Say::Quoted(process))
+        }
+        _ => told.with(name),
+    };
+    match other {
+        Some(other) => told
+            .with(name)
+            .with(kind_words(text, declared, other.kind))
+            .with(where_is(text, other.name, seen.at)),
+        None => told,
     }
-    Ok(Some(Found {
-        offset: seen.at.start,
-        words,
-    }))
+}
+
+/// Where a name is used that isn't declared as what it is used as.
+pub(crate) fn unknown_name(alloc: Global, text: &str) -> Result<Option<Found<'_>>, AllocError> {
+    let declared = declarations(alloc, text)?;
+    match first_unknown(text, &declared) {
+        Some(seen) => Ok(Some(Found {
+            offset: seen.at.start,
+            told: unknown_told(text, &declared, &seen),
+        })),
+        None => Ok(None),
+    }
 }

@@ -1,8 +1,8 @@
 //! Why a text is refused, and where in it.
 
 use crate::places::{column, line_from, line_start};
-use crate::shown::push_line;
-use crate::words::with_commas;
+use crate::shown::Marked;
+use crate::words::{NO_MORE, Say, Told, counted};
 use std::alloc::{AllocError, Global};
 use std::str;
 
@@ -18,20 +18,25 @@ pub struct Explanation {
 }
 
 /// A place of a text, by its offset, and what is wrong there.
-#[derive(Drop)]
-pub(crate) struct Found {
+#[derive(Clone, Copy)]
+pub(crate) struct Found<'a> {
     pub offset: usize,
-    pub words: String,
+    pub told: Told<'a>,
 }
 
 impl Explanation {
+    /// What is said where memory ran out before anything was found.
+    pub(crate) fn no_memory(alloc: Global) -> Result<Explanation, AllocError> {
+        Explanation::whole(alloc, Told::by("no memory"))
+    }
+
     /// An explanation without a place.
-    pub(crate) fn whole(words: String) -> Explanation {
-        Explanation {
+    pub(crate) fn whole(alloc: Global, told: Told<'_>) -> Result<Explanation, AllocError> {
+        Ok(Explanation {
             line: None,
             column: None,
-            words,
-        }
+            words: format!(in alloc; "{told}")?,
+        })
     }
 
     /// What was found on a line of a text; or these words, where it wasn't.
@@ -39,22 +44,19 @@ impl Explanation {
         alloc: Global,
         bytes: &[u8],
         line: usize,
-        found: Option<Found>,
-        words: &str,
+        found: Option<Found<'_>>,
+        words: &'static str,
     ) -> Result<Explanation, AllocError> {
         let start = line_start(bytes, line);
-        match found {
-            Some(found) => Ok(Explanation {
-                line: Some(line),
-                column: Some(column(start, found.offset)),
-                words: found.words,
-            }),
-            None => Ok(Explanation {
-                line: Some(line),
-                column: Some(1),
-                words: String::from_str(alloc, words)?,
-            }),
-        }
+        let (offset, told) = match found {
+            Some(Found { offset, told }) => (offset, told),
+            None => (start, Told::by(words)),
+        };
+        Ok(Explanation {
+            line: Some(line),
+            column: Some(column(start, offset)),
+            words: format!(in alloc; "{told}")?,
+        })
     }
 
     /// The lines that say it, each with its line feed: `NAME:LINE:COLUMN: WORDS`, the line of the text, and a mark under the column. Where
@@ -64,10 +66,9 @@ impl Explanation {
         let (Some(line), Some(column)) = (self.line, self.column) else {
             return format!(in alloc; "{name}: {words}\n");
         };
-        let mut lines = format!(in alloc; "{name}:{line}:{column}: {words}\n")?;
         let shown = line_from(text, line_start(text, line));
-        push_line(alloc, &mut lines, line, shown, column.saturating_sub(1))?;
-        Ok(lines)
+        let marked = Marked::new(line, shown, column.saturating_sub(1));
+        format!(in alloc; "{name}:{line}:{column}: {words}\n{marked}")
     }
 }
 
@@ -92,14 +93,12 @@ pub fn explain_bytes(alloc: Global, bytes: &[u8]) -> Result<Option<Explanation>,
     };
     let offset = error.valid_up_to();
     let line = line_at(bytes, offset);
-    let at = with_commas(offset);
-    let words = match bytes.get(offset) {
-        Some(byte) => {
-            let byte = *byte;
-            format!(in alloc; "not UTF-8: the byte 0x{byte:02X} at offset {at}")?
-        }
-        None => format!(in alloc; "not UTF-8: the text ends within a character")?,
+    let told = match bytes.get(offset) {
+        Some(byte) => Told::by("not UTF-8: the byte % at offset %")
+            .with(Say::Byte(*byte))
+            .with(counted(offset)),
+        None => Told::by("not UTF-8: the text ends within a character"),
     };
-    let found = Found { offset, words };
-    Ok(Some(Explanation::at(alloc, bytes, line, Some(found), "")?))
+    let found = Some(Found { offset, told });
+    Ok(Some(Explanation::at(alloc, bytes, line, found, NO_MORE)?))
 }

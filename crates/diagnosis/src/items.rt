@@ -3,25 +3,25 @@
 use crate::explanation::{Explanation, Found};
 use crate::pieces::{digits_len, starts_word, word_len};
 use crate::places::{after, count_to, line_from, line_start, part, rest, word};
-use crate::words::{MARK, character_words, has_mark, quoted, with_commas};
+use crate::words::{
+    MARK, NO_MORE, Quoted, Say, Told, counted, has_mark, long_name, numbered, too_long,
+};
 use kahn_net::{MAX_HISTORY_ITEMS, Port};
 use net_check::{Net, NetFault};
 use net_text::{MAX_INPUTS_BYTES, MAX_NAME_BYTES, TextFault};
 use std::alloc::{AllocError, Global};
+use std::fmt;
 
-// What is said where a text has no such fault at this line.
-const NO_MORE: &str = "the text is refused here";
-
-// What stands at an offset of a line, in words, and what was expected there.
-fn found_at(alloc: Global, line: &str, offset: usize, expected: &str) -> Result<Found, AllocError> {
-    let words = match word(line, offset, line.len()).chars().next() {
-        Some(character) => {
-            let found = character_words(alloc, Some(character))?;
-            format!(in alloc; "found {found}, expected {expected}")?
-        }
-        None => format!(in alloc; "the line ends here, expected {expected}")?,
+// What stands at an offset of a line, and what was expected there.
+fn found_at<'a>(line: &'a str, offset: usize, expected: &'static str) -> Found<'a> {
+    let told = match word(line, offset, line.len()).chars().next() {
+        Some(character) => Told::by("found %, expected %").with(Say::Character(character)),
+        None => Told::by("the line ends here, expected %"),
     };
-    Ok(Found { offset, words })
+    Found {
+        offset,
+        told: told.with(Say::Text(expected)),
+    }
 }
 
 // How many spaces stand at the front.
@@ -52,12 +52,8 @@ fn digits_within(digits: &[u8], is_negative: bool) -> usize {
     digits.len()
 }
 
-// What is wrong with the item that begins at an offset of a line; or the offset behind it.
-fn behind_item(
-    alloc: Global,
-    line: &str,
-    start: usize,
-) -> Result<Result<usize, Found>, AllocError> {
+// The item that begins at an offset of a line: the offset behind it, or what is wrong with it.
+fn behind_item(line: &str, start: usize) -> Result<usize, Found<'_>> {
     let bytes = line.as_bytes();
     let is_negative = bytes.get(start) == Some(&b'-');
     let first = if is_negative { after(start, 1) } else { start };
@@ -65,33 +61,34 @@ fn behind_item(
     let len = digits_len(behind);
     if len == 0 {
         let expected = if is_negative { "a digit" } else { "an item" };
-        return Ok(Err(found_at(alloc, line, first, expected)?));
+        return Err(found_at(line, first, expected));
     }
     let within = digits_within(part(behind, 0, len), is_negative);
-    if within < len {
-        let number = quoted(alloc, word(line, start, after(first, len)))?;
-        let words = if is_negative {
-            let least = i64::MIN;
-            format!(in alloc; "{number} is below {least}, the least item")?
-        } else {
-            let greatest = i64::MAX;
-            format!(in alloc; "{number} is past {greatest}, the greatest item")?
-        };
-        let offset = after(first, within);
-        return Ok(Err(Found { offset, words }));
+    if within == len {
+        return Ok(after(first, len));
     }
-    Ok(Ok(after(first, len)))
+    let (form, most) = if is_negative {
+        ("% is below -%, the least item", 1 << 63)
+    } else {
+        ("% is past %, the greatest item", i64::MAX as u64)
+    };
+    Err(Found {
+        offset: after(first, within),
+        told: Told::by(form)
+            .with(Say::Quoted(word(line, start, after(first, len))))
+            .with(Say::Number(most)),
+    })
 }
 
 // What is wrong with the items of a line, from behind its colon on.
-fn items_fault(alloc: Global, line: &str, start: usize) -> Result<Option<Found>, AllocError> {
+fn items_fault(line: &str, start: usize) -> Option<Found<'_>> {
     let bytes = line.as_bytes();
     let mut place = start;
     for turn in 0..=bytes.len() {
         let gap = spaces_len(rest(bytes, place));
         let next = after(place, gap);
         if next >= bytes.len() {
-            return Ok(None);
+            return None;
         }
         if gap == 0 {
             let expected = if turn == 0 {
@@ -99,14 +96,14 @@ fn items_fault(alloc: Global, line: &str, start: usize) -> Result<Option<Found>,
             } else {
                 "a digit, a space or the line's end"
             };
-            return Ok(Some(found_at(alloc, line, place, expected)?));
+            return Some(found_at(line, place, expected));
         }
-        place = match behind_item(alloc, line, next)? {
-            Ok(place) => place,
-            Err(found) => return Ok(Some(found)),
-        };
+        match behind_item(line, next) {
+            Ok(behind) => place = behind,
+            Err(fault) => return Some(fault),
+        }
     }
-    Ok(None)
+    None
 }
 
 // Whether a line is passed over.
@@ -115,57 +112,53 @@ fn is_blank(line: &[u8]) -> bool {
 }
 
 // What is wrong with a line.
-fn line_fault(alloc: Global, line: &str) -> Result<Option<Found>, AllocError> {
+fn line_fault(line: &str) -> Option<Found<'_>> {
     let bytes = line.as_bytes();
     if is_blank(bytes) {
-        return Ok(None);
+        return None;
     }
     let is_word = match bytes.first() {
         Some(first) => starts_word(*first),
         None => false,
     };
     if !is_word {
-        return Ok(Some(found_at(alloc, line, 0, "an input's name")?));
+        return Some(found_at(line, 0, "an input's name"));
     }
     let len = word_len(bytes);
     if len > MAX_NAME_BYTES {
-        let count = with_commas(len);
-        return Ok(Some(Found {
+        return Some(Found {
             offset: MAX_NAME_BYTES,
-            words: format!(in alloc; "a name of {count} bytes; at most {MAX_NAME_BYTES}")?,
-        }));
+            told: long_name(len),
+        });
     }
     if bytes.get(len) != Some(&b':') {
-        return Ok(Some(found_at(alloc, line, len, "`:`")?));
+        return Some(found_at(line, len, "`:`"));
     }
-    items_fault(alloc, line, after(len, 1))
+    items_fault(line, after(len, 1))
 }
 
 // What is wrong with a line of a text, by its number from 1.
-fn text_fault(alloc: Global, text: &str, line: usize) -> Result<Option<Found>, AllocError> {
+fn text_fault(text: &str, line: usize) -> Option<Found<'_>> {
     let bytes = text.as_bytes();
     if bytes.len() > MAX_INPUTS_BYTES {
-        let len = with_commas(bytes.len());
-        return Ok(Some(Found {
+        return Some(Found {
             offset: 0,
-            words: format!(in alloc; "a text of {len} bytes; at most 16,777,216")?,
-        }));
+            told: too_long("a text", bytes.len(), MAX_INPUTS_BYTES),
+        });
     }
     if line == 1 && has_mark(text) {
-        return Ok(Some(Found {
+        return Some(Found {
             offset: 0,
-            words: String::from_str(alloc, MARK)?,
-        }));
+            told: Told::by(MARK),
+        });
     }
     let start = line_start(bytes, line);
     let len = line_from(bytes, start).len();
-    match line_fault(alloc, word(text, start, after(start, len)))? {
-        Some(found) => Ok(Some(Found {
-            offset: after(start, found.offset),
-            words: found.words,
-        })),
-        None => Ok(None),
-    }
+    let found = line_fault(word(text, start, after(start, len)))?;
+    Some(Found {
+        offset: after(start, found.offset),
+        told: found.told,
+    })
 }
 
 /// Why a text is none of inputs: `fault` is what `net_text::parse_inputs` refused it by. Refuses for want of memory alone.
@@ -174,11 +167,13 @@ pub fn explain_inputs_text(
     text: &str,
     fault: TextFault,
 ) -> Result<Explanation, AllocError> {
-    let Some(line) = fault.line() else {
-        return Ok(Explanation::whole(String::from_str(alloc, "no memory")?));
-    };
-    let found = text_fault(alloc, text, line)?;
-    Explanation::at(alloc, text.as_bytes(), line, found, NO_MORE)
+    match fault.line() {
+        Some(line) => {
+            let found = text_fault(text, line);
+            Explanation::at(alloc, text.as_bytes(), line, found, NO_MORE)
+        }
+        None => Explanation::no_memory(alloc),
+    }
 }
 
 // The name with which a line begins; none where the line is passed over.
@@ -208,46 +203,73 @@ fn line_of_name(text: &[u8], name: &[u8]) -> Option<usize> {
     None
 }
 
-// What the network says of a name that none of its inputs has.
-fn other_channel(alloc: Global, net: &Net, name: &str) -> Result<Option<String>, AllocError> {
-    let channels = net.program.channels.iter();
-    for (known, channel) in net.channel_names.iter().zip(channels) {
+// What the network says of a name that none of its inputs has: what the channel of this name is, and the line of its declaration.
+fn other_channel(net: &Net, name: &str) -> Option<(Say<'static>, usize)> {
+    for (place, known) in net.channel_names.iter().enumerate() {
         if known.as_str() == name {
-            let line = known.line();
+            let channel = net.program.channels.get(place)?;
             let what = match channel.consumer {
                 Port::Outside => "an output",
                 Port::Process(_) => "a channel between processes",
             };
-            return Ok(Some(format!(in alloc; "{what}, declared in line {line} of the network")?));
+            return Some((Say::Text(what), known.line()));
         }
     }
-    Ok(None)
+    None
 }
 
-// The names of a network's inputs.
-fn input_names(alloc: Global, net: &Net) -> Result<String, AllocError> {
-    let mut names = String::new(alloc);
-    let channels = net.program.channels.iter();
-    for (known, channel) in net.channel_names.iter().zip(channels) {
-        if channel.producer == Port::Outside {
-            names.push_str(if names.is_empty() { "" } else { ", " })?;
-            names.push_str(quoted(alloc, known.as_str())?.as_str())?;
+// The names of a network's inputs; or those alone that have no line in a text.
+#[derive(Clone, Copy)]
+struct InputNames<'a> {
+    net: &'a Net,
+    missing_in: Option<&'a [u8]>,
+}
+
+impl<'a> InputNames<'a> {
+    // The name at this place, if it is one of them.
+    fn name(&self, place: usize) -> Option<&'a str> {
+        let channel = self.net.program.channels.get(place)?;
+        if channel.producer != Port::Outside {
+            return None;
+        }
+        let name = self.net.channel_names.get(place)?.as_str();
+        match self.missing_in {
+            Some(text) if line_of_name(text, name.as_bytes()).is_some() => None,
+            _ => Some(name),
         }
     }
-    Ok(names)
 }
 
-// What is said of a name that no input has.
-fn unknown_words(alloc: Global, net: &Net, name: &str) -> Result<String, AllocError> {
-    let shown = quoted(alloc, name)?;
-    if let Some(other) = other_channel(alloc, net, name)? {
-        return format!(in alloc; "the network has no input {shown}; {shown} is {other}");
+impl<'a> fmt::Display for InputNames<'a> {
+    fn fmt<W: fmt::Write>(&self, f: &mut fmt::Formatter<W>) -> fmt::Result {
+        let mut comma = "";
+        for place in 0..self.net.channel_names.len() {
+            if let Some(name) = self.name(place) {
+                f.write_str(comma)?;
+                Quoted(name).fmt(f)?;
+                comma = ", ";
+            }
+        }
+        Ok(())
     }
-    let inputs = input_names(alloc, net)?;
+}
+
+// What is said of a name that no input has, beside the names of the inputs.
+fn unknown_told<'a>(net: &Net, name: &'a str, inputs: &'a str) -> Told<'a> {
+    let shown = Say::Quoted(name);
+    if let Some((what, line)) = other_channel(net, name) {
+        return Told::by("the network has no input %; % is %, declared in line % of the network")
+            .with(shown)
+            .with(shown)
+            .with(what)
+            .with(numbered(line));
+    }
     if inputs.is_empty() {
-        return format!(in alloc; "the network has no input {shown}, nor any other");
+        return Told::by("the network has no input %, nor any other").with(shown);
     }
-    format!(in alloc; "the network has no input {shown}; its inputs: {inputs}")
+    Told::by("the network has no input %; its inputs: %")
+        .with(shown)
+        .with(Say::Text(inputs))
 }
 
 // How many items stand on a line behind its colon.
@@ -265,46 +287,31 @@ fn count_items(items: &[u8]) -> usize {
 }
 
 // What is wrong with the name or with the items of the line that begins at an offset, beside the network and the lines before.
-fn meaning_words(
-    alloc: Global,
-    text: &str,
+fn meaning_told<'a>(
+    text: &'a str,
     start: usize,
     net: &Net,
+    inputs: &'a str,
     fault: NetFault,
-) -> Result<String, AllocError> {
+) -> Told<'a> {
     let line = line_from(text.as_bytes(), start);
     let len = name_of(line).len();
     let name = word(text, start, after(start, len));
-    let shown = quoted(alloc, name)?;
+    let shown = Say::Quoted(name);
     match fault {
         NetFault::TwiceNamed { .. } => match line_of_name(text.as_bytes(), name.as_bytes()) {
-            Some(other) => format!(in alloc; "{shown} has its items already, in line {other}"),
-            None => String::from_str(alloc, NO_MORE),
+            Some(other) => Told::by("% has its items already, in line %")
+                .with(shown)
+                .with(numbered(other)),
+            None => Told::by(NO_MORE),
         },
-        NetFault::UnknownName { .. } => unknown_words(alloc, net, name),
-        NetFault::Limit { .. } => {
-            let behind = rest(line, after(len, 1));
-            let count = with_commas(count_items(behind));
-            let most = with_commas(MAX_HISTORY_ITEMS);
-            format!(in alloc; "{shown} has {count} items; at most {most}")
-        }
-        _ => String::from_str(alloc, NO_MORE),
+        NetFault::UnknownName { .. } => unknown_told(net, name, inputs),
+        NetFault::Limit { .. } => Told::by("% has % items; at most %")
+            .with(shown)
+            .with(counted(count_items(rest(line, after(len, 1)))))
+            .with(counted(MAX_HISTORY_ITEMS)),
+        _ => Told::by(NO_MORE),
     }
-}
-
-// The names of the inputs that have no line in a text.
-fn missing_names(alloc: Global, text: &[u8], net: &Net) -> Result<String, AllocError> {
-    let mut names = String::new(alloc);
-    let channels = net.program.channels.iter();
-    for (known, channel) in net.channel_names.iter().zip(channels) {
-        let is_missing = channel.producer == Port::Outside
-            && line_of_name(text, known.as_str().as_bytes()).is_none();
-        if is_missing {
-            names.push_str(if names.is_empty() { "" } else { ", " })?;
-            names.push_str(quoted(alloc, known.as_str())?.as_str())?;
-        }
-    }
-    Ok(names)
 }
 
 /// Why the lines of a text aren't the items of a network's inputs: `fault` is what `net_check::bind` refused them by. Refuses for want of
@@ -316,17 +323,21 @@ pub fn explain_inputs(
     fault: NetFault,
 ) -> Result<Explanation, AllocError> {
     let bytes = text.as_bytes();
+    let missing_in = match fault.line() {
+        Some(_) => None,
+        None => Some(bytes),
+    };
+    let names = InputNames { net, missing_in };
+    let names = format!(in alloc; "{names}")?;
     let Some(line) = fault.line() else {
-        let names = missing_names(alloc, bytes, net)?;
-        let words = format!(in alloc;
-            "no line for {names}; a line with the name and a colon alone gives no items"
-        )?;
-        return Ok(Explanation::whole(words));
+        let form = "no line for %; a line with the name and a colon alone gives no items";
+        return Explanation::whole(alloc, Told::by(form).with(Say::Text(names.as_str())));
     };
     let start = line_start(bytes, line);
-    let found = Found {
+    let told = meaning_told(text, start, net, names.as_str(), fault);
+    let found = Some(Found {
         offset: start,
-        words: meaning_words(alloc, text, start, net, fault)?,
-    };
-    Explanation::at(alloc, bytes, line, Some(found), NO_MORE)
+        told,
+    });
+    Explanation::at(alloc, bytes, line, found, NO_MORE)
 }

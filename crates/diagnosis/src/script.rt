@@ -2,18 +2,15 @@
 
 use crate::explanation::{Explanation, Found};
 use crate::places::{after, count_to, line_from, line_start, rest, word};
-use crate::words::{Grouped, MARK, has_mark, quoted, with_commas};
+use crate::words::{MARK, Say, Told, has_mark, numbered, too_long};
 use fail_script::{MAX_COUNT, MAX_FILL, MAX_ROUND, MAX_ROUNDS, MAX_SCRIPT_BYTES, ScriptFault};
 use std::alloc::{AllocError, Global};
 
 // What is said where a script has no such fault at this line.
 const NO_MORE: &str = "the script is refused here";
 
-// The most words of a line that are looked at: one more than the longest line has.
-const MOST_WORDS: usize = 8;
-
 // What a number of a line says.
-#[derive(Clone, Copy, PartialEq, Eq)]
+#[derive(Clone, Copy)]
 enum Field {
     Node,
     // A node that differs from the one before it.
@@ -32,69 +29,74 @@ struct Form {
     fields: &'static [Field],
 }
 
-// The words of a line, by their offsets in it, and its length.
-#[derive(Drop)]
+// The words of a line.
+#[derive(Clone, Copy)]
 struct Words<'a> {
     line: &'a str,
-    starts: Vec<usize>,
-    ends: Vec<usize>,
 }
 
 impl<'a> Words<'a> {
-    fn of(alloc: Global, line: &'a str) -> Result<Words<'a>, AllocError> {
-        let mut starts = Vec::new(alloc);
-        let mut ends = Vec::new(alloc);
+    // The offset of the word at a place, or of the line's end behind the last one.
+    fn offset(&self, place: usize) -> usize {
+        let mut words: usize = 0;
         let mut in_word = false;
-        for (offset, byte) in line.as_bytes().iter().enumerate() {
+        for (offset, byte) in self.line.as_bytes().iter().enumerate() {
             let is_space = *byte == b' ';
-            if in_word && is_space {
-                ends.push(offset)?;
-            }
             if !in_word && !is_space {
-                if starts.len() == MOST_WORDS {
-                    return Ok(Words { line, starts, ends });
+                if words == place {
+                    return offset;
                 }
-                starts.push(offset)?;
+                words = after(words, 1);
             }
             in_word = !is_space;
         }
-        if in_word {
-            ends.push(line.len())?;
-        }
-        Ok(Words { line, starts, ends })
+        self.line.len()
     }
 
-    // How many words it has.
-    fn len(&self) -> usize {
-        self.starts.len()
+    // Whether it has a word at a place.
+    fn has(&self, place: usize) -> bool {
+        self.offset(place) < self.line.len()
     }
 
     // The word at a place; nothing behind the last one.
-    fn word(&self, place: usize) -> &str {
-        match (self.starts.get(place), self.ends.get(place)) {
-            (Some(start), Some(end)) => word(self.line, *start, *end),
-            _ => "",
-        }
+    fn word(&self, place: usize) -> &'a str {
+        let start = self.offset(place);
+        let behind = rest(self.line.as_bytes(), start);
+        word(self.line, start, after(start, count_to(behind, b' ')))
     }
+}
 
-    // The offset of the word at a place, or of the line's end behind the last one.
-    fn offset(&self, place: usize) -> usize {
-        match self.starts.get(place) {
-            Some(start) => *start,
-            None => self.line.len(),
+// Numbers that may stand somewhere: what they are, the least and the greatest.
+#[derive(Clone, Copy)]
+struct Range {
+    what: &'static str,
+    least: u32,
+    most: u32,
+}
+
+impl Range {
+    fn told(&self) -> Say<'static> {
+        Say::Range {
+            what: self.what,
+            least: u64::from(self.least),
+            most: u64::from(self.most),
         }
     }
 }
 
-// What words a number is told in: what it is, and its range.
-fn range_of(field: Field) -> (&'static str, u32, u32) {
-    match field {
+// A fault of a line: the place of the word, and what is wrong there.
+type Fault<'a> = (usize, Told<'a>);
+
+// The numbers that a field may have.
+fn range_of(field: Field) -> Range {
+    let (what, least, most) = match field {
         Field::Node | Field::OtherNode => ("a node", 0, 255),
         Field::Count => ("a count", 1, MAX_COUNT),
         Field::Rounds => ("a number of rounds", 1, MAX_ROUNDS),
         Field::Fill => ("a byte", 0, MAX_FILL),
         Field::Word(_) => ("a word", 0, 0),
-    }
+    };
+    Range { what, least, most }
 }
 
 // Whether a word has digits alone.
@@ -113,108 +115,91 @@ fn number_of(word: &str) -> Option<u64> {
     }
 }
 
-// What stands at a place of a line and what was expected there.
-fn found_words(
-    alloc: Global,
-    words: &Words<'_>,
-    place: usize,
-    expected: &str,
-) -> Result<String, AllocError> {
-    if place >= words.len() {
-        return format!(in alloc; "the line ends here, expected {expected}");
-    }
-    let found = quoted(alloc, words.word(place))?;
-    format!(in alloc; "found {found}, expected {expected}")
+// What stands at a place of a line, and what was expected there.
+fn found_at<'a>(words: Words<'a>, place: usize, expected: Say<'static>) -> Fault<'a> {
+    let told = if words.has(place) {
+        Told::by("found %, expected %").with(Say::Quoted(words.word(place)))
+    } else {
+        Told::by("the line ends here, expected %")
+    };
+    (place, told.with(expected))
 }
 
-// A fault at a place of a line.
-fn at_place(words: &Words<'_>, place: usize, told: String) -> Option<Found> {
-    Some(Found {
-        offset: words.offset(place),
-        words: told,
-    })
+// What is wrong with the number of a node at a place, which may be any number.
+fn node_fault(words: Words<'_>, place: usize) -> Option<Fault<'_>> {
+    if number_of(words.word(place)).is_some() {
+        return None;
+    }
+    Some(found_at(words, place, Say::Text("the number of a node")))
 }
 
 // What is wrong with the number at a place.
-fn number_fault(
-    alloc: Global,
-    words: &Words<'_>,
-    place: usize,
-    field: Field,
-) -> Result<Option<Found>, AllocError> {
-    let (what, least, most) = range_of(field);
-    let is_node = field == Field::Node || field == Field::OtherNode;
-    let (low, high) = (Grouped(u64::from(least)), Grouped(u64::from(most)));
-    let Some(number) = number_of(words.word(place)) else {
-        let told = if is_node {
-            found_words(alloc, words, place, "the number of a node")?
-        } else {
-            let expected = format!(in alloc; "{what} from {low} to {high}")?;
-            found_words(alloc, words, place, expected.as_str())?
-        };
-        return Ok(at_place(words, place, told));
-    };
-    if is_node || (u64::from(least) <= number && number <= u64::from(most)) {
-        return Ok(None);
+fn number_fault(words: Words<'_>, place: usize, range: Range) -> Option<Fault<'_>> {
+    match number_of(words.word(place)) {
+        Some(number) => {
+            if u64::from(range.least) <= number && number <= u64::from(range.most) {
+                return None;
+            }
+            let told = Told::by("% is out of range: % is from % to %")
+                .with(Say::Quoted(words.word(place)))
+                .with(Say::Text(range.what))
+                .with(Say::Count(u64::from(range.least)))
+                .with(Say::Count(u64::from(range.most)));
+            Some((place, told))
+        }
+        None => Some(found_at(words, place, range.told())),
     }
-    let found = quoted(alloc, words.word(place))?;
-    let told = format!(in alloc; "{found} is out of range: {what} is from {low} to {high}")?;
-    Ok(at_place(words, place, told))
 }
 
 // What is wrong with the word at a place.
-fn field_fault(
-    alloc: Global,
-    words: &Words<'_>,
-    place: usize,
-    form: Form,
-    field: Field,
-) -> Result<Option<Found>, AllocError> {
-    if place >= words.len() {
-        let told = form.told;
-        let told = format!(in alloc; "the line ends too soon: its form is `{told}`")?;
-        return Ok(at_place(words, place, told));
+fn field_fault<'a>(words: Words<'a>, place: usize, form: Form, field: Field) -> Option<Fault<'a>> {
+    if !words.has(place) {
+        let told = Told::by("the line ends too soon: its form is `%`");
+        return Some((place, told.with(Say::Text(form.told))));
     }
     match field {
         Field::Word(wanted) => {
             if words.word(place) == wanted {
-                return Ok(None);
+                return None;
             }
-            let expected = quoted(alloc, wanted)?;
-            let told = found_words(alloc, words, place, expected.as_str())?;
-            Ok(at_place(words, place, told))
+            Some(found_at(words, place, Say::Quoted(wanted)))
         }
-        _ => number_fault(alloc, words, place, field),
+        Field::Node | Field::OtherNode => node_fault(words, place),
+        _ => number_fault(words, place, range_of(field)),
+    }
+}
+
+// Whether a line of this form names two nodes.
+fn are_two(form: Form) -> bool {
+    match form.fields.get(1) {
+        Some(Field::OtherNode) => true,
+        _ => false,
     }
 }
 
 // A node that sends to itself, of a line that names two.
-fn same_nodes(alloc: Global, words: &Words<'_>, form: Form) -> Result<Option<Found>, AllocError> {
-    let number = number_of(words.word(3));
-    let are_two = form.fields.get(1) == Some(&Field::OtherNode);
-    if !are_two || number != number_of(words.word(2)) {
-        return Ok(None);
+fn same_nodes(words: Words<'_>, form: Form) -> Option<Fault<'_>> {
+    let (one, other) = (number_of(words.word(2)), number_of(words.word(3)));
+    if are_two(form) && one == other {
+        let told = Told::by("the node % sends nothing to itself");
+        return Some((3, told.with(Say::Quoted(words.word(3)))));
     }
-    let node = quoted(alloc, words.word(3))?;
-    let told = format!(in alloc; "the node {node} sends nothing to itself")?;
-    Ok(at_place(words, 3, told))
+    None
 }
 
 // What is wrong with a line of this form.
-fn form_fault(alloc: Global, words: &Words<'_>, form: Form) -> Result<Option<Found>, AllocError> {
+fn form_fault<'a>(words: Words<'a>, form: Form) -> Option<Fault<'a>> {
     for (count, field) in form.fields.iter().enumerate() {
-        let place = after(count, 2);
-        if let Some(found) = field_fault(alloc, words, place, form, *field)? {
-            return Ok(Some(found));
+        if let Some(fault) = field_fault(words, after(count, 2), form, *field) {
+            return Some(fault);
         }
     }
     let end = after(form.fields.len(), 2);
-    if words.len() > end {
-        let told = form.told;
-        let told = format!(in alloc; "the line goes on too long: its form is `{told}`")?;
-        return Ok(at_place(words, end, told));
+    if words.has(end) {
+        let told = Told::by("the line goes on too long: its form is `%`");
+        return Some((end, told.with(Say::Text(form.told))));
     }
-    same_nodes(alloc, words, form)
+    same_nodes(words, form)
 }
 
 const LOSE: Form = Form {
@@ -269,46 +254,36 @@ const START: Form = Form {
     fields: &[Field::Node],
 };
 
-// The form of a crash, by its third word, if it has one.
-fn crash_form(words: &Words<'_>) -> Option<Form> {
-    match words.word(3) {
-        "now" => Some(CRASH_NOW),
-        "delivery" => Some(CRASH_DELIVERY),
-        "device" => Some(CRASH_DEVICE),
-        _ => None,
-    }
-}
-
 // What is wrong with a crash.
-fn crash_fault(alloc: Global, words: &Words<'_>) -> Result<Option<Found>, AllocError> {
-    match crash_form(words) {
-        Some(form) => form_fault(alloc, words, form),
-        None => {
-            if let Some(found) = field_fault(alloc, words, 2, CRASH_NOW, Field::Node)? {
-                return Ok(Some(found));
+fn crash_fault(words: Words<'_>) -> Option<Fault<'_>> {
+    match words.word(3) {
+        "now" => form_fault(words, CRASH_NOW),
+        "delivery" => form_fault(words, CRASH_DELIVERY),
+        "device" => form_fault(words, CRASH_DEVICE),
+        _ => {
+            if let Some(fault) = field_fault(words, 2, CRASH_NOW, Field::Node) {
+                return Some(fault);
             }
-            let told = found_words(alloc, words, 3, "`now`, `delivery` or `device`")?;
-            Ok(at_place(words, 3, told))
+            let expected = Say::Text("`now`, `delivery` or `device`");
+            Some(found_at(words, 3, expected))
         }
     }
 }
 
 // What is wrong with a line's words behind its round.
-fn event_fault(alloc: Global, words: &Words<'_>) -> Result<Option<Found>, AllocError> {
-    let form = match words.word(1) {
-        "lose" => LOSE,
-        "repeat" => REPEAT,
-        "delay" => DELAY,
-        "crash" => return crash_fault(alloc, words),
-        "fail" => FAIL,
-        "start" => START,
+fn event_fault(words: Words<'_>) -> Option<Fault<'_>> {
+    match words.word(1) {
+        "lose" => form_fault(words, LOSE),
+        "repeat" => form_fault(words, REPEAT),
+        "delay" => form_fault(words, DELAY),
+        "crash" => crash_fault(words),
+        "fail" => form_fault(words, FAIL),
+        "start" => form_fault(words, START),
         _ => {
             let expected = "`lose`, `repeat`, `delay`, `crash`, `fail` or `start`";
-            let told = found_words(alloc, words, 1, expected)?;
-            return Ok(at_place(words, 1, told));
+            Some(found_at(words, 1, Say::Text(expected)))
         }
-    };
-    form_fault(alloc, words, form)
+    }
 }
 
 // The last line before a place of a script that isn't passed over: its number, and its round.
@@ -351,57 +326,42 @@ fn line_above(text: &str, line: usize) -> Option<Above> {
     above
 }
 
+// The rounds that a line may have.
+const ROUNDS: Range = Range {
+    what: "a round",
+    least: 0,
+    most: MAX_ROUND,
+};
+
 // What is wrong with a line's round.
-fn round_fault(
-    alloc: Global,
-    words: &Words<'_>,
-    above: Option<Above>,
-) -> Result<Option<Found>, AllocError> {
-    let Some(round) = number_of(words.word(0)) else {
-        let told = found_words(alloc, words, 0, "a round from 0 to 1,000,000")?;
-        return Ok(at_place(words, 0, told));
-    };
-    if round > u64::from(MAX_ROUND) {
-        let found = quoted(alloc, words.word(0))?;
-        let told = format!(in alloc; "{found} is out of range: a round is from 0 to 1,000,000")?;
-        return Ok(at_place(words, 0, told));
+fn round_fault(words: Words<'_>, above: Option<Above>) -> Option<Fault<'_>> {
+    if let Some(fault) = number_fault(words, 0, ROUNDS) {
+        return Some(fault);
     }
-    match above {
-        Some(above) if round < above.round => {
-            let (line, before) = (above.line, above.round);
-            let told = format!(in alloc;
-                "round {round} stands below round {before} of line {line}"
-            )?;
-            Ok(at_place(words, 0, told))
-        }
-        _ => Ok(None),
+    let round = number_of(words.word(0))?;
+    let above = above?;
+    if round < above.round {
+        let told = Told::by("round % stands below round % of line %");
+        return Some((
+            0,
+            told.with(Say::Number(round))
+                .with(Say::Number(above.round))
+                .with(numbered(above.line)),
+        ));
     }
+    None
 }
 
 // What is wrong with a line that has no form.
-fn bad_line(
-    alloc: Global,
-    words: &Words<'_>,
-    above: Option<Above>,
-) -> Result<Option<Found>, AllocError> {
-    match round_fault(alloc, words, above)? {
-        Some(found) => Ok(Some(found)),
-        None => event_fault(alloc, words),
+fn bad_line(words: Words<'_>, above: Option<Above>) -> Option<Fault<'_>> {
+    match round_fault(words, above) {
+        Some(fault) => Some(fault),
+        None => event_fault(words),
     }
-}
-
-// What is said of a node that a network of so many doesn't have.
-fn node_words(alloc: Global, node: &str, nodes: u8) -> Result<String, AllocError> {
-    let node = quoted(alloc, node)?;
-    if nodes == 1 {
-        return format!(in alloc; "no node {node}: the network has node 0 alone");
-    }
-    let last = nodes.saturating_sub(1);
-    format!(in alloc; "no node {node}: the network has {nodes} nodes, 0 to {last}")
 }
 
 // Whether the word at a place of a line names a node that a network of so many doesn't have.
-fn is_unknown_node(words: &Words<'_>, place: usize, nodes: u8) -> bool {
+fn is_unknown_node(words: Words<'_>, place: usize, nodes: u8) -> bool {
     match number_of(words.word(place)) {
         Some(node) => node >= u64::from(nodes),
         None => false,
@@ -409,60 +369,60 @@ fn is_unknown_node(words: &Words<'_>, place: usize, nodes: u8) -> bool {
 }
 
 // The first node that a line names and the network doesn't have.
-fn unknown_node(alloc: Global, words: &Words<'_>, nodes: u8) -> Result<Option<Found>, AllocError> {
+fn unknown_node(words: Words<'_>, nodes: u8) -> Option<Fault<'_>> {
     let place = if is_unknown_node(words, 2, nodes) {
         2
     } else {
         3
     };
     if !is_unknown_node(words, place, nodes) {
-        return Ok(None);
+        return None;
     }
-    let told = node_words(alloc, words.word(place), nodes)?;
-    Ok(at_place(words, place, told))
+    let node = Say::Quoted(words.word(place));
+    if nodes == 1 {
+        let told = Told::by("no node %: the network has node 0 alone");
+        return Some((place, told.with(node)));
+    }
+    let told = Told::by("no node %: the network has % nodes, 0 to %")
+        .with(node)
+        .with(Say::Number(u64::from(nodes)))
+        .with(Say::Number(u64::from(nodes.saturating_sub(1))));
+    Some((place, told))
 }
 
 // What is wrong with a line of a script, by its number from 1.
-fn line_fault(
-    alloc: Global,
-    text: &str,
-    line: usize,
-    nodes: u8,
-    fault: ScriptFault,
-) -> Result<Option<Found>, AllocError> {
+fn line_fault(text: &str, line: usize, nodes: u8, fault: ScriptFault) -> Option<Found<'_>> {
     let bytes = text.as_bytes();
     let start = line_start(bytes, line);
     let len = line_from(bytes, start).len();
-    let words = Words::of(alloc, word(text, start, after(start, len)))?;
-    let found = match fault {
-        ScriptFault::UnknownNode { .. } => unknown_node(alloc, &words, nodes)?,
-        _ => bad_line(alloc, &words, line_above(text, line))?,
+    let words = Words {
+        line: word(text, start, after(start, len)),
     };
-    match found {
-        Some(found) => Ok(Some(Found {
-            offset: after(start, found.offset),
-            words: found.words,
-        })),
-        None => Ok(None),
-    }
+    let (place, told) = match fault {
+        ScriptFault::UnknownNode { .. } => unknown_node(words, nodes)?,
+        _ => bad_line(words, line_above(text, line))?,
+    };
+    Some(Found {
+        offset: after(start, words.offset(place)),
+        told,
+    })
 }
 
-// What is wrong with a script as a whole, or at its first byte.
-fn whole_fault(alloc: Global, text: &str, line: usize) -> Result<Option<Found>, AllocError> {
+// What is wrong with a script as a whole or at its first byte, or else with this line.
+fn text_fault(text: &str, line: usize, nodes: u8, fault: ScriptFault) -> Option<Found<'_>> {
     if text.len() > MAX_SCRIPT_BYTES {
-        let len = with_commas(text.len());
-        return Ok(Some(Found {
+        return Some(Found {
             offset: 0,
-            words: format!(in alloc; "a script of {len} bytes; at most 1,048,576")?,
-        }));
+            told: too_long("a script", text.len(), MAX_SCRIPT_BYTES),
+        });
     }
     if line == 1 && has_mark(text) {
-        return Ok(Some(Found {
+        return Some(Found {
             offset: 0,
-            words: String::from_str(alloc, MARK)?,
-        }));
+            told: Told::by(MARK),
+        });
     }
-    Ok(None)
+    line_fault(text, line, nodes, fault)
 }
 
 /// Why a text is no failure script for so many nodes: `fault` is what `fail_script::parse_script` refused it by. Refuses for want of memory
@@ -473,12 +433,11 @@ pub fn explain_script(
     nodes: u8,
     fault: ScriptFault,
 ) -> Result<Explanation, AllocError> {
-    let Some(line) = fault.line() else {
-        return Ok(Explanation::whole(String::from_str(alloc, "no memory")?));
-    };
-    let found = match whole_fault(alloc, text, line)? {
-        Some(found) => Some(found),
-        None => line_fault(alloc, text, line, nodes, fault)?,
-    };
-    Explanation::at(alloc, text.as_bytes(), line, found, NO_MORE)
+    match fault.line() {
+        Some(line) => {
+            let found = text_fault(text, line, nodes, fault);
+            Explanation::at(alloc, text.as_bytes(), line, found, NO_MORE)
+        }
+        None => Explanation::no_memory(alloc),
+    }
 }

@@ -1,14 +1,14 @@
 //! A line of a text with a mark under one of its columns.
 
 use crate::places::{after, part};
-use std::alloc::{AllocError, Global};
+use std::fmt;
 
 // The most bytes of a line that are shown, and how many of them before the column.
 const MOST_BYTES: usize = 100;
 
 const MOST_BEFORE: usize = 60;
 
-// The width of a line's number, which is greater where the number is.
+// The least width of a line's number.
 const NUMBER_WIDTH: usize = 4;
 
 // The part of a line that is shown, from one offset to another.
@@ -50,78 +50,109 @@ fn window_round(line: &[u8], offset: usize) -> Window {
     Window { start, end }
 }
 
-// Adds these bytes as text. What isn't text or would move the terminal's cursor becomes another character.
-fn push_text(shown: &mut String, bytes: &[u8]) -> Result<(), AllocError> {
-    for chunk in bytes.utf8_chunks() {
-        for character in chunk.valid().chars() {
-            let is_plain = character == '\t' || !character.is_control();
-            shown.push(if is_plain { character } else { '?' })?;
+// These bytes as text. What isn't text or would move the terminal's cursor is another character.
+#[derive(Clone, Copy)]
+struct Plain<'a>(&'a [u8]);
+
+impl<'a> fmt::Display for Plain<'a> {
+    fn fmt<W: fmt::Write>(&self, f: &mut fmt::Formatter<W>) -> fmt::Result {
+        for chunk in self.0.utf8_chunks() {
+            for character in chunk.valid().chars() {
+                let is_plain = character == '\t' || !character.is_control();
+                f.write_char(if is_plain { character } else { '?' })?;
+            }
+            if !chunk.invalid().is_empty() {
+                f.write_char('?')?;
+            }
         }
-        if !chunk.invalid().is_empty() {
-            shown.push('?')?;
-        }
+        Ok(())
     }
-    Ok(())
 }
 
-// Adds as much white space as these bytes take.
-fn push_space(shown: &mut String, bytes: &[u8]) -> Result<(), AllocError> {
-    for chunk in bytes.utf8_chunks() {
-        for character in chunk.valid().chars() {
-            shown.push(if character == '\t' { '\t' } else { ' ' })?;
+// As much white space as these bytes take.
+#[derive(Clone, Copy)]
+struct Space<'a>(&'a [u8]);
+
+impl<'a> fmt::Display for Space<'a> {
+    fn fmt<W: fmt::Write>(&self, f: &mut fmt::Formatter<W>) -> fmt::Result {
+        for chunk in self.0.utf8_chunks() {
+            for character in chunk.valid().chars() {
+                f.write_char(if character == '\t' { '\t' } else { ' ' })?;
+            }
+            if !chunk.invalid().is_empty() {
+                f.write_char(' ')?;
+            }
         }
-        if !chunk.invalid().is_empty() {
-            shown.push(' ')?;
+        Ok(())
+    }
+}
+
+// How many digits a number has.
+fn digits_of(number: usize) -> usize {
+    let mut rest = number;
+    let mut digits: usize = 1;
+    for _ in 0..20 {
+        rest /= 10;
+        if rest == 0 {
+            return digits;
         }
+        digits = after(digits, 1);
     }
-    Ok(())
+    digits
 }
 
-// The number of a line, on the right of its field; or as much space, where there is none.
-fn margin(alloc: Global, line: Option<usize>, width: usize) -> Result<String, AllocError> {
-    let mut number = match line {
-        Some(line) => format!(in alloc; "{line}")?,
-        None => String::new(alloc),
-    };
-    let missing = width.saturating_sub(number.len());
-    let mut margin = String::new(alloc);
-    for _ in 0..missing {
-        margin.push(' ')?;
+// The margin of a line without a number, as wide as that of this one.
+#[derive(Clone, Copy)]
+struct Margin(usize);
+
+impl fmt::Display for Margin {
+    fn fmt<W: fmt::Write>(&self, f: &mut fmt::Formatter<W>) -> fmt::Result {
+        for _ in 0..digits_of(self.0).max(NUMBER_WIDTH) {
+            f.write_char(' ')?;
+        }
+        f.write_str(" |")
     }
-    number.push_str(" |")?;
-    margin.push_str(number.as_str())?;
-    Ok(margin)
 }
 
-// How wide the numbers of lines are.
-fn width_of(alloc: Global, number: usize) -> Result<usize, AllocError> {
-    let digits = format!(in alloc; "{number}")?;
-    Ok(digits.len().max(NUMBER_WIDTH))
-}
-
-/// Adds a line by its number, and below it a line with a mark at this offset of it.
-pub(crate) fn push_line(
-    alloc: Global,
-    shown: &mut String,
+/// A line by its number, and below it a line with a mark at an offset of it.
+#[derive(Clone, Copy)]
+pub(crate) struct Marked<'a> {
     number: usize,
-    line: &[u8],
+    line: &'a [u8],
     offset: usize,
-) -> Result<(), AllocError> {
-    let offset = offset.min(line.len());
-    let width = width_of(alloc, number)?;
-    let window = window_round(line, offset);
-    let is_cut = window.start > 0;
-    shown.push_str(margin(alloc, Some(number), width)?.as_str())?;
-    if !line.is_empty() {
-        shown.push_str(if is_cut { " .." } else { " " })?;
+}
+
+impl<'a> Marked<'a> {
+    /// The mark stands behind the line where the offset does.
+    pub(crate) fn new(number: usize, line: &'a [u8], offset: usize) -> Marked<'a> {
+        Marked {
+            number,
+            line,
+            offset: offset.min(line.len()),
+        }
     }
-    push_text(shown, part(line, window.start, window.end))?;
-    if window.end < line.len() {
-        shown.push_str("..")?;
+}
+
+impl<'a> fmt::Display for Marked<'a> {
+    fn fmt<W: fmt::Write>(&self, f: &mut fmt::Formatter<W>) -> fmt::Result {
+        let (number, line) = (self.number, self.line);
+        let window = window_round(line, self.offset);
+        let is_cut = window.start > 0;
+        let gap = if line.is_empty() {
+            ""
+        } else if is_cut {
+            " .."
+        } else {
+            " "
+        };
+        let text = Plain(part(line, window.start, window.end));
+        let end = if window.end < line.len() { ".." } else { "" };
+        let margin = Margin(number);
+        let under = if is_cut { "   " } else { " " };
+        let space = Space(part(line, window.start, self.offset));
+        write!(
+            f,
+            "{number:>4} |{gap}{text}{end}\n{margin}{under}{space}^\n"
+        )
     }
-    shown.push_str("\n")?;
-    shown.push_str(margin(alloc, None, width)?.as_str())?;
-    shown.push_str(if is_cut { "   " } else { " " })?;
-    push_space(shown, part(line, window.start, offset))?;
-    shown.push_str("^\n")
 }

@@ -1,53 +1,16 @@
 //! Who puts on the channels of a network's text and who gets from them.
 
-use crate::declared::{Declared, Kind, Part, Reader, Seen, declarations, name_at, where_is};
+use crate::declared::{
+    Declared, End, Kind, Part, Reader, Seen, declarations, name_at, process_name, where_is,
+};
 use crate::explanation::Found;
-use crate::pieces::Placed;
-use crate::words::quoted;
+use crate::words::{Say, Told};
 use std::alloc::{AllocError, Global};
 
-// One end of a channel: the first use of it, and the process in which that stands.
-#[derive(Clone, Copy)]
-struct First {
-    at: Placed,
-    process: usize,
-}
-
-// A channel, and the first use of each of its ends.
-#[derive(Clone, Copy)]
-struct Channel {
-    declared: Declared,
-    put: Option<First>,
-    got: Option<First>,
-}
-
-fn is_channel(kind: Kind) -> bool {
-    match kind {
-        Kind::Input | Kind::Inner | Kind::Output => true,
-        Kind::Process | Kind::Variable(_) => false,
-    }
-}
-
-// The channels of a text, of which nothing is known yet but that they are declared.
-fn channels(alloc: Global, text: &str) -> Result<Vec<Channel>, AllocError> {
-    let declared = declarations(alloc, text)?;
-    let mut channels = Vec::new(alloc);
-    for known in &declared {
-        if is_channel(known.kind) {
-            channels.push(Channel {
-                declared: *known,
-                put: None,
-                got: None,
-            })?;
-        }
-    }
-    Ok(channels)
-}
-
-// The place of the channel of this name.
-fn place_of(text: &str, channels: &[Channel], name: &str) -> Option<usize> {
-    for (place, channel) in channels.iter().enumerate() {
-        if name_at(text, channel.declared.name) == name {
+// The place of the channel of this name among what is declared.
+fn place_of(text: &str, declared: &[Declared], name: &str) -> Option<usize> {
+    for (place, known) in declared.iter().enumerate() {
+        if known.kind.is_channel() && name_at(text, known.name) == name {
             return Some(place);
         }
     }
@@ -55,192 +18,211 @@ fn place_of(text: &str, channels: &[Channel], name: &str) -> Option<usize> {
 }
 
 // Notes a use, if it is the first one of its end.
-fn note(channels: &mut [Channel], place: usize, seen: &Seen) {
-    if place >= channels.len() {
+fn note(text: &str, declared: &mut [Declared], seen: &Seen) {
+    let Some(place) = place_of(text, declared, name_at(text, seen.at)) else {
+        return;
+    };
+    if place >= declared.len() {
         return;
     }
-    let mut channel = channels[place];
-    let first = First {
+    let end = End {
         at: seen.at,
         process: seen.process(),
     };
+    let channel = &mut declared[place];
     match seen.part {
-        Part::Put if channel.put.is_none() => channel.put = Some(first),
-        Part::Get if channel.got.is_none() => channel.got = Some(first),
+        Part::Put if channel.put.is_none() => channel.put = Some(end),
+        Part::Get if channel.got.is_none() => channel.got = Some(end),
         _ => {}
     }
-    channels[place] = channel;
 }
 
-fn is_use(part: Part) -> bool {
-    part == Part::Put || part == Part::Get
+// Which end of a channel is used.
+#[derive(Clone, Copy)]
+enum Side {
+    Puts,
+    Gets,
 }
 
-// The first use of an end at which something else stands, of this part; or None, and all uses are noted then.
-fn first_second(text: &str, channels: &mut [Channel], part: Part) -> Option<(Seen, Channel)> {
-    let mut reader = Reader::new(text);
-    for _ in 0..text.len() {
-        let seen = reader.next_seen()?;
-        if is_use(seen.part) {
-            let place = place_of(text, channels, name_at(text, seen.at));
-            if let Some(place) = place {
-                if let Some(channel) = taken(channels, place, &seen, part) {
-                    return Some((seen, channel));
-                }
-                note(channels, place, &seen);
-            }
-        }
+// The end that a piece uses, if it uses one.
+fn side_of(part: Part) -> Option<Side> {
+    match part {
+        Part::Put => Some(Side::Puts),
+        Part::Get => Some(Side::Gets),
+        _ => None,
     }
-    None
 }
 
-// The channel, if something else stands at this end of it.
-fn taken(channels: &[Channel], place: usize, seen: &Seen, part: Part) -> Option<Channel> {
-    let channel = *channels.get(place)?;
-    if seen.part != part {
-        return None;
-    }
-    let (outside, first) = match part {
-        Part::Put => (Kind::Input, channel.put),
-        _ => (Kind::Output, channel.got),
+// What stands at an end of a channel, unless it is this process: its first use there; or, where the channel goes outside there, maybe none.
+fn stands_at(channel: &Declared, side: Side, process: usize) -> Option<Option<End>> {
+    let (end, is_outside) = match (side, channel.kind) {
+        (Side::Puts, Kind::Input) => (channel.put, true),
+        (Side::Puts, _) => (channel.put, false),
+        (Side::Gets, Kind::Output) => (channel.got, true),
+        (Side::Gets, _) => (channel.got, false),
     };
-    let is_taken = match first {
-        Some(first) => first.process != seen.process(),
+    let is_other = match end {
+        Some(end) => end.process != process,
         None => false,
     };
-    if is_taken || channel.declared.kind == outside {
-        Some(channel)
+    if is_other || is_outside {
+        Some(end)
     } else {
         None
     }
 }
 
-// The name of the process of this number.
-fn process_at(alloc: Global, text: &str, number: usize) -> Result<String, AllocError> {
-    let declared = declarations(alloc, text)?;
-    let mut count: usize = 0;
-    for known in &declared {
-        if known.kind == Kind::Process {
-            if count == number {
-                return quoted(alloc, name_at(text, known.name));
-            }
-            count = count.wrapping_add(1);
-        }
+// Whether this is the end that is looked for.
+fn is_wanted(wanted: Option<Side>, side: Side) -> bool {
+    match (wanted, side) {
+        (Some(Side::Puts), Side::Puts) | (Some(Side::Gets), Side::Gets) => true,
+        _ => false,
     }
-    Ok(String::new(alloc))
 }
 
-// What stands at an end of a channel besides.
-fn other_words(
-    alloc: Global,
-    text: &str,
+// What is said where another process stands at this end of a channel, or it goes outside there.
+fn second_told<'a>(
+    text: &'a str,
+    declared: &[Declared],
+    channel: &Declared,
     seen: &Seen,
-    channel: &Channel,
-    first: Option<First>,
-    does: &str,
-    outside: &str,
-) -> Result<String, AllocError> {
-    let name = quoted(alloc, name_at(text, seen.at))?;
-    match first {
-        Some(first) => {
-            let process = process_at(alloc, text, first.process)?;
-            let place = where_is(alloc, text, first.at, seen.at)?;
-            format!(in alloc; "the process {process} {does} {name} too, {place}")
+    side: Side,
+    end: Option<End>,
+) -> Told<'a> {
+    let name = Say::Quoted(name_at(text, seen.at));
+    match end {
+        Some(end) => {
+            let process = process_name(text, declared, end.process);
+            let form = match side {
+                Side::Puts => "a second producer: the process % puts on % too, %",
+                Side::Gets => "a second consumer: the process % gets from % too, %",
+            };
+            Told::by(form)
+                .with(Say::Quoted(process))
+                .with(name)
+                .with(where_is(text, end.at, seen.at))
         }
         None => {
-            let place = where_is(alloc, text, channel.declared.name, seen.at)?;
-            format!(in alloc; "{name} is {outside}, declared {place}")
+            let form = match side {
+                Side::Puts => {
+                    "a second producer: % is an input, whose items come from outside, declared %"
+                }
+                Side::Gets => {
+                    "a second consumer: % is an output, whose items go outside, declared %"
+                }
+            };
+            Told::by(form)
+                .with(name)
+                .with(where_is(text, channel.name, seen.at))
         }
     }
+}
+
+// Goes through the uses of all channels and notes each. The first one of the end that is looked for, if one is, at which something else
+// stands.
+fn first_second<'a>(
+    text: &'a str,
+    declared: &mut [Declared],
+    wanted: Option<Side>,
+) -> Option<Found<'a>> {
+    let mut reader = Reader::new(text);
+    for _ in 0..text.len() {
+        let seen = reader.next_seen()?;
+        if let Some(side) = side_of(seen.part) {
+            if is_wanted(wanted, side) {
+                if let Some(found) = second_at(text, declared, &seen, side) {
+                    return Some(found);
+                }
+            }
+            note(text, declared, &seen);
+        }
+    }
+    None
+}
+
+// What is said of a use of a channel at whose end something else stands.
+fn second_at<'a>(
+    text: &'a str,
+    declared: &[Declared],
+    seen: &Seen,
+    side: Side,
+) -> Option<Found<'a>> {
+    let place = place_of(text, declared, name_at(text, seen.at))?;
+    let channel = declared.get(place)?;
+    let end = stands_at(channel, side, seen.process())?;
+    Some(Found {
+        offset: seen.at.start,
+        told: second_told(text, declared, channel, seen, side, end),
+    })
+}
+
+// Where something else stands at this end of a channel.
+fn second(alloc: Global, text: &str, side: Side) -> Result<Option<Found<'_>>, AllocError> {
+    let mut declared = declarations(alloc, text)?;
+    Ok(first_second(text, &mut declared, Some(side)))
 }
 
 /// Where a process puts on a channel on which another one does, or on an input.
-pub(crate) fn second_producer(alloc: Global, text: &str) -> Result<Option<Found>, AllocError> {
-    let mut channels = channels(alloc, text)?;
-    let Some((seen, channel)) = first_second(text, &mut channels, Part::Put) else {
-        return Ok(None);
-    };
-    let outside = "an input, whose items come from outside";
-    let other = other_words(
-        alloc,
-        text,
-        &seen,
-        &channel,
-        channel.put,
-        "puts on",
-        outside,
-    )?;
-    Ok(Some(Found {
-        offset: seen.at.start,
-        words: format!(in alloc; "a second producer: {other}")?,
-    }))
+pub(crate) fn second_producer(alloc: Global, text: &str) -> Result<Option<Found<'_>>, AllocError> {
+    second(alloc, text, Side::Puts)
 }
 
 /// Where a process gets from a channel from which another one does, or from an output.
-pub(crate) fn second_consumer(alloc: Global, text: &str) -> Result<Option<Found>, AllocError> {
-    let mut channels = channels(alloc, text)?;
-    let Some((seen, channel)) = first_second(text, &mut channels, Part::Get) else {
-        return Ok(None);
-    };
-    let outside = "an output, whose items go outside";
-    let other = other_words(
-        alloc,
-        text,
-        &seen,
-        &channel,
-        channel.got,
-        "gets from",
-        outside,
-    )?;
-    Ok(Some(Found {
-        offset: seen.at.start,
-        words: format!(in alloc; "a second consumer: {other}")?,
-    }))
+pub(crate) fn second_consumer(alloc: Global, text: &str) -> Result<Option<Found<'_>>, AllocError> {
+    second(alloc, text, Side::Gets)
 }
 
-// The channels of a text with the first use of each end.
-fn used_channels(alloc: Global, text: &str) -> Result<Vec<Channel>, AllocError> {
-    let mut channels = channels(alloc, text)?;
-    let _ = first_second(text, &mut channels, Part::Other);
-    Ok(channels)
-}
-
-// What a channel is, with its name.
-fn channel_words(alloc: Global, text: &str, channel: &Channel) -> Result<String, AllocError> {
-    let name = quoted(alloc, name_at(text, channel.declared.name))?;
-    match channel.declared.kind {
-        Kind::Input => format!(in alloc; "the input {name}"),
-        Kind::Output => format!(in alloc; "the output {name}"),
-        _ => format!(in alloc; "the channel {name}"),
+// What a channel is.
+fn channel_words(kind: Kind) -> Say<'static> {
+    match kind {
+        Kind::Input => Say::Text("the input"),
+        Kind::Output => Say::Text("the output"),
+        _ => Say::Text("the channel"),
     }
+}
+
+// Whether nobody is at this end of what is declared, though somebody has to be.
+fn is_without(known: &Declared, side: Side) -> bool {
+    match (side, known.kind) {
+        (_, Kind::Process) | (_, Kind::Variable(_)) => false,
+        (Side::Puts, Kind::Input) | (Side::Gets, Kind::Output) => false,
+        (Side::Puts, _) => known.put.is_none(),
+        (Side::Gets, _) => known.got.is_none(),
+    }
+}
+
+// The first channel at whose end nobody is.
+fn first_without<'a>(text: &'a str, declared: &[Declared], side: Side) -> Option<Found<'a>> {
+    for known in declared {
+        if is_without(known, side) {
+            let form = match side {
+                Side::Puts => "no process puts on % %",
+                Side::Gets => "no process gets from % %",
+            };
+            return Some(Found {
+                offset: known.start,
+                told: Told::by(form)
+                    .with(channel_words(known.kind))
+                    .with(Say::Quoted(name_at(text, known.name))),
+            });
+        }
+    }
+    None
+}
+
+// Where the first channel is declared at whose end nobody is.
+fn without(alloc: Global, text: &str, side: Side) -> Result<Option<Found<'_>>, AllocError> {
+    let mut declared = declarations(alloc, text)?;
+    let _ = first_second(text, &mut declared, None);
+    Ok(first_without(text, &declared, side))
 }
 
 /// Where the first channel is declared on which nobody puts.
-pub(crate) fn without_producer(alloc: Global, text: &str) -> Result<Option<Found>, AllocError> {
-    let channels = used_channels(alloc, text)?;
-    for channel in &channels {
-        if channel.declared.kind != Kind::Input && channel.put.is_none() {
-            let name = channel_words(alloc, text, channel)?;
-            return Ok(Some(Found {
-                offset: channel.declared.first.start,
-                words: format!(in alloc; "no process puts on {name}")?,
-            }));
-        }
-    }
-    Ok(None)
+pub(crate) fn without_producer(alloc: Global, text: &str) -> Result<Option<Found<'_>>, AllocError> {
+    without(alloc, text, Side::Puts)
 }
 
 /// Where the first channel is declared from which nobody gets.
-pub(crate) fn without_consumer(alloc: Global, text: &str) -> Result<Option<Found>, AllocError> {
-    let channels = used_channels(alloc, text)?;
-    for channel in &channels {
-        if channel.declared.kind != Kind::Output && channel.got.is_none() {
-            let name = channel_words(alloc, text, channel)?;
-            return Ok(Some(Found {
-                offset: channel.declared.first.start,
-                words: format!(in alloc; "no process gets from {name}")?,
-            }));
-        }
-    }
-    Ok(None)
+pub(crate) fn without_consumer(alloc: Global, text: &str) -> Result<Option<Found<'_>>, AllocError> {
+    without(alloc, text, Side::Gets)
 }

@@ -1,12 +1,13 @@
 // Lines that are put to a file by calls of the system.
 ghost use Rattle.std.specs.Prelude.{◌≡◌, ◌∷◌, ◌++◌, [], true, List, IsTrue, string_bytes};
-ghost use Rattle.host.specs.LineRequests.{Put};
+ghost use Rattle.host.specs.LineRequests.{Put, Synced};
 ghost use Rattle.host.specs.StdFile.{writes_of};
 ghost use Rattle.host.specs.Writes.{Write, Synced as SyncedWrite, IsPutAndSynced, taken};
 
 use crate::line_file::{LineFile, LinesAsked};
 use crate::raw_file::{RawFile, put_all};
 use crate::std_file::StdFile;
+use std::alloc::{AllocError, Global};
 
 // Puts all of these bytes, and waits for the disk where that is asked for.
 fn put<F: RawFile>(raw: &mut F, at: u64, bytes: &Vec<u8>, waits: bool) -> bool
@@ -80,6 +81,14 @@ impl LineFile for HostLines {
         let done = self.raw.sync();
         self.asked.note_sync(done);
         done
+    }
+
+    fn name(&self) -> &String {
+        &self.name
+    }
+
+    fn words(&self, alloc: Global) -> Result<String, AllocError> {
+        self.raw.words(alloc)
     }
 
     fn is_named(&self, name: &String) -> bool {

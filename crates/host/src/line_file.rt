@@ -3,6 +3,7 @@ ghost use Rattle.std.specs.Prelude.{◌≡◌, [], ◌∷◌, ℕ, List, IsTrue,
 ghost use Rattle.host.specs.LineRequests.{Request, Put, Synced};
 
 use sector_disk::Past;
+use std::alloc::{AllocError, Global};
 use std::snapshot::Snapshot;
 
 /// A file that lines are put to. Its calls answer whether they succeeded.
@@ -24,6 +25,13 @@ pub trait LineFile: Drop {
     /// Waits until all that was put before stands on the disk, and outlasts a loss of power. False where that is unknown.
     fn sync(&mut self) -> bool
         ensures { asked self.new ≡ Synced result ∷ asked self.old };
+
+    /// The name that it was opened by.
+    fn name(&self) -> &String
+        ensures { string_bytes result.now ≡ name_of self.now };
+
+    /// Why the last of its calls that failed did, in the host's own words; nothing where none did.
+    fn words(&self, alloc: Global) -> Result<String, AllocError>;
 
     /// Whether it was opened by this name. A file that came back from elsewhere is known by that.
     fn is_named(&self, name: &String) -> bool

@@ -1,5 +1,5 @@
 -- The report of a run in other words.
-use Rattle.std.proofs.Common.{◌≡◌, inl, inr, ◌∙◌, sym, ap, subst, refl, ℕ, ℤ, List, [], ◌++◌, Option, Some, None, Ok, Err, Result, Bool, true, false, map, string_bytes}
+use Rattle.std.proofs.Common.{◌≡◌, inl, inr, ◌∙◌, sym, ap, subst, refl, ℕ, ℤ, List, [], ◌∷◌, ◌++◌, Option, Some, None, Ok, Err, Result, Bool, true, false, map, string_bytes}
 use Rattle.std.specs.Prelude.{IfOk, is_some}
 use Rattle.std.specs.Option.{option_map}
 use Rattle.std.specs.Io.KnownBytes.{Appends}
@@ -7,14 +7,22 @@ use Rattle.std.specs.declared.alloc.Global.{Global}
 use Rattle.std.specs.declared.string.String.{String}
 use Rattle.std.proofs.Math.Logic.{∥∥₁_map}
 use Rattle.fail_script.specs.declared.act.ScriptLine.{ScriptLine}
-use Rattle.host.specs.Requests.{Request, Later}
+use Rattle.host.specs.Requests.{Request, Has, Later, Opened, Used}
 use Rattle.protocol.specs.Node.Common.{Net, network_of, node_count}
 use Rattle.replay.specs.declared.kept.ScriptedEvent.{ScriptedEvent}
 use Rattle.cobaltmidge.specs.Scripts.{scripted_of}
 use Rattle.cobaltmidge.specs.Texts.{IsNetOf, AreInputsOf}
 use Rattle.run_files.specs.Rules.{Given, WereRead}
 use Rattle.run_files.specs.Wanted.{Wanted}
-use Rattle.kahn_program.specs.Program.{Anything, HasReport, IsAccepted, IsWrittenIfAsked, asked_by, asked_files}
+use Rattle.kahn_program.specs.Program.{AreKept, AreKeptIn, HasReport, IsAccepted, IsWrittenIfAsked, asked_by, asked_files, file_names}
+use Rattle.kahn_program.specs.KeptFiles.{AreInFiles}
+use Rattle.host.specs.declared.line_file.LineFile.{Ghosts as FileWords}
+use Rattle.output_file.specs.InFile.{IsInFile}
+use Rattle.output_file.specs.Output.{asked_of, held_of, items_of}
+use Rattle.output_file.specs.declared.resumed.ResumedOutlet.{ResumedOutlet}
+use Rattle.run_files.specs.Keeping.{IsKept}
+use Rattle.run_files.specs.Opening.{AreOpened, AreUsed, opened_names}
+use Rattle.run_files.specs.declared.held_file.OpenedName.{OpenedName}
 use Rattle.run_files.proofs.Going.{read_later}
 use Rattle.kahn_program.specs.Runs.{IsApproximated, IsReport, IsReportBy, IsWrittenIf}
 use Rattle.kahn_program.specs.Scripts.{AreLinesOf}
@@ -26,13 +34,13 @@ written_maps : (asked : Bool) (wrote other : List ℕ → Type 0) → ((text : L
 written_maps true wrote other more text h = more text h
 written_maps false wrote other more text h = tt
 
--- a report whose history was written so is one whose history was written otherwise too
-pub report_maps : (kept : List (List ℤ) → Type 0) (wrote other : List ℕ → Type 0) (options : Options) (net : Net)
+-- a report that was kept and written so is one that was kept and written otherwise too
+pub report_maps : (kept held : List (List ℤ) → Type 0) (wrote other : List ℕ → Type 0) (options : Options) (net : Net)
     (inputs : List (List ℤ)) (script : List ScriptedEvent) (text : List ℕ) (told : Bool)
-    → ((t : List ℕ) → wrote t → other t)
-    → IsReport kept wrote options net inputs script text told → IsReport Anything other options net inputs script text told
-report_maps kept wrote other options net inputs script text told writes report =
-    ∥∥₁_map report (λ r. (r.0, r.1, r.2, r.3, r.4, tt, written_maps (is_some options.history) wrote other writes _ r.6))
+    → ((streams : List (List ℤ)) → kept streams → held streams) → ((t : List ℕ) → wrote t → other t)
+    → IsReport kept wrote options net inputs script text told → IsReport held other options net inputs script text told
+report_maps kept held wrote other options net inputs script text told keeps writes report =
+    ∥∥₁_map report (λ r. (r.0, r.1, r.2, r.3, r.4, keeps _ r.5, written_maps (is_some options.history) wrote other writes _ r.6))
 
 -- what was written to an empty text is the text
 pub written_from : (path : Option (List ℕ)) (e : List Request) (before happened text : List ℕ) → before ≡ []
@@ -47,13 +55,80 @@ written_later None a b later text h = tt
 written_later (Some path) a b later text (inl h) = inl (h.0, later _ h.1, later _ h.2, later _ h.3)
 written_later (Some path) a b later text (inr h) = inr (later _ h.0, later _ h.1)
 
-pub report_later : (path : Option (List ℕ)) (a b : List Request) (options : Options) (net : Net) (inputs : List (List ℤ))
-    (script : List ScriptedEvent) (text : List ℕ) (told : Bool) → Later a b
-    → IsReport Anything (IsWrittenIfAsked path a) options net inputs script text told
-    → IsReport Anything (IsWrittenIfAsked path b) options net inputs script text told
-report_later path a b options net inputs script text told later =
-    report_maps Anything (IsWrittenIfAsked path a) (IsWrittenIfAsked path b) options net inputs script text told
-    (written_later path a b later)
+kept_later : (folder name : List ℕ) (stream : List ℤ) (a b : List Request) → Later a b → IsKept folder name stream a
+    → IsKept folder name stream b
+kept_later folder name stream a b later is = record {
+  bytes = is.bytes;
+  opened = later _ is.opened;
+  asked = is.asked;
+  used = later _ is.used;
+  held = is.held;
+  items = is.items;
+  content = is.content;
+  no_more = is.no_more;
+}
+
+kept_in_later : (folder : List ℕ) (names : List (List ℕ)) (a b : List Request) → Later a b → (streams : List (List ℤ))
+    → AreKeptIn folder names a streams → AreKeptIn folder names b streams
+kept_in_later folder names a b later [] are = tt
+kept_in_later folder [] a b later (stream ∷ streams) are = are
+kept_in_later folder (name ∷ names) a b later (stream ∷ streams) are =
+    (kept_later folder name stream a b later are.0, kept_in_later folder names a b later streams are.1)
+
+all_kept_later : (state : Option (List ℕ)) (names : List (List ℕ)) (a b : List Request) → Later a b → (streams : List (List ℤ))
+    → AreKept state names a streams → AreKept state names b streams
+all_kept_later None names a b later streams are = tt
+all_kept_later (Some folder) names a b later streams are = kept_in_later folder names a b later streams are
+
+module _ {F : Type 0} {file : FileWords F} where
+  kept_one : (folder : List ℕ) (one : OpenedName) (outlet : ResumedOutlet F file) (stream : List ℤ) (e : List Request)
+      → Has (Opened folder (string_bytes one.name) (Ok one.bytes.value.items)) e → Has (Used (string_bytes one.name) (asked_of outlet)) e
+      → IsInFile stream outlet → IsKept folder (string_bytes one.name) stream e
+  kept_one folder one outlet stream e opened used is = record {
+    bytes = one.bytes.value.items;
+    opened = opened;
+    asked = asked_of outlet;
+    used = used;
+    held = held_of outlet;
+    items = items_of outlet;
+    content = is.content;
+    no_more = is.no_more;
+  }
+
+  -- streams that are in files that were opened and given back are kept
+  pub kept_in : (folder : List ℕ) (opened : List OpenedName) (outlets : List (ResumedOutlet F file)) (e : List Request)
+      → AreOpened folder opened e → AreUsed opened outlets e → (streams : List (List ℤ)) → AreInFiles outlets streams
+      → AreKeptIn folder (opened_names opened) e streams
+  kept_in folder opened outlets e were used [] are = tt
+  kept_in folder opened [] e were used (stream ∷ streams) are = absurd are
+  kept_in folder [] (outlet ∷ outlets) e were used (stream ∷ streams) are = absurd used
+  kept_in folder (one ∷ opened) (outlet ∷ outlets) e were used (stream ∷ streams) are =
+      (kept_one folder one outlet stream e were.0 used.0 are.0, kept_in folder opened outlets e were.1 used.1 streams are.1)
+
+-- the same by names that are others' in other words
+pub kept_as : (folder : List ℕ) (names others : List (List ℕ)) (a b : List Request) → names ≡ others → Later a b
+    → (streams : List (List ℤ)) → AreKeptIn folder names a streams → AreKeptIn folder others b streams
+kept_as folder names others a b same later streams are =
+    let P : List (List ℕ) → Type 0 = λ ns. AreKeptIn folder ns b streams in subst P same (kept_in_later folder names a b later streams are)
+
+-- what is kept in the folder that is asked for
+pub kept_asked : (state : Option (List ℕ)) (folder : List ℕ) (names : List (List ℕ)) (e : List Request) → state ≡ Some folder
+    → (streams : List (List ℤ)) → AreKeptIn folder names e streams → AreKept state names e streams
+kept_asked state folder names e is streams are =
+    let P : Option (List ℕ) → Type 0 = λ s. AreKept s names e streams in subst P (sym is) are
+
+-- where none is asked for, nothing is to be kept
+pub none_asked : (state : Option (List ℕ)) (names : List (List ℕ)) (e : List Request) → state ≡ None
+    → (streams : List (List ℤ)) → AreKept state names e streams
+none_asked state names e is streams = let P : Option (List ℕ) → Type 0 = λ s. AreKept s names e streams in subst P (sym is) tt
+
+pub report_later : (state path : Option (List ℕ)) (names : List (List ℕ)) (a b : List Request) (options : Options) (net : Net)
+    (inputs : List (List ℤ)) (script : List ScriptedEvent) (text : List ℕ) (told : Bool) → Later a b
+    → IsReport (AreKept state names a) (IsWrittenIfAsked path a) options net inputs script text told
+    → IsReport (AreKept state names b) (IsWrittenIfAsked path b) options net inputs script text told
+report_later state path names a b options net inputs script text told later =
+    report_maps (AreKept state names a) (AreKept state names b) (IsWrittenIfAsked path a) (IsWrittenIfAsked path b) options net inputs
+    script text told (all_kept_later state names a b later) (written_later path a b later)
 
 pub status_is : (a b : Bool) → status_of_run a ≡ status_of_run b → a ≡ b
 status_is true true same = refl
@@ -78,7 +153,8 @@ pub run_report : (options : Options) (o : Wanted) (given : Given) (net : Net) (i
     → options.approx ≡ None → o ≡ asked_files options → o.script ≡ option_map string_bytes name
     → WereRead o given a → Later a e → IsNetOf given.net net → AreInputsOf given.inputs net inputs
     → AreLinesOf name (node_count (network_of net.program)) given.script lines
-    → IsReport Anything (IsWrittenIfAsked o.history e) options net inputs (map scripted_of lines) text told
+    → IsReport (AreKept o.state (file_names net.program.channels.items net.channel_names.items) e) (IsWrittenIfAsked o.history e) options net
+    inputs (map scripted_of lines) text told
     → HasReport options text told e
 run_report options o given net inputs name lines text told a e none same script read later of_net of_inputs are report =
     let P : Option ℕ → Type 0 = λ n. asked_files options ≡ asked_by n options in
@@ -86,9 +162,12 @@ run_report options o given net inputs name lines text told a e none same script 
     let names : option_map string_bytes name ≡ option_map string_bytes options.script =
     sym script ∙ (ap (λ (w : Wanted). w.script) same ∙ ap (λ (w : Wanted). w.script) run) in
     let Q : Wanted → Type 0 = λ w. WereRead w given e in
-    let R : Wanted → Type 0 = λ w. IsReport Anything (IsWrittenIfAsked w.history e) options net inputs (map scripted_of lines) text told in
+    let outputs : List (List ℕ) = file_names net.program.channels.items net.channel_names.items in
+    let R : Wanted → Type 0 = λ w.
+    IsReport (AreKept w.state outputs e) (IsWrittenIfAsked w.history e) options net inputs (map scripted_of lines) text told in
     let S : Option ℕ → Type 0 = λ n.
-    IsReportBy n Anything (IsWrittenIfAsked (asked_files options).history e) options net inputs given.script text told in
+    IsReportBy n (AreKept (asked_files options).state outputs e) (IsWrittenIfAsked (asked_files options).history e) options net inputs
+    given.script text told in
     record {
       given = given;
       read = subst Q same (read_later IsAccepted o given a e later read);
@@ -106,8 +185,10 @@ pub approximation_report : (options : Options) (n : ℕ) (o : Wanted) (given : G
     → IsApproximated net inputs n text told → HasReport options text told e
 approximation_report options n o given net inputs text told e some same read of_net of_inputs report =
     let Q : Wanted → Type 0 = λ w. WereRead w given e in
+    let outputs : List (List ℕ) = file_names net.program.channels.items net.channel_names.items in
     let S : Option ℕ → Type 0 = λ m.
-    IsReportBy m Anything (IsWrittenIfAsked (asked_files options).history e) options net inputs given.script text told in
+    IsReportBy m (AreKept (asked_files options).state outputs e) (IsWrittenIfAsked (asked_files options).history e) options net inputs
+    given.script text told in
     record {
       given = given;
       read = subst Q same read;
@@ -118,13 +199,13 @@ approximation_report options n o given net inputs text told e some same read of_
       report = subst S (sym some) report;
     }
 
-by_later : (approx : Option ℕ) (path : Option (List ℕ)) (a b : List Request) (options : Options) (net : Net) (inputs : List (List ℤ))
-    (script : Option (List ℕ)) (text : List ℕ) (told : Bool) → Later a b
-    → IsReportBy approx Anything (IsWrittenIfAsked path a) options net inputs script text told
-    → IsReportBy approx Anything (IsWrittenIfAsked path b) options net inputs script text told
-by_later (Some n) path a b options net inputs script text told later report = report
-by_later None path a b options net inputs script text told later report =
-    (report.0, report.1, report_later path a b options net inputs (map scripted_of report.0) text told later report.2)
+by_later : (approx : Option ℕ) (state path : Option (List ℕ)) (names : List (List ℕ)) (a b : List Request) (options : Options) (net : Net)
+    (inputs : List (List ℤ)) (script : Option (List ℕ)) (text : List ℕ) (told : Bool) → Later a b
+    → IsReportBy approx (AreKept state names a) (IsWrittenIfAsked path a) options net inputs script text told
+    → IsReportBy approx (AreKept state names b) (IsWrittenIfAsked path b) options net inputs script text told
+by_later (Some n) state path names a b options net inputs script text told later report = report
+by_later None state path names a b options net inputs script text told later report =
+    (report.0, report.1, report_later state path names a b options net inputs (map scripted_of report.0) text told later report.2)
 
 pub has_report_later : (options : Options) (text : List ℕ) (told other : Bool) (a b : List Request) → Later a b → other ≡ told
     → HasReport options text told a → HasReport options text other b
@@ -138,5 +219,7 @@ has_report_later options text told other a b later same has =
       of_net = has.of_net;
       of_inputs = has.of_inputs;
       report =
-          by_later options.approx (asked_files options).history a b options has.net has.inputs has.given.script text told later has.report;
+          by_later options.approx (asked_files options).state (asked_files options).history
+          (file_names has.net.program.channels.items has.net.channel_names.items) a b options has.net has.inputs has.given.script text told
+          later has.report;
     })

@@ -11,7 +11,7 @@ use Rattle.kahn_program.specs.declared.asked.Options.{Options}
 use Rattle.kahn_program.specs.declared.program.Texts.{Texts}
 use Rattle.net_text.specs.Names.{NameTree}
 use Rattle.protocol.specs.Node.Common.{Channel, Port, Outside, Process, Net, network_of, node_count}
-use Rattle.run_files.specs.Keeping.{IsWrittenTo}
+use Rattle.run_files.specs.Keeping.{IsKept, IsWrittenTo}
 use Rattle.run_files.specs.History.{IsOpenFor}
 use Rattle.run_files.specs.Rules.{Given, WereRead, rule}
 use Rattle.run_files.specs.declared.happened.HistoryFile.{HistoryFile}
@@ -62,6 +62,17 @@ file_names [] names = []
 file_names (channel ∷ channels) [] = []
 file_names (channel ∷ channels) (name ∷ names) = name_if_output channel.consumer name (file_names channels names)
 
+-- each output's stream is kept in its own file of the folder
+abbrev pub AreKeptIn : List ℕ → List (List ℕ) → List Request → List (List ℤ) → Type 0
+AreKeptIn folder names e [] = Unit {0}
+AreKeptIn folder [] e (stream ∷ streams) = ⊥
+AreKeptIn folder (name ∷ names) e (stream ∷ streams) = IsKept folder name stream e × AreKeptIn folder names e streams
+
+-- where a folder is asked for
+abbrev pub AreKept : Option (List ℕ) → List (List ℕ) → List Request → List (List ℤ) → Type 0
+AreKept None names e streams = Unit {0}
+AreKept (Some folder) names e streams = AreKeptIn folder names e streams
+
 -- where a file for it is asked for, this is written there
 abbrev pub IsWrittenIfAsked : Option (List ℕ) → List Request → List ℕ → Type 0
 IsWrittenIfAsked None e bytes = Unit {0}
@@ -89,12 +100,8 @@ given_of texts = record {
   script = option_map (λ (script : Vec ℕ Global). script.items) texts.script;
 }
 
--- nothing is said of what the outlets took
-abbrev pub Anything : List (List ℤ) → Type 0
-Anything streams = Unit {0}
-
--- What is to be said is the report of a run of the texts that were read, or of an approximation, and tells `complete` or not. What happened
--- in that run is written, where that is asked for.
+-- What is to be said is the report of a run of the texts that were read, or of an approximation, and tells `complete` or not. Each output's
+-- stream is kept, and what happened in that run is written, where that is asked for.
 pub record HasReport (options : Options) (text : List ℕ) (complete : Bool) (e : List Request) : Type 0 where
   pub given : Given
   pub read : WereRead (asked_files options) given e
@@ -102,7 +109,8 @@ pub record HasReport (options : Options) (text : List ℕ) (complete : Bool) (e 
   pub inputs : List (List ℤ)
   pub of_net : IsNetOf given.net net
   pub of_inputs : AreInputsOf given.inputs net inputs
-  pub report : IsReportOf Anything (IsWrittenIfAsked (asked_files options).history e) options net inputs given.script text complete
+  pub report : IsReportOf (AreKept (asked_files options).state (file_names net.program.channels.items net.channel_names.items) e)
+      (IsWrittenIfAsked (asked_files options).history e) options net inputs given.script text complete
 
 -- such a report was said
 pub record IsDone (options : Options) (complete : Bool) (e : List Request) : Type 0 where

@@ -41,25 +41,25 @@ fn told_of_error(
     told(alloc, name, text.as_bytes(), &explanation)
 }
 
-// The lines about the inputs of a network, where they are refused.
-fn told_of_inputs(
-    alloc: Global,
-    name: &str,
-    bytes: &[u8],
-    network: &Network,
-) -> Result<Option<String>, AllocError> {
-    let Ok(text) = str::from_utf8(bytes) else {
-        return told_of_bytes(alloc, name, bytes);
-    };
-    match network.inputs(alloc, text) {
-        Ok(_) => Ok(None),
-        Err(error) => told_of_error(alloc, name, text, error, Some(network)),
+// A text that goes with a network.
+#[derive(Clone, Copy)]
+enum Beside {
+    Inputs,
+    Script,
+}
+
+// Why a network refuses such a text, if it does.
+fn refusal_of(alloc: Global, which: Beside, text: &str, network: &Network) -> Option<Error> {
+    match which {
+        Beside::Inputs => network.inputs(alloc, text).err(),
+        Beside::Script => network.script(alloc, text).err(),
     }
 }
 
-// The lines about a script for a network, where it is refused.
-fn told_of_script(
+// The lines about such a text, where it is refused.
+fn told_beside(
     alloc: Global,
+    which: Beside,
     name: &str,
     bytes: &[u8],
     network: &Network,
@@ -67,9 +67,9 @@ fn told_of_script(
     let Ok(text) = str::from_utf8(bytes) else {
         return told_of_bytes(alloc, name, bytes);
     };
-    match network.script(alloc, text) {
-        Ok(_) => Ok(None),
-        Err(error) => told_of_error(alloc, name, text, error, Some(network)),
+    match refusal_of(alloc, which, text, network) {
+        Some(error) => told_of_error(alloc, name, text, error, Some(network)),
+        None => Ok(None),
     }
 }
 
@@ -82,7 +82,7 @@ fn told_of_asked_script(
 ) -> Result<Option<String>, AllocError> {
     match (&options.script, script, options.approx) {
         (Some(name), Some(script), None) => {
-            told_of_script(alloc, name.as_str(), script, network)
+            told_beside(alloc, Beside::Script, name.as_str(), script, network)
         }
         _ => Ok(None),
     }
@@ -111,7 +111,8 @@ pub fn explanation(
     let Some(inputs) = inputs else {
         return Ok(None);
     };
-    match told_of_inputs(alloc, options.inputs.as_str(), inputs, &network)? {
+    let name = options.inputs.as_str();
+    match told_beside(alloc, Beside::Inputs, name, inputs, &network)? {
         Some(told) => Ok(Some(told)),
         None => told_of_asked_script(alloc, options, script, &network),
     }

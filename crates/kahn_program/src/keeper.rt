@@ -34,6 +34,10 @@ pub trait Keeper<O: Outlet> {
     fn close(&mut self, alloc: Global, outputs: Vec<Output<O>>) -> Result<(), Failure>
         ensures kept { OnOk result (has_kept self.new (taken_streams O.taken outputs.items)) }
         ensures err { IfErr result (IsKeeperFailure keeps) };
+
+    /// What there is to say of why `close` failed: the file, and why, in a line with its line feed. None where there is nothing to say, or no
+    /// memory for it.
+    fn take_words(&mut self) -> Option<String>;
 }
 
 /// The outlets are lists in memory, and nothing outlasts the run.
@@ -57,5 +61,9 @@ impl Keeper<ListOutlet> for InMemory {
         ensures err { IfErr result (IsKeeperFailure false) }
     {
         Ok(())
+    }
+
+    fn take_words(&mut self) -> Option<String> {
+        None
     }
 }

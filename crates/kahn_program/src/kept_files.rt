@@ -29,11 +29,15 @@ pub const FILE_FAILED: u8 = 82;
 
 /// A run's outlets over files, one for each output, in order of the channels.
 #[derive(Drop)]
-pub struct FileKeeper<F: LineFile> {
+pub struct FileKeeper<'a, F: LineFile> {
+    // the folder in which they stand
+    folder: &'a String,
     // the last output's first
     files: Vec<HeldFile<F>>,
     // those of a run that is over
     closed: Vec<ResumedOutlet<F>>,
+    // what there is to say of the file that failed
+    words: Option<String>,
 }
 
 // Makes an outlet over the next file.
@@ -43,19 +47,25 @@ struct FileOutlets<F: LineFile> {
     files: Vec<HeldFile<F>>,
 }
 
-impl<F: LineFile> FileKeeper<F> {
-    /// A run's outlets over these files, one for each output, in order of the channels.
-    pub fn new(alloc: Global, mut files: Vec<HeldFile<F>>) -> FileKeeper<F> {
+impl<'a, F: LineFile> FileKeeper<'a, F> {
+    /// A run's outlets over these files of a folder, one for each output, in order of the channels.
+    pub fn new(
+        alloc: Global,
+        folder: &'a String,
+        mut files: Vec<HeldFile<F>>,
+    ) -> FileKeeper<'a, F> {
         files.reverse();
         FileKeeper {
+            folder,
             files,
             closed: Vec::new(alloc),
+            words: None,
         }
     }
 
     /// The outlets of a run that is over, one for each output, in order of the channels.
     pub fn into_closed(self) -> Vec<ResumedOutlet<F>>
-        ensures { result.items ≡ closed_of self }
+        ensures { result.items ≡ closed_of self.entry }
     {
         let FileKeeper { closed, .. } = self;
         closed
@@ -75,29 +85,68 @@ impl<F: LineFile> OutletMaker<ResumedOutlet<F>> for FileOutlets<F> {
     }
 }
 
+// What there is to say of an item that differs from the one that the file holds at its place: the line of the file, and both.
+fn difference_words<F: LineFile>(
+    alloc: Global,
+    folder: &String,
+    outlet: &ResumedOutlet<F>,
+) -> Option<String> {
+    let position = outlet.first_difference()?;
+    let item = outlet.differing_item()?;
+    let held = *outlet.held_items().get(usize::try_from(position).ok()?)?;
+    let name = outlet.file().name();
+    let line = position.wrapping_add(1);
+    format!(in alloc;
+        "{folder}/{name}: line {line} is {held}, but the item of this run is {item}\n"
+    ).ok()
+}
+
+// What there is to say of a put that failed: the file, and why in the host's own words.
+fn failure_words<F: LineFile>(
+    alloc: Global,
+    folder: &String,
+    outlet: &ResumedOutlet<F>,
+) -> Option<String> {
+    let file = outlet.file();
+    let name = file.name();
+    let words = file.words(alloc).ok()?;
+    format!(in alloc; "{folder}/{name}: {words}\n").ok()
+}
+
 // An outlet of a run that is over: what it took and its file lacks is put there. Refuses where an item differed from the one
-// that the file held at its place, and then puts nothing; and where a put failed.
-fn put_all<F: LineFile>(outlet: &mut ResumedOutlet<F>) -> Result<(), Failure>
+// that the file held at its place, and then puts nothing; and where a put failed. Then there is something to say.
+fn put_all<F: LineFile>(
+    alloc: Global,
+    folder: &String,
+    outlet: &mut ResumedOutlet<F>,
+    words: &mut Option<String>,
+) -> Result<(), Failure>
     ensures kept { OnOk result (IsInFile (taken_of outlet.old) outlet.new) }
     ensures err { IfErr result (IsKeeperFailure true) }
 {
     if outlet.first_difference().is_some() {
+        *words = difference_words(alloc, folder, outlet);
         return Err(Failure::State {
             number: ITEM_DIFFERS,
         });
     }
     match outlet.flush() {
         Ok(()) => Ok(()),
-        Err(_) => Err(Failure::State {
-            number: FILE_FAILED,
-        }),
+        Err(_) => {
+            *words = failure_words(alloc, folder, outlet);
+            Err(Failure::State {
+                number: FILE_FAILED,
+            })
+        }
     }
 }
 
 // The outlets of a run that is over, each with its file.
 fn put_each<F: LineFile>(
     alloc: Global,
+    folder: &String,
     outputs: Vec<Output<ResumedOutlet<F>>>,
+    words: &mut Option<String>,
 ) -> Result<Vec<ResumedOutlet<F>>, Failure>
     ensures kept { IfOk result (λ outlets. AreInFiles outlets.items
         (taken_streams taken_of outputs.items)) }
@@ -108,7 +157,7 @@ fn put_each<F: LineFile>(
     };
     for output in outputs {
         let Output { mut outlet, .. } = output;
-        put_all(&mut outlet)?;
+        put_all(alloc, folder, &mut outlet, words)?;
         let Ok(()) = outlets.push(outlet) else {
             return Err(Failure::NoMemory);
         };
@@ -116,7 +165,7 @@ fn put_each<F: LineFile>(
     Ok(outlets)
 }
 
-impl<F: LineFile> Keeper<ResumedOutlet<F>> for FileKeeper<F> {
+impl<'a, F: LineFile> Keeper<ResumedOutlet<F>> for FileKeeper<'a, F> {
     ghost keeps = { true };
 
     ghost has_kept = { λ keeper streams. AreInFiles keeper.closed.items streams };
@@ -146,7 +195,11 @@ impl<F: LineFile> Keeper<ResumedOutlet<F>> for FileKeeper<F> {
             (taken_streams taken_of outputs.items)) }
         ensures err { IfErr result (IsKeeperFailure true) }
     {
-        self.closed = put_each(alloc, outputs)?;
+        self.closed = put_each(alloc, self.folder, outputs, &mut self.words)?;
         Ok(())
+    }
+
+    fn take_words(&mut self) -> Option<String> {
+        self.words.take()
     }
 }

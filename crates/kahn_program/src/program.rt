@@ -6,12 +6,12 @@ ghost use Rattle.host.specs.Requests.{Each, Has, IsFree, Read, Said};
 ghost use Rattle.protocol.specs.Node.Common.{Fits, MAX_NODES, network_of, node_count};
 ghost use Rattle.cobaltmidge.specs.Texts.{AreInputsOf, IsNetOf};
 ghost use Rattle.fail_script.specs.Lines.{IsScript};
-ghost use Rattle.kahn_program.specs.Program.{IsAccepted, IsOpenIfAsked, IsWrittenIfAsked, Keeps, asked_files, file_names, given_of, name_if_output, Anything, HasReport, IsDone};
+ghost use Rattle.kahn_program.specs.Program.{IsAccepted, IsOpenIfAsked, IsWrittenIfAsked, Keeps, asked_files, file_names, given_of, name_if_output, AreKept, AreKeptIn, HasReport, IsDone};
 ghost use Rattle.kahn_program.specs.Runs.{IsReport};
 ghost use Rattle.kahn_program.specs.Scripts.{AreLinesOf};
 ghost use Rattle.kahn_program.specs.Statuses.{status_of_run};
 ghost use Rattle.cobaltmidge.specs.Scripts.{scripted_of};
-ghost use Rattle.run_files.specs.Opening.{AreOpened};
+ghost use Rattle.run_files.specs.Opening.{AreOpened, opened_names};
 ghost use Rattle.run_files.specs.Rules.{GoesOn, IsReady, WasReadIf, WereRead, rule};
 ghost use Rattle.run_files.specs.Wanted.{wanted_of};
 
@@ -452,7 +452,7 @@ fn run_over<
     requires ready { IsReady IsAccepted (wanted_of names.now) (H.asked host.old) }
     requires fitting { Fits (network_of asked.net.program) asked.inputs }
     ensures goes { GoesOn IsAccepted (wanted_of names.now) (H.asked host.old) (H.asked host.new) }
-    ensures report { IfOk result (λ report. IsReport Anything
+    ensures report { IfOk result (λ report. IsReport (K.has_kept keeper.new)
         (IsWrittenIfAsked (wanted_of names.now).history (H.asked host.new)) options.now asked.entry.net asked.entry.inputs
         (map scripted_of asked.entry.lines.items) report.bytes.items report.complete) }
 {
@@ -487,7 +487,8 @@ fn run_over<
         }
         Err(failure) => {
             drop_if_asked(host, names, history);
-            Err(Stop::from(failure))
+            let words = keeper.take_words();
+            Err(Stop { failure, words })
         }
     }
 }
@@ -509,11 +510,12 @@ fn run_locked<H: Host, P: RunWatch + TurnWatch + Sync, R: Threads + Wait + Sync>
     requires fitting { Fits (network_of asked.net.program) asked.inputs }
     requires opened { AreOpened (string_bytes folder.now) opened.now (H.asked host.old) }
     ensures goes { GoesOn IsAccepted (wanted_of names.now) (H.asked host.old) (H.asked host.new) }
-    ensures report { IfOk result (λ report. IsReport Anything
+    ensures report { IfOk result (λ report. IsReport
+        (AreKeptIn (string_bytes folder.now) (opened_names opened.now) (H.asked host.new))
         (IsWrittenIfAsked (wanted_of names.now).history (H.asked host.new)) options.now asked.entry.net asked.entry.inputs
         (map scripted_of asked.entry.lines.items) report.bytes.items report.complete) }
 {
-    let mut keeper = FileKeeper::new(alloc, files);
+    let mut keeper = FileKeeper::new(alloc, folder, files);
     let report = run_over::<H, ResumedOutlet<H::Lines>, _, _, _>(
         rt,
         alloc,
@@ -546,7 +548,9 @@ fn run_kept<H: Host, P: RunWatch + TurnWatch + Sync, R: Threads + Wait + Sync>(
     requires read { WereRead (wanted_of names.now) (given_of texts.now) (H.asked host.old) }
     requires fitting { Fits (network_of asked.net.program) asked.inputs }
     ensures keeps { Keeps (wanted_of names.now) (H.asked host.old) (H.asked host.new) }
-    ensures report { IfOk result (λ report. IsReport Anything
+    ensures report { IfOk result (λ report. IsReport
+        (AreKeptIn (string_bytes folder.now)
+        (file_names asked.entry.net.program.channels.items asked.entry.net.channel_names.items) (H.asked host.new))
         (IsWrittenIfAsked (wanted_of names.now).history (H.asked host.new)) options.now asked.entry.net asked.entry.inputs
         (map scripted_of asked.entry.lines.items) report.bytes.items report.complete) }
 {
@@ -607,7 +611,8 @@ fn run_asked<H: Host, P: RunWatch + TurnWatch + Sync, R: Threads + Wait + Sync>(
     requires accepted { IsAccepted (given_of all.texts) }
     requires fitting { Fits (network_of all.net.program) all.inputs }
     ensures keeps { Keeps (wanted_of names.now) (H.asked host.old) (H.asked host.new) }
-    ensures report { IfOk result (λ report. IsReport Anything
+    ensures report { IfOk result (λ report. IsReport
+        (AreKept (wanted_of names.now).state (file_names all.net.program.channels.items all.net.channel_names.items) (H.asked host.new))
         (IsWrittenIfAsked (wanted_of names.now).history (H.asked host.new)) options.now all.net all.inputs
         (map scripted_of all.lines.items) report.bytes.items report.complete) }
 {
@@ -786,8 +791,8 @@ pub fn main_of<H: Host, P: RunWatch + TurnWatch + Sync, R: Threads + Wait + Sync
         → Each (rule IsAccepted (asked_files options.now)) (H.asked host.new) }
     // No lock is held at the end.
     ensures free { IsFree (H.asked host.new) }
-    // Where the status is 0 or 3, what is said is the report that is asked for, of the texts that were read, and what happened is written where
-    // that is asked for.
+    // Where the status is 0 or 3, what is said is the report that is asked for, of the texts that were read. Each output's stream is kept in
+    // its own file of the folder, and what happened is written, where that is asked for.
     ensures done { (complete : Bool) → result ≡ status_of_run complete → IsDone options.now complete (H.asked host.new) }
 {
     match names_of(options) {

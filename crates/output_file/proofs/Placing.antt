@@ -183,7 +183,7 @@ refused_append old new item NoMemory memory same cause = memory refl
 refused_append old new item Failed memory same cause = (same, cause refl)
 
 -- outlets that are seen alike
-pub same_output : {items others : List ℤ} {held count : ℕ} {difference : Option ℕ} {broken other : Bool}
+pub same_output : {items others : List ℤ} {held count : ℕ} {difference : Option ℕ} {differing : Option ℤ} {broken other : Bool}
     {block before : List ℕ} {asked earlier : List Request} → items ≡ others → broken ≡ other → block ≡ before
     → asked ≡ earlier
     → ◌≡◌ {A = OutputView} (record {
@@ -191,6 +191,7 @@ pub same_output : {items others : List ℤ} {held count : ℕ} {difference : Opt
       held = held;
       count = count;
       difference = difference;
+      differing = differing;
       broken = broken;
       block = block;
       asked = asked;
@@ -199,6 +200,7 @@ pub same_output : {items others : List ℤ} {held count : ℕ} {difference : Opt
       held = held;
       count = count;
       difference = difference;
+      differing = differing;
       broken = other;
       block = before;
       asked = earlier;

@@ -13,6 +13,7 @@ output_view {F} {file} outlet = record {
   held = outlet.held;
   count = outlet.count;
   difference = outlet.difference;
+  differing = outlet.differing;
   broken = outlet.lines.broken;
   block = outlet.lines.block.items;
   asked = file.asked outlet.lines.file;

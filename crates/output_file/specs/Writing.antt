@@ -22,8 +22,9 @@ pub record OutputView : Type 0 where
   pub held : ℕ
   -- how many were taken: the held items met again, and those appended
   pub count : ℕ
-  -- the position of the held item from which one differed
+  -- the position of the held item from which one differed, and that one
   pub difference : Option ℕ
+  pub differing : Option ℤ
   -- a put failed
   pub broken : Bool
   -- lines that wait to be put
@@ -41,6 +42,7 @@ pub record HasAppended (old : OutputView) (item : ℤ) (new : OutputView) : Type
   pub count : new.count ≡ old.count + 1
   pub held : new.held ≡ old.held
   pub difference : new.difference ≡ old.difference
+  pub differing : new.differing ≡ old.differing
   pub broken : new.broken ≡ old.broken
 
 -- it has and took what it had and took before
@@ -49,6 +51,7 @@ pub record HasSameItems (old new : OutputView) : Type 0 where
   pub count : new.count ≡ old.count
   pub held : new.held ≡ old.held
   pub difference : new.difference ≡ old.difference
+  pub differing : new.differing ≡ old.differing
 
 -- how an item is appended behind the last one: a failure means that a put failed, or that the file would be too long
 abbrev pub Appends : OutputView → ℤ → Result (Unit {0}) OutletFault → OutputView → Type 0

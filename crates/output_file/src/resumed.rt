@@ -30,6 +30,7 @@ pub struct ResumedOutlet<F: LineFile> {
     held: usize,
     count: usize,
     difference: Option<u64>,
+    differing: Option<i64>,
     lines: LineBlock<F>,
     failures: Past<OutletFault>,
     ghost within: { count ≤ length items.items },
@@ -58,6 +59,7 @@ impl<F: LineFile> ResumedOutlet<F> {
           held = length held.items.items;
           count = 0;
           difference = None;
+          differing = None;
           broken = false;
           block = [];
           asked = [];
@@ -71,6 +73,7 @@ impl<F: LineFile> ResumedOutlet<F> {
             held,
             count: 0,
             difference: None,
+            differing: None,
             lines: LineBlock::new(alloc, file, bytes)?,
             failures: Past::new(),
         })
@@ -97,6 +100,13 @@ impl<F: LineFile> ResumedOutlet<F> {
             × (position < length (items_of self.now))) }
     {
         self.difference
+    }
+
+    /// The item that differed from the held one at that position.
+    pub fn differing_item(&self) -> Option<i64>
+        ensures { result ≡ (output_view self.now).differing }
+    {
+        self.differing
     }
 
     /// Whether all held items were met again. Then the outlet took all items that the file has.
@@ -153,7 +163,7 @@ impl<F: LineFile> ResumedOutlet<F> {
         ensures differs { let old = output_view self.old in is_refusing old ≡ false
             → old.count < length old.items → slice_get old.items old.count ≢ Some item
             → IsErrOf result OutletFault.Failed
-            × (output_view self.new ≡ record old { difference = Some old.count }) }
+            × (output_view self.new ≡ record old { difference = Some old.count; differing = Some item }) }
         ensures appends { let old = output_view self.old in is_refusing old ≡ false
             → old.count ≡ length old.items → Appends old item result (output_view self.new) }
         ensures ok { OnOk result (taken_of self.new ≡ taken_of self.old ++ item ∷ []) }
@@ -179,13 +189,14 @@ impl<F: LineFile> ResumedOutlet<F> {
             → IsOk result × (output_view self.new ≡ record old { count = old.count + 1 }) }
         ensures differs { let old = output_view self.old in slice_get old.items old.count ≢ Some item
             → IsErrOf result OutletFault.Failed
-            × (output_view self.new ≡ record old { difference = Some old.count }) }
+            × (output_view self.new ≡ record old { difference = Some old.count; differing = Some item }) }
         ensures ok { OnOk result (taken_of self.new ≡ taken_of self.old ++ item ∷ []) }
         ensures err { OnErr result (taken_of self.new ≡ taken_of self.old) }
     {
         let next = self.count;
         if self.items[next] != item {
             self.difference = Some(next as u64);
+            self.differing = Some(item);
             return Err(OutletFault::Failed);
         }
         self.count = next + 1;
@@ -299,11 +310,11 @@ impl<F: LineFile> Outlet for ResumedOutlet<F> {
         ensures meets { let old = output_view self.old in is_refusing old ≡ false
             → slice_get old.items old.count ≡ Some item
             → IsOk result × (output_view self.new ≡ record old { count = old.count + 1 }) }
-        // An item that differs from the held one is refused, and its position is kept.
+        // An item that differs from the held one is refused, and it is kept with its position.
         ensures differs { let old = output_view self.old in is_refusing old ≡ false
             → old.count < length old.items → slice_get old.items old.count ≢ Some item
             → IsErrOf result OutletFault.Failed
-            × (output_view self.new ≡ record old { difference = Some old.count }) }
+            × (output_view self.new ≡ record old { difference = Some old.count; differing = Some item }) }
         // Behind the last item it is appended.
         ensures appends { let old = output_view self.old in is_refusing old ≡ false
             → old.count ≡ length old.items → Appends old item result (output_view self.new) }

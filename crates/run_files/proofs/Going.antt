@@ -1,8 +1,8 @@
 -- How a log goes on.
-use Rattle.std.proofs.Common.{Vec, ◌≡◌, inl, inr, ℕ, zero, suc, ◌+◌, ◌<◌, get_or, add-one, length-append, List, [], ◌∷◌, ◌++◌, length, slice_get, Option, Some, None, Ok, Err, refl, sym, subst, arith}
+use Rattle.std.proofs.Common.{Vec, ◌≡◌, inl, inr, ℕ, zero, suc, ◌+◌, ◌<◌, ◌≤◌, Bool, true, false, map, get_or, take, add-one, length-append, List, [], ◌∷◌, ◌++◌, length, slice_get, Option, Some, None, Ok, Err, refl, ap, sym, subst, arith}
 use Rattle.std.proofs.lemmas.Option.{slice_get_read}
 use Rattle.std.specs.Option.{option_map}
-use Rattle.std.specs.Prelude.{IfSome, string_bytes}
+use Rattle.std.specs.Prelude.{IfOk, IfSome, Result, string_bytes}
 use Rattle.std.specs.declared.alloc.Global.{Global}
 use Rattle.std.specs.declared.string.String.{String}
 use Rattle.host.specs.Requests.{Locked, MadeFile, Opened, Placed, Read, Renamed, Unlocked, Used, Wrote}
@@ -12,8 +12,10 @@ use Rattle.host.specs.declared.fault.HostFault.{HostFault}
 use Rattle.host.specs.declared.line_file.LineFile.{Ghosts as FileWords}
 use Rattle.output_file.specs.Output.{asked_of}
 use Rattle.output_file.specs.declared.resumed.ResumedOutlet.{ResumedOutlet}
-use Rattle.run_files.specs.Opening.{AreMade, AreOpened, AreUsed}
-use Rattle.run_files.specs.declared.folder.OpenedName.{OpenedName}
+use Rattle.run_files.specs.Opening.{AreOpened, AreUsed, IsFileMade, OfEach, OfFirst}
+use Rattle.run_files.specs.Removing.{IsFileRemoved}
+use Rattle.run_files.specs.Syncing.{AreSyncedIf, IsSynced}
+use Rattle.run_files.specs.declared.held_file.OpenedName.{OpenedName}
 use Rattle.run_files.specs.History.{IsOpenFor}
 use Rattle.run_files.specs.Keeping.{IsWrittenTo}
 use Rattle.run_files.specs.Wanted.{Wanted}
@@ -120,32 +122,6 @@ module _ (accepts : Given → Type 0) (o : Wanted) where
       inl (string_bytes name, after.later _ (first.later _ it.1), subst P it.0 (after.later _ wrote), renamed)
 
 module _ (accepts : Given → Type 0) (o : Wanted) where
-  pub made_goes : (made : ℕ) (paths : List (String Global)) (old new : List Request) → GoesOn accepts o old new → AreMade made paths old
-      → AreMade made paths new
-  made_goes zero paths old new goes are = tt
-  made_goes (suc made) [] old new goes are = are
-  made_goes (suc made) (path ∷ paths) old new goes are = (goes.later _ are.0, made_goes made paths old new goes are.1)
-
-  pub made_more : (made : ℕ) (paths : List (String Global)) (path : String Global) (old new : List Request) → GoesOn accepts o old new
-      → AreMade made paths old → slice_get paths made ≡ Some path → Has (MadeFile (string_bytes path) (Ok tt)) new
-      → AreMade (suc made) paths new
-  made_more zero [] path old new goes are there has = absurd (cc)
-  made_more zero (other ∷ paths) path old new goes are there has =
-      let P : String Global → Type 0 = λ p. Has (MadeFile (string_bytes p) (Ok tt)) new in
-      (subst P (sym (some_is other path there)) has, tt)
-  made_more (suc made) [] path old new goes are there has = are
-  made_more (suc made) (other ∷ paths) path old new goes are there has =
-      (goes.later _ are.0, made_more made paths path old new goes are.1 there has)
-
-  pub made_next : (made index : ℕ) (paths : List (String Global)) (path : String Global) (old new : List Request) → GoesOn accepts o old new
-      → AreMade made paths old → made ≡ index → path ≡ get_or paths index path → index < length paths
-      → Has (MadeFile (string_bytes path) (Ok tt)) new → AreMade (made + 1) paths new
-  made_next made index paths path old new goes are same there within has =
-      let P : ℕ → Type 0 = λ n. AreMade n paths new in
-      let Q : ℕ → Type 0 = λ n. slice_get paths n ≡ Some path in
-      subst P (sym (add-one made))
-      (made_more made paths path old new goes are (subst Q (sym same) (slice_get_read paths (length paths) index path refl within there)) has)
-
   pub opened_goes : (folder : List ℕ) (opened : List OpenedName) (old new : List Request) → GoesOn accepts o old new
       → AreOpened folder opened old → AreOpened folder opened new
   opened_goes folder [] old new goes are = tt
@@ -184,13 +160,108 @@ module _ (accepts : Given → Type 0) (o : Wanted) where
     state = state;
   }
 
-pub made_at : (made : ℕ) (paths : List (String Global)) (e : List Request) (k : ℕ) (path : String Global) → AreMade made paths e → k < made
-    → slice_get paths k ≡ Some path → Has (MadeFile (string_bytes path) (Ok tt)) e
-made_at zero paths e k path are below there = absurd (omega (arith, below))
-made_at (suc made) [] e k path are below there = absurd are
-made_at (suc made) (other ∷ paths) e zero path are below there =
-    let P : String Global → Type 0 = λ p. Has (MadeFile (string_bytes p) (Ok tt)) e in subst P (some_is other path there) are.0
-made_at (suc made) (other ∷ paths) e (suc k) path are below there = made_at made paths e k path are.1 (omega (arith, below)) there
+-- what is so of a path stays so
+pub made_later : (old new : List Request) → Later old new → (path : List ℕ) → IsFileMade path old → IsFileMade path new
+made_later old new later path h = later _ h
+
+pub on_disk_later : (old new : List Request) → Later old new → (path : List ℕ) → IsSynced path old → IsSynced path new
+on_disk_later old new later path h = later _ h
+
+pub removed_later : (old new : List Request) → Later old new → (path : List ℕ) → IsFileRemoved path old → IsFileRemoved path new
+removed_later old new later path h = (h.0, later _ h.1)
+
+module _ (P : List ℕ → List Request → Type 0) where
+  pub first_goes : (count : ℕ) (paths : List (String Global)) (old new : List Request) → ((path : List ℕ) → P path old → P path new)
+      → OfFirst P count paths old → OfFirst P count paths new
+  first_goes zero paths old new more are = tt
+  first_goes (suc count) [] old new more are = are
+  first_goes (suc count) (path ∷ paths) old new more are = (more _ are.0, first_goes count paths old new more are.1)
+
+  first_more : (count : ℕ) (paths : List (String Global)) (path : String Global) (old new : List Request)
+      → ((p : List ℕ) → P p old → P p new) → OfFirst P count paths old → slice_get paths count ≡ Some path → P (string_bytes path) new
+      → OfFirst P (suc count) paths new
+  first_more zero [] path old new more are there has = absurd (cc)
+  first_more zero (other ∷ paths) path old new more are there has =
+      let Q : String Global → Type 0 = λ p. P (string_bytes p) new in (subst Q (sym (some_is other path there)) has, tt)
+  first_more (suc count) [] path old new more are there has = are
+  first_more (suc count) (other ∷ paths) path old new more are there has =
+      (more _ are.0, first_more count paths path old new more are.1 there has)
+
+  -- one more, in a loop over them
+  pub first_next : (count index : ℕ) (paths : List (String Global)) (path : String Global) (old new : List Request)
+      → ((p : List ℕ) → P p old → P p new) → OfFirst P count paths old → count ≡ index → path ≡ get_or paths index path
+      → index < length paths → P (string_bytes path) new → OfFirst P (count + 1) paths new
+  first_next count index paths path old new more are same there within has =
+      let Q : ℕ → Type 0 = λ n. OfFirst P n paths new in
+      let R : ℕ → Type 0 = λ n. slice_get paths n ≡ Some path in
+      subst Q (sym (add-one count))
+      (first_more count paths path old new more are (subst R (sym same) (slice_get_read paths (length paths) index path refl within there)) has)
+
+  pub first_at : (count : ℕ) (paths : List (String Global)) (e : List Request) (k : ℕ) (path : String Global) → OfFirst P count paths e
+      → k < count → slice_get paths k ≡ Some path → P (string_bytes path) e
+  first_at zero paths e k path are below there = absurd (omega (arith, below))
+  first_at (suc count) [] e k path are below there = absurd are
+  first_at (suc count) (other ∷ paths) e zero path are below there =
+      let Q : String Global → Type 0 = λ p. P (string_bytes p) e in subst Q (some_is other path there) are.0
+  first_at (suc count) (other ∷ paths) e (suc k) path are below there = first_at count paths e k path are.1 (omega (arith, below)) there
+
+  pub taken_length : (count : ℕ) (paths : List (String Global)) (e : List Request) → OfFirst P count paths e
+      → count ≡ length (take count paths)
+  taken_length zero paths e are = refl
+  taken_length (suc count) [] e are = absurd are
+  taken_length (suc count) (path ∷ paths) e are = ap suc (taken_length count paths e are.1)
+
+  -- they are those of the beginning of so many
+  pub first_to : (count : ℕ) (paths : List (String Global)) (e : List Request) → OfFirst P count paths e
+      → OfFirst P count (take count paths) e
+  first_to zero paths e are = tt
+  first_to (suc count) [] e are = absurd are
+  first_to (suc count) (path ∷ paths) e are = (are.0, first_to count paths e are.1)
+
+  pub first_from : (count : ℕ) (paths : List (String Global)) (e : List Request) → OfFirst P count (take count paths) e
+      → OfFirst P count paths e
+  first_from zero paths e are = tt
+  first_from (suc count) [] e are = absurd are
+  first_from (suc count) (path ∷ paths) e are = (are.0, first_from count paths e are.1)
+
+  -- the first ones are all of them
+  pub first_all : (count : ℕ) (paths : List (String Global)) (e : List Request) → OfFirst P count paths e → length paths ≤ count
+      → OfEach P (map string_bytes paths) e
+  first_all count [] e are within = tt
+  first_all zero (path ∷ paths) e are within = absurd (omega (arith, within))
+  first_all (suc count) (path ∷ paths) e are within = (are.0, first_all count paths e are.1 (omega (arith, within)))
+
+  pub each_goes : (paths : List (List ℕ)) (old new : List Request) → ((path : List ℕ) → P path old → P path new) → OfEach P paths old
+      → OfEach P paths new
+  each_goes [] old new more are = tt
+  each_goes (path ∷ paths) old new more are = (more _ are.0, each_goes paths old new more are.1)
+
+  pub each_both : (a b : List (List ℕ)) (e : List Request) → OfEach P a e → OfEach P b e → OfEach P (a ++ b) e
+  each_both [] b e first second = second
+  each_both (path ∷ a) b e first second = (first.0, each_both a b e first.1 second)
+
+pub synced_later : (sync : Bool) (paths : List (List ℕ)) (old new : List Request) → Later old new → AreSyncedIf sync paths old
+    → AreSyncedIf sync paths new
+synced_later true paths old new later are = each_goes IsSynced paths old new (on_disk_later old new later) are
+synced_later false paths old new later are = tt
+
+pub synced_if : (sync : Bool) (paths : List (List ℕ)) (e : List Request) → OfEach IsSynced paths e → AreSyncedIf sync paths e
+synced_if true paths e are = are
+synced_if false paths e are = tt
+
+-- what is so in any case is so where there is an answer
+pub in_any : {T F : Type 0} (result : Result T F) (P : T → Type 0) → ((value : T) → P value) → IfOk result P
+in_any (Ok value) P all = all value
+in_any (Err fault) P all = tt
+
+pub synced_none : (sync : Bool) (paths : List (List ℕ)) (e : List Request) → sync ≡ false → AreSyncedIf sync paths e
+synced_none true paths e off = absurd (cc)
+synced_none false paths e off = tt
+
+pub synced_both : (sync : Bool) (a b : List (List ℕ)) (e : List Request) → AreSyncedIf sync a e → AreSyncedIf sync b e
+    → AreSyncedIf sync (a ++ b) e
+synced_both true a b e first second = each_both IsSynced a b e first second
+synced_both false a b e first second = tt
 
 pub opened_at : (folder : List ℕ) (opened : List OpenedName) (e : List Request) (k : ℕ) (one : OpenedName) → AreOpened folder opened e
     → slice_get opened k ≡ Some one → Has (Opened folder (string_bytes one.name) (Ok one.bytes.value.items)) e

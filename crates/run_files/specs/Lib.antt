@@ -5,3 +5,5 @@ pub mod Keeping
 pub mod Faults
 pub mod History
 pub mod Opening
+pub mod Removing
+pub mod Syncing

@@ -1,7 +1,8 @@
 // One request each, which keeps the rules.
 ghost use Rattle.std.specs.Prelude.{◌≡◌, ◌⊎◌, ℕ, List, IfOk, IfErr, Ok, Err, OnOk, Some, [], string_bytes};
-ghost use Rattle.host.specs.Requests.{Has, HasUnder, IsHeld, Read, Looked, Placed, MadeFile, MadeFolder, OpenedDevice, Wrote, Renamed};
-ghost use Rattle.host.specs.Requests.{Opened, Used, Said, Told};
+ghost use Rattle.host.specs.Requests.{Has, HasUnder, IsHeld, Read, Looked, Placed, MadeFile, MadeFolder, OpenedDevice, Wrote, Synced, Renamed};
+ghost use Rattle.host.specs.Requests.{Opened, Cut, Used, Said, Told};
+ghost use Rattle.run_files.specs.Removing.{IsFileRemoved, IsFolderRemoved};
 ghost use Rattle.run_files.specs.Rules.{GoesOn, HasSameTexts, IsReady};
 ghost use Rattle.run_files.specs.Wanted.{wanted_of};
 
@@ -88,6 +89,7 @@ pub fn make_file<H: Host, J: Judge>(
     requires { IsReady J.accepts (wanted_of names.now) (H.asked host.old) }
     ensures goes { GoesOn J.accepts (wanted_of names.now) (H.asked host.old) (H.asked host.new) }
     ensures made { OnOk result (Has (MadeFile (string_bytes path.now) (Ok tt)) (H.asked host.new)) }
+    ensures wrote { OnOk result (Has (Wrote (string_bytes path.now) bytes.now.items (Ok tt)) (H.asked host.new)) }
 {
     let mut file = make::<H, J>(host, names, path)?;
     match write::<H, J>(host, names, &mut file, bytes) {
@@ -116,6 +118,7 @@ pub fn make_folder<H: Host, J: Judge>(
 pub fn sync<H: Host, J: Judge>(host: &mut H, names: &Names, path: &String) -> Result<(), HostFault>
     requires { IsReady J.accepts (wanted_of names.now) (H.asked host.old) }
     ensures goes { GoesOn J.accepts (wanted_of names.now) (H.asked host.old) (H.asked host.new) }
+    ensures synced { OnOk result (Has (Synced (string_bytes path.now) (Ok tt)) (H.asked host.new)) }
 {
     host.sync(path)
 }
@@ -131,6 +134,7 @@ pub fn rename_folder<H: Host, J: Judge>(
     requires made { Has (MadeFolder (string_bytes from.now) (Ok tt)) (H.asked host.old) }
     requires wanted { (wanted_of names.now).state ≡ Some (string_bytes to.now) }
     ensures goes { GoesOn J.accepts (wanted_of names.now) (H.asked host.old) (H.asked host.new) }
+    ensures renamed { OnOk result (Has (Renamed (string_bytes from.now) (string_bytes to.now) (Ok tt)) (H.asked host.new)) }
 {
     host.rename(from, to)
 }
@@ -154,7 +158,8 @@ pub fn rename_file<H: Host, J: Judge>(
 /// Takes a file away that was made. That it can't be is no failure of the run.
 pub fn remove_file<H: Host, J: Judge>(host: &mut H, names: &Names, path: &String)
     requires { Has (MadeFile (string_bytes path.now) (Ok tt)) (H.asked host.old) }
-    ensures { GoesOn J.accepts (wanted_of names.now) (H.asked host.old) (H.asked host.new) }
+    ensures goes { GoesOn J.accepts (wanted_of names.now) (H.asked host.old) (H.asked host.new) }
+    ensures removed { IsFileRemoved (string_bytes path.now) (H.asked host.new) }
 {
     let _ = host.remove_file(path);
 }
@@ -162,7 +167,8 @@ pub fn remove_file<H: Host, J: Judge>(host: &mut H, names: &Names, path: &String
 /// Takes a folder away that was made, where it is empty. That it can't be is no failure of the run.
 pub fn remove_folder<H: Host, J: Judge>(host: &mut H, names: &Names, path: &String)
     requires { Has (MadeFolder (string_bytes path.now) (Ok tt)) (H.asked host.old) }
-    ensures { GoesOn J.accepts (wanted_of names.now) (H.asked host.old) (H.asked host.new) }
+    ensures goes { GoesOn J.accepts (wanted_of names.now) (H.asked host.old) (H.asked host.new) }
+    ensures removed { IsFolderRemoved (string_bytes path.now) (H.asked host.new) }
 {
     let _ = host.remove_folder(path);
 }
@@ -203,6 +209,7 @@ pub fn cut<H: Host, J: Judge>(
     requires opened { Has (Opened (string_bytes folder.now) (string_bytes name.now) (Ok bytes.now.items)) (H.asked host.old) }
     requires name { H.Lines.name_of lines.old ≡ string_bytes name.now }
     ensures goes { GoesOn J.accepts (wanted_of names.now) (H.asked host.old) (H.asked host.new) }
+    ensures cut { OnOk result (Has (Cut (string_bytes name.now) len (Ok tt)) (H.asked host.new)) }
     ensures name { H.Lines.name_of lines.new ≡ H.Lines.name_of lines.old }
     ensures same { H.Lines.asked lines.new ≡ H.Lines.asked lines.old }
 {

@@ -1,10 +1,13 @@
 // The folder in which what left outlasts the run: the texts of the network and of the inputs, a file of lines for each output, and a file
 // whose lock says that a run is at work.
-ghost use Rattle.std.specs.Prelude.{◌≡◌, ◌≢◌, ◌<◌, ◌++◌, ◌⊎◌, [], ℕ, List, IfOk, IfErr, IfSome, OnOk, OnErr, IsTrue, Ok, Err, Some, false, slice_get, string_bytes};
-ghost use Rattle.host.specs.Requests.{Each, Has, HasUnder, IsFree, IsHeld, Later, MadeFile, MadeFolder, Opened, Read, Used};
+ghost use Rattle.std.specs.Prelude.{◌≡◌, ◌≢◌, ◌<◌, ◌≤◌, ◌++◌, ◌⊎◌, [], ◌∷◌, ℕ, List, IfOk, IfErr, IfSome, IfNone, OnOk, OnErr, IsTrue, Ok, Err, Some, false, drop, length, map, slice_get, string_bytes};
+ghost use Rattle.host.specs.Requests.{Each, Has, HasUnder, IsFree, IsHeld, Later, MadeFile, MadeFolder, Opened, Read, Renamed, Used};
+ghost use Rattle.output_file.specs.Lines.{HoldsLines};
 ghost use Rattle.output_file.specs.Output.{asked_of};
-ghost use Rattle.run_files.specs.Opening.{AreMade, AreOpened, AreUsed};
+ghost use Rattle.run_files.specs.Opening.{AreMade, AreHeldAs, AreOpened, AreUsed, IsCutTo, IsHeldAs, IsNewFolder, opened_names, path_in, paths_in};
+ghost use Rattle.run_files.specs.Removing.{AreRemoved, IsCleared, IsFileRemoved, IsFolderRemoved};
 ghost use Rattle.run_files.specs.Rules.{GoesOn, HasSameTexts, IsReady, rule};
+ghost use Rattle.run_files.specs.Syncing.{AreSyncedIf};
 ghost use Rattle.run_files.specs.Wanted.{wanted_of};
 ghost use Rattle.run_files.specs.declared.fault.FilesFault.TheVariants.{OtherState, InUse};
 ghost use Rattle.host.specs.declared.fault.HostFault.TheVariants as host_fault;
@@ -15,6 +18,7 @@ use crate::asking::{
 };
 use crate::fault::{FilesFault, Refused};
 use crate::happened::{MAX_NAMES, fresh_name};
+use crate::held_file::{HeldFile, OpenedName};
 use crate::names::{Judge, Names};
 use crate::words::{no_memory, refused, refused_by};
 use host::{Host, HostFault, LineFile};
@@ -27,21 +31,6 @@ use std::snapshot::Snapshot;
 pub struct FolderTexts<'a> {
     pub net: &'a Vec<u8>,
     pub inputs: &'a Vec<u8>,
-}
-
-/// The file of an output, which was just opened, and the items that it holds.
-#[derive(Drop)]
-pub struct HeldFile<F: LineFile> {
-    pub file: F,
-    pub held: HeldItems,
-    pub ghost unasked: { F.asked file ≡ [] },
-}
-
-/// The name of a file that was opened, and what it held.
-#[derive(Drop)]
-pub struct OpenedName {
-    pub name: String,
-    pub bytes: Snapshot<Vec<u8>>,
 }
 
 /// A folder that is this run's alone, as long as its lock is held.
@@ -169,13 +158,25 @@ fn make_beside<H: Host, J: Judge>(
     ))
 }
 
-// The paths of all files that a folder gets.
-fn paths_of(alloc: Global, making: &String, outputs: &[String]) -> Result<Vec<String>, AllocError> {
+// The path of an output's file in a folder.
+fn file_in(alloc: Global, folder: &String, name: &String) -> Result<String, AllocError>
+    ensures { IfOk result (λ path. string_bytes path ≡ path_in (string_bytes folder.now) (string_bytes name.now)) }
+{
+    let mut path = in_folder(alloc, folder, "/")?;
+    path.push_str(name.as_str())?;
+    Ok(path)
+}
+
+// The paths of all files that a folder has.
+fn paths_of(alloc: Global, folder: &String, outputs: &[String]) -> Result<Vec<String>, AllocError>
+    ensures { IfOk result (λ paths. map string_bytes paths.items
+        ≡ paths_in (string_bytes folder.now) (map string_bytes outputs.now)) }
+{
     let mut paths = Vec::new(alloc);
-    paths.push(in_folder(alloc, making, "/net")?)?;
-    paths.push(in_folder(alloc, making, "/inputs")?)?;
+    paths.push(in_folder(alloc, folder, "/net")?)?;
+    paths.push(in_folder(alloc, folder, "/inputs")?)?;
     for output in outputs {
-        paths.push(format!(in alloc; "{making}/{output}")?)?;
+        paths.push(file_in(alloc, folder, output)?)?;
     }
     Ok(paths)
 }
@@ -200,6 +201,7 @@ fn fill<H: Host, J: Judge>(
     requires { IsReady J.accepts (wanted_of names.now) (H.asked host.old) }
     ensures goes { GoesOn J.accepts (wanted_of names.now) (H.asked host.old) (H.asked host.new) }
     ensures made { AreMade result.0 paths.now (H.asked host.new) }
+    ensures all { IfNone result.1 (length paths.now ≤ result.0) }
 {
     let nothing = Vec::new(alloc);
     let mut made = 0;
@@ -216,16 +218,6 @@ fn fill<H: Host, J: Judge>(
     (made, None)
 }
 
-// Takes a file away, if it was made.
-fn remove_if<H: Host, J: Judge>(host: &mut H, names: &Names, path: &String, is_made: bool)
-    requires { IsTrue is_made → Has (MadeFile (string_bytes path.now) (Ok tt)) (H.asked host.old) }
-    ensures { GoesOn J.accepts (wanted_of names.now) (H.asked host.old) (H.asked host.new) }
-{
-    if is_made {
-        remove_file::<H, J>(host, names, path);
-    }
-}
-
 // Takes away what was made of a folder that doesn't get its name.
 fn clear<H: Host, J: Judge>(
     host: &mut H,
@@ -236,10 +228,12 @@ fn clear<H: Host, J: Judge>(
 )
     requires folder { Has (MadeFolder (string_bytes making.now) (Ok tt)) (H.asked host.old) }
     requires files { AreMade made paths.now (H.asked host.old) }
-    ensures { GoesOn J.accepts (wanted_of names.now) (H.asked host.old) (H.asked host.new) }
+    ensures goes { GoesOn J.accepts (wanted_of names.now) (H.asked host.old) (H.asked host.new) }
+    ensures files { AreRemoved made paths.now (H.asked host.new) }
+    ensures folder { IsFolderRemoved (string_bytes making.now) (H.asked host.new) }
 {
-    for (nth, path) in paths.iter().enumerate() {
-        remove_if::<H, J>(host, names, path, nth < made);
+    for path in &paths[..made] {
+        remove_file::<H, J>(host, names, path);
     }
     remove_folder::<H, J>(host, names, making);
 }
@@ -252,7 +246,8 @@ fn settle<H: Host, J: Judge>(
     paths: &[String],
 ) -> Result<(), Refused>
     requires { IsReady J.accepts (wanted_of names.now) (H.asked host.old) }
-    ensures { GoesOn J.accepts (wanted_of names.now) (H.asked host.old) (H.asked host.new) }
+    ensures goes { GoesOn J.accepts (wanted_of names.now) (H.asked host.old) (H.asked host.new) }
+    ensures synced { OnOk result (AreSyncedIf names.now.sync (map string_bytes paths.now) (H.asked host.new)) }
 {
     if !names.sync {
         return Ok(());
@@ -273,7 +268,8 @@ fn settle_one<H: Host, J: Judge>(
     path: &String,
 ) -> Result<(), Refused>
     requires { IsReady J.accepts (wanted_of names.now) (H.asked host.old) }
-    ensures { GoesOn J.accepts (wanted_of names.now) (H.asked host.old) (H.asked host.new) }
+    ensures goes { GoesOn J.accepts (wanted_of names.now) (H.asked host.old) (H.asked host.new) }
+    ensures synced { OnOk result (AreSyncedIf names.now.sync (string_bytes path.now ∷ []) (H.asked host.new)) }
 {
     if !names.sync {
         return Ok(());
@@ -296,7 +292,10 @@ fn give_name<H: Host, J: Judge>(
     requires ready { IsReady J.accepts (wanted_of names.now) (H.asked host.old) }
     requires made { Has (MadeFolder (string_bytes making.now) (Ok tt)) (H.asked host.old) }
     requires wanted { (wanted_of names.now).state ≡ Some (string_bytes folder.now) }
-    ensures { GoesOn J.accepts (wanted_of names.now) (H.asked host.old) (H.asked host.new) }
+    ensures goes { GoesOn J.accepts (wanted_of names.now) (H.asked host.old) (H.asked host.new) }
+    ensures renamed { IfOk result (λ named. IsTrue named
+        → Has (Renamed (string_bytes making.now) (string_bytes folder.now) (Ok tt)) (H.asked host.new)) }
+    ensures synced { IfOk result (λ named. AreSyncedIf names.now.sync (map string_bytes paths.now ++ string_bytes making.now ∷ []) (H.asked host.new)) }
 {
     settle::<H, J>(host, alloc, names, paths)?;
     settle_one::<H, J>(host, alloc, names, making)?;
@@ -322,6 +321,9 @@ fn fill_and_name<H: Host, J: Judge>(
     requires wanted { (wanted_of names.now).state ≡ Some (string_bytes folder.now) }
     ensures goes { GoesOn J.accepts (wanted_of names.now) (H.asked host.old) (H.asked host.new) }
     ensures made { AreMade result.0 paths.now (H.asked host.new) }
+    ensures renamed { IfOk result.1 (λ named. IsTrue named
+        → Has (Renamed (string_bytes making.now) (string_bytes folder.now) (Ok tt)) (H.asked host.new)) }
+    ensures all { IfOk result.1 (λ named. length paths.now ≤ result.0) }
 {
     let (made, failed) = fill::<H, J>(host, alloc, names, paths, texts);
     match failed {
@@ -345,7 +347,9 @@ fn make<H: Host, J: Judge>(
 ) -> Result<bool, Refused>
     requires ready { IsReady J.accepts (wanted_of names.now) (H.asked host.old) }
     requires wanted { (wanted_of names.now).state ≡ Some (string_bytes folder.now) }
-    ensures { GoesOn J.accepts (wanted_of names.now) (H.asked host.old) (H.asked host.new) }
+    ensures goes { GoesOn J.accepts (wanted_of names.now) (H.asked host.old) (H.asked host.new) }
+    ensures named { IfOk result (λ named. IsTrue named → IsNewFolder (string_bytes folder.now) (map string_bytes outputs.now) (H.asked host.new)) }
+    ensures cleared { IfOk result (λ named. named ≡ false → IsCleared (map string_bytes outputs.now) (H.asked host.new)) }
 {
     let making = make_beside::<H, J>(host, alloc, names, folder)?;
     let paths = match paths_of(alloc, &making, outputs) {
@@ -422,7 +426,9 @@ fn make_if_missing<H: Host, J: Judge>(
 }
 
 // What the lines of a file hold.
-fn items_of(alloc: Global, path: &String, bytes: &Vec<u8>) -> Result<HeldItems, Refused> {
+fn items_of(alloc: Global, path: &String, bytes: &Vec<u8>) -> Result<HeldItems, Refused>
+    ensures { IfOk result (λ held. HoldsLines bytes.now.items held.items.items (drop held.bytes bytes.now.items)) }
+{
     match read_items(alloc, bytes.as_slice()) {
         Ok(held) => Ok(held),
         Err(LinesFault::NoMemory) => Err(Refused::from(AllocError)),
@@ -449,6 +455,8 @@ fn cut_tail<H: Host, J: Judge>(
     requires opened { Has (Opened (string_bytes folder.now) (string_bytes name.now) (Ok bytes.now.items)) (H.asked host.old) }
     requires name { H.Lines.name_of file.old ≡ string_bytes name.now }
     ensures goes { GoesOn J.accepts (wanted_of names.now) (H.asked host.old) (H.asked host.new) }
+    ensures cut { OnOk result (IsCutTo (string_bytes name.now) len (length bytes.now.items) (H.asked host.new)) }
+    ensures name { H.Lines.name_of file.new ≡ H.Lines.name_of file.old }
     ensures same { H.Lines.asked file.new ≡ H.Lines.asked file.old }
 {
     if bytes.len() as u64 <= len {
@@ -475,6 +483,9 @@ fn open_one<H: Host, J: Judge>(
     requires same { HasSameTexts (wanted_of names.now) (string_bytes folder.now) (H.asked host.old) }
     ensures goes { GoesOn J.accepts (wanted_of names.now) (H.asked host.old) (H.asked host.new) }
     ensures opened { IfOk result (λ one. Has (Opened (string_bytes folder.now) (string_bytes name.now) (Ok one.1.value.items)) (H.asked host.new)) }
+    ensures named { IfOk result (λ one. H.Lines.name_of one.0.file ≡ string_bytes name.now) }
+    ensures lines { IfOk result (λ one. HoldsLines one.1.value.items one.0.held.items.items (drop one.0.held.bytes one.1.value.items)) }
+    ensures cut { IfOk result (λ one. IsCutTo (string_bytes name.now) one.0.held.bytes (length one.1.value.items) (H.asked host.new)) }
 {
     let path = format!(in alloc; "{folder}/{name}")?;
     let (mut file, bytes) = match open_lines::<H, J>(host, names, lock, folder, name) {
@@ -510,6 +521,8 @@ fn open_each<H: Host, J: Judge>(
     requires same { HasSameTexts (wanted_of names.now) (string_bytes folder.now) (H.asked host.old) }
     ensures goes { GoesOn J.accepts (wanted_of names.now) (H.asked host.old) (H.asked host.new) }
     ensures opened { IfOk result (λ all. AreOpened (string_bytes folder.now) all.1.items (H.asked host.new)) }
+    ensures named { IfOk result (λ all. opened_names all.1.items ≡ map string_bytes outputs.items) }
+    ensures files { IfOk result (λ all. AreHeldAs all.1.items all.0.items (H.asked host.new)) }
 {
     let mut files = Vec::with_capacity(alloc, outputs.len())?;
     let mut opened = Vec::with_capacity(alloc, outputs.len())?;
@@ -538,6 +551,10 @@ fn open_locked<H: Host, J: Judge>(
     requires inputs { Has (Read (wanted_of names.now).inputs (Ok texts.inputs.now.items)) (H.asked host.old) }
     ensures goes { GoesOn J.accepts (wanted_of names.now) (H.asked host.old) (H.asked host.new) }
     ensures opened { IfOk result (λ all. AreOpened (string_bytes folder.now) all.1.items (H.asked host.new)) }
+    ensures named { IfOk result (λ all. opened_names all.1.items ≡ map string_bytes outputs.items) }
+    ensures files { IfOk result (λ all. AreHeldAs all.1.items all.0.items (H.asked host.new)) }
+    ensures synced { IfOk result (λ all. AreSyncedIf names.now.sync
+        (paths_in (string_bytes folder.now) (map string_bytes outputs.items) ++ string_bytes folder.now ∷ []) (H.asked host.new)) }
 {
     compare::<H, J>(host, alloc, names, folder, "/net", texts.net)?;
     compare::<H, J>(host, alloc, names, folder, "/inputs", texts.inputs)?;
@@ -570,6 +587,13 @@ pub fn open_folder<H: Host, J: Judge>(
     ensures held { IfOk result (λ all. IsHeld (string_bytes folder.now) (H.asked host.new)) }
     ensures lock { IfOk result (λ all. H.folder_of all.lock ≡ string_bytes folder.now) }
     ensures opened { IfOk result (λ all. AreOpened (string_bytes folder.now) all.opened.items (H.asked host.new)) }
+    // The files are those of the outputs, in order.
+    ensures named { IfOk result (λ all. opened_names all.opened.items ≡ map string_bytes outputs.items) }
+    // Each holds the lines of its items, and what stood behind them is taken off.
+    ensures files { IfOk result (λ all. AreHeldAs all.opened.items all.files.items (H.asked host.new)) }
+    // Where that is asked for, what was found stands on the disk before anything is added.
+    ensures synced { IfOk result (λ all. AreSyncedIf names.now.sync
+        (paths_in (string_bytes folder.now) (map string_bytes outputs.items) ++ string_bytes folder.now ∷ []) (H.asked host.new)) }
     ensures err { OnErr result (IsFree (H.asked host.new)) }
 {
     make_if_missing::<H, J>(host, alloc, names, folder, texts, outputs.as_slice())?;

@@ -10,13 +10,15 @@ mod asking;
 mod fault;
 mod folder;
 mod happened;
+mod held_file;
 mod names;
 mod places;
 mod words;
 
 pub use asking::{read, say, tell};
 pub use fault::{FilesFault, Refused};
-pub use folder::{FolderTexts, HeldFile, OpenFolder, OpenedName, give_back, let_go, open_folder};
+pub use folder::{FolderTexts, OpenFolder, give_back, let_go, open_folder};
 pub use happened::{HistoryFile, drop_history, finish_history, open_history};
+pub use held_file::{HeldFile, OpenedName};
 pub use names::{Judge, Names};
 pub use places::tell_apart;

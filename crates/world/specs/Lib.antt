@@ -8,3 +8,4 @@ pub mod Left
 pub mod Reopening
 pub mod ReopenedWorld
 pub mod Closing
+pub mod Stillness

@@ -1,10 +1,11 @@
-// When a world stands still for want of room.
+// When nothing is to be done in a world, and when it stands still for want of room.
 ghost use Rattle.std.specs.Prelude.{◌≡◌, map};
 ghost use Rattle.std.specs.List.{list_all, list_any};
 ghost use Rattle.protocol.specs.Node.Common.{network_of};
 ghost use Rattle.protocol.specs.World.Common.{stands_still};
 ghost use Rattle.protocol.specs.World.Still.{is_still, wants_room, wider, widened};
 ghost use Rattle.station.specs.StationView.{station_view};
+ghost use Rattle.world.specs.Stillness.{is_still_world};
 ghost use Rattle.world.specs.WholeView.{inputs_in, net_in, stations_in, wire_in, world_of};
 
 use crate::world::World;
@@ -62,14 +63,22 @@ fn wider(room: usize) -> usize
 }
 
 impl<C: SlotCell, O: Outlet> World<C, O> {
+    /// Whether nothing is to be done with the room that channels have now: each node runs and holds no image, each has kept all that it
+    /// got and put, all that was put has left, nothing more comes from one node to another or is let go of, and no job can be granted. More
+    /// room for channels may let it go on, where none has all of its share yet. Takes no memory.
+    pub fn is_still(&self) -> bool
+        ensures { result ≡ is_still_world (world_of self.now) }
+    {
+        are_still(&self.net, &self.inputs, self.room, &self.stations)
+    }
+
     /// Whether the world stands still for want of room: each node runs and holds no image, each has kept all that it got and
     /// put, all that was put has left, nothing more comes from one node to another or is let go of, no job can be granted, and
     /// one could be if channels had as much room as a record has. Takes no memory.
     pub fn stands_still(&self) -> bool
         ensures { result ≡ stands_still (world_of self.now) }
     {
-        are_still(&self.net, &self.inputs, self.room, &self.stations)
-            && one_wants_room(&self.net, &self.inputs, &self.stations)
+        self.is_still() && one_wants_room(&self.net, &self.inputs, &self.stations)
     }
 
     /// Doubles how many items a channel retains at most, up to `MAX_RETAINED_ITEMS`. Takes no memory.

@@ -1,5 +1,5 @@
-use Rattle.std.proofs.Common.{rules}
-use Rattle.kahn_program.proofs.Said.{report_later}
+use Rattle.std.proofs.Common.{rules, string_bytes, ◌∙◌}
+use Rattle.kahn_program.proofs.Said.{kept_as, report_maps, written_later}
 use Rattle.run_files.proofs.Going.{ready_later}
 use Rattle.kahn_program.proofs.program.run_kept.Goals as goal
 
@@ -17,7 +17,10 @@ returns-in-Ok-clause-keeps g c = record {
 }
 
 pub returns-in-Ok-clause-report : goal.returns-in-Ok-clause-report
-returns-in-Ok-clause-report g c = report_later _ _ _ c.args.options.now c.args.asked.net c.args.asked.inputs _ _ _ c.let_go.ensures.later c.in-Ok.ensures.report
+returns-in-Ok-clause-report g c =
+    report_maps _ _ _ _ c.args.options.now c.args.asked.net c.args.asked.inputs _ _ _
+    (kept_as (string_bytes c.args.folder.now) _ _ _ _ (c.in_ok-open.ensures.named ∙ c.in_ok-outputs.ensures) c.let_go.ensures.later)
+    (written_later _ _ _ c.let_go.ensures.later) c.in-Ok.ensures.report
 
 pub let_go-requires-in-Err-clause-held : goal.let_go-requires-in-Err-clause-held
 let_go-requires-in-Err-clause-held g c κs within = c.run_locked.ensures.goes.held _ c.in_ok-open.ensures.held

@@ -1,5 +1,5 @@
-use Rattle.std.proofs.Common.{rules}
-use Rattle.kahn_program.proofs.Said.{report_later}
+use Rattle.std.proofs.Common.{rules, string_bytes}
+use Rattle.kahn_program.proofs.Said.{kept_in, report_maps, written_later}
 use Rattle.run_files.proofs.Going.{goes_then, opened_goes}
 use Rattle.kahn_program.proofs.program.run_locked.Goals as goal
 
@@ -13,4 +13,9 @@ pub returns-clause-goes : goal.returns-clause-goes
 returns-clause-goes g c = search (rules, goes_then)
 
 pub returns-clause-report : goal.returns-clause-report
-returns-clause-report g c = report_later _ _ _ c.args.options.now c.args.asked.net c.args.asked.inputs _ _ _ c.give_back.ensures.goes.later c.in_ok-report.ensures.report
+returns-clause-report g c =
+    report_maps _ _ _ _ c.args.options.now c.args.asked.net c.args.asked.inputs _ _ _
+    (kept_in (string_bytes c.args.folder.now) c.args.opened.now _ (g.H.Host.asked c.give_back.new.host)
+    (opened_goes _ _ _ _ _ _ (goes_then _ _ _ _ _ c.run_over.ensures.goes c.give_back.ensures.goes) c.requires.opened)
+    c.in_ok-give_back.ensures.used)
+    (written_later _ _ _ c.give_back.ensures.goes.later) c.in_ok-report.ensures.report

@@ -1,7 +1,7 @@
 use Rattle.std.proofs.Common.{rules, ◌∙◌, ap, map, subst}
 use Rattle.cobaltmidge.specs.Scripts.{scripted_of}
 use Rattle.run_files.specs.Wanted.{wanted_of}
-use Rattle.kahn_program.specs.Program.{Anything, IsWrittenIfAsked}
+use Rattle.kahn_program.specs.Program.{IsWrittenIfAsked}
 use Rattle.kahn_program.specs.Runs.{IsReport}
 use Rattle.kahn_program.proofs.Said.{report_maps, written_from}
 use Rattle.run_files.proofs.Going.{goes_then, ready_goes}
@@ -18,12 +18,12 @@ returns-in-Ok-clause-goes g c = search (rules, goes_then)
 
 pub returns-in-Ok-clause-report : goal.returns-in-Ok-clause-report
 returns-in-Ok-clause-report g c =
-    subst (λ script. IsReport Anything
+    subst (λ script. IsReport (g.K.Keeper.has_kept c.report_of_run.new.keeper)
     (IsWrittenIfAsked (wanted_of c.args.names.now).history (g.H.Host.asked c.finish_if_asked.new.host)) c.args.options.now
     c.args.asked.net c.args.asked.inputs script c.in-Ok.bytes.items c.in-Ok.complete)
     (c.in_ok-events.ensures ∙ ap (map scripted_of) c.deref.ensures.value)
-    (report_maps (g.K.Keeper.has_kept c.report_of_run.new.keeper) _ _ c.args.options.now c.args.asked.net c.args.asked.inputs _ _ _
-    (λ t is. written_from _ _ _ _ t c.new-happened.ensures.items c.in_ok-finish_if_asked-in-Ok.ensures.written is)
+    (report_maps (g.K.Keeper.has_kept c.report_of_run.new.keeper) _ _ _ c.args.options.now c.args.asked.net c.args.asked.inputs _ _ _
+    (λ streams kept. kept) (λ t is. written_from _ _ _ _ t c.new-happened.ensures.items c.in_ok-finish_if_asked-in-Ok.ensures.written is)
     c.in-Ok.ensures.ok)
 
 pub returns-clause-goes : goal.returns-clause-goes

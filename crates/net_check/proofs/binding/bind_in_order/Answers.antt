@@ -1,3 +1,5 @@
+use Rattle.std.proofs.lemmas.Grind.{elements}
+use Rattle.std.proofs.Common.{arith}
 use Rattle.std.proofs.Common.{◌≡◌, ◌∙◌, sym, ap, subst, ◌∷◌, [], List, map, Bool}
 use Rattle.std.proofs.lemmas.Result.{err_from_is_err_and}
 use Rattle.std.proofs.lemmas.List.{map-append}
@@ -73,3 +75,30 @@ returns-clause-fitting c =
     c.if-not-are_inputs_named.ensures) in
     let binds = all_bound _ _ _ _ _ b all in
     rw c.from_lists.ensures (bound_fits _ _ _ _ binds b.few)
+
+pub returns-clause-fault : goal.returns-clause-fault
+returns-clause-fault c = grind (arith, elements)
+
+pub returns-in_err-bind_line-clause-bound : goal.returns-in_err-bind_line-clause-bound
+returns-in_err-bind_line-clause-bound c = grind (arith, elements)
+
+pub returns-in_err-bind_line-clause-fitting : goal.returns-in_err-bind_line-clause-fitting
+returns-in_err-bind_line-clause-fitting c = grind (arith, elements)
+
+pub returns-in_err-binding-clause-bound : goal.returns-in_err-binding-clause-bound
+returns-in_err-binding-clause-bound c = grind (arith, elements)
+
+pub returns-in_err-binding-clause-fault : goal.returns-in_err-binding-clause-fault
+returns-in_err-binding-clause-fault c = grind (arith, elements)
+
+pub returns-in_err-binding-clause-fitting : goal.returns-in_err-binding-clause-fitting
+returns-in_err-binding-clause-fitting c = grind (arith, elements)
+
+pub returns-then-not-are_inputs_named-clause-bound : goal.returns-then-not-are_inputs_named-clause-bound
+returns-then-not-are_inputs_named-clause-bound c = grind (arith, elements)
+
+pub returns-then-not-are_inputs_named-clause-fault : goal.returns-then-not-are_inputs_named-clause-fault
+returns-then-not-are_inputs_named-clause-fault c = grind (arith, elements)
+
+pub returns-then-not-are_inputs_named-clause-fitting : goal.returns-then-not-are_inputs_named-clause-fitting
+returns-then-not-are_inputs_named-clause-fitting c = grind (arith, elements)

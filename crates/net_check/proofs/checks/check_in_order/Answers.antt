@@ -1,3 +1,5 @@
+use Rattle.std.proofs.lemmas.Grind.{elements}
+use Rattle.std.proofs.Common.{arith}
 use Rattle.std.proofs.Common.{◌≡◌, ◌∙◌, sym, ap, subst, ℕ, List, map, length, slice_get, Some}
 use Rattle.std.proofs.lemmas.Result.{err_from_is_err_and}
 use Rattle.std.proofs.lemmas.List.{length-map}
@@ -67,3 +69,45 @@ returns-clause-resolved c =
     c.deref-2.ensures.value c.in_ok-channels.ensures.ok in
     rw (c.in_ok-channel_names.ensures, c.in_ok-process_names.ensures)
     (resolves _ _ _ _ _ _ d.declared r fit j (net_tree c.args.text) d.channels d.processes)
+
+pub returns-clause-fault : goal.returns-clause-fault
+returns-clause-fault c = grind (arith, elements)
+
+pub returns-in_err-channel_names-clause-fault : goal.returns-in_err-channel_names-clause-fault
+returns-in_err-channel_names-clause-fault c = grind (arith, elements)
+
+pub returns-in_err-channel_names-clause-resolved : goal.returns-in_err-channel_names-clause-resolved
+returns-in_err-channel_names-clause-resolved c = grind (arith, elements)
+
+pub returns-in_err-channels-clause-resolved : goal.returns-in_err-channels-clause-resolved
+returns-in_err-channels-clause-resolved c = grind (arith, elements)
+
+pub returns-in_err-check_all_limits-clause-fault : goal.returns-in_err-check_all_limits-clause-fault
+returns-in_err-check_all_limits-clause-fault c = grind (arith, elements)
+
+pub returns-in_err-check_all_limits-clause-resolved : goal.returns-in_err-check_all_limits-clause-resolved
+returns-in_err-check_all_limits-clause-resolved c = grind (arith, elements)
+
+pub returns-in_err-codes-clause-fault : goal.returns-in_err-codes-clause-fault
+returns-in_err-codes-clause-fault c = grind (arith, elements)
+
+pub returns-in_err-codes-clause-resolved : goal.returns-in_err-codes-clause-resolved
+returns-in_err-codes-clause-resolved c = grind (arith, elements)
+
+pub returns-in_err-declared-clause-fault : goal.returns-in_err-declared-clause-fault
+returns-in_err-declared-clause-fault c = grind (arith, elements)
+
+pub returns-in_err-declared-clause-resolved : goal.returns-in_err-declared-clause-resolved
+returns-in_err-declared-clause-resolved c = grind (arith, elements)
+
+pub returns-in_err-process_names-clause-fault : goal.returns-in_err-process_names-clause-fault
+returns-in_err-process_names-clause-fault c = grind (arith, elements)
+
+pub returns-in_err-process_names-clause-resolved : goal.returns-in_err-process_names-clause-resolved
+returns-in_err-process_names-clause-resolved c = grind (arith, elements)
+
+pub returns-in_err-resolved-clause-fault : goal.returns-in_err-resolved-clause-fault
+returns-in_err-resolved-clause-fault c = grind (arith, elements)
+
+pub returns-in_err-resolved-clause-resolved : goal.returns-in_err-resolved-clause-resolved
+returns-in_err-resolved-clause-resolved c = grind (arith, elements)

@@ -1,3 +1,4 @@
+use Rattle.std.proofs.lemmas.Grind.{elements}
 use Rattle.std.proofs.Common.{arith}
 use Rattle.std.proofs.lemmas.Result.{err_from_is_err_and}
 use Rattle.std.proofs.lemmas.Option.{slice_get-get_or}
@@ -24,3 +25,18 @@ loop-c-preserved c =
     (slice_get-get_or c.args.producers.now c.loop-c.c _ (omega arith))
     (slice_get-get_or c.args.consumers.now c.loop-c.c _ (omega arith)) c.in_ok-check_ends.ensures.ok
     c.loop-c.invariant)
+
+pub returns-clause-err : goal.returns-clause-err
+returns-clause-err c = grind (arith, elements)
+
+pub returns-clause-ok : goal.returns-clause-ok
+returns-clause-ok c = grind (arith, elements)
+
+pub returns-in_err-check_ends-clause-ok : goal.returns-in_err-check_ends-clause-ok
+returns-in_err-check_ends-clause-ok c = grind (arith, elements)
+
+pub returns-in_err-push-clause-err : goal.returns-in_err-push-clause-err
+returns-in_err-push-clause-err c = grind (arith, elements)
+
+pub returns-in_err-push-clause-ok : goal.returns-in_err-push-clause-ok
+returns-in_err-push-clause-ok c = grind (arith, elements)

@@ -1,3 +1,4 @@
+use Rattle.std.proofs.lemmas.Grind.{elements}
 use Rattle.std.proofs.Common.{◌∙◌, sym, ap, arith, length, ◌+◌}
 use Rattle.std.proofs.lemmas.Result.{err_from_is_err_and}
 use Rattle.std.proofs.lemmas.List.{length_push}
@@ -32,3 +33,24 @@ loop-number-preserved c =
           c.loop-number.resolved.items c.in_ok-next.next _ _ _ _ (omega arith) c.index-processes-number.is
           (sym inv.count) inv.resolved c.in_ok-next.ensures.ok c.in_ok-next.ensures.puts c.in_ok-next.ensures.gets);
     }
+
+pub returns-clause-err : goal.returns-clause-err
+returns-clause-err c = grind (arith, elements)
+
+pub returns-clause-ok : goal.returns-clause-ok
+returns-clause-ok c = grind (arith, elements)
+
+pub returns-in_err-ends-clause-err : goal.returns-in_err-ends-clause-err
+returns-in_err-ends-clause-err c = grind (arith, elements)
+
+pub returns-in_err-ends-clause-ok : goal.returns-in_err-ends-clause-ok
+returns-in_err-ends-clause-ok c = grind (arith, elements)
+
+pub returns-in_err-next-clause-ok : goal.returns-in_err-next-clause-ok
+returns-in_err-next-clause-ok c = grind (arith, elements)
+
+pub returns-in_err-push-clause-err : goal.returns-in_err-push-clause-err
+returns-in_err-push-clause-err c = grind (arith, elements)
+
+pub returns-in_err-push-clause-ok : goal.returns-in_err-push-clause-ok
+returns-in_err-push-clause-ok c = grind (arith, elements)

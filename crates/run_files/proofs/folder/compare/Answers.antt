@@ -1,4 +1,3 @@
-use Rattle.std.proofs.Common.{rules, arith}
 use Rattle.run_files.proofs.Going.{under_as}
 use Rattle.run_files.proofs.folder.compare.Goals as goal
 

@@ -1,5 +1,6 @@
-use Rattle.std.proofs.Common.{rules, refl, arith}
-use Rattle.run_files.proofs.Going.{goes_then, made_goes, made_next, goes_still, ready_goes}
+use Rattle.std.proofs.Common.{rules, refl}
+use Rattle.run_files.specs.Opening.{IsFileMade}
+use Rattle.run_files.proofs.Going.{goes_then, first_goes, first_next, goes_still, made_later, ready_goes}
 use Rattle.run_files.proofs.folder.fill.Goals as goal
 
 pub make_file-requires-after_bounds : goal.make_file-requires-after_bounds
@@ -9,14 +10,14 @@ pub returns-in-Err-clause-goes : goal.returns-in-Err-clause-goes
 returns-in-Err-clause-goes g c = goes_then _ _ _ _ _ c.loop-path.invariant.goes c.make_file.ensures.goes
 
 pub returns-in-Err-clause-made : goal.returns-in-Err-clause-made
-returns-in-Err-clause-made g c = made_goes _ _ _ _ _ _ c.make_file.ensures.goes c.loop-path.invariant.made
+returns-in-Err-clause-made g c = first_goes IsFileMade _ _ _ _ (made_later _ _ c.make_file.ensures.goes.later) c.loop-path.invariant.made
 
 pub loop-path-preserved : goal.loop-path-preserved
 loop-path-preserved g c = record {
   goes = goes_then _ _ _ _ _ c.loop-path.invariant.goes c.make_file.ensures.goes;
   count = search rules;
-  made = made_next _ _ _ _ _ _ _ _ c.make_file.ensures.goes c.loop-path.invariant.made c.loop-path.invariant.count c.path-item.is c.loop-path-test.true
-      c.in_default.ensures.made;
+  made = first_next IsFileMade _ _ _ _ _ _ (made_later _ _ c.make_file.ensures.goes.later) c.loop-path.invariant.made c.loop-path.invariant.count c.path-item.is
+      c.loop-path-test.true c.in_default.ensures.made;
 }
 
 pub loop-path-init : goal.loop-path-init

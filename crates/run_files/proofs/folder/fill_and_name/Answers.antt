@@ -1,5 +1,6 @@
-use Rattle.std.proofs.Common.{rules, arith}
-use Rattle.run_files.proofs.Going.{goes_then, has_goes, made_goes, ready_goes}
+use Rattle.std.proofs.Common.{rules}
+use Rattle.run_files.specs.Opening.{IsFileMade}
+use Rattle.run_files.proofs.Going.{goes_then, has_goes, made_later, first_goes, ready_goes}
 use Rattle.run_files.proofs.folder.fill_and_name.Goals as goal
 
 pub give_name-named-requires-clause-ready : goal.give_name-named-requires-clause-ready
@@ -12,4 +13,4 @@ pub returns-in-None-clause-goes : goal.returns-in-None-clause-goes
 returns-in-None-clause-goes g c = search (rules, goes_then)
 
 pub returns-in-None-clause-made : goal.returns-in-None-clause-made
-returns-in-None-clause-made g c = made_goes _ _ _ _ _ _ c.give_name-named.ensures c.fill-made.ensures.made
+returns-in-None-clause-made g c = first_goes IsFileMade _ _ _ _ (made_later _ _ c.give_name-named.ensures.goes.later) c.fill-made.ensures.made

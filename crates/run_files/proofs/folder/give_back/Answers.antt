@@ -1,4 +1,4 @@
-use Rattle.std.proofs.Common.{rules, arith, ◌≡◌, ◌++◌, ◌∙◌, ◌∷◌, [], Some, length, slice_get, ap, sym, subst, append_assoc, append-nil}
+use Rattle.std.proofs.Common.{rules, ◌≡◌, ◌++◌, ◌∙◌, ◌∷◌, [], Some, length, slice_get, ap, sym, subst, append_assoc, append-nil}
 use Rattle.std.specs.Vec.Iter.{into_iter_items}
 use Rattle.run_files.specs.Opening.{AreUsed}
 use Rattle.run_files.proofs.Going.{goes_then, no_items, one_longer, opened_at, opened_goes, used_more}

@@ -1,24 +1,34 @@
 use Rattle.std.proofs.Common.{rules}
-use Rattle.run_files.proofs.Going.{goes_then, has_goes, ready_goes}
+use Rattle.run_files.proofs.Going.{goes_then, has_goes, ready_goes, synced_both, synced_later}
 use Rattle.run_files.proofs.folder.give_name.Goals as goal
 
 pub settle_one-requires-after_bounds : goal.settle_one-requires-after_bounds
-settle_one-requires-after_bounds g c κs within = ready_goes _ _ _ _ c.settle.ensures c.requires.ready
+settle_one-requires-after_bounds g c κs within = ready_goes _ _ _ _ c.settle.ensures.goes c.requires.ready
 
-pub returns-in_err-settle_one : goal.returns-in_err-settle_one
-returns-in_err-settle_one g c = search (rules, goes_then)
+pub returns-in_err-settle_one-clause-goes : goal.returns-in_err-settle_one-clause-goes
+returns-in_err-settle_one-clause-goes g c = search (rules, goes_then)
 
 pub rename_folder-requires-clause-ready : goal.rename_folder-requires-clause-ready
-rename_folder-requires-clause-ready g c κs within = ready_goes _ _ _ _ (goes_then _ _ _ _ _ c.settle.ensures c.settle_one.ensures) c.requires.ready
+rename_folder-requires-clause-ready g c κs within = ready_goes _ _ _ _ (goes_then _ _ _ _ _ c.settle.ensures.goes c.settle_one.ensures.goes) c.requires.ready
 
 pub rename_folder-requires-clause-made : goal.rename_folder-requires-clause-made
-rename_folder-requires-clause-made g c κs within = has_goes _ _ _ _ _ (goes_then _ _ _ _ _ c.settle.ensures c.settle_one.ensures) c.requires.made
+rename_folder-requires-clause-made g c κs within = has_goes _ _ _ _ _ (goes_then _ _ _ _ _ c.settle.ensures.goes c.settle_one.ensures.goes) c.requires.made
 
-pub returns-in-Ok : goal.returns-in-Ok
-returns-in-Ok g c = search (rules, goes_then)
+pub returns-in-Ok-clause-goes : goal.returns-in-Ok-clause-goes
+returns-in-Ok-clause-goes g c = search (rules, goes_then)
 
-pub returns-in-Err : goal.returns-in-Err
-returns-in-Err g c = search (rules, goes_then)
+pub returns-in-Err-clause-goes : goal.returns-in-Err-clause-goes
+returns-in-Err-clause-goes g c = search (rules, goes_then)
 
-pub returns-in-Err-NotEmpty : goal.returns-in-Err-NotEmpty
-returns-in-Err-NotEmpty g c = search (rules, goes_then)
+pub returns-in-Err-NotEmpty-clause-goes : goal.returns-in-Err-NotEmpty-clause-goes
+returns-in-Err-NotEmpty-clause-goes g c = search (rules, goes_then)
+
+pub returns-in-Ok-clause-synced : goal.returns-in-Ok-clause-synced
+returns-in-Ok-clause-synced g c = synced_both _ _ _ _
+    (synced_later _ _ _ _ (goes_then _ _ _ _ _ c.settle_one.ensures.goes c.rename_folder.ensures.goes).later c.in_ok-settle.ensures.synced)
+    (synced_later _ _ _ _ c.rename_folder.ensures.goes.later c.in_ok-settle_one.ensures.synced)
+
+pub returns-in-Err-NotEmpty-clause-synced : goal.returns-in-Err-NotEmpty-clause-synced
+returns-in-Err-NotEmpty-clause-synced g c = synced_both _ _ _ _
+    (synced_later _ _ _ _ (goes_then _ _ _ _ _ c.settle_one.ensures.goes c.rename_folder.ensures.goes).later c.in_ok-settle.ensures.synced)
+    (synced_later _ _ _ _ c.rename_folder.ensures.goes.later c.in_ok-settle_one.ensures.synced)

@@ -1,24 +1,48 @@
-use Rattle.std.proofs.Common.{rules, arith}
+use Rattle.std.proofs.Common.{rules, ap, ◌∙◌, ◌≤◌, List, Ok, length, map, string_bytes}
+use Rattle.std.specs.Prelude.{IsTrue}
+use Rattle.std.specs.declared.alloc.Global.{Global}
+use Rattle.std.specs.declared.string.String.{String}
+use Rattle.host.specs.Requests.{Has, Renamed}
+use Rattle.run_files.proofs.Making.{cleared, new_folder, of_answer}
 use Rattle.run_files.proofs.Going.{goes_then, has_goes, ready_goes}
 use Rattle.run_files.proofs.folder.make.Goals as goal
 
-pub returns-in-Err : goal.returns-in-Err
-returns-in-Err g c = search (rules, goes_then)
+pub returns-in-Err-clause-goes : goal.returns-in-Err-clause-goes
+returns-in-Err-clause-goes g c = search (rules, goes_then)
 
 pub fill_and_name-made-requires-clause-ready : goal.fill_and_name-made-requires-clause-ready
 fill_and_name-made-requires-clause-ready g c κs within = ready_goes _ _ _ _ c.make_beside.ensures.goes c.requires.ready
 
-pub returns-in-Ok-true : goal.returns-in-Ok-true
-returns-in-Ok-true g c = search (rules, goes_then)
+pub returns-in-Ok-true-clause-goes : goal.returns-in-Ok-true-clause-goes
+returns-in-Ok-true-clause-goes g c = search (rules, goes_then)
 
 pub clear-requires-clause-folder : goal.clear-requires-clause-folder
 clear-requires-clause-folder g c κs within = has_goes _ _ _ _ _ c.fill_and_name-made.ensures.goes c.in_ok-making.ensures.made
 
-pub returns-in-Ok-false : goal.returns-in-Ok-false
-returns-in-Ok-false g c = search (rules, goes_then)
+pub returns-in-Ok-false-clause-goes : goal.returns-in-Ok-false-clause-goes
+returns-in-Ok-false-clause-goes g c = search (rules, goes_then)
 
 pub clear-requires-in-Err-named-clause-folder : goal.clear-requires-in-Err-named-clause-folder
 clear-requires-in-Err-named-clause-folder g c κs within = has_goes _ _ _ _ _ c.fill_and_name-made.ensures.goes c.in_ok-making.ensures.made
 
-pub returns : goal.returns
-returns g c = search (rules, goes_then)
+pub returns-clause-goes : goal.returns-clause-goes
+returns-clause-goes g c = search (rules, goes_then)
+
+pub returns-in-Ok-true-clause-named : goal.returns-in-Ok-true-clause-named
+returns-in-Ok-true-clause-named g c is =
+    let made = c.fill_and_name-made.ensures in
+    new_folder _ _ _ _ _ _ (has_goes _ _ _ _ _ made.goes c.in_ok-making.ensures.made) made.made
+    (of_answer _ _ (λ named. length c.as_slice-all.result.now ≤ c.fill_and_name-made.result.0) c.in-Ok-true.is made.all)
+    (ap (λ (paths : List (String Global)). map (λ (path : String Global). string_bytes path) paths) c.as_slice-all.ensures.value ∙ c.in-Ok.ensures)
+    (of_answer _ _ (λ named. IsTrue named
+    → Has (Renamed (string_bytes c.in_ok-making.making) (string_bytes c.args.folder.now) (Ok tt)) (g.H.Host.asked c.fill_and_name-made.new.host))
+    c.in-Ok-true.is made.renamed (search rules))
+
+pub returns-in-Ok-false-clause-cleared : goal.returns-in-Ok-false-clause-cleared
+returns-in-Ok-false-clause-cleared g c is =
+    let made = c.fill_and_name-made.ensures in
+    cleared _ (string_bytes c.args.folder.now) _ _ _ _ (has_goes _ _ _ _ _ (goes_then _ _ _ _ _ made.goes c.clear.ensures.goes) c.in_ok-making.ensures.made)
+    c.clear.ensures.files
+    (of_answer _ _ (λ named. length c.as_slice-all.result.now ≤ c.fill_and_name-made.result.0) c.in-Ok-false.is made.all)
+    (ap (λ (paths : List (String Global)). map (λ (path : String Global). string_bytes path) paths) c.as_slice-all.ensures.value ∙ c.in-Ok.ensures)
+    c.clear.ensures.folder

@@ -12,7 +12,7 @@ pub returns-in_err-home : goal.returns-in_err-home
 returns-in_err-home g c = search (rules, goes_then)
 
 pub settle_one-requires-after_bounds : goal.settle_one-requires-after_bounds
-settle_one-requires-after_bounds g c κs within = ready_goes _ _ _ _ (goes_then _ _ _ _ _ c.is_made.ensures c.make.ensures) c.requires.ready
+settle_one-requires-after_bounds g c κs within = ready_goes _ _ _ _ (goes_then _ _ _ _ _ c.is_made.ensures c.make.ensures.goes) c.requires.ready
 
 pub returns-in_err-settle_one : goal.returns-in_err-settle_one
 returns-in_err-settle_one g c = search (rules, goes_then)

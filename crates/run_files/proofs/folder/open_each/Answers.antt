@@ -1,5 +1,7 @@
-use Rattle.std.proofs.Common.{rules, sym, subst, string_bytes}
+use Rattle.std.proofs.Common.{sym, subst, string_bytes}
 use Rattle.run_files.specs.Opening.{AreOpened}
+use Rattle.run_files.proofs.Held.{held_longer, names_opened}
+use Rattle.run_files.proofs.Paths.{names_more}
 use Rattle.run_files.proofs.Going.{goes_then, opened_more, ready_goes, same_goes}
 use Rattle.run_files.proofs.folder.open_each.Goals as goal
 
@@ -23,6 +25,10 @@ loop-name-preserved g c = record {
   goes = goes_then _ _ _ _ _ c.loop-name.invariant.goes c.open_one.ensures.goes;
   opened = subst (λ items. AreOpened (string_bytes c.args.folder.now) items (g.H.Host.asked c.open_one.new.host)) (sym c.in_ok-push-2.ensures.items)
       (opened_more _ _ _ _ _ _ _ c.open_one.ensures.goes c.loop-name.invariant.opened c.in_ok-file.ensures.opened);
+  named = names_more _ _ _ _ _ _ (names_opened _ _ _ c.in_ok-push-2.ensures.items) c.in-Some.ensures.steps.0 c.loop-name.invariant.named;
+  files = held_longer _ _ _ _ _ _ _ _ c.in_ok-push-2.ensures.items c.in_ok-push.ensures.items c.open_one.ensures.goes.later
+      c.loop-name.invariant.files
+      (record { named = c.in_ok-file.ensures.named; lines = c.in_ok-file.ensures.lines; cut = c.in_ok-file.ensures.cut });
 }
 
 pub returns-in_err-push-2-clause-goes : goal.returns-in_err-push-2-clause-goes

@@ -1,4 +1,3 @@
-use Rattle.std.proofs.Common.{rules}
 use Rattle.run_files.proofs.Going.{free_still, held_now, later_by, ready_goes, ready_later, rules_by, rules_unlocked}
 use Rattle.run_files.proofs.folder.open_folder.Goals as goal
 
@@ -15,6 +14,9 @@ returns-in-Err g c = record {
   held = tt;
   lock = tt;
   opened = tt;
+  named = tt;
+  files = tt;
+  synced = tt;
   err = free_still _ _ _ _ c.in-Err.ensures.asked (c.make_if_missing.ensures.free c.requires.free);
 }
 

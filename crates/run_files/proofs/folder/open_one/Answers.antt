@@ -1,4 +1,4 @@
-use Rattle.std.proofs.Common.{rules, arith}
+use Rattle.std.proofs.Common.{rules}
 use Rattle.run_files.proofs.Going.{goes_then, has_goes, opened_as, ready_goes}
 use Rattle.run_files.proofs.folder.open_one.Goals as goal
 

@@ -1,4 +1,3 @@
-use Rattle.std.proofs.Common.{rules}
 use Rattle.run_files.proofs.Going.{goes_then, ready_goes}
 use Rattle.run_files.proofs.happened.make_beside.Goals as goal
 

@@ -1,3 +1,4 @@
+use Rattle.std.proofs.lemmas.Grind.{elements}
 use Rattle.std.proofs.Common.{◌∙◌, sym, subst, ℕ, List, map, arith}
 use Rattle.net_text.specs.Trees.{process_tree}
 use Rattle.net_text.specs.declared.tree.ProcessText.{ProcessText}
@@ -36,3 +37,48 @@ returns-clause-declared c =
     → Reads (process_names (map process_tree xs)) i c.args.process.name.text → ⊥) c.deref.ensures.value none)
     (let e = length-map c.args.self.now.processes.items process_tree in omega arith)
     c.in_ok-check_process.ensures.ok)
+
+pub returns-clause-channels : goal.returns-clause-channels
+returns-clause-channels c = grind (arith, elements)
+
+pub returns-clause-err : goal.returns-clause-err
+returns-clause-err c = grind (arith, elements)
+
+pub returns-in_err-check_process-clause-channels : goal.returns-in_err-check_process-clause-channels
+returns-in_err-check_process-clause-channels c = grind (arith, elements)
+
+pub returns-in_err-check_process-clause-declared : goal.returns-in_err-check_process-clause-declared
+returns-in_err-check_process-clause-declared c = grind (arith, elements)
+
+pub returns-in_err-check_process-clause-processes : goal.returns-in_err-check_process-clause-processes
+returns-in_err-check_process-clause-processes c = grind (arith, elements)
+
+pub returns-in_err-push-clause-channels : goal.returns-in_err-push-clause-channels
+returns-in_err-push-clause-channels c = grind (arith, elements)
+
+pub returns-in_err-push-clause-declared : goal.returns-in_err-push-clause-declared
+returns-in_err-push-clause-declared c = grind (arith, elements)
+
+pub returns-in_err-push-clause-err : goal.returns-in_err-push-clause-err
+returns-in_err-push-clause-err c = grind (arith, elements)
+
+pub returns-in_err-push-clause-processes : goal.returns-in_err-push-clause-processes
+returns-in_err-push-clause-processes c = grind (arith, elements)
+
+pub returns-then-is_some-clause-channels : goal.returns-then-is_some-clause-channels
+returns-then-is_some-clause-channels c = grind (arith, elements)
+
+pub returns-then-is_some-clause-declared : goal.returns-then-is_some-clause-declared
+returns-then-is_some-clause-declared c = grind (arith, elements)
+
+pub returns-then-is_some-clause-processes : goal.returns-then-is_some-clause-processes
+returns-then-is_some-clause-processes c = grind (arith, elements)
+
+pub returns-then-len-ge-MAX_PROCESSES-clause-channels : goal.returns-then-len-ge-MAX_PROCESSES-clause-channels
+returns-then-len-ge-MAX_PROCESSES-clause-channels c = grind (arith, elements)
+
+pub returns-then-len-ge-MAX_PROCESSES-clause-declared : goal.returns-then-len-ge-MAX_PROCESSES-clause-declared
+returns-then-len-ge-MAX_PROCESSES-clause-declared c = grind (arith, elements)
+
+pub returns-then-len-ge-MAX_PROCESSES-clause-processes : goal.returns-then-len-ge-MAX_PROCESSES-clause-processes
+returns-then-len-ge-MAX_PROCESSES-clause-processes c = grind (arith, elements)

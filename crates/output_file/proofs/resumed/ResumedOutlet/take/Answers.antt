@@ -45,7 +45,7 @@ returns-in_err-append_line-clause-appends g c = λ takes end.
     (λ e. let lines = c.in_err-append_line.ensures.no_memory (ap Err e) in
     same_output same (ap (λ l. l.broken) lines) (ap (λ l. l.block.items) lines)
     (ap (λ l. g.F.LineFile.asked l.file) lines))
-    (record { items = same; count = refl; held = refl; difference = refl })
+    (record { items = same; count = refl; held = refl; difference = refl; differing = refl })
     (λ e. subst
     (λ (n : ℕ). (c.append_line.new.lines.broken ≡ true) ⊎ (2 ^ 64 ≤ n + length (item_line c.args.item))) all
     (rw (← to_z-of_z w64 _ f) (c.in_err-append_line.ensures.cause (ap Err e)))))

@@ -1,0 +1,9 @@
+use Rattle.std.proofs.lemmas.Grind.{elements}
+use Rattle.std.proofs.Common.{arith}
+use Rattle.fail_script.proofs.reading.loss_of.Goals as goal
+
+pub returns-in_err-from : goal.returns-in_err-from
+returns-in_err-from c = grind (arith, elements)
+
+pub returns : goal.returns
+returns c = grind (arith, elements)
