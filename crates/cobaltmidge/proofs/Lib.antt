@@ -3,3 +3,6 @@ pub mod Streams
 mod Passing
 mod Next
 pub mod Named
+mod Filed
+pub mod Kept
+mod Naming

@@ -8,3 +8,6 @@ pub mod Resting
 pub mod Reasons
 pub mod Runs
 pub mod Scripts
+pub mod KeptOutlets
+pub mod FileNames
+pub mod Accepting

@@ -11,20 +11,13 @@ use Rattle.kahn_program.specs.declared.asked.Options.{Options}
 use Rattle.kahn_program.specs.declared.program.Texts.{Texts}
 use Rattle.net_text.specs.Names.{NameTree}
 use Rattle.protocol.specs.Node.Common.{Channel, Port, Outside, Process, Net, network_of, node_count}
+pub use Rattle.cobaltmidge.specs.Accepting.{IsAccepted}
+pub use Rattle.cobaltmidge.specs.FileNames.{file_name, name_if_output, file_names}
 use Rattle.run_files.specs.Keeping.{IsWrittenTo}
 use Rattle.run_files.specs.History.{IsOpenFor}
 use Rattle.run_files.specs.Rules.{Given, WereRead, rule}
 use Rattle.run_files.specs.declared.happened.HistoryFile.{HistoryFile}
 use Rattle.run_files.specs.Wanted.{Wanted}
-
--- These texts are accepted: they are a network's, its inputs', and where there is a script that of a script for its nodes.
-pub record IsAccepted (given : Given) : Type 0 where
-  pub net : Net
-  pub inputs : List (List ℤ)
-  pub of_net : IsNetOf given.net net
-  pub of_inputs : AreInputsOf given.inputs net inputs
-  pub of_script : IfSome given.script
-      (λ bytes. (lines : List ScriptLine) × IsScript (node_count (network_of net.program)) bytes lines)
 
 -- What a command line asks of files. An approximation needs no script, and nothing outlasts it.
 abbrev pub asked_by : Option ℕ → Options → Wanted
@@ -47,20 +40,6 @@ asked_by (Some n) options = record {
 
 abbrev pub asked_files : Options → Wanted
 asked_files options = asked_by options.approx options
-
--- the name of an output's file
-abbrev pub file_name : NameTree → List ℕ
-file_name name = name.text ++ codes ".items"
-
-abbrev pub name_if_output : Port → NameTree → List (List ℕ) → List (List ℕ)
-name_if_output Outside name names = file_name name ∷ names
-name_if_output (Process p) name names = names
-
--- those of all outputs, in order of the channels
-abbrev pub file_names : List Channel → List NameTree → List (List ℕ)
-file_names [] names = []
-file_names (channel ∷ channels) [] = []
-file_names (channel ∷ channels) (name ∷ names) = name_if_output channel.consumer name (file_names channels names)
 
 -- where a file for it is asked for, this is written there
 abbrev pub IsWrittenIfAsked : Option (List ℕ) → List Request → List ℕ → Type 0

@@ -1,22 +1,20 @@
 //! Outlets over files, which outlast a run.
 
-ghost use Rattle.std.specs.Prelude.{◌≡◌, true, IfErr, IfOk, OnOk};
+ghost use Rattle.std.specs.Prelude.{◌≡◌, true, IfErr, OnOk};
 ghost use Rattle.output_file.specs.Output.{taken_of};
 ghost use Rattle.kahn_program.specs.Keeping.{IsKeeperFailure, taken_streams};
 ghost use Rattle.kahn_program.specs.KeptFiles.{AreInFiles, closed_of};
-ghost use Rattle.output_file.specs.InFile.{IsInFile};
 
 use crate::failure::Failure;
 use crate::keeper::Keeper;
-use crate::reporting::count_outputs;
+use cobaltmidge::{KeepFault, outlets_over, put_each};
 use host::LineFile;
 use net_check::Net;
-use outlet::Outlet;
 use output_file::ResumedOutlet;
 use run_files::HeldFile;
-use std::alloc::{AllocError, Global};
+use std::alloc::Global;
 use std::mem;
-use world::{OutletMaker, Output, outputs_of};
+use world::Output;
 
 /// The refusal of a folder that is another network's, or has other inputs, or is damaged.
 pub const OTHER_STATE: u8 = 80;
@@ -30,23 +28,33 @@ pub const FILE_FAILED: u8 = 82;
 /// A run's outlets over files, one for each output, in order of the channels.
 #[derive(Drop)]
 pub struct FileKeeper<F: LineFile> {
-    // the last output's first
+    // in order of the channels
     files: Vec<HeldFile<F>>,
     // those of a run that is over
     closed: Vec<ResumedOutlet<F>>,
 }
 
-// Makes an outlet over the next file.
-#[derive(Drop)]
-struct FileOutlets<F: LineFile> {
-    alloc: Global,
-    files: Vec<HeldFile<F>>,
+// What a fault of the files comes to.
+fn keep_failure(fault: KeepFault) -> Failure
+    ensures { IsKeeperFailure true result }
+{
+    match fault {
+        KeepFault::NoMemory => Failure::NoMemory,
+        KeepFault::OtherState => Failure::State {
+            number: OTHER_STATE,
+        },
+        KeepFault::ItemDiffers => Failure::State {
+            number: ITEM_DIFFERS,
+        },
+        KeepFault::Failed => Failure::State {
+            number: FILE_FAILED,
+        },
+    }
 }
 
 impl<F: LineFile> FileKeeper<F> {
     /// A run's outlets over these files, one for each output, in order of the channels.
-    pub fn new(alloc: Global, mut files: Vec<HeldFile<F>>) -> FileKeeper<F> {
-        files.reverse();
+    pub fn new(alloc: Global, files: Vec<HeldFile<F>>) -> FileKeeper<F> {
         FileKeeper {
             files,
             closed: Vec::new(alloc),
@@ -62,78 +70,16 @@ impl<F: LineFile> FileKeeper<F> {
     }
 }
 
-impl<F: LineFile> OutletMaker<ResumedOutlet<F>> for FileOutlets<F> {
-    ghost use Rattle.output_file.specs.Output.{failures_of};
-
-    ghost makes = { λ channel outlet. failures_of outlet ≡ 0 };
-
-    fn make(&mut self, _channel: u8) -> Result<ResumedOutlet<F>, AllocError> {
-        let Some(HeldFile { file, held }) = self.files.pop() else {
-            return Err(AllocError);
-        };
-        ResumedOutlet::new(self.alloc, file, held)
-    }
-}
-
-// An outlet of a run that is over: what it took and its file lacks is put there. Refuses where an item differed from the one
-// that the file held at its place, and then puts nothing; and where a put failed.
-fn put_all<F: LineFile>(outlet: &mut ResumedOutlet<F>) -> Result<(), Failure>
-    ensures kept { OnOk result (IsInFile (taken_of outlet.old) outlet.new) }
-    ensures err { IfErr result (IsKeeperFailure true) }
-{
-    if outlet.first_difference().is_some() {
-        return Err(Failure::State {
-            number: ITEM_DIFFERS,
-        });
-    }
-    match outlet.flush() {
-        Ok(()) => Ok(()),
-        Err(_) => Err(Failure::State {
-            number: FILE_FAILED,
-        }),
-    }
-}
-
-// The outlets of a run that is over, each with its file.
-fn put_each<F: LineFile>(
-    alloc: Global,
-    outputs: Vec<Output<ResumedOutlet<F>>>,
-) -> Result<Vec<ResumedOutlet<F>>, Failure>
-    ensures kept { IfOk result (λ outlets. AreInFiles outlets.items
-        (taken_streams taken_of outputs.items)) }
-    ensures err { IfErr result (IsKeeperFailure true) }
-{
-    let Ok(mut outlets) = Vec::with_capacity(alloc, outputs.len()) else {
-        return Err(Failure::NoMemory);
-    };
-    for output in outputs {
-        let Output { mut outlet, .. } = output;
-        put_all(&mut outlet)?;
-        let Ok(()) = outlets.push(outlet) else {
-            return Err(Failure::NoMemory);
-        };
-    }
-    Ok(outlets)
-}
-
 impl<F: LineFile> Keeper<ResumedOutlet<F>> for FileKeeper<F> {
     ghost keeps = { true };
 
     ghost has_kept = { λ keeper streams. AreInFiles keeper.closed.items streams };
 
     fn open(&mut self, alloc: Global, net: &Net) -> Result<Vec<Output<ResumedOutlet<F>>>, Failure> {
-        if self.files.len() != count_outputs(net) {
-            return Err(Failure::State {
-                number: OTHER_STATE,
-            });
-        }
-        let mut maker = FileOutlets {
-            alloc,
-            files: mem::replace(&mut self.files, Vec::new(alloc)),
-        };
-        match outputs_of(alloc, net, &mut maker) {
+        let files = mem::replace(&mut self.files, Vec::new(alloc));
+        match outlets_over(alloc, net, files) {
             Ok(outputs) => Ok(outputs),
-            Err(_) => Err(Failure::NoMemory),
+            Err(fault) => Err(keep_failure(fault)),
         }
     }
 
@@ -146,7 +92,12 @@ impl<F: LineFile> Keeper<ResumedOutlet<F>> for FileKeeper<F> {
             (taken_streams taken_of outputs.items)) }
         ensures err { IfErr result (IsKeeperFailure true) }
     {
-        self.closed = put_each(alloc, outputs)?;
-        Ok(())
+        match put_each(alloc, outputs) {
+            Ok(outlets) => {
+                self.closed = outlets;
+                Ok(())
+            }
+            Err(fault) => Err(keep_failure(fault)),
+        }
     }
 }

@@ -3,7 +3,7 @@ use Rattle.std.proofs.Common.{◌≡◌, ◌++◌, [], ◌∷◌, ℤ, List, len
 use Rattle.output_file.specs.InFile.{IsInFile}
 use Rattle.host.specs.declared.line_file.LineFile.{Ghosts as FileWords}
 use Rattle.output_file.specs.declared.resumed.ResumedOutlet.{ResumedOutlet}
-use Rattle.kahn_program.specs.KeptFiles.{AreInFiles}
+use Rattle.cobaltmidge.specs.KeptOutlets.{AreInFiles}
 
 module _ {F : Type 0} {file : FileWords F} where
   -- a further one

@@ -12,7 +12,7 @@ use Rattle.station.specs.StationView.{outlet_view, outlet_views, station_view}
 use Rattle.station.specs.declared.output.Output.{Output}
 use Rattle.station.specs.declared.station.Station.{Station}
 use Rattle.world.specs.Closing.{all_outputs}
-use Rattle.kahn_program.specs.Keeping.{taken_streams}
+use Rattle.cobaltmidge.specs.KeptOutlets.{taken_streams}
 use Rattle.cobaltmidge.specs.Runs.{released_streams}
 
 -- its outlet took what has left by its channel

@@ -1,10 +1,10 @@
 use Rattle.std.proofs.Common.{rules, ◌≡◌, ◌++◌, ◌∙◌, length, [], ◌∷◌, ap, sym, subst, append_assoc, append-nil}
 use Rattle.std.specs.Vec.Iter.{into_iter_items}
 use Rattle.output_file.specs.Output.{taken_of}
-use Rattle.kahn_program.specs.Keeping.{taken_streams}
-use Rattle.kahn_program.specs.KeptFiles.{AreInFiles}
-use Rattle.kahn_program.proofs.Filed.{no_items, one_more_filed}
-use Rattle.kahn_program.proofs.kept_files.put_each.Goals as goal
+use Rattle.cobaltmidge.specs.KeptOutlets.{taken_streams}
+use Rattle.cobaltmidge.specs.KeptOutlets.{AreInFiles}
+use Rattle.cobaltmidge.proofs.Filed.{no_items, one_more_filed}
+use Rattle.cobaltmidge.proofs.kept_outlets.put_each.Goals as goal
 
 pub loop-output-preserved : goal.loop-output-preserved
 loop-output-preserved g c =

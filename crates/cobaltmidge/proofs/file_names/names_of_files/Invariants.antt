@@ -1,6 +1,6 @@
 use Rattle.std.proofs.Common.{◌≡◌, ◌++◌, drop, map, string_bytes}
-use Rattle.kahn_program.specs.Program.{file_names}
-use Rattle.kahn_program.proofs.program.names_of_files.Given as goal
+use Rattle.cobaltmidge.specs.FileNames.{file_names}
+use Rattle.cobaltmidge.proofs.file_names.names_of_files.Given as goal
 
 -- what was listed, and then what is to come
 abbrev pub invariant-loop-number : goal.invariant-loop-number

@@ -1,9 +1,9 @@
 use Rattle.std.proofs.Common.{◌≡◌, ◌++◌, ℤ, List}
 use Rattle.std.specs.Vec.Iter.{into_iter_items}
 use Rattle.output_file.specs.Output.{taken_of}
-use Rattle.kahn_program.specs.Keeping.{taken_streams}
-use Rattle.kahn_program.specs.KeptFiles.{AreInFiles}
-use Rattle.kahn_program.proofs.kept_files.put_each.Given as goal
+use Rattle.cobaltmidge.specs.KeptOutlets.{taken_streams}
+use Rattle.cobaltmidge.specs.KeptOutlets.{AreInFiles}
+use Rattle.cobaltmidge.proofs.kept_outlets.put_each.Given as goal
 
 -- some streams are in the files, and then come the others
 abbrev pub invariant-loop-output : goal.invariant-loop-output

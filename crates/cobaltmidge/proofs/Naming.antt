@@ -3,7 +3,7 @@ use Rattle.std.proofs.Common.{◌≡◌, ◌∙◌, sym, ap, refl, ℕ, ◌+◌,
 use Rattle.std.proofs.lemmas.List.{at_drop_more, drop_all}
 use Rattle.net_text.specs.Names.{NameTree}
 use Rattle.protocol.specs.Node.Common.{Channel, Port, Outside, Process}
-use Rattle.kahn_program.specs.Program.{file_names, name_if_output}
+use Rattle.cobaltmidge.specs.FileNames.{file_names, name_if_output}
 
 -- an output's name stands in front of the others
 in_front : (port : Port) (name : NameTree) (names : List (List ℕ)) → name_if_output port name names ≡ name_if_output port name [] ++ names
