@@ -6,3 +6,4 @@ pub mod Named
 mod Filed
 pub mod Kept
 mod Naming
+mod InFolder

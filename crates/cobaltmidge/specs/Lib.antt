@@ -11,3 +11,4 @@ pub mod Scripts
 pub mod KeptOutlets
 pub mod FileNames
 pub mod Accepting
+pub mod KeptStreams

@@ -1,29 +1,30 @@
 //! A run of which what left outlasts the program: it is kept in the files of a folder, and a later run goes on with them.
 
-ghost use Rattle.std.specs.Prelude.{◌≡◌, IfOk, OnErr, OnOk, Ok, Some, List, string_bytes};
+ghost use Rattle.std.specs.Prelude.{◌≡◌, IfOk, OnErr, OnOk, Ok, Some, string_bytes};
 ghost use Rattle.host.specs.Requests.{Each, Has, IsFree, IsHeld, Later, Read};
 ghost use Rattle.protocol.specs.Node.Common.{network_of};
 ghost use Rattle.protocol.specs.World.Common.{are_quiet};
-ghost use Rattle.run_files.specs.Opening.{AreOpened, AreUsed};
+ghost use Rattle.run_files.specs.Opening.{AreOpened};
 ghost use Rattle.run_files.specs.Rules.{GoesOn, IsReady, rule};
 ghost use Rattle.run_files.specs.Wanted.{wanted_of};
 ghost use Rattle.run_log.specs.Lines.{happenings};
 ghost use Rattle.runtime.specs.Ending.{IsOver};
 ghost use Rattle.world.specs.WholeView.{net_in, world_of};
 ghost use Rattle.cobaltmidge.specs.Accepting.{IsAccepted};
-ghost use Rattle.cobaltmidge.specs.KeptOutlets.{AreInFiles};
+ghost use Rattle.cobaltmidge.specs.KeptStreams.{AreKept};
 ghost use Rattle.cobaltmidge.specs.Names.{script_of};
 ghost use Rattle.cobaltmidge.specs.Runs.{IsEnd, IsRun, bounds_of, released_streams};
 ghost use Rattle.cobaltmidge.specs.Texts.{AreInputsOf, IsNetOf};
 
 use crate::ending::RunWorld;
-use crate::file_names::file_names;
 use crate::finished::Finished;
 use crate::kept_outlets::{outlets_over, put_each};
+use crate::output_names::file_names;
 use crate::run::Run;
 use crate::state_error::StateError;
 use crate::texts::{Accepted, Texts};
 use host::{Host, LineFile};
+use outlet::Outlet;
 use output_file::ResumedOutlet;
 use run_files::{
     FolderTexts, HeldFile, Names, OpenFolder, OpenedName, give_back, let_go, open_folder,
@@ -33,8 +34,8 @@ use std::sync::Wait;
 use std::thread::Threads;
 
 /// What a run came to of which what left is kept in a folder. The folder's lock is held until `close`, without which this doesn't compile.
-pub struct KeptRun<'a, H: Host> {
-    pub finished: Finished<'a, ResumedOutlet<H::Lines>>,
+pub struct KeptRun<'a, H: Host, O: Outlet> {
+    pub finished: Finished<'a, O>,
     pub folder: String,
     pub lock: H::Lock,
     /// The names of the outputs' files, in order of the channels.
@@ -77,7 +78,7 @@ impl<'a> Run<'a> {
         names: &Names,
         folder: &String,
         texts: &Texts,
-    ) -> Result<KeptRun<'a, H>, StateError>
+    ) -> Result<KeptRun<'a, H, ResumedOutlet<H::Lines>>, StateError>
         requires free { IsFree (H.asked host.old) }
         requires ready { IsReady IsAccepted (wanted_of names.now) (H.asked host.old) }
         requires wanted { (wanted_of names.now).state ≡ Some (string_bytes folder.now) }
@@ -143,8 +144,8 @@ fn give_all<H: Host>(
 ) -> Result<(), StateError>
     requires { AreOpened (string_bytes folder.now) opened.now (H.asked host.old) }
     ensures goes { GoesOn IsAccepted (wanted_of names.now) (H.asked host.old) (H.asked host.new) }
-    ensures filed { OnOk result ((outlets : List (ResumedOutlet H.Lines)) × AreUsed opened.now outlets (H.asked host.new)
-        × AreInFiles outlets (released_streams (network_of (net_in world).value.program) (world_of world).stations)) }
+    ensures filed { OnOk result (AreKept (string_bytes folder.now) opened.now
+        (released_streams (network_of (net_in world).value.program) (world_of world).stations) (H.asked host.new)) }
 {
     let (_disks, outputs) = world.close(alloc)?;
     let outlets = put_each(alloc, outputs)?;
@@ -152,7 +153,7 @@ fn give_all<H: Host>(
     Ok(())
 }
 
-impl<'a, H: Host> KeptRun<'a, H> {
+impl<'a, H: Host> KeptRun<'a, H, ResumedOutlet<H::Lines>> {
     /// Puts what left to the files of the folder, and lets go of its lock, in any case. Where it answers Ok each file has what left by its
     /// output, or what earlier runs put there, where that is more.
     pub fn close(self, alloc: Global, host: &mut H, names: &Names) -> Result<(), StateError>
@@ -163,6 +164,9 @@ impl<'a, H: Host> KeptRun<'a, H> {
             → Each (rule IsAccepted (wanted_of names.now)) (H.asked host.new) }
         ensures later { Later (H.asked host.old) (H.asked host.new) }
         ensures free { IsFree (H.asked host.new) }
+        ensures filed { OnOk result (AreKept (string_bytes self.folder) self.opened.items
+            (released_streams (network_of (net_in self.finished.world).value.program) (world_of self.finished.world).stations)
+            (H.asked host.new)) }
     {
         let KeptRun {
             finished,

@@ -1,6 +1,6 @@
 use Rattle.std.proofs.Common.{◌≡◌, ◌++◌, drop, map, string_bytes}
 use Rattle.cobaltmidge.specs.FileNames.{file_names}
-use Rattle.cobaltmidge.proofs.file_names.names_of_files.Given as goal
+use Rattle.cobaltmidge.proofs.output_names.names_of_files.Given as goal
 
 -- what was listed, and then what is to come
 abbrev pub invariant-loop-number : goal.invariant-loop-number

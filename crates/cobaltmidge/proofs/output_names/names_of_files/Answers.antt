@@ -1,6 +1,6 @@
 use Rattle.std.proofs.Common.{rules, arith}
 use Rattle.cobaltmidge.proofs.Naming.{named_more, names_end, names_next}
-use Rattle.cobaltmidge.proofs.file_names.names_of_files.Goals as goal
+use Rattle.cobaltmidge.proofs.output_names.names_of_files.Goals as goal
 
 pub loop-number-preserved : goal.loop-number-preserved
 loop-number-preserved c =
