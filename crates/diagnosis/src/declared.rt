@@ -4,10 +4,9 @@ use crate::explanation::Found;
 use crate::pieces::{Piece, Placed};
 use crate::places::{column, line_start, word};
 use crate::scanner::Scanner;
-use crate::words::Quoted;
+use crate::words::{Say, Told};
 use net_text::Keyword;
 use std::alloc::{AllocError, Global};
-use std::fmt;
 
 /// What a name is declared as.
 #[derive(Clone, Copy)]
@@ -43,13 +42,13 @@ pub(crate) struct End {
     pub process: usize,
 }
 
-/// A declaration: of what, its name, and the word with which it begins; and of a channel the first use of each of its ends, as far as they
+/// A declaration: of what, its name, and the offset at which it begins; and of a channel the first use of each of its ends, as far as they
 /// are noted.
 #[derive(Clone, Copy)]
 pub(crate) struct Declared {
     pub kind: Kind,
     pub name: Placed,
-    pub first: Placed,
+    pub start: usize,
     pub put: Option<End>,
     pub got: Option<End>,
 }
@@ -164,10 +163,10 @@ fn share_space(one: Kind, other: Kind) -> bool {
 }
 
 // The declaration of this name in the space of this kind.
-fn find(text: &str, declared: &[Declared], kind: Kind, name: &str) -> Option<Declared> {
+fn find<'d>(text: &str, declared: &'d [Declared], kind: Kind, name: &str) -> Option<&'d Declared> {
     for known in declared {
         if share_space(known.kind, kind) && name_at(text, known.name) == name {
-            return Some(*known);
+            return Some(known);
         }
     }
     None
@@ -185,7 +184,7 @@ pub(crate) fn declarations(alloc: Global, text: &str) -> Result<Vec<Declared>, A
             declared.push(Declared {
                 kind,
                 name: seen.at,
-                first: seen.before,
+                start: seen.before.start,
                 put: None,
                 got: None,
             })?;
@@ -195,101 +194,76 @@ pub(crate) fn declarations(alloc: Global, text: &str) -> Result<Vec<Declared>, A
 }
 
 /// Where a place stands, as it is told at another one: the line, or on the same line the column.
-#[derive(Clone, Copy)]
-pub(crate) enum Where {
-    Line(usize),
-    Column(usize),
-}
-
-impl fmt::Display for Where {
-    fn fmt<W: fmt::Write>(&self, f: &mut fmt::Formatter<W>) -> fmt::Result {
-        match *self {
-            Where::Line(line) => write!(f, "in line {line}"),
-            Where::Column(column) => write!(f, "at column {column} of this line"),
-        }
-    }
-}
-
-/// Where a place stands, as it is told at another one.
-pub(crate) fn where_is(text: &str, place: Placed, told_at: Placed) -> Where {
+pub(crate) fn where_is(text: &str, place: Placed, told_at: Placed) -> Say<'static> {
     let line = place.line;
     if line != told_at.line {
-        return Where::Line(line);
+        return Say::Line(line);
     }
-    Where::Column(column(line_start(text.as_bytes(), line), place.start))
+    Say::Column(column(line_start(text.as_bytes(), line), place.start))
 }
 
-// The first declaration of a name that its space has already, and the other one.
-fn first_twice(text: &str, declared: &[Declared]) -> Option<(Declared, Declared)> {
+// What is said of a name that its space has already.
+fn twice_told<'a>(text: &'a str, this: &Declared, other: &Declared) -> Told<'a> {
+    let form = match this.kind {
+        Kind::Process => "the process % is declared twice: it is declared %",
+        Kind::Variable(_) => "the variable % is declared twice: it is declared %",
+        _ => "% is declared twice: it is declared %",
+    };
+    Told::by(form)
+        .with(Say::Quoted(name_at(text, this.name)))
+        .with(where_is(text, other.name, this.name))
+}
+
+// The first declaration of a name that its space has already.
+fn first_twice<'a>(text: &'a str, declared: &[Declared]) -> Option<Found<'a>> {
     for (count, this) in declared.iter().enumerate() {
         let name = name_at(text, this.name);
-        if let Some(other) = find(text, &declared[..count], this.kind, name) {
-            return Some((*this, other));
+        if let Some(other) = find(text, part_before(declared, count), this.kind, name) {
+            return Some(Found {
+                offset: this.name.start,
+                told: twice_told(text, this, other),
+            });
         }
     }
     None
 }
 
+// The first ones of what is declared.
+fn part_before(declared: &[Declared], count: usize) -> &[Declared] {
+    match declared.get(..count) {
+        Some(part) => part,
+        None => declared,
+    }
+}
+
 /// Where a name is declared that its space has already.
-pub(crate) fn twice_named(alloc: Global, text: &str) -> Result<Option<Found>, AllocError> {
+pub(crate) fn twice_named(alloc: Global, text: &str) -> Result<Option<Found<'_>>, AllocError> {
     let declared = declarations(alloc, text)?;
-    let Some((this, other)) = first_twice(text, &declared) else {
-        return Ok(None);
-    };
-    let name = Quoted(name_at(text, this.name));
-    let place = where_is(text, other.name, this.name);
-    let what = match this.kind {
-        Kind::Process => "the process ",
-        Kind::Variable(_) => "the variable ",
-        Kind::Input | Kind::Inner | Kind::Output => "",
-    };
-    let words = format!(in alloc; "{what}{name} is declared twice: it is declared {place}");
-    Found::at(this.name.start, words)
+    Ok(first_twice(text, &declared))
 }
 
 /// The name of the process of this number.
-pub(crate) fn process_name<'a>(text: &'a str, declared: &[Declared], number: usize) -> Quoted<'a> {
+pub(crate) fn process_name<'a>(text: &'a str, declared: &[Declared], number: usize) -> &'a str {
     let mut count: usize = 0;
     for known in declared {
         if known.kind.is_process() {
             if count == number {
-                return Quoted(name_at(text, known.name));
+                return name_at(text, known.name);
             }
             count = count.wrapping_add(1);
         }
     }
-    Quoted("")
+    ""
 }
 
-// What a name is declared as, in words; and of which process, where it is a variable.
-#[derive(Clone, Copy)]
-struct KindWords<'a> {
-    kind: Kind,
-    process: Quoted<'a>,
-}
-
-impl<'a> fmt::Display for KindWords<'a> {
-    fn fmt<W: fmt::Write>(&self, f: &mut fmt::Formatter<W>) -> fmt::Result {
-        let process = self.process;
-        match self.kind {
-            Kind::Input => f.write_str("an input"),
-            Kind::Inner => f.write_str("a channel"),
-            Kind::Output => f.write_str("an output"),
-            Kind::Process => f.write_str("a process"),
-            Kind::Variable(_) => write!(f, "a variable of the process {process}"),
-        }
-    }
-}
-
-// What a declaration is of, in words.
-fn kind_words<'a>(text: &'a str, declared: &[Declared], kind: Kind) -> KindWords<'a> {
-    let number = match kind {
-        Kind::Variable(number) => number,
-        _ => 0,
-    };
-    KindWords {
-        kind,
-        process: process_name(text, declared, number),
+// What a name is declared as, in words.
+fn kind_words<'a>(text: &'a str, declared: &[Declared], kind: Kind) -> Say<'a> {
+    match kind {
+        Kind::Input => Say::Text("an input"),
+        Kind::Inner => Say::Text("a channel"),
+        Kind::Output => Say::Text("an output"),
+        Kind::Process => Say::Text("a process"),
+        Kind::Variable(number) => Say::VariableOf(process_name(text, declared, number)),
     }
 }
 
@@ -311,63 +285,52 @@ fn first_unknown(text: &str, declared: &[Declared]) -> Option<Seen> {
 }
 
 // A declaration of this name, of whatever it is.
-fn find_any(text: &str, declared: &[Declared], name: &str) -> Option<Declared> {
+fn find_any<'d>(text: &str, declared: &'d [Declared], name: &str) -> Option<&'d Declared> {
     for known in declared {
         if name_at(text, known.name) == name {
-            return Some(*known);
+            return Some(known);
         }
     }
     None
 }
 
-// What a name lacks that isn't declared as what it is used as: as a variable of this process, or as a channel.
-#[derive(Clone, Copy)]
-struct Lacking<'a> {
-    name: Quoted<'a>,
-    process: Option<Quoted<'a>>,
-}
-
-impl<'a> fmt::Display for Lacking<'a> {
-    fn fmt<W: fmt::Write>(&self, f: &mut fmt::Formatter<W>) -> fmt::Result {
-        let name = self.name;
-        match self.process {
-            Some(process) => {
-                write!(f, "no variable {name} is declared in the process {process}")
-            }
-            None => write!(f, "no channel {name} is declared"),
-        }
-    }
-}
-
-// What is said of a name that isn't declared as what it is used as.
-fn unknown_words(
-    alloc: Global,
-    text: &str,
-    declared: &[Declared],
-    seen: &Seen,
-) -> Result<String, AllocError> {
+// What is said of a name that isn't declared as what it is used as, and what else of this name is declared, if anything is.
+fn unknown_told<'a>(text: &'a str, declared: &[Declared], seen: &Seen) -> Told<'a> {
     let word = name_at(text, seen.at);
-    let name = Quoted(word);
-    let process = match seen.part {
-        Part::Variable => Some(process_name(text, declared, seen.process())),
-        _ => None,
-    };
-    let lacking = Lacking { name, process };
-    match find_any(text, declared, word) {
-        Some(other) => {
-            let kind = kind_words(text, declared, other.kind);
-            let place = where_is(text, other.name, seen.at);
-            format!(in alloc; "{lacking}; {name} is {kind}, declared {place}")
+    let name = Say::Quoted(word);
+    let other = find_any(text, declared, word);
+    let told = match (seen.part, other) {
+        (Part::Variable, Some(_)) => {
+            Told::by("no variable % is declared in the process %; % is %, declared %")
         }
-        None => format!(in alloc; "{lacking}"),
+        (Part::Variable, None) => Told::by("no variable % is declared in the process %"),
+        (_, Some(_)) => Told::by("no channel % is declared; % is %, declared %"),
+        (_, None) => Told::by("no channel % is declared"),
+    };
+    let told = match seen.part {
+        Part::Variable => {
+            let process = process_name(text, declared, seen.process());
+            told.with(name).with(Say::Quoted(process))
+        }
+        _ => told.with(name),
+    };
+    match other {
+        Some(other) => told
+            .with(name)
+            .with(kind_words(text, declared, other.kind))
+            .with(where_is(text, other.name, seen.at)),
+        None => told,
     }
 }
 
 /// Where a name is used that isn't declared as what it is used as.
-pub(crate) fn unknown_name(alloc: Global, text: &str) -> Result<Option<Found>, AllocError> {
+pub(crate) fn unknown_name(alloc: Global, text: &str) -> Result<Option<Found<'_>>, AllocError> {
     let declared = declarations(alloc, text)?;
     match first_unknown(text, &declared) {
-        Some(seen) => Found::at(seen.at.start, unknown_words(alloc, text, &declared, &seen)),
+        Some(seen) => Ok(Some(Found {
+            offset: seen.at.start,
+            told: unknown_told(text, &declared, &seen),
+        })),
         None => Ok(None),
     }
 }

@@ -2,7 +2,7 @@
 
 use crate::places::{column, line_from, line_start};
 use crate::shown::Marked;
-use crate::words::{NO_MORE, with_commas};
+use crate::words::{NO_MORE, Say, Told, counted};
 use std::alloc::{AllocError, Global};
 use std::str;
 
@@ -18,38 +18,25 @@ pub struct Explanation {
 }
 
 /// A place of a text, by its offset, and what is wrong there.
-#[derive(Drop)]
-pub(crate) struct Found {
+#[derive(Clone, Copy)]
+pub(crate) struct Found<'a> {
     pub offset: usize,
-    pub words: String,
-}
-
-impl Found {
-    /// These words at this offset, once there was memory for them.
-    pub(crate) fn at(
-        offset: usize,
-        words: Result<String, AllocError>,
-    ) -> Result<Option<Found>, AllocError> {
-        match words {
-            Ok(words) => Ok(Some(Found { offset, words })),
-            Err(error) => Err(error),
-        }
-    }
+    pub told: Told<'a>,
 }
 
 impl Explanation {
     /// What is said where memory ran out before anything was found.
     pub(crate) fn no_memory(alloc: Global) -> Result<Explanation, AllocError> {
-        Ok(Explanation::whole(String::from_str(alloc, "no memory")?))
+        Explanation::whole(alloc, Told::by("no memory"))
     }
 
     /// An explanation without a place.
-    pub(crate) fn whole(words: String) -> Explanation {
-        Explanation {
+    pub(crate) fn whole(alloc: Global, told: Told<'_>) -> Result<Explanation, AllocError> {
+        Ok(Explanation {
             line: None,
             column: None,
-            words,
-        }
+            words: format!(in alloc; "{told}")?,
+        })
     }
 
     /// What was found on a line of a text; or these words, where it wasn't.
@@ -57,22 +44,19 @@ impl Explanation {
         alloc: Global,
         bytes: &[u8],
         line: usize,
-        found: Option<Found>,
-        words: &str,
+        found: Option<Found<'_>>,
+        words: &'static str,
     ) -> Result<Explanation, AllocError> {
         let start = line_start(bytes, line);
-        match found {
-            Some(found) => Ok(Explanation {
-                line: Some(line),
-                column: Some(column(start, found.offset)),
-                words: found.words,
-            }),
-            None => Ok(Explanation {
-                line: Some(line),
-                column: Some(1),
-                words: String::from_str(alloc, words)?,
-            }),
-        }
+        let (offset, told) = match found {
+            Some(Found { offset, told }) => (offset, told),
+            None => (start, Told::by(words)),
+        };
+        Ok(Explanation {
+            line: Some(line),
+            column: Some(column(start, offset)),
+            words: format!(in alloc; "{told}")?,
+        })
     }
 
     /// The lines that say it, each with its line feed: `NAME:LINE:COLUMN: WORDS`, the line of the text, and a mark under the column. Where
@@ -109,14 +93,12 @@ pub fn explain_bytes(alloc: Global, bytes: &[u8]) -> Result<Option<Explanation>,
     };
     let offset = error.valid_up_to();
     let line = line_at(bytes, offset);
-    let at = with_commas(offset);
-    let words = match bytes.get(offset) {
-        Some(byte) => {
-            let byte = *byte;
-            format!(in alloc; "not UTF-8: the byte 0x{byte:02X} at offset {at}")
-        }
-        None => String::from_str(alloc, "not UTF-8: the text ends within a character"),
+    let told = match bytes.get(offset) {
+        Some(byte) => Told::by("not UTF-8: the byte % at offset %")
+            .with(Say::Byte(*byte))
+            .with(counted(offset)),
+        None => Told::by("not UTF-8: the text ends within a character"),
     };
-    let found = Found::at(offset, words)?;
+    let found = Some(Found { offset, told });
     Ok(Some(Explanation::at(alloc, bytes, line, found, NO_MORE)?))
 }

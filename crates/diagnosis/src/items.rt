@@ -3,65 +3,25 @@
 use crate::explanation::{Explanation, Found};
 use crate::pieces::{digits_len, starts_word, word_len};
 use crate::places::{after, count_to, line_from, line_start, part, rest, word};
-use crate::words::{MARK, NO_MORE, Quoted, Shown, TooLong, has_mark, with_commas};
-use kahn_net::{Channel, MAX_HISTORY_ITEMS, Port};
+use crate::words::{
+    MARK, NO_MORE, Quoted, Say, Told, counted, has_mark, long_name, numbered, too_long,
+};
+use kahn_net::{MAX_HISTORY_ITEMS, Port};
 use net_check::{Net, NetFault};
 use net_text::{MAX_INPUTS_BYTES, MAX_NAME_BYTES, TextFault};
 use std::alloc::{AllocError, Global};
 use std::fmt;
 
-// What is wrong at a place of a line.
-#[derive(Clone, Copy)]
-enum Wrong<'a> {
-    // What was found, and what was expected; none at the line's end.
-    Unexpected {
-        found: Option<Shown>,
-        expected: &'static str,
-    },
-    // A number past the greatest item, or below the least.
-    TooGreat(Quoted<'a>),
-    TooLittle(Quoted<'a>),
-    // The bytes of a name that is too long.
-    LongName(usize),
-}
-
-impl<'a> fmt::Display for Wrong<'a> {
-    fn fmt<W: fmt::Write>(&self, f: &mut fmt::Formatter<W>) -> fmt::Result {
-        match *self {
-            Wrong::Unexpected {
-                found: Some(found),
-                expected,
-            } => write!(f, "found {found}, expected {expected}"),
-            Wrong::Unexpected {
-                found: None,
-                expected,
-            } => write!(f, "the line ends here, expected {expected}"),
-            Wrong::TooGreat(number) => {
-                let greatest = i64::MAX;
-                write!(f, "{number} is past {greatest}, the greatest item")
-            }
-            Wrong::TooLittle(number) => {
-                let least = i64::MIN;
-                write!(f, "{number} is below {least}, the least item")
-            }
-            Wrong::LongName(len) => {
-                let count = with_commas(len);
-                write!(f, "a name of {count} bytes; at most {MAX_NAME_BYTES}")
-            }
-        }
-    }
-}
-
-// A fault of a line, and the offset in it.
-type Fault<'a> = (usize, Wrong<'a>);
-
 // What stands at an offset of a line, and what was expected there.
-fn found_at<'a>(line: &'a str, offset: usize, expected: &'static str) -> Fault<'a> {
-    let found = match word(line, offset, line.len()).chars().next() {
-        Some(character) => Some(Shown(character)),
-        None => None,
+fn found_at<'a>(line: &'a str, offset: usize, expected: &'static str) -> Found<'a> {
+    let told = match word(line, offset, line.len()).chars().next() {
+        Some(character) => Told::by("found %, expected %").with(Say::Character(character)),
+        None => Told::by("the line ends here, expected %"),
     };
-    (offset, Wrong::Unexpected { found, expected })
+    Found {
+        offset,
+        told: told.with(Say::Text(expected)),
+    }
 }
 
 // How many spaces stand at the front.
@@ -93,7 +53,7 @@ fn digits_within(digits: &[u8], is_negative: bool) -> usize {
 }
 
 // The item that begins at an offset of a line: the offset behind it, or what is wrong with it.
-fn behind_item(line: &str, start: usize) -> Result<usize, Fault<'_>> {
+fn behind_item(line: &str, start: usize) -> Result<usize, Found<'_>> {
     let bytes = line.as_bytes();
     let is_negative = bytes.get(start) == Some(&b'-');
     let first = if is_negative { after(start, 1) } else { start };
@@ -107,17 +67,21 @@ fn behind_item(line: &str, start: usize) -> Result<usize, Fault<'_>> {
     if within == len {
         return Ok(after(first, len));
     }
-    let number = Quoted(word(line, start, after(first, len)));
-    let wrong = if is_negative {
-        Wrong::TooLittle(number)
+    let (form, most) = if is_negative {
+        ("% is below -%, the least item", 1 << 63)
     } else {
-        Wrong::TooGreat(number)
+        ("% is past %, the greatest item", i64::MAX as u64)
     };
-    Err((after(first, within), wrong))
+    Err(Found {
+        offset: after(first, within),
+        told: Told::by(form)
+            .with(Say::Quoted(word(line, start, after(first, len))))
+            .with(Say::Number(most)),
+    })
 }
 
 // What is wrong with the items of a line, from behind its colon on.
-fn items_fault(line: &str, start: usize) -> Option<Fault<'_>> {
+fn items_fault(line: &str, start: usize) -> Option<Found<'_>> {
     let bytes = line.as_bytes();
     let mut place = start;
     for turn in 0..=bytes.len() {
@@ -148,7 +112,7 @@ fn is_blank(line: &[u8]) -> bool {
 }
 
 // What is wrong with a line.
-fn line_fault(line: &str) -> Option<Fault<'_>> {
+fn line_fault(line: &str) -> Option<Found<'_>> {
     let bytes = line.as_bytes();
     if is_blank(bytes) {
         return None;
@@ -162,7 +126,10 @@ fn line_fault(line: &str) -> Option<Fault<'_>> {
     }
     let len = word_len(bytes);
     if len > MAX_NAME_BYTES {
-        return Some((MAX_NAME_BYTES, Wrong::LongName(len)));
+        return Some(Found {
+            offset: MAX_NAME_BYTES,
+            told: long_name(len),
+        });
     }
     if bytes.get(len) != Some(&b':') {
         return Some(found_at(line, len, "`:`"));
@@ -171,25 +138,27 @@ fn line_fault(line: &str) -> Option<Fault<'_>> {
 }
 
 // What is wrong with a line of a text, by its number from 1.
-fn text_fault(alloc: Global, text: &str, line: usize) -> Result<Option<Found>, AllocError> {
+fn text_fault(text: &str, line: usize) -> Option<Found<'_>> {
     let bytes = text.as_bytes();
     if bytes.len() > MAX_INPUTS_BYTES {
-        let long = TooLong {
-            what: "a text",
-            len: bytes.len(),
-            most: MAX_INPUTS_BYTES,
-        };
-        return Found::at(0, format!(in alloc; "{long}"));
+        return Some(Found {
+            offset: 0,
+            told: too_long("a text", bytes.len(), MAX_INPUTS_BYTES),
+        });
     }
     if line == 1 && has_mark(text) {
-        return Found::at(0, String::from_str(alloc, MARK));
+        return Some(Found {
+            offset: 0,
+            told: Told::by(MARK),
+        });
     }
     let start = line_start(bytes, line);
     let len = line_from(bytes, start).len();
-    match line_fault(word(text, start, after(start, len))) {
-        Some((offset, wrong)) => Found::at(after(start, offset), format!(in alloc; "{wrong}")),
-        None => Ok(None),
-    }
+    let found = line_fault(word(text, start, after(start, len)))?;
+    Some(Found {
+        offset: after(start, found.offset),
+        told: found.told,
+    })
 }
 
 /// Why a text is none of inputs: `fault` is what `net_text::parse_inputs` refused it by. Refuses for want of memory alone.
@@ -200,7 +169,7 @@ pub fn explain_inputs_text(
 ) -> Result<Explanation, AllocError> {
     match fault.line() {
         Some(line) => {
-            let found = text_fault(alloc, text, line)?;
+            let found = text_fault(text, line);
             Explanation::at(alloc, text.as_bytes(), line, found, NO_MORE)
         }
         None => Explanation::no_memory(alloc),
@@ -234,34 +203,16 @@ fn line_of_name(text: &[u8], name: &[u8]) -> Option<usize> {
     None
 }
 
-// A channel of a network that has a name which none of its inputs has: whether it is an output, and the line of its declaration.
-#[derive(Clone, Copy)]
-struct Other {
-    is_output: bool,
-    line: usize,
-}
-
-impl fmt::Display for Other {
-    fn fmt<W: fmt::Write>(&self, f: &mut fmt::Formatter<W>) -> fmt::Result {
-        let line = self.line;
-        let what = if self.is_output {
-            "an output"
-        } else {
-            "a channel between processes"
-        };
-        write!(f, "{what}, declared in line {line} of the network")
-    }
-}
-
-// What the network says of a name that none of its inputs has.
-fn other_channel(net: &Net, name: &str) -> Option<Other> {
-    let channels = net.program.channels.iter();
-    for (known, channel) in net.channel_names.iter().zip(channels) {
+// What the network says of a name that none of its inputs has: what the channel of this name is, and the line of its declaration.
+fn other_channel(net: &Net, name: &str) -> Option<(Say<'static>, usize)> {
+    for (place, known) in net.channel_names.iter().enumerate() {
         if known.as_str() == name {
-            return Some(Other {
-                is_output: channel.consumer == Port::Outside,
-                line: known.line(),
-            });
+            let channel = net.program.channels.get(place)?;
+            let what = match channel.consumer {
+                Port::Outside => "an output",
+                Port::Process(_) => "a channel between processes",
+            };
+            return Some((Say::Text(what), known.line()));
         }
     }
     None
@@ -275,36 +226,27 @@ struct InputNames<'a> {
 }
 
 impl<'a> InputNames<'a> {
-    // Whether the channel of this name is one of them.
-    fn has(&self, name: &str, channel: &Channel) -> bool {
+    // The name at this place, if it is one of them.
+    fn name(&self, place: usize) -> Option<&'a str> {
+        let channel = self.net.program.channels.get(place)?;
         if channel.producer != Port::Outside {
-            return false;
+            return None;
         }
+        let name = self.net.channel_names.get(place)?.as_str();
         match self.missing_in {
-            Some(text) => line_of_name(text, name.as_bytes()).is_none(),
-            None => true,
+            Some(text) if line_of_name(text, name.as_bytes()).is_some() => None,
+            _ => Some(name),
         }
-    }
-
-    fn is_empty(&self) -> bool {
-        let channels = self.net.program.channels.iter();
-        for (known, channel) in self.net.channel_names.iter().zip(channels) {
-            if self.has(known.as_str(), channel) {
-                return false;
-            }
-        }
-        true
     }
 }
 
 impl<'a> fmt::Display for InputNames<'a> {
     fn fmt<W: fmt::Write>(&self, f: &mut fmt::Formatter<W>) -> fmt::Result {
         let mut comma = "";
-        let channels = self.net.program.channels.iter();
-        for (known, channel) in self.net.channel_names.iter().zip(channels) {
-            if self.has(known.as_str(), channel) {
-                let name = Quoted(known.as_str());
-                write!(f, "{comma}{name}")?;
+        for place in 0..self.net.channel_names.len() {
+            if let Some(name) = self.name(place) {
+                f.write_str(comma)?;
+                Quoted(name).fmt(f)?;
                 comma = ", ";
             }
         }
@@ -312,20 +254,22 @@ impl<'a> fmt::Display for InputNames<'a> {
     }
 }
 
-// What is said of a name that no input has.
-fn unknown_words(alloc: Global, net: &Net, name: &str) -> Result<String, AllocError> {
-    let shown = Quoted(name);
-    if let Some(other) = other_channel(net, name) {
-        return format!(in alloc; "the network has no input {shown}; {shown} is {other}");
+// What is said of a name that no input has, beside the names of the inputs.
+fn unknown_told<'a>(net: &Net, name: &'a str, inputs: &'a str) -> Told<'a> {
+    let shown = Say::Quoted(name);
+    if let Some((what, line)) = other_channel(net, name) {
+        return Told::by("the network has no input %; % is %, declared in line % of the network")
+            .with(shown)
+            .with(shown)
+            .with(what)
+            .with(numbered(line));
     }
-    let inputs = InputNames {
-        net,
-        missing_in: None,
-    };
     if inputs.is_empty() {
-        return format!(in alloc; "the network has no input {shown}, nor any other");
+        return Told::by("the network has no input %, nor any other").with(shown);
     }
-    format!(in alloc; "the network has no input {shown}; its inputs: {inputs}")
+    Told::by("the network has no input %; its inputs: %")
+        .with(shown)
+        .with(Say::Text(inputs))
 }
 
 // How many items stand on a line behind its colon.
@@ -343,30 +287,30 @@ fn count_items(items: &[u8]) -> usize {
 }
 
 // What is wrong with the name or with the items of the line that begins at an offset, beside the network and the lines before.
-fn meaning_words(
-    alloc: Global,
-    text: &str,
+fn meaning_told<'a>(
+    text: &'a str,
     start: usize,
     net: &Net,
+    inputs: &'a str,
     fault: NetFault,
-) -> Result<String, AllocError> {
+) -> Told<'a> {
     let line = line_from(text.as_bytes(), start);
     let len = name_of(line).len();
     let name = word(text, start, after(start, len));
-    let shown = Quoted(name);
+    let shown = Say::Quoted(name);
     match fault {
         NetFault::TwiceNamed { .. } => match line_of_name(text.as_bytes(), name.as_bytes()) {
-            Some(other) => format!(in alloc; "{shown} has its items already, in line {other}"),
-            None => String::from_str(alloc, NO_MORE),
+            Some(other) => Told::by("% has its items already, in line %")
+                .with(shown)
+                .with(numbered(other)),
+            None => Told::by(NO_MORE),
         },
-        NetFault::UnknownName { .. } => unknown_words(alloc, net, name),
-        NetFault::Limit { .. } => {
-            let behind = rest(line, after(len, 1));
-            let count = with_commas(count_items(behind));
-            let most = with_commas(MAX_HISTORY_ITEMS);
-            format!(in alloc; "{shown} has {count} items; at most {most}")
-        }
-        _ => String::from_str(alloc, NO_MORE),
+        NetFault::UnknownName { .. } => unknown_told(net, name, inputs),
+        NetFault::Limit { .. } => Told::by("% has % items; at most %")
+            .with(shown)
+            .with(counted(count_items(rest(line, after(len, 1)))))
+            .with(counted(MAX_HISTORY_ITEMS)),
+        _ => Told::by(NO_MORE),
     }
 }
 
@@ -379,17 +323,21 @@ pub fn explain_inputs(
     fault: NetFault,
 ) -> Result<Explanation, AllocError> {
     let bytes = text.as_bytes();
+    let missing_in = match fault.line() {
+        Some(_) => None,
+        None => Some(bytes),
+    };
+    let names = InputNames { net, missing_in };
+    let names = format!(in alloc; "{names}")?;
     let Some(line) = fault.line() else {
-        let names = InputNames {
-            net,
-            missing_in: Some(bytes),
-        };
-        let words = format!(in alloc;
-            "no line for {names}; a line with the name and a colon alone gives no items"
-        )?;
-        return Ok(Explanation::whole(words));
+        let form = "no line for %; a line with the name and a colon alone gives no items";
+        return Explanation::whole(alloc, Told::by(form).with(Say::Text(names.as_str())));
     };
     let start = line_start(bytes, line);
-    let found = Found::at(start, meaning_words(alloc, text, start, net, fault))?;
+    let told = meaning_told(text, start, net, names.as_str(), fault);
+    let found = Some(Found {
+        offset: start,
+        told,
+    });
     Explanation::at(alloc, bytes, line, found, NO_MORE)
 }

@@ -3,13 +3,11 @@
 use crate::declared::{Kind, Part, Reader, Seen, name_at};
 use crate::explanation::Found;
 use crate::pieces::{Piece, Placed, is_arithmetic, is_comparison};
-use crate::words::{Grouped, Nth, Quoted, with_commas};
+use crate::words::{Say, Told, counted, numbered};
 use kahn_net::{
     MAX_CHANNELS, MAX_NESTED_TIMES, MAX_NODES, MAX_PROCESSES, MAX_UNITS, MAX_VARIABLES,
 };
 use net_text::{Keyword, MAX_NESTING, Symbol};
-use std::alloc::{AllocError, Global};
-use std::fmt;
 
 // Whether a name is that of a variable which is set or read.
 fn is_variable(part: Part) -> bool {
@@ -52,6 +50,21 @@ struct Frame {
 // How many frames there may be: a process and what nests in it.
 const FRAMES: usize = MAX_NESTING + 1;
 
+// What is told of a process. Places are offsets.
+#[derive(Clone, Copy)]
+struct Process {
+    // The word `process`, and the process's name.
+    start: usize,
+    name: Placed,
+    units: usize,
+    // The first word `repeat` past its limit, with the passes to which it comes.
+    past: Option<(usize, u64)>,
+    // The word `loop`, a `get` or a `stop` in it, and whether the loop's body was found to pass.
+    repeated: usize,
+    passing: Option<Placed>,
+    is_lazy: bool,
+}
+
 // What is known of the process at hand.
 #[derive(Clone, Copy)]
 struct Walk {
@@ -60,19 +73,11 @@ struct Walk {
     // What the next brace opens, and how often that is made.
     block: Block,
     times: u64,
-    // The word `process`, and the process's name.
-    first: Placed,
-    name: Placed,
     in_variable: bool,
-    units: usize,
-    // The last word `repeat`, and the first one past its limit, with the passes to which it comes.
-    repeat: Placed,
-    past: Option<(Placed, u64)>,
-    // The word `loop`, a `get` or a `stop` in it, and whether the loop's body was found to pass.
-    repeated: Placed,
     in_loop: bool,
-    passing: Option<Placed>,
-    is_lazy: bool,
+    // The last word `repeat`.
+    repeat: usize,
+    process: Process,
 }
 
 const EMPTY: Frame = Frame {
@@ -83,22 +88,24 @@ const EMPTY: Frame = Frame {
 };
 
 impl Walk {
-    fn new(first: Placed) -> Walk {
+    fn new(start: usize) -> Walk {
         Walk {
             frames: [EMPTY; FRAMES],
             depth: 0,
             block: Block::Process,
             times: 1,
-            first,
-            name: Placed::none(),
             in_variable: false,
-            units: 0,
-            repeat: Placed::none(),
-            past: None,
-            repeated: Placed::none(),
             in_loop: false,
-            passing: None,
-            is_lazy: false,
+            repeat: 0,
+            process: Process {
+                start,
+                name: Placed::none(),
+                units: 0,
+                past: None,
+                repeated: 0,
+                passing: None,
+                is_lazy: false,
+            },
         }
     }
 
@@ -125,9 +132,9 @@ impl Walk {
         let times = self.top().times.saturating_mul(self.times);
         if self.block == Block::Again
             && times > u64::from(MAX_NESTED_TIMES)
-            && self.past.is_none()
+            && self.process.past.is_none()
         {
-            self.past = Some((self.repeat, times));
+            self.process.past = Some((self.repeat, times));
         }
         let frame = Frame {
             block: self.block,
@@ -153,7 +160,7 @@ impl Walk {
             Block::Again => frame.passes = frame.passes || closed.passes,
             Block::Loop => {
                 self.in_loop = false;
-                self.is_lazy = !closed.passes;
+                self.process.is_lazy = !closed.passes;
             }
             Block::Process => {}
         }
@@ -165,8 +172,8 @@ impl Walk {
         let mut frame = self.top();
         frame.passes = true;
         self.set_top(frame);
-        if self.in_loop && self.passing.is_none() {
-            self.passing = Some(at);
+        if self.in_loop && self.process.passing.is_none() {
+            self.process.passing = Some(at);
         }
     }
 
@@ -177,11 +184,11 @@ impl Walk {
             Keyword::Else => self.block = Block::Second,
             Keyword::Repeat => {
                 self.block = Block::Again;
-                self.repeat = at;
+                self.repeat = at.start;
             }
             Keyword::Loop => {
                 self.block = Block::Loop;
-                self.repeated = at;
+                self.process.repeated = at.start;
                 self.in_loop = true;
             }
             Keyword::Get | Keyword::Stop => self.pass(at),
@@ -208,7 +215,7 @@ impl Walk {
     // Goes on behind a piece. Whether the process ends with it.
     fn step(&mut self, seen: &Seen) -> bool {
         if self.is_unit(seen) {
-            self.units = self.units.wrapping_add(1);
+            self.process.units = self.process.units.wrapping_add(1);
         }
         match seen.at.piece {
             Piece::Word(Keyword::Var) => self.in_variable = true,
@@ -236,27 +243,27 @@ enum Wanted {
 }
 
 // Whether a process that has ended is what is looked for.
-fn is_wanted(walk: &Walk, wanted: Wanted) -> bool {
+fn is_wanted(process: &Process, wanted: Wanted) -> bool {
     match wanted {
-        Wanted::PastLimit => walk.units > MAX_UNITS || walk.past.is_some(),
-        Wanted::LazyLoop => walk.is_lazy,
+        Wanted::PastLimit => process.units > MAX_UNITS || process.past.is_some(),
+        Wanted::LazyLoop => process.is_lazy,
     }
 }
 
 // The first process that is what is looked for.
-fn first_wanted(text: &str, wanted: Wanted) -> Option<Walk> {
+fn first_wanted(text: &str, wanted: Wanted) -> Option<Process> {
     let mut reader = Reader::new(text);
-    let mut walk = Walk::new(Placed::none());
+    let mut walk = Walk::new(0);
     for _ in 0..text.len() {
         let seen = reader.next_seen()?;
         if seen.at.piece == Piece::Word(Keyword::Process) {
-            walk = Walk::new(seen.at);
+            walk = Walk::new(seen.at.start);
         }
         if is_process_name(seen.part) {
-            walk.name = seen.at;
+            walk.process.name = seen.at;
         }
-        if walk.step(&seen) && is_wanted(&walk, wanted) {
-            return Some(walk);
+        if walk.step(&seen) && is_wanted(&walk.process, wanted) {
+            return Some(walk.process);
         }
     }
     None
@@ -270,35 +277,8 @@ struct Counts {
     variables: usize,
 }
 
-// What is past a limit, in words.
-#[derive(Clone, Copy)]
-enum Past<'a> {
-    // the declaration of this number, how many there may be, and of what
-    Declaration {
-        count: usize,
-        most: usize,
-        what: &'static str,
-    },
-    Node(&'a str),
-}
-
-impl<'a> fmt::Display for Past<'a> {
-    fn fmt<W: fmt::Write>(&self, f: &mut fmt::Formatter<W>) -> fmt::Result {
-        match *self {
-            Past::Declaration { count, most, what } => {
-                let nth = Nth(count);
-                write!(f, "the {nth} {what}; at most {most}")
-            }
-            Past::Node(number) => {
-                let last = MAX_NODES - 1;
-                write!(f, "node {number}; nodes are 0 to {last}")
-            }
-        }
-    }
-}
-
 // What is past a limit by this declaration, beside those before it.
-fn declared_past(counts: &mut Counts, kind: Kind) -> Option<Past<'static>> {
+fn declared_past(counts: &mut Counts, kind: Kind) -> Option<Told<'static>> {
     let (count, most, what) = match kind {
         Kind::Input | Kind::Inner | Kind::Output => {
             counts.channels = counts.channels.wrapping_add(1);
@@ -317,22 +297,33 @@ fn declared_past(counts: &mut Counts, kind: Kind) -> Option<Past<'static>> {
     if count <= most {
         return None;
     }
-    Some(Past::Declaration { count, most, what })
+    let told = Told::by("the % %; at most %");
+    Some(
+        told.with(Say::Nth(count))
+            .with(Say::Text(what))
+            .with(numbered(most)),
+    )
 }
 
-// What is past a limit by this piece, beside those before it, and at which offset.
-fn piece_past<'a>(text: &'a str, counts: &mut Counts, seen: &Seen) -> Option<(usize, Past<'a>)> {
+// What is past a limit by this piece, beside those before it.
+fn piece_past<'a>(text: &'a str, counts: &mut Counts, seen: &Seen) -> Option<Found<'a>> {
     match seen.part {
-        Part::Declares(kind) => Some((seen.before.start, declared_past(counts, kind)?)),
-        Part::Node(number) if number >= u64::from(MAX_NODES) => {
-            Some((seen.at.start, Past::Node(name_at(text, seen.at))))
-        }
+        Part::Declares(kind) => Some(Found {
+            offset: seen.before.start,
+            told: declared_past(counts, kind)?,
+        }),
+        Part::Node(number) if number >= u64::from(MAX_NODES) => Some(Found {
+            offset: seen.at.start,
+            told: Told::by("node %; nodes are 0 to %")
+                .with(Say::Text(name_at(text, seen.at)))
+                .with(Say::Number(u64::from(MAX_NODES - 1))),
+        }),
         _ => None,
     }
 }
 
-// The first declaration that is past a limit, by its offset.
-fn first_past(text: &str) -> Option<(usize, Past<'_>)> {
+// The first declaration that is past a limit.
+fn first_past(text: &str) -> Option<Found<'_>> {
     let mut reader = Reader::new(text);
     let mut counts = Counts {
         channels: 0,
@@ -348,68 +339,54 @@ fn first_past(text: &str) -> Option<(usize, Past<'_>)> {
     None
 }
 
+// What is past a limit in a process, as far as it is told.
+fn process_past<'a>(text: &'a str, process: Process) -> Option<Found<'a>> {
+    if process.units > MAX_UNITS {
+        return Some(Found {
+            offset: process.start,
+            told: Told::by("the process % has % units; at most %")
+                .with(Say::Quoted(name_at(text, process.name)))
+                .with(counted(process.units))
+                .with(counted(MAX_UNITS)),
+        });
+    }
+    let (offset, times) = process.past?;
+    Some(Found {
+        offset,
+        told: Told::by("repetitions within one another come to % passes; at most %")
+            .with(Say::Count(times))
+            .with(Say::Count(u64::from(MAX_NESTED_TIMES))),
+    })
+}
+
 /// Where a text is past a limit.
-pub(crate) fn past_limit(alloc: Global, text: &str) -> Result<Option<Found>, AllocError> {
-    if let Some((offset, past)) = first_past(text) {
-        return Found::at(offset, format!(in alloc; "{past}"));
-    }
-    let Some(walk) = first_wanted(text, Wanted::PastLimit) else {
-        return Ok(None);
-    };
-    if walk.units > MAX_UNITS {
-        let name = Quoted(name_at(text, walk.name));
-        let (units, most) = (with_commas(walk.units), with_commas(MAX_UNITS));
-        let words = format!(in alloc; "the process {name} has {units} units; at most {most}");
-        return Found::at(walk.first.start, words);
-    }
-    match walk.past {
-        Some((at, times)) => {
-            let (times, most) = (Grouped(times), Grouped(u64::from(MAX_NESTED_TIMES)));
-            let words = format!(in alloc;
-                "repetitions within one another come to {times} passes; at most {most}"
-            );
-            Found::at(at.start, words)
-        }
-        None => Ok(None),
+pub(crate) fn past_limit(text: &str) -> Option<Found<'_>> {
+    match first_past(text) {
+        Some(found) => Some(found),
+        None => process_past(text, first_wanted(text, Wanted::PastLimit)?),
     }
 }
 
-// What a loop lacks that may go round without an item: a `get` or a `stop`, or one outside of an `if`.
-#[derive(Clone, Copy)]
-struct Lack<'a> {
-    passing: Option<(Quoted<'a>, usize)>,
-}
-
-impl<'a> fmt::Display for Lack<'a> {
-    fn fmt<W: fmt::Write>(&self, f: &mut fmt::Formatter<W>) -> fmt::Result {
-        match self.passing {
-            Some((word, line)) => write!(
-                f,
-                "the {word} in line {line} stands in an `if`, and may be passed by"
-            ),
-            None => f.write_str("it has no `get` and no `stop`"),
-        }
-    }
-}
-
-fn lack_of(text: &str, passing: Option<Placed>) -> Lack<'_> {
-    match passing {
-        Some(at) => Lack {
-            passing: Some((Quoted(name_at(text, at)), at.line)),
-        },
-        None => Lack { passing: None },
+// What is said of the loop of a process that may go round without an item.
+fn lazy_told<'a>(text: &'a str, process: Process) -> Told<'a> {
+    let name = Say::Quoted(name_at(text, process.name));
+    match process.passing {
+        Some(at) => Told::by(
+            "the loop of the process % may go round without an item: the % in line % stands in an `if`, and may be passed by",
+        ).with(name)
+            .with(Say::Quoted(name_at(text, at)))
+            .with(numbered(at.line)),
+        None => Told::by(
+            "the loop of the process % may go round without an item: it has no `get` and no `stop`",
+        ).with(name),
     }
 }
 
 /// Where a loop begins that may go round without an item.
-pub(crate) fn lazy_loop(alloc: Global, text: &str) -> Result<Option<Found>, AllocError> {
-    let Some(walk) = first_wanted(text, Wanted::LazyLoop) else {
-        return Ok(None);
-    };
-    let name = Quoted(name_at(text, walk.name));
-    let lack = lack_of(text, walk.passing);
-    let words = format!(in alloc;
-        "the loop of the process {name} may go round without an item: {lack}"
-    );
-    Found::at(walk.repeated.start, words)
+pub(crate) fn lazy_loop(text: &str) -> Option<Found<'_>> {
+    let process = first_wanted(text, Wanted::LazyLoop)?;
+    Some(Found {
+        offset: process.repeated,
+        told: lazy_told(text, process),
+    })
 }

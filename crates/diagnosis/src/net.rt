@@ -8,12 +8,11 @@ use crate::pieces::{Piece, Placed, is_comparison};
 use crate::places::word;
 use crate::scanner::Scanner;
 use crate::uses::{second_consumer, second_producer, without_consumer, without_producer};
-use crate::words::{Grouped, MARK, NO_MORE, Quoted, Shown, TooLong, has_mark, with_commas};
+use crate::words::{MARK, NO_MORE, Say, Told, has_mark, long_name, numbered, too_long};
 use kahn_net::MAX_TIMES;
 use net_check::NetFault;
-use net_text::{Keyword, MAX_NAME_BYTES, MAX_NESTING, MAX_TEXT_BYTES, TextFault};
+use net_text::{Keyword, MAX_NESTING, MAX_TEXT_BYTES, TextFault};
 use std::alloc::{AllocError, Global};
-use std::fmt;
 
 // Where a text can't go on, and what stood before.
 #[derive(Clone, Copy)]
@@ -116,38 +115,18 @@ fn wants_name(next: Next) -> bool {
     }
 }
 
-// What was found, in words.
-#[derive(Clone, Copy)]
-enum Met<'a> {
-    End,
-    Character(Shown),
-    Keyword(Quoted<'a>),
-    Piece(Quoted<'a>),
-}
-
-impl<'a> fmt::Display for Met<'a> {
-    fn fmt<W: fmt::Write>(&self, f: &mut fmt::Formatter<W>) -> fmt::Result {
-        match *self {
-            Met::End => f.write_str("the end of the text"),
-            Met::Character(character) => write!(f, "{character}"),
-            Met::Keyword(word) => write!(f, "the keyword {word}"),
-            Met::Piece(piece) => write!(f, "{piece}"),
-        }
-    }
-}
-
 // What a text has where it is stuck.
-fn what_stands<'a>(text: &'a str, stuck: &Stuck) -> Met<'a> {
+fn what_stands<'a>(text: &'a str, stuck: &Stuck) -> Say<'a> {
     let at = stuck.at;
-    let piece = Quoted(word(text, at.start, at.end));
+    let piece = word(text, at.start, at.end);
     match at.piece {
-        Piece::End => Met::End,
+        Piece::End => Say::Text("the end of the text"),
         Piece::Bad => match word(text, at.start, text.len()).chars().next() {
-            Some(character) => Met::Character(Shown(character)),
-            None => Met::End,
+            Some(character) => Say::Character(character),
+            None => Say::Nothing,
         },
-        Piece::Word(_) if wants_name(stuck.grammar.next) => Met::Keyword(piece),
-        _ => Met::Piece(piece),
+        Piece::Word(_) if wants_name(stuck.grammar.next) => Say::Keyword(piece),
+        _ => Say::Quoted(piece),
     }
 }
 
@@ -172,32 +151,33 @@ fn is_late_variable(stuck: &Stuck) -> bool {
 }
 
 // What was found and what was expected.
-fn unexpected(alloc: Global, text: &str, stuck: &Stuck) -> Result<String, AllocError> {
+fn unexpected<'a>(text: &'a str, stuck: &Stuck) -> Told<'a> {
     let found = what_stands(text, stuck);
-    let expected = expected(&stuck.grammar);
     if is_of_second_edition(stuck) {
-        return format!(in alloc; "{found} needs `kahn 2;`: this text begins with `kahn 1;`");
+        return Told::by("% needs `kahn 2;`: this text begins with `kahn 1;`").with(found);
     }
     let is_operator = stuck.grammar.next == Next::Operator;
     if is_operator && is_comparison(stuck.at.piece) {
-        return format!(in alloc; "found {found} behind a comparison, which isn't compared again");
+        return Told::by("found % behind a comparison, which isn't compared again").with(found);
     }
-    let more = if is_late_variable(stuck) {
-        ": variables are declared before the first statement"
+    let form = if is_late_variable(stuck) {
+        "found %, expected %: variables are declared before the first statement"
     } else {
-        ""
+        "found %, expected %"
     };
-    format!(in alloc; "found {found}, expected {expected}{more}")
+    Told::by(form)
+        .with(found)
+        .with(Say::Text(expected(&stuck.grammar)))
 }
 
 // What is said of a character that begins no token.
-fn bad_token(alloc: Global, text: &str, stuck: &Stuck) -> Result<String, AllocError> {
+fn bad_token<'a>(text: &'a str, stuck: &Stuck) -> Told<'a> {
     if stuck.at.start == 0 && has_mark(text) {
-        return String::from_str(alloc, MARK);
+        return Told::by(MARK);
     }
-    let found = what_stands(text, stuck);
-    let expected = expected(&stuck.grammar);
-    format!(in alloc; "found {found}, which begins no token, expected {expected}")
+    Told::by("found %, which begins no token, expected %")
+        .with(what_stands(text, stuck))
+        .with(Say::Text(expected(&stuck.grammar)))
 }
 
 // Whether a number behind a minus is what would be the least one, in an expression.
@@ -208,56 +188,50 @@ fn is_least(text: &str, stuck: &Stuck) -> bool {
 }
 
 // What is said of a number past its range.
-fn large_number(alloc: Global, text: &str, stuck: &Stuck) -> Result<String, AllocError> {
-    let found = what_stands(text, stuck);
-    let greatest = i64::MAX;
-    if is_least(text, stuck) {
-        return format!(in alloc;
-            "{found} is past {greatest}, the greatest number; the least one is written -{greatest} - 1"
-        );
-    }
-    format!(in alloc; "{found} is past {greatest}, the greatest number")
+fn large_number<'a>(text: &'a str, stuck: &Stuck) -> Told<'a> {
+    let greatest = Say::Number(i64::MAX as u64);
+    let form = if is_least(text, stuck) {
+        "% is past %, the greatest number; the least one is written -% - 1"
+    } else {
+        "% is past %, the greatest number"
+    };
+    Told::by(form)
+        .with(what_stands(text, stuck))
+        .with(greatest)
+        .with(greatest)
 }
 
 // What is said of the piece at which a text is stuck.
-fn stuck_words(alloc: Global, text: &str, stuck: &Stuck) -> Result<String, AllocError> {
+fn stuck_told<'a>(text: &'a str, stuck: &Stuck) -> Told<'a> {
     let at = stuck.at;
     match (at.piece, stuck.stop) {
-        (Piece::Bad, _) => bad_token(alloc, text, stuck),
-        (Piece::LargeNumber, _) => large_number(alloc, text, stuck),
-        (Piece::LongName, _) => {
-            let len = with_commas(at.end.saturating_sub(at.start));
-            format!(in alloc; "a name of {len} bytes; at most {MAX_NAME_BYTES}")
-        }
-        (_, Stop::TooDeep) => {
-            let found = what_stands(text, stuck);
-            format!(in alloc;
-                "{found} opens more than {MAX_NESTING} blocks, parentheses and minus signs within one another"
-            )
-        }
-        (_, Stop::Times) => {
-            let found = what_stands(text, stuck);
-            let most = Grouped(MAX_TIMES as u64);
-            format!(in alloc; "{found} times; a block is repeated 1 to {most} times")
-        }
-        (_, Stop::Unexpected) => unexpected(alloc, text, stuck),
+        (Piece::Bad, _) => bad_token(text, stuck),
+        (Piece::LargeNumber, _) => large_number(text, stuck),
+        (Piece::LongName, _) => long_name(at.end.saturating_sub(at.start)),
+        (_, Stop::TooDeep) => Told::by(
+            "% opens more than % blocks, parentheses and minus signs within one another",
+        ).with(what_stands(text, stuck))
+            .with(numbered(MAX_NESTING)),
+        (_, Stop::Times) => Told::by("% times; a block is repeated 1 to % times")
+            .with(what_stands(text, stuck))
+            .with(Say::Count(MAX_TIMES as u64)),
+        (_, Stop::Unexpected) => unexpected(text, stuck),
     }
 }
 
 // Where a text is none of a network's, and why.
-fn text_fault(alloc: Global, text: &str) -> Result<Option<Found>, AllocError> {
+fn text_fault(text: &str) -> Option<Found<'_>> {
     if text.len() > MAX_TEXT_BYTES {
-        let long = TooLong {
-            what: "a text",
-            len: text.len(),
-            most: MAX_TEXT_BYTES,
-        };
-        return Found::at(0, format!(in alloc; "{long}"));
+        return Some(Found {
+            offset: 0,
+            told: too_long("a text", text.len(), MAX_TEXT_BYTES),
+        });
     }
-    match stuck_in(text) {
-        Some(stuck) => Found::at(stuck.at.start, stuck_words(alloc, text, &stuck)),
-        None => Ok(None),
-    }
+    let stuck = stuck_in(text)?;
+    Some(Found {
+        offset: stuck.at.start,
+        told: stuck_told(text, &stuck),
+    })
 }
 
 /// Why a text is none of a network's: `fault` is what `net_text::parse` refused it by. Refuses for want of memory alone.
@@ -268,7 +242,7 @@ pub fn explain_net_text(
 ) -> Result<Explanation, AllocError> {
     match fault.line() {
         Some(line) => {
-            let found = text_fault(alloc, text)?;
+            let found = text_fault(text);
             Explanation::at(alloc, text.as_bytes(), line, found, NO_MORE)
         }
         None => Explanation::no_memory(alloc),
@@ -276,14 +250,14 @@ pub fn explain_net_text(
 }
 
 // Where a text has this fault, and what is wrong there.
-fn found_in(alloc: Global, text: &str, fault: NetFault) -> Result<Option<Found>, AllocError> {
+fn found_in(alloc: Global, text: &str, fault: NetFault) -> Result<Option<Found<'_>>, AllocError> {
     match fault {
         NetFault::TwiceNamed { .. } => twice_named(alloc, text),
         NetFault::UnknownName { .. } => unknown_name(alloc, text),
         NetFault::TwoProducers { .. } => second_producer(alloc, text),
         NetFault::TwoConsumers { .. } => second_consumer(alloc, text),
-        NetFault::LoopWithoutGet { .. } => lazy_loop(alloc, text),
-        NetFault::Limit { .. } => past_limit(alloc, text),
+        NetFault::LoopWithoutGet { .. } => Ok(lazy_loop(text)),
+        NetFault::Limit { .. } => Ok(past_limit(text)),
         NetFault::NoProducer { .. } => without_producer(alloc, text),
         NetFault::NoConsumer { .. } => without_consumer(alloc, text),
         NetFault::NoMemory | NetFault::MissingInput => Ok(None),

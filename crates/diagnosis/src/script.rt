@@ -2,10 +2,9 @@
 
 use crate::explanation::{Explanation, Found};
 use crate::places::{after, count_to, line_from, line_start, rest, word};
-use crate::words::{Grouped, MARK, Quoted, TooLong, has_mark};
+use crate::words::{MARK, Say, Told, has_mark, numbered, too_long};
 use fail_script::{MAX_COUNT, MAX_FILL, MAX_ROUND, MAX_ROUNDS, MAX_SCRIPT_BYTES, ScriptFault};
 use std::alloc::{AllocError, Global};
-use std::fmt;
 
 // What is said where a script has no such fault at this line.
 const NO_MORE: &str = "the script is refused here";
@@ -67,39 +66,6 @@ impl<'a> Words<'a> {
     }
 }
 
-// What is wrong at a place of a line.
-#[derive(Clone, Copy)]
-enum Wrong<'a> {
-    // What was found, none at the line's end, and what was expected.
-    Unexpected {
-        found: Option<Quoted<'a>>,
-        expected: Expected,
-    },
-    OutOfRange {
-        found: Quoted<'a>,
-        range: Range,
-    },
-    EndsTooSoon(Form),
-    GoesOn(Form),
-    ToItself(Quoted<'a>),
-    Falls {
-        round: u64,
-        above: Above,
-    },
-    NoNode {
-        node: Quoted<'a>,
-        nodes: u8,
-    },
-}
-
-// What is expected at a place of a line.
-#[derive(Clone, Copy)]
-enum Expected {
-    Range(Range),
-    Word(&'static str),
-    OneOf(&'static str),
-}
-
 // Numbers that may stand somewhere: what they are, the least and the greatest.
 #[derive(Clone, Copy)]
 struct Range {
@@ -108,83 +74,18 @@ struct Range {
     most: u32,
 }
 
-impl fmt::Display for Range {
-    fn fmt<W: fmt::Write>(&self, f: &mut fmt::Formatter<W>) -> fmt::Result {
-        let (least, most) = (u64::from(self.least), u64::from(self.most));
-        let (low, high) = (Grouped(least), Grouped(most));
-        write!(f, "from {low} to {high}")
-    }
-}
-
-impl fmt::Display for Expected {
-    fn fmt<W: fmt::Write>(&self, f: &mut fmt::Formatter<W>) -> fmt::Result {
-        match *self {
-            Expected::Range(range) => {
-                let what = range.what;
-                write!(f, "{what} {range}")
-            }
-            Expected::Word(word) => write!(f, "`{word}`"),
-            Expected::OneOf(words) => f.write_str(words),
-        }
-    }
-}
-
-// The nodes of a network by how many they are, in words.
-#[derive(Clone, Copy)]
-struct Nodes(u8);
-
-impl fmt::Display for Nodes {
-    fn fmt<W: fmt::Write>(&self, f: &mut fmt::Formatter<W>) -> fmt::Result {
-        let nodes = self.0;
-        if nodes == 1 {
-            return f.write_str("node 0 alone");
-        }
-        let last = nodes.saturating_sub(1);
-        write!(f, "{nodes} nodes, 0 to {last}")
-    }
-}
-
-impl<'a> fmt::Display for Wrong<'a> {
-    fn fmt<W: fmt::Write>(&self, f: &mut fmt::Formatter<W>) -> fmt::Result {
-        match *self {
-            Wrong::Unexpected {
-                found: Some(found),
-                expected,
-            } => write!(f, "found {found}, expected {expected}"),
-            Wrong::Unexpected {
-                found: None,
-                expected,
-            } => write!(f, "the line ends here, expected {expected}"),
-            Wrong::OutOfRange { found, range } => {
-                let what = range.what;
-                write!(f, "{found} is out of range: {what} is {range}")
-            }
-            Wrong::EndsTooSoon(form) => {
-                let told = form.told;
-                write!(f, "the line ends too soon: its form is `{told}`")
-            }
-            Wrong::GoesOn(form) => {
-                let told = form.told;
-                write!(f, "the line goes on too long: its form is `{told}`")
-            }
-            Wrong::ToItself(node) => write!(f, "the node {node} sends nothing to itself"),
-            Wrong::Falls { round, above } => {
-                let (line, before) = (above.line, above.round);
-                write!(
-                    f,
-                    "round {round} stands below round {before} of line {line}"
-                )
-            }
-            Wrong::NoNode { node, nodes } => {
-                let nodes = Nodes(nodes);
-                write!(f, "no node {node}: the network has {nodes}")
-            }
+impl Range {
+    fn told(&self) -> Say<'static> {
+        Say::Range {
+            what: self.what,
+            least: u64::from(self.least),
+            most: u64::from(self.most),
         }
     }
 }
 
 // A fault of a line: the place of the word, and what is wrong there.
-type Fault<'a> = (usize, Wrong<'a>);
+type Fault<'a> = (usize, Told<'a>);
 
 // The numbers that a field may have.
 fn range_of(field: Field) -> Range {
@@ -215,13 +116,13 @@ fn number_of(word: &str) -> Option<u64> {
 }
 
 // What stands at a place of a line, and what was expected there.
-fn found_at<'a>(words: Words<'a>, place: usize, expected: Expected) -> Fault<'a> {
-    let found = if words.has(place) {
-        Some(Quoted(words.word(place)))
+fn found_at<'a>(words: Words<'a>, place: usize, expected: Say<'static>) -> Fault<'a> {
+    let told = if words.has(place) {
+        Told::by("found %, expected %").with(Say::Quoted(words.word(place)))
     } else {
-        None
+        Told::by("the line ends here, expected %")
     };
-    (place, Wrong::Unexpected { found, expected })
+    (place, told.with(expected))
 }
 
 // What is wrong with the number of a node at a place, which may be any number.
@@ -229,7 +130,7 @@ fn node_fault(words: Words<'_>, place: usize) -> Option<Fault<'_>> {
     if number_of(words.word(place)).is_some() {
         return None;
     }
-    Some(found_at(words, place, Expected::OneOf("the number of a node")))
+    Some(found_at(words, place, Say::Text("the number of a node")))
 }
 
 // What is wrong with the number at a place.
@@ -239,24 +140,29 @@ fn number_fault(words: Words<'_>, place: usize, range: Range) -> Option<Fault<'_
             if u64::from(range.least) <= number && number <= u64::from(range.most) {
                 return None;
             }
-            let found = Quoted(words.word(place));
-            Some((place, Wrong::OutOfRange { found, range }))
+            let told = Told::by("% is out of range: % is from % to %")
+                .with(Say::Quoted(words.word(place)))
+                .with(Say::Text(range.what))
+                .with(Say::Count(u64::from(range.least)))
+                .with(Say::Count(u64::from(range.most)));
+            Some((place, told))
         }
-        None => Some(found_at(words, place, Expected::Range(range))),
+        None => Some(found_at(words, place, range.told())),
     }
 }
 
 // What is wrong with the word at a place.
 fn field_fault<'a>(words: Words<'a>, place: usize, form: Form, field: Field) -> Option<Fault<'a>> {
     if !words.has(place) {
-        return Some((place, Wrong::EndsTooSoon(form)));
+        let told = Told::by("the line ends too soon: its form is `%`");
+        return Some((place, told.with(Say::Text(form.told))));
     }
     match field {
         Field::Word(wanted) => {
             if words.word(place) == wanted {
                 return None;
             }
-            Some(found_at(words, place, Expected::Word(wanted)))
+            Some(found_at(words, place, Say::Quoted(wanted)))
         }
         Field::Node | Field::OtherNode => node_fault(words, place),
         _ => number_fault(words, place, range_of(field)),
@@ -275,7 +181,8 @@ fn are_two(form: Form) -> bool {
 fn same_nodes(words: Words<'_>, form: Form) -> Option<Fault<'_>> {
     let (one, other) = (number_of(words.word(2)), number_of(words.word(3)));
     if are_two(form) && one == other {
-        return Some((3, Wrong::ToItself(Quoted(words.word(3)))));
+        let told = Told::by("the node % sends nothing to itself");
+        return Some((3, told.with(Say::Quoted(words.word(3)))));
     }
     None
 }
@@ -289,7 +196,8 @@ fn form_fault<'a>(words: Words<'a>, form: Form) -> Option<Fault<'a>> {
     }
     let end = after(form.fields.len(), 2);
     if words.has(end) {
-        return Some((end, Wrong::GoesOn(form)));
+        let told = Told::by("the line goes on too long: its form is `%`");
+        return Some((end, told.with(Say::Text(form.told))));
     }
     same_nodes(words, form)
 }
@@ -356,7 +264,7 @@ fn crash_fault(words: Words<'_>) -> Option<Fault<'_>> {
             if let Some(fault) = field_fault(words, 2, CRASH_NOW, Field::Node) {
                 return Some(fault);
             }
-            let expected = Expected::OneOf("`now`, `delivery` or `device`");
+            let expected = Say::Text("`now`, `delivery` or `device`");
             Some(found_at(words, 3, expected))
         }
     }
@@ -373,7 +281,7 @@ fn event_fault(words: Words<'_>) -> Option<Fault<'_>> {
         "start" => form_fault(words, START),
         _ => {
             let expected = "`lose`, `repeat`, `delay`, `crash`, `fail` or `start`";
-            Some(found_at(words, 1, Expected::OneOf(expected)))
+            Some(found_at(words, 1, Say::Text(expected)))
         }
     }
 }
@@ -433,7 +341,13 @@ fn round_fault(words: Words<'_>, above: Option<Above>) -> Option<Fault<'_>> {
     let round = number_of(words.word(0))?;
     let above = above?;
     if round < above.round {
-        return Some((0, Wrong::Falls { round, above }));
+        let told = Told::by("round % stands below round % of line %");
+        return Some((
+            0,
+            told.with(Say::Number(round))
+                .with(Say::Number(above.round))
+                .with(numbered(above.line)),
+        ));
     }
     None
 }
@@ -464,57 +378,51 @@ fn unknown_node(words: Words<'_>, nodes: u8) -> Option<Fault<'_>> {
     if !is_unknown_node(words, place, nodes) {
         return None;
     }
-    let node = Quoted(words.word(place));
-    Some((place, Wrong::NoNode { node, nodes }))
+    let node = Say::Quoted(words.word(place));
+    if nodes == 1 {
+        let told = Told::by("no node %: the network has node 0 alone");
+        return Some((place, told.with(node)));
+    }
+    let told = Told::by("no node %: the network has % nodes, 0 to %")
+        .with(node)
+        .with(Say::Number(u64::from(nodes)))
+        .with(Say::Number(u64::from(nodes.saturating_sub(1))));
+    Some((place, told))
 }
 
 // What is wrong with a line of a script, by its number from 1.
-fn line_fault(
-    alloc: Global,
-    text: &str,
-    line: usize,
-    nodes: u8,
-    fault: ScriptFault,
-) -> Result<Option<Found>, AllocError> {
+fn line_fault(text: &str, line: usize, nodes: u8, fault: ScriptFault) -> Option<Found<'_>> {
     let bytes = text.as_bytes();
     let start = line_start(bytes, line);
     let len = line_from(bytes, start).len();
     let words = Words {
         line: word(text, start, after(start, len)),
     };
-    let found = match fault {
-        ScriptFault::UnknownNode { .. } => unknown_node(words, nodes),
-        _ => bad_line(words, line_above(text, line)),
+    let (place, told) = match fault {
+        ScriptFault::UnknownNode { .. } => unknown_node(words, nodes)?,
+        _ => bad_line(words, line_above(text, line))?,
     };
-    match found {
-        Some((place, wrong)) => {
-            let offset = after(start, words.offset(place));
-            Found::at(offset, format!(in alloc; "{wrong}"))
-        }
-        None => Ok(None),
-    }
+    Some(Found {
+        offset: after(start, words.offset(place)),
+        told,
+    })
 }
 
 // What is wrong with a script as a whole or at its first byte, or else with this line.
-fn text_fault(
-    alloc: Global,
-    text: &str,
-    line: usize,
-    nodes: u8,
-    fault: ScriptFault,
-) -> Result<Option<Found>, AllocError> {
+fn text_fault(text: &str, line: usize, nodes: u8, fault: ScriptFault) -> Option<Found<'_>> {
     if text.len() > MAX_SCRIPT_BYTES {
-        let long = TooLong {
-            what: "a script",
-            len: text.len(),
-            most: MAX_SCRIPT_BYTES,
-        };
-        return Found::at(0, format!(in alloc; "{long}"));
+        return Some(Found {
+            offset: 0,
+            told: too_long("a script", text.len(), MAX_SCRIPT_BYTES),
+        });
     }
     if line == 1 && has_mark(text) {
-        return Found::at(0, String::from_str(alloc, MARK));
+        return Some(Found {
+            offset: 0,
+            told: Told::by(MARK),
+        });
     }
-    line_fault(alloc, text, line, nodes, fault)
+    line_fault(text, line, nodes, fault)
 }
 
 /// Why a text is no failure script for so many nodes: `fault` is what `fail_script::parse_script` refused it by. Refuses for want of memory
@@ -527,7 +435,7 @@ pub fn explain_script(
 ) -> Result<Explanation, AllocError> {
     match fault.line() {
         Some(line) => {
-            let found = text_fault(alloc, text, line, nodes, fault)?;
+            let found = text_fault(text, line, nodes, fault);
             Explanation::at(alloc, text.as_bytes(), line, found, NO_MORE)
         }
         None => Explanation::no_memory(alloc),

@@ -4,9 +4,8 @@ use crate::declared::{
     Declared, End, Kind, Part, Reader, Seen, declarations, name_at, process_name, where_is,
 };
 use crate::explanation::Found;
-use crate::words::Quoted;
+use crate::words::{Say, Told};
 use std::alloc::{AllocError, Global};
-use std::fmt;
 
 // The place of the channel of this name among what is declared.
 fn place_of(text: &str, declared: &[Declared], name: &str) -> Option<usize> {
@@ -19,7 +18,10 @@ fn place_of(text: &str, declared: &[Declared], name: &str) -> Option<usize> {
 }
 
 // Notes a use, if it is the first one of its end.
-fn note(declared: &mut [Declared], place: usize, seen: &Seen) {
+fn note(text: &str, declared: &mut [Declared], seen: &Seen) {
+    let Some(place) = place_of(text, declared, name_at(text, seen.at)) else {
+        return;
+    };
     if place >= declared.len() {
         return;
     }
@@ -51,16 +53,8 @@ fn side_of(part: Part) -> Option<Side> {
     }
 }
 
-// What stands at this end of a channel already.
-#[derive(Clone, Copy)]
-struct Taken {
-    channel: Declared,
-    // the process's first use of it; none where the channel goes outside there
-    end: Option<End>,
-}
-
-// What stands at the end that is used here, unless it is this process.
-fn stands_at(channel: Declared, side: Side, process: usize) -> Option<Taken> {
+// What stands at an end of a channel, unless it is this process: its first use there; or, where the channel goes outside there, maybe none.
+fn stands_at(channel: &Declared, side: Side, process: usize) -> Option<Option<End>> {
     let (end, is_outside) = match (side, channel.kind) {
         (Side::Puts, Kind::Input) => (channel.put, true),
         (Side::Puts, _) => (channel.put, false),
@@ -72,7 +66,7 @@ fn stands_at(channel: Declared, side: Side, process: usize) -> Option<Taken> {
         None => false,
     };
     if is_other || is_outside {
-        Some(Taken { channel, end })
+        Some(end)
     } else {
         None
     }
@@ -86,161 +80,149 @@ fn is_wanted(wanted: Option<Side>, side: Side) -> bool {
     }
 }
 
+// What is said where another process stands at this end of a channel, or it goes outside there.
+fn second_told<'a>(
+    text: &'a str,
+    declared: &[Declared],
+    channel: &Declared,
+    seen: &Seen,
+    side: Side,
+    end: Option<End>,
+) -> Told<'a> {
+    let name = Say::Quoted(name_at(text, seen.at));
+    match end {
+        Some(end) => {
+            let process = process_name(text, declared, end.process);
+            let form = match side {
+                Side::Puts => "a second producer: the process % puts on % too, %",
+                Side::Gets => "a second consumer: the process % gets from % too, %",
+            };
+            Told::by(form)
+                .with(Say::Quoted(process))
+                .with(name)
+                .with(where_is(text, end.at, seen.at))
+        }
+        None => {
+            let form = match side {
+                Side::Puts => {
+                    "a second producer: % is an input, whose items come from outside, declared %"
+                }
+                Side::Gets => {
+                    "a second consumer: % is an output, whose items go outside, declared %"
+                }
+            };
+            Told::by(form)
+                .with(name)
+                .with(where_is(text, channel.name, seen.at))
+        }
+    }
+}
+
 // Goes through the uses of all channels and notes each. The first one of the end that is looked for, if one is, at which something else
 // stands.
-fn first_second(
-    text: &str,
+fn first_second<'a>(
+    text: &'a str,
     declared: &mut [Declared],
     wanted: Option<Side>,
-) -> Option<(Seen, Taken)> {
+) -> Option<Found<'a>> {
     let mut reader = Reader::new(text);
     for _ in 0..text.len() {
         let seen = reader.next_seen()?;
-        let Some(side) = side_of(seen.part) else {
-            continue;
-        };
-        let Some(place) = place_of(text, declared, name_at(text, seen.at)) else {
-            continue;
-        };
-        if is_wanted(wanted, side) && place < declared.len() {
-            if let Some(taken) = stands_at(declared[place], side, seen.process()) {
-                return Some((seen, taken));
+        if let Some(side) = side_of(seen.part) {
+            if is_wanted(wanted, side) {
+                if let Some(found) = second_at(text, declared, &seen, side) {
+                    return Some(found);
+                }
             }
+            note(text, declared, &seen);
         }
-        note(declared, place, &seen);
     }
     None
 }
 
-// What stands at an end of a channel besides.
-fn other_words(
-    alloc: Global,
-    text: &str,
+// What is said of a use of a channel at whose end something else stands.
+fn second_at<'a>(
+    text: &'a str,
     declared: &[Declared],
     seen: &Seen,
-    taken: Taken,
-    what: &str,
-    does: &str,
-    outside: &str,
-) -> Result<String, AllocError> {
-    let name = Quoted(name_at(text, seen.at));
-    match taken.end {
-        Some(end) => {
-            let process = process_name(text, declared, end.process);
-            let place = where_is(text, end.at, seen.at);
-            format!(in alloc; "{what}: the process {process} {does} {name} too, {place}")
-        }
-        None => {
-            let place = where_is(text, taken.channel.name, seen.at);
-            format!(in alloc; "{what}: {name} is {outside}, declared {place}")
-        }
-    }
+    side: Side,
+) -> Option<Found<'a>> {
+    let place = place_of(text, declared, name_at(text, seen.at))?;
+    let channel = declared.get(place)?;
+    let end = stands_at(channel, side, seen.process())?;
+    Some(Found {
+        offset: seen.at.start,
+        told: second_told(text, declared, channel, seen, side, end),
+    })
+}
+
+// Where something else stands at this end of a channel.
+fn second(alloc: Global, text: &str, side: Side) -> Result<Option<Found<'_>>, AllocError> {
+    let mut declared = declarations(alloc, text)?;
+    Ok(first_second(text, &mut declared, Some(side)))
 }
 
 /// Where a process puts on a channel on which another one does, or on an input.
-pub(crate) fn second_producer(alloc: Global, text: &str) -> Result<Option<Found>, AllocError> {
-    let mut declared = declarations(alloc, text)?;
-    let Some((seen, taken)) = first_second(text, &mut declared, Some(Side::Puts)) else {
-        return Ok(None);
-    };
-    let words = other_words(
-        alloc,
-        text,
-        &declared,
-        &seen,
-        taken,
-        "a second producer",
-        "puts on",
-        "an input, whose items come from outside",
-    );
-    Found::at(seen.at.start, words)
+pub(crate) fn second_producer(alloc: Global, text: &str) -> Result<Option<Found<'_>>, AllocError> {
+    second(alloc, text, Side::Puts)
 }
 
 /// Where a process gets from a channel from which another one does, or from an output.
-pub(crate) fn second_consumer(alloc: Global, text: &str) -> Result<Option<Found>, AllocError> {
-    let mut declared = declarations(alloc, text)?;
-    let Some((seen, taken)) = first_second(text, &mut declared, Some(Side::Gets)) else {
-        return Ok(None);
-    };
-    let words = other_words(
-        alloc,
-        text,
-        &declared,
-        &seen,
-        taken,
-        "a second consumer",
-        "gets from",
-        "an output, whose items go outside",
-    );
-    Found::at(seen.at.start, words)
+pub(crate) fn second_consumer(alloc: Global, text: &str) -> Result<Option<Found<'_>>, AllocError> {
+    second(alloc, text, Side::Gets)
 }
 
-// What a channel is, with its name.
-#[derive(Clone, Copy)]
-struct ChannelWords<'a> {
-    kind: Kind,
-    name: Quoted<'a>,
-}
-
-impl<'a> fmt::Display for ChannelWords<'a> {
-    fn fmt<W: fmt::Write>(&self, f: &mut fmt::Formatter<W>) -> fmt::Result {
-        let name = self.name;
-        match self.kind {
-            Kind::Input => write!(f, "the input {name}"),
-            Kind::Output => write!(f, "the output {name}"),
-            _ => write!(f, "the channel {name}"),
-        }
+// What a channel is.
+fn channel_words(kind: Kind) -> Say<'static> {
+    match kind {
+        Kind::Input => Say::Text("the input"),
+        Kind::Output => Say::Text("the output"),
+        _ => Say::Text("the channel"),
     }
 }
 
-fn channel_words<'a>(text: &'a str, channel: &Declared) -> ChannelWords<'a> {
-    ChannelWords {
-        kind: channel.kind,
-        name: Quoted(name_at(text, channel.name)),
+// Whether nobody is at this end of what is declared, though somebody has to be.
+fn is_without(known: &Declared, side: Side) -> bool {
+    match (side, known.kind) {
+        (_, Kind::Process) | (_, Kind::Variable(_)) => false,
+        (Side::Puts, Kind::Input) | (Side::Gets, Kind::Output) => false,
+        (Side::Puts, _) => known.put.is_none(),
+        (Side::Gets, _) => known.got.is_none(),
     }
 }
 
-// The first channel on which nobody puts, or from which nobody gets.
-fn first_without(declared: &[Declared], side: Side) -> Option<Declared> {
+// The first channel at whose end nobody is.
+fn first_without<'a>(text: &'a str, declared: &[Declared], side: Side) -> Option<Found<'a>> {
     for known in declared {
-        let is_without = match (side, known.kind) {
-            (_, Kind::Process) | (_, Kind::Variable(_)) => false,
-            (Side::Puts, Kind::Input) | (Side::Gets, Kind::Output) => false,
-            (Side::Puts, _) => known.put.is_none(),
-            (Side::Gets, _) => known.got.is_none(),
-        };
-        if is_without {
-            return Some(*known);
+        if is_without(known, side) {
+            let form = match side {
+                Side::Puts => "no process puts on % %",
+                Side::Gets => "no process gets from % %",
+            };
+            return Some(Found {
+                offset: known.start,
+                told: Told::by(form)
+                    .with(channel_words(known.kind))
+                    .with(Say::Quoted(name_at(text, known.name))),
+            });
         }
     }
     None
 }
 
-// Where the first channel is declared at which nobody is, and what is said of it.
-fn without(
-    alloc: Global,
-    text: &str,
-    side: Side,
-    nobody: &str,
-) -> Result<Option<Found>, AllocError> {
+// Where the first channel is declared at whose end nobody is.
+fn without(alloc: Global, text: &str, side: Side) -> Result<Option<Found<'_>>, AllocError> {
     let mut declared = declarations(alloc, text)?;
     let _ = first_second(text, &mut declared, None);
-    match first_without(&declared, side) {
-        Some(channel) => {
-            let name = channel_words(text, &channel);
-            let words = format!(in alloc; "{nobody} {name}");
-            Found::at(channel.first.start, words)
-        }
-        None => Ok(None),
-    }
+    Ok(first_without(text, &declared, side))
 }
 
 /// Where the first channel is declared on which nobody puts.
-pub(crate) fn without_producer(alloc: Global, text: &str) -> Result<Option<Found>, AllocError> {
-    without(alloc, text, Side::Puts, "no process puts on")
+pub(crate) fn without_producer(alloc: Global, text: &str) -> Result<Option<Found<'_>>, AllocError> {
+    without(alloc, text, Side::Puts)
 }
 
 /// Where the first channel is declared from which nobody gets.
-pub(crate) fn without_consumer(alloc: Global, text: &str) -> Result<Option<Found>, AllocError> {
-    without(alloc, text, Side::Gets, "no process gets from")
+pub(crate) fn without_consumer(alloc: Global, text: &str) -> Result<Option<Found<'_>>, AllocError> {
+    without(alloc, text, Side::Gets)
 }

@@ -1,9 +1,15 @@
-//! Words and numbers as they are shown.
+//! Words and numbers as they are shown, and what is said of a text.
 
+use net_text::MAX_NAME_BYTES;
 use std::fmt;
 
 // The most characters of a word that are shown.
 const MOST_SHOWN: usize = 40;
+
+// How many digits a number of 64 bits has at most, and what the first of them counts.
+const PLACES: u32 = 20;
+
+const GREATEST_POWER: u64 = 10_000_000_000_000_000_000;
 
 /// A number with a comma between thousands, as `57,344`.
 #[derive(Clone, Copy)]
@@ -11,44 +17,51 @@ pub struct Grouped(pub u64);
 
 impl fmt::Display for Grouped {
     fn fmt<W: fmt::Write>(&self, f: &mut fmt::Formatter<W>) -> fmt::Result {
-        let number = self.0;
-        let ones = number % 1_000;
-        let thousands = number / 1_000 % 1_000;
-        let millions = number / 1_000_000;
-        if number < 1_000 {
-            write!(f, "{number}")
-        } else if number < 1_000_000 {
-            write!(f, "{thousands},{ones:03}")
-        } else if number < 1_000_000_000 {
-            write!(f, "{millions},{thousands:03},{ones:03}")
-        } else {
-            let billions = millions / 1_000;
-            let rest = millions % 1_000;
-            write!(f, "{billions},{rest:03},{thousands:03},{ones:03}")
+        let mut power = GREATEST_POWER;
+        for place in 0..PLACES {
+            if self.0 >= power || power == 1 {
+                let digit = self.0 / power % 10;
+                write!(f, "{digit}")?;
+                if power > 1 && place % 3 == 1 {
+                    f.write_char(',')?;
+                }
+            }
+            power = (power / 10).max(1);
         }
+        Ok(())
     }
 }
 
-/// A number of things, with commas.
-pub(crate) fn with_commas(count: usize) -> Grouped {
-    Grouped(count as u64)
-}
-
-/// A number as the first, the second and so on are counted: `65th`.
+/// What is said in the place of a mark.
 #[derive(Clone, Copy)]
-pub(crate) struct Nth(pub usize);
-
-impl fmt::Display for Nth {
-    fn fmt<W: fmt::Write>(&self, f: &mut fmt::Formatter<W>) -> fmt::Result {
-        let number = self.0;
-        match (number % 10, number % 100) {
-            (_, 11) | (_, 12) | (_, 13) => write!(f, "{number}th"),
-            (1, _) => write!(f, "{number}st"),
-            (2, _) => write!(f, "{number}nd"),
-            (3, _) => write!(f, "{number}rd"),
-            _ => write!(f, "{number}th"),
-        }
-    }
+pub(crate) enum Say<'a> {
+    Nothing,
+    /// These words as they are.
+    Text(&'a str),
+    /// A word between backquotes, which is cut where it is long.
+    Quoted(&'a str),
+    /// A keyword, which is told to be one.
+    Keyword(&'a str),
+    /// A character, as it is found where it can't stand.
+    Character(char),
+    /// A byte in two digits.
+    Byte(u8),
+    /// A number with commas between thousands, and one without.
+    Count(u64),
+    Number(u64),
+    /// A number as the first, the second and so on are counted: `65th`.
+    Nth(usize),
+    /// What may stand somewhere, and from which number to which.
+    Range {
+        what: &'static str,
+        least: u64,
+        most: u64,
+    },
+    /// Where something stands: in this line, or at this column of the same line.
+    Line(usize),
+    Column(usize),
+    /// That it is a variable of the process of this name.
+    VariableOf(&'a str),
 }
 
 // A character as it may be written to a terminal.
@@ -88,11 +101,11 @@ fn name_of(character: char) -> Option<&'static str> {
     }
 }
 
-/// A character in words, as it is found where it can't stand.
+// A character in words.
 #[derive(Clone, Copy)]
-pub(crate) struct Shown(pub char);
+struct Character(char);
 
-impl fmt::Display for Shown {
+impl fmt::Display for Character {
     fn fmt<W: fmt::Write>(&self, f: &mut fmt::Formatter<W>) -> fmt::Result {
         let character = self.0;
         let code = character as u32;
@@ -102,28 +115,126 @@ impl fmt::Display for Shown {
         if character.is_control() {
             return write!(f, "the character U+{code:04X}");
         }
-        write!(f, "`{character}`")?;
         if code < 128 {
-            return Ok(());
+            return write!(f, "`{character}`");
         }
-        write!(f, " (U+{code:04X})")
+        write!(f, "`{character}` (U+{code:04X})")
     }
 }
 
-/// A text that is longer than one may be: what it is, its bytes, and how many it may have.
-#[derive(Clone, Copy)]
-pub(crate) struct TooLong {
-    pub what: &'static str,
-    pub len: usize,
-    pub most: usize,
+// The ending of a number as the first, the second and so on are counted.
+fn ending_of(number: usize) -> &'static str {
+    match (number % 10, number % 100) {
+        (_, 11) | (_, 12) | (_, 13) => "th",
+        (1, _) => "st",
+        (2, _) => "nd",
+        (3, _) => "rd",
+        _ => "th",
+    }
 }
 
-impl fmt::Display for TooLong {
+impl<'a> fmt::Display for Say<'a> {
     fn fmt<W: fmt::Write>(&self, f: &mut fmt::Formatter<W>) -> fmt::Result {
-        let what = self.what;
-        let (len, most) = (with_commas(self.len), with_commas(self.most));
-        write!(f, "{what} of {len} bytes; at most {most}")
+        match *self {
+            Say::Nothing => Ok(()),
+            Say::Text(words) => f.write_str(words),
+            Say::Quoted(word) => Quoted(word).fmt(f),
+            Say::Keyword(word) => {
+                f.write_str("the keyword ")?;
+                Quoted(word).fmt(f)
+            }
+            Say::Character(character) => Character(character).fmt(f),
+            Say::Byte(byte) => write!(f, "0x{byte:02X}"),
+            Say::Count(number) => Grouped(number).fmt(f),
+            Say::Number(number) => write!(f, "{number}"),
+            Say::Nth(number) => {
+                let ending = ending_of(number);
+                write!(f, "{number}{ending}")
+            }
+            Say::Range { what, least, most } => {
+                let (low, high) = (Grouped(least), Grouped(most));
+                write!(f, "{what} from {low} to {high}")
+            }
+            Say::Line(line) => write!(f, "in line {line}"),
+            Say::Column(column) => write!(f, "at column {column} of this line"),
+            Say::VariableOf(process) => {
+                f.write_str("a variable of the process ")?;
+                Quoted(process).fmt(f)
+            }
+        }
     }
+}
+
+/// A number of things, with commas.
+pub(crate) fn counted(count: usize) -> Say<'static> {
+    Say::Count(count as u64)
+}
+
+/// The same without commas.
+pub(crate) fn numbered(number: usize) -> Say<'static> {
+    Say::Number(number as u64)
+}
+
+// The most marks that a form has.
+const MOST_VALUES: usize = 5;
+
+/// What is said of a text: a form in which each `%` is a mark, and what is said in their places, one after another.
+#[derive(Clone, Copy)]
+pub(crate) struct Told<'a> {
+    form: &'static str,
+    values: [Say<'a>; MOST_VALUES],
+    count: usize,
+}
+
+impl<'a> Told<'a> {
+    /// A form, of whose marks nothing is said yet.
+    pub(crate) fn by(form: &'static str) -> Told<'a> {
+        let values: [Say<'a>; MOST_VALUES] = [Say::Nothing; MOST_VALUES];
+        Told {
+            form,
+            values,
+            count: 0,
+        }
+    }
+
+    /// What is said in the place of the next mark. A form has at most five.
+    pub(crate) fn with(self, value: Say<'a>) -> Told<'a> {
+        let mut told = self;
+        if told.count < MOST_VALUES {
+            told.values[told.count] = value;
+            told.count += 1;
+        }
+        told
+    }
+}
+
+impl<'a> fmt::Display for Told<'a> {
+    fn fmt<W: fmt::Write>(&self, f: &mut fmt::Formatter<W>) -> fmt::Result {
+        let mut values = self.values.iter();
+        for character in self.form.chars() {
+            if character != '%' {
+                f.write_char(character)?;
+            } else if let Some(value) = values.next() {
+                value.fmt(f)?;
+            }
+        }
+        Ok(())
+    }
+}
+
+/// What is said of a text that is longer than one may be: what it is, its bytes, and how many it may have.
+pub(crate) fn too_long(what: &'static str, len: usize, most: usize) -> Told<'static> {
+    Told::by("% of % bytes; at most %")
+        .with(Say::Text(what))
+        .with(counted(len))
+        .with(counted(most))
+}
+
+/// What is said of a name of so many bytes, which are too many.
+pub(crate) fn long_name(len: usize) -> Told<'static> {
+    Told::by("a name of % bytes; at most %")
+        .with(counted(len))
+        .with(numbered(MAX_NAME_BYTES))
 }
 
 /// Whether a text begins with the mark of its byte order, as some editors write it.
@@ -131,8 +242,8 @@ pub(crate) fn has_mark(text: &str) -> bool {
     text.as_bytes().starts_with(b"\xef\xbb\xbf")
 }
 
-/// What is said where a text has no such fault at its line.
-pub(crate) const NO_MORE: &str = "the text is refused here";
-
 /// What is said of that mark.
 pub(crate) const MARK: &str = "a byte-order mark: the text has to begin without one";
+
+/// What is said where a text has no such fault at its line.
+pub(crate) const NO_MORE: &str = "the text is refused here";

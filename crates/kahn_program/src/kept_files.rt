@@ -65,7 +65,7 @@ impl<'a, F: LineFile> FileKeeper<'a, F> {
 
     /// The outlets of a run that is over, one for each output, in order of the channels.
     pub fn into_closed(self) -> Vec<ResumedOutlet<F>>
-        ensures { result.items ≡ closed_of self }
+        ensures { result.items ≡ closed_of self.entry }
     {
         let FileKeeper { closed, .. } = self;
         closed

@@ -1,3 +1,4 @@
+use Rattle.std.proofs.lemmas.Grind.{elements}
 use Rattle.std.proofs.Common.{arith, ◌≡◌, refl, map, take, subst, List}
 use Rattle.std.proofs.lemmas.Result.{err_from_is_err_and}
 use Rattle.std.proofs.lemmas.List.{take_all}
@@ -48,3 +49,60 @@ returns-after-loop-link-clause-ok t c =
     c.deref-link-items.result.now c.in_ok-first-in-Chain.first c.in_ok-first-in-Chain-2.first c.loop-link.resolved
     c.in-Chain.is c.deref-link-items.ensures.value c.deref-in-Chain.ensures c.in_ok-first-in-Chain-2.ensures.ok
     c.in_ok-first-in-Chain.ensures.ok more
+
+pub returns-after-loop-link-clause-err : goal.returns-after-loop-link-clause-err
+returns-after-loop-link-clause-err t c = grind (arith, elements)
+
+pub returns-in-Literal-clause-err : goal.returns-in-Literal-clause-err
+returns-in-Literal-clause-err t c = grind (arith, elements)
+
+pub returns-in-Literal-clause-ok : goal.returns-in-Literal-clause-ok
+returns-in-Literal-clause-ok t c = grind (arith, elements)
+
+pub returns-in_err-first-in-Chain-2-clause-err : goal.returns-in_err-first-in-Chain-2-clause-err
+returns-in_err-first-in-Chain-2-clause-err t c = grind (arith, elements)
+
+pub returns-in_err-first-in-Chain-2-clause-ok : goal.returns-in_err-first-in-Chain-2-clause-ok
+returns-in_err-first-in-Chain-2-clause-ok t c = grind (arith, elements)
+
+pub returns-in_err-first-in-Chain-clause-ok : goal.returns-in_err-first-in-Chain-clause-ok
+returns-in_err-first-in-Chain-clause-ok t c = grind (arith, elements)
+
+pub returns-in_err-push-in-Chain-clause-err : goal.returns-in_err-push-in-Chain-clause-err
+returns-in_err-push-in-Chain-clause-err t c = grind (arith, elements)
+
+pub returns-in_err-push-in-Chain-clause-ok : goal.returns-in_err-push-in-Chain-clause-ok
+returns-in_err-push-in-Chain-clause-ok t c = grind (arith, elements)
+
+pub returns-in_err-value-in-Chain-clause-ok : goal.returns-in_err-value-in-Chain-clause-ok
+returns-in_err-value-in-Chain-clause-ok t c = grind (arith, elements)
+
+pub returns-in_err-value-in-Negate-2-clause-err : goal.returns-in_err-value-in-Negate-2-clause-err
+returns-in_err-value-in-Negate-2-clause-err t c = grind (arith, elements)
+
+pub returns-in_err-value-in-Negate-2-clause-ok : goal.returns-in_err-value-in-Negate-2-clause-ok
+returns-in_err-value-in-Negate-2-clause-ok t c = grind (arith, elements)
+
+pub returns-in_err-value-in-Negate-clause-err : goal.returns-in_err-value-in-Negate-clause-err
+returns-in_err-value-in-Negate-clause-err t c = grind (arith, elements)
+
+pub returns-in_err-value-in-Negate-clause-ok : goal.returns-in_err-value-in-Negate-clause-ok
+returns-in_err-value-in-Negate-clause-ok t c = grind (arith, elements)
+
+pub returns-in_err-variable-in-Variable-clause-err : goal.returns-in_err-variable-in-Variable-clause-err
+returns-in_err-variable-in-Variable-clause-err t c = grind (arith, elements)
+
+pub returns-in_err-variable-in-Variable-clause-ok : goal.returns-in_err-variable-in-Variable-clause-ok
+returns-in_err-variable-in-Variable-clause-ok t c = grind (arith, elements)
+
+pub returns-in_ok-value-in-Negate-2-clause-err : goal.returns-in_ok-value-in-Negate-2-clause-err
+returns-in_ok-value-in-Negate-2-clause-err t c = grind (arith, elements)
+
+pub returns-in_ok-value-in-Negate-2-clause-ok : goal.returns-in_ok-value-in-Negate-2-clause-ok
+returns-in_ok-value-in-Negate-2-clause-ok t c = grind (arith, elements)
+
+pub returns-in_ok-variable-in-Variable-clause-err : goal.returns-in_ok-variable-in-Variable-clause-err
+returns-in_ok-variable-in-Variable-clause-err t c = grind (arith, elements)
+
+pub returns-in_ok-variable-in-Variable-clause-ok : goal.returns-in_ok-variable-in-Variable-clause-ok
+returns-in_ok-variable-in-Variable-clause-ok t c = grind (arith, elements)

@@ -1,3 +1,4 @@
+use Rattle.std.proofs.lemmas.Grind.{elements}
 use Rattle.std.proofs.Common.{[], ◌∷◌, ◌∙◌, ap, arith, List}
 use Rattle.std.proofs.lemmas.Result.{err_from_is_err_and}
 use Rattle.net_text.specs.Trees.{expr_tree}
@@ -135,3 +136,186 @@ pub resolve_statement-returns-in_ok-body-in-Repeat-clause-gets : goal.resolve_st
 resolve_statement-returns-in_ok-body-in-Repeat-clause-gets t c =
     claims_same _ _ _ _ _ _ _ (λ k. repeat_gets k c.in-Repeat.times c.in_ok-body-in-Repeat.body)
     c.in_ok-body-in-Repeat.ensures.gets
+
+pub resolve_statement-returns-in-Stop-clause-err : goal.resolve_statement-returns-in-Stop-clause-err
+resolve_statement-returns-in-Stop-clause-err t c = grind (arith, elements)
+
+pub resolve_statement-returns-in-Stop-clause-gets : goal.resolve_statement-returns-in-Stop-clause-gets
+resolve_statement-returns-in-Stop-clause-gets t c = grind (arith, elements)
+
+pub resolve_statement-returns-in-Stop-clause-ok : goal.resolve_statement-returns-in-Stop-clause-ok
+resolve_statement-returns-in-Stop-clause-ok t c = grind (arith, elements)
+
+pub resolve_statement-returns-in-Stop-clause-puts : goal.resolve_statement-returns-in-Stop-clause-puts
+resolve_statement-returns-in-Stop-clause-puts t c = grind (arith, elements)
+
+pub resolve_statement-returns-in_err-body-in-Repeat-clause-gets : goal.resolve_statement-returns-in_err-body-in-Repeat-clause-gets
+resolve_statement-returns-in_err-body-in-Repeat-clause-gets t c = grind (arith, elements)
+
+pub resolve_statement-returns-in_err-body-in-Repeat-clause-ok : goal.resolve_statement-returns-in_err-body-in-Repeat-clause-ok
+resolve_statement-returns-in_err-body-in-Repeat-clause-ok t c = grind (arith, elements)
+
+pub resolve_statement-returns-in_err-body-in-Repeat-clause-puts : goal.resolve_statement-returns-in_err-body-in-Repeat-clause-puts
+resolve_statement-returns-in_err-body-in-Repeat-clause-puts t c = grind (arith, elements)
+
+pub resolve_statement-returns-in_err-channel-in-Get-clause-gets : goal.resolve_statement-returns-in_err-channel-in-Get-clause-gets
+resolve_statement-returns-in_err-channel-in-Get-clause-gets t c = grind (arith, elements)
+
+pub resolve_statement-returns-in_err-channel-in-Get-clause-ok : goal.resolve_statement-returns-in_err-channel-in-Get-clause-ok
+resolve_statement-returns-in_err-channel-in-Get-clause-ok t c = grind (arith, elements)
+
+pub resolve_statement-returns-in_err-channel-in-Get-clause-puts : goal.resolve_statement-returns-in_err-channel-in-Get-clause-puts
+resolve_statement-returns-in_err-channel-in-Get-clause-puts t c = grind (arith, elements)
+
+pub resolve_statement-returns-in_err-channel-in-Put-clause-gets : goal.resolve_statement-returns-in_err-channel-in-Put-clause-gets
+resolve_statement-returns-in_err-channel-in-Put-clause-gets t c = grind (arith, elements)
+
+pub resolve_statement-returns-in_err-channel-in-Put-clause-ok : goal.resolve_statement-returns-in_err-channel-in-Put-clause-ok
+resolve_statement-returns-in_err-channel-in-Put-clause-ok t c = grind (arith, elements)
+
+pub resolve_statement-returns-in_err-channel-in-Put-clause-puts : goal.resolve_statement-returns-in_err-channel-in-Put-clause-puts
+resolve_statement-returns-in_err-channel-in-Put-clause-puts t c = grind (arith, elements)
+
+pub resolve_statement-returns-in_err-first-in-If-clause-gets : goal.resolve_statement-returns-in_err-first-in-If-clause-gets
+resolve_statement-returns-in_err-first-in-If-clause-gets t c = grind (arith, elements)
+
+pub resolve_statement-returns-in_err-first-in-If-clause-ok : goal.resolve_statement-returns-in_err-first-in-If-clause-ok
+resolve_statement-returns-in_err-first-in-If-clause-ok t c = grind (arith, elements)
+
+pub resolve_statement-returns-in_err-first-in-If-clause-puts : goal.resolve_statement-returns-in_err-first-in-If-clause-puts
+resolve_statement-returns-in_err-first-in-If-clause-puts t c = grind (arith, elements)
+
+pub resolve_statement-returns-in_err-second-in-If-clause-gets : goal.resolve_statement-returns-in_err-second-in-If-clause-gets
+resolve_statement-returns-in_err-second-in-If-clause-gets t c = grind (arith, elements)
+
+pub resolve_statement-returns-in_err-second-in-If-clause-ok : goal.resolve_statement-returns-in_err-second-in-If-clause-ok
+resolve_statement-returns-in_err-second-in-If-clause-ok t c = grind (arith, elements)
+
+pub resolve_statement-returns-in_err-second-in-If-clause-puts : goal.resolve_statement-returns-in_err-second-in-If-clause-puts
+resolve_statement-returns-in_err-second-in-If-clause-puts t c = grind (arith, elements)
+
+pub resolve_statement-returns-in_err-test-in-If-clause-gets : goal.resolve_statement-returns-in_err-test-in-If-clause-gets
+resolve_statement-returns-in_err-test-in-If-clause-gets t c = grind (arith, elements)
+
+pub resolve_statement-returns-in_err-test-in-If-clause-ok : goal.resolve_statement-returns-in_err-test-in-If-clause-ok
+resolve_statement-returns-in_err-test-in-If-clause-ok t c = grind (arith, elements)
+
+pub resolve_statement-returns-in_err-test-in-If-clause-puts : goal.resolve_statement-returns-in_err-test-in-If-clause-puts
+resolve_statement-returns-in_err-test-in-If-clause-puts t c = grind (arith, elements)
+
+pub resolve_statement-returns-in_err-value-in-Assign-clause-gets : goal.resolve_statement-returns-in_err-value-in-Assign-clause-gets
+resolve_statement-returns-in_err-value-in-Assign-clause-gets t c = grind (arith, elements)
+
+pub resolve_statement-returns-in_err-value-in-Assign-clause-ok : goal.resolve_statement-returns-in_err-value-in-Assign-clause-ok
+resolve_statement-returns-in_err-value-in-Assign-clause-ok t c = grind (arith, elements)
+
+pub resolve_statement-returns-in_err-value-in-Assign-clause-puts : goal.resolve_statement-returns-in_err-value-in-Assign-clause-puts
+resolve_statement-returns-in_err-value-in-Assign-clause-puts t c = grind (arith, elements)
+
+pub resolve_statement-returns-in_err-value-in-Put-clause-gets : goal.resolve_statement-returns-in_err-value-in-Put-clause-gets
+resolve_statement-returns-in_err-value-in-Put-clause-gets t c = grind (arith, elements)
+
+pub resolve_statement-returns-in_err-value-in-Put-clause-ok : goal.resolve_statement-returns-in_err-value-in-Put-clause-ok
+resolve_statement-returns-in_err-value-in-Put-clause-ok t c = grind (arith, elements)
+
+pub resolve_statement-returns-in_err-value-in-Put-clause-puts : goal.resolve_statement-returns-in_err-value-in-Put-clause-puts
+resolve_statement-returns-in_err-value-in-Put-clause-puts t c = grind (arith, elements)
+
+pub resolve_statement-returns-in_err-variable-in-Assign-clause-err : goal.resolve_statement-returns-in_err-variable-in-Assign-clause-err
+resolve_statement-returns-in_err-variable-in-Assign-clause-err t c = grind (arith, elements)
+
+pub resolve_statement-returns-in_err-variable-in-Assign-clause-gets : goal.resolve_statement-returns-in_err-variable-in-Assign-clause-gets
+resolve_statement-returns-in_err-variable-in-Assign-clause-gets t c = grind (arith, elements)
+
+pub resolve_statement-returns-in_err-variable-in-Assign-clause-ok : goal.resolve_statement-returns-in_err-variable-in-Assign-clause-ok
+resolve_statement-returns-in_err-variable-in-Assign-clause-ok t c = grind (arith, elements)
+
+pub resolve_statement-returns-in_err-variable-in-Assign-clause-puts : goal.resolve_statement-returns-in_err-variable-in-Assign-clause-puts
+resolve_statement-returns-in_err-variable-in-Assign-clause-puts t c = grind (arith, elements)
+
+pub resolve_statement-returns-in_err-variable-in-Get-clause-err : goal.resolve_statement-returns-in_err-variable-in-Get-clause-err
+resolve_statement-returns-in_err-variable-in-Get-clause-err t c = grind (arith, elements)
+
+pub resolve_statement-returns-in_err-variable-in-Get-clause-gets : goal.resolve_statement-returns-in_err-variable-in-Get-clause-gets
+resolve_statement-returns-in_err-variable-in-Get-clause-gets t c = grind (arith, elements)
+
+pub resolve_statement-returns-in_err-variable-in-Get-clause-ok : goal.resolve_statement-returns-in_err-variable-in-Get-clause-ok
+resolve_statement-returns-in_err-variable-in-Get-clause-ok t c = grind (arith, elements)
+
+pub resolve_statement-returns-in_err-variable-in-Get-clause-puts : goal.resolve_statement-returns-in_err-variable-in-Get-clause-puts
+resolve_statement-returns-in_err-variable-in-Get-clause-puts t c = grind (arith, elements)
+
+pub resolve_statement-returns-in_ok-body-in-Repeat-clause-err : goal.resolve_statement-returns-in_ok-body-in-Repeat-clause-err
+resolve_statement-returns-in_ok-body-in-Repeat-clause-err t c = grind (arith, elements)
+
+pub resolve_statement-returns-in_ok-channel-in-Get-clause-err : goal.resolve_statement-returns-in_ok-channel-in-Get-clause-err
+resolve_statement-returns-in_ok-channel-in-Get-clause-err t c = grind (arith, elements)
+
+pub resolve_statement-returns-in_ok-channel-in-Get-clause-gets : goal.resolve_statement-returns-in_ok-channel-in-Get-clause-gets
+resolve_statement-returns-in_ok-channel-in-Get-clause-gets t c = grind (arith, elements)
+
+pub resolve_statement-returns-in_ok-channel-in-Get-clause-ok : goal.resolve_statement-returns-in_ok-channel-in-Get-clause-ok
+resolve_statement-returns-in_ok-channel-in-Get-clause-ok t c = grind (arith, elements)
+
+pub resolve_statement-returns-in_ok-channel-in-Get-clause-puts : goal.resolve_statement-returns-in_ok-channel-in-Get-clause-puts
+resolve_statement-returns-in_ok-channel-in-Get-clause-puts t c = grind (arith, elements)
+
+pub resolve_statement-returns-in_ok-channel-in-Put-clause-err : goal.resolve_statement-returns-in_ok-channel-in-Put-clause-err
+resolve_statement-returns-in_ok-channel-in-Put-clause-err t c = grind (arith, elements)
+
+pub resolve_statement-returns-in_ok-channel-in-Put-clause-gets : goal.resolve_statement-returns-in_ok-channel-in-Put-clause-gets
+resolve_statement-returns-in_ok-channel-in-Put-clause-gets t c = grind (arith, elements)
+
+pub resolve_statement-returns-in_ok-channel-in-Put-clause-ok : goal.resolve_statement-returns-in_ok-channel-in-Put-clause-ok
+resolve_statement-returns-in_ok-channel-in-Put-clause-ok t c = grind (arith, elements)
+
+pub resolve_statement-returns-in_ok-channel-in-Put-clause-puts : goal.resolve_statement-returns-in_ok-channel-in-Put-clause-puts
+resolve_statement-returns-in_ok-channel-in-Put-clause-puts t c = grind (arith, elements)
+
+pub resolve_statement-returns-in_ok-second-in-If-clause-err : goal.resolve_statement-returns-in_ok-second-in-If-clause-err
+resolve_statement-returns-in_ok-second-in-If-clause-err t c = grind (arith, elements)
+
+pub resolve_statement-returns-in_ok-value-in-Assign-clause-err : goal.resolve_statement-returns-in_ok-value-in-Assign-clause-err
+resolve_statement-returns-in_ok-value-in-Assign-clause-err t c = grind (arith, elements)
+
+pub resolve_statement-returns-in_ok-value-in-Assign-clause-gets : goal.resolve_statement-returns-in_ok-value-in-Assign-clause-gets
+resolve_statement-returns-in_ok-value-in-Assign-clause-gets t c = grind (arith, elements)
+
+pub resolve_statement-returns-in_ok-value-in-Assign-clause-ok : goal.resolve_statement-returns-in_ok-value-in-Assign-clause-ok
+resolve_statement-returns-in_ok-value-in-Assign-clause-ok t c = grind (arith, elements)
+
+pub resolve_statement-returns-in_ok-value-in-Assign-clause-puts : goal.resolve_statement-returns-in_ok-value-in-Assign-clause-puts
+resolve_statement-returns-in_ok-value-in-Assign-clause-puts t c = grind (arith, elements)
+
+pub resolve_statements-returns-clause-err : goal.resolve_statements-returns-clause-err
+resolve_statements-returns-clause-err t c = grind (arith, elements)
+
+pub resolve_statements-returns-clause-gets : goal.resolve_statements-returns-clause-gets
+resolve_statements-returns-clause-gets t c = grind (arith, elements)
+
+pub resolve_statements-returns-clause-ok : goal.resolve_statements-returns-clause-ok
+resolve_statements-returns-clause-ok t c = grind (arith, elements)
+
+pub resolve_statements-returns-clause-puts : goal.resolve_statements-returns-clause-puts
+resolve_statements-returns-clause-puts t c = grind (arith, elements)
+
+pub resolve_statements-returns-in_err-next-clause-gets : goal.resolve_statements-returns-in_err-next-clause-gets
+resolve_statements-returns-in_err-next-clause-gets t c = grind (arith, elements)
+
+pub resolve_statements-returns-in_err-next-clause-ok : goal.resolve_statements-returns-in_err-next-clause-ok
+resolve_statements-returns-in_err-next-clause-ok t c = grind (arith, elements)
+
+pub resolve_statements-returns-in_err-next-clause-puts : goal.resolve_statements-returns-in_err-next-clause-puts
+resolve_statements-returns-in_err-next-clause-puts t c = grind (arith, elements)
+
+pub resolve_statements-returns-in_err-push-clause-err : goal.resolve_statements-returns-in_err-push-clause-err
+resolve_statements-returns-in_err-push-clause-err t c = grind (arith, elements)
+
+pub resolve_statements-returns-in_err-push-clause-gets : goal.resolve_statements-returns-in_err-push-clause-gets
+resolve_statements-returns-in_err-push-clause-gets t c = grind (arith, elements)
+
+pub resolve_statements-returns-in_err-push-clause-ok : goal.resolve_statements-returns-in_err-push-clause-ok
+resolve_statements-returns-in_err-push-clause-ok t c = grind (arith, elements)
+
+pub resolve_statements-returns-in_err-push-clause-puts : goal.resolve_statements-returns-in_err-push-clause-puts
+resolve_statements-returns-in_err-push-clause-puts t c = grind (arith, elements)

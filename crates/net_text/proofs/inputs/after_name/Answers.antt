@@ -1,3 +1,5 @@
+use Rattle.std.proofs.lemmas.Grind.{elements}
+use Rattle.net_text.specs.InputReading.{after_name}
 use Rattle.std.proofs.Common.{◌≡◌, ℕ, List, suc, length, take, drop, get_or, ap, sym, ◌∙◌, arith, add-one}
 use Rattle.std.proofs.lemmas.Result.{err_from_is_err_and}
 use Rattle.net_text.specs.Spellings.{continues_word}
@@ -54,3 +56,11 @@ returns c =
     after_name_done c.args.line c.args.len c.args.text.now c.split_at-2.result.1.now c.new-name.result
     c.in_ok-items.items.items (let h = c.if-len-gt-MAX_NAME_BYTES.false in omega arith) some colon rest
     c.in_ok-items.ensures name
+
+pub returns-in_err-from_str : goal.returns-in_err-from_str
+unfolding after_name
+returns-in_err-from_str c = grind (arith, elements)
+
+pub returns-then-len-bytes : goal.returns-then-len-bytes
+unfolding after_name
+returns-then-len-bytes c = grind (arith, elements)

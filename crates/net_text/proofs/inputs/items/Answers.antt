@@ -1,3 +1,5 @@
+use Rattle.std.proofs.lemmas.Grind.{elements}
+use Rattle.net_text.specs.InputReading.{items_at}
 use Rattle.std.proofs.Common.{◌≡◌, ◌++◌, ◌∷◌, [], ℕ, ℤ, List, length, drop, ap, sym, ◌∙◌, arith, rules, length-drop}
 use Rattle.std.proofs.Common.{w64, FitsSigned}
 use Rattle.std.proofs.lemmas.Int.{to_z-of_z}
@@ -36,3 +38,15 @@ items-preserved c =
     let pushed : c.push.new.self.items ≡ c.items.items.items ++ c.in_ok-found.found ∷ [] =
     c.in_ok-push.ensures.items ∙ ap (λ (z : ℤ). c.items.items.items ++ z ∷ []) (to_z-of_z w64 _ f) in
     record { found = rw pushed (sym more ∙ c.items.invariant.found); text = c.in_ok-found.ensures.text }
+
+pub returns-in_err-found : goal.returns-in_err-found
+unfolding items_at
+returns-in_err-found c = grind (arith, elements)
+
+pub returns-in_err-push : goal.returns-in_err-push
+unfolding items_at
+returns-in_err-push c = grind (arith, elements)
+
+pub returns-then-gap-eq0 : goal.returns-then-gap-eq0
+unfolding items_at
+returns-then-gap-eq0 c = grind (arith, elements)

@@ -1,3 +1,4 @@
+use Rattle.std.proofs.lemmas.Grind.{elements}
 use Rattle.std.proofs.Common.{◌≡◌, ap, ◌∙◌, map, arith}
 use Rattle.std.proofs.lemmas.Result.{err_from_is_err_and}
 use Rattle.std.specs.Str.Lines.{strip_carriage_return}
@@ -62,3 +63,33 @@ returns-clause-each c =
     (lines_are (λ part. part.now) c.deref.result.now c.args.text.now
     (ap (map (λ part. part.now)) parts ∙ c.in_ok-parts.ensures)) (omega arith) c.in_ok-lines.ensures in
     λ fault is. read_no_fault c.args.text.now (map input_tree c.in_ok-lines.lines.items) fault read is
+
+pub returns-clause-err : goal.returns-clause-err
+returns-clause-err c = grind (arith, elements)
+
+pub returns-in_err-lines-clause-ok : goal.returns-in_err-lines-clause-ok
+returns-in_err-lines-clause-ok c = grind (arith, elements)
+
+pub returns-in_err-parts-clause-each : goal.returns-in_err-parts-clause-each
+returns-in_err-parts-clause-each c = grind (arith, elements)
+
+pub returns-in_err-parts-clause-err : goal.returns-in_err-parts-clause-err
+returns-in_err-parts-clause-err c = grind (arith, elements)
+
+pub returns-in_err-parts-clause-ok : goal.returns-in_err-parts-clause-ok
+returns-in_err-parts-clause-ok c = grind (arith, elements)
+
+pub returns-in_err-parts-clause-only : goal.returns-in_err-parts-clause-only
+returns-in_err-parts-clause-only c = grind (arith, elements)
+
+pub returns-then-text-gt-MAX_INPUTS_BYTES-clause-each : goal.returns-then-text-gt-MAX_INPUTS_BYTES-clause-each
+returns-then-text-gt-MAX_INPUTS_BYTES-clause-each c = grind (arith, elements)
+
+pub returns-then-text-gt-MAX_INPUTS_BYTES-clause-err : goal.returns-then-text-gt-MAX_INPUTS_BYTES-clause-err
+returns-then-text-gt-MAX_INPUTS_BYTES-clause-err c = grind (arith, elements)
+
+pub returns-then-text-gt-MAX_INPUTS_BYTES-clause-ok : goal.returns-then-text-gt-MAX_INPUTS_BYTES-clause-ok
+returns-then-text-gt-MAX_INPUTS_BYTES-clause-ok c = grind (arith, elements)
+
+pub returns-then-text-gt-MAX_INPUTS_BYTES-clause-only : goal.returns-then-text-gt-MAX_INPUTS_BYTES-clause-only
+returns-then-text-gt-MAX_INPUTS_BYTES-clause-only c = grind (arith, elements)

@@ -1,3 +1,4 @@
+use Rattle.std.proofs.lemmas.Grind.{elements}
 use Rattle.std.proofs.Common.{◌≡◌, ◌≤◌, List, ℕ, ap, sym, ◌∙◌, subst, arith, length, take, drop, length-drop, false-eqb}
 use Rattle.net_text.specs.Spellings.{IsShape, IsPastLimit}
 use Rattle.net_text.proofs.Steps.{lexeme_begins, lexeme_ends, slice_is, past_limit}
@@ -45,3 +46,21 @@ returns-in-Err-clause-err c =
     subst (λ (t : List ℕ). IsPastLimit t c.after_gap-start.result.1 c.in-Err.fault) text c.in-Err.ensures.err in
     past_limit c.args.source.now c.args.place c.after_gap-start.result.0 c.after_gap-start.result.1 c.in-Some.len
     c.in-Err.fault (rw c.as_bytes-bytes.ensures.value at c.after_gap-start.ensures) (omega arith) found.1 past
+
+pub returns-in-Err-clause-ok : goal.returns-in-Err-clause-ok
+returns-in-Err-clause-ok c = grind (arith, elements)
+
+pub returns-in-Ok-clause-err : goal.returns-in-Ok-clause-err
+returns-in-Ok-clause-err c = grind (arith, elements)
+
+pub returns-in_default-clause-err : goal.returns-in_default-clause-err
+returns-in_default-clause-err c = grind (arith, elements)
+
+pub returns-in_default-clause-ok : goal.returns-in_default-clause-ok
+returns-in_default-clause-ok c = grind (arith, elements)
+
+pub returns-then-is_empty-clause-err : goal.returns-then-is_empty-clause-err
+returns-then-is_empty-clause-err c = grind (arith, elements)
+
+pub returns-then-is_empty-clause-ok : goal.returns-then-is_empty-clause-ok
+returns-then-is_empty-clause-ok c = grind (arith, elements)

@@ -1,3 +1,4 @@
+use Rattle.std.proofs.lemmas.Grind.{elements}
 use Rattle.std.proofs.Common.{◌≡◌, Ok, List, sym, ap, subst, ◌∙◌, arith}
 use Rattle.net_text.specs.Trees.{net_tree}
 use Rattle.net_text.specs.Tokens.{Lexeme, lexemes, IsReading}
@@ -76,3 +77,48 @@ returns-in-Ok-clause-each c =
 
 pub returns-clause-each : goal.returns-clause-each
 returns-clause-each c = λ fault h. one_parse_fault c.args.text.now c.fault_at.result (returns-clause-err c) fault h
+
+pub returns-clause-ok : goal.returns-clause-ok
+returns-clause-ok c = grind (arith, elements)
+
+pub returns-in-Err-NoMemory-clause-each : goal.returns-in-Err-NoMemory-clause-each
+returns-in-Err-NoMemory-clause-each c = grind (arith, elements)
+
+pub returns-in-Err-NoMemory-clause-err : goal.returns-in-Err-NoMemory-clause-err
+returns-in-Err-NoMemory-clause-err c = grind (arith, elements)
+
+pub returns-in-Err-NoMemory-clause-ok : goal.returns-in-Err-NoMemory-clause-ok
+returns-in-Err-NoMemory-clause-ok c = grind (arith, elements)
+
+pub returns-in-Err-NoMemory-clause-only : goal.returns-in-Err-NoMemory-clause-only
+returns-in-Err-NoMemory-clause-only c = grind (arith, elements)
+
+pub returns-in-Ok-clause-ok : goal.returns-in-Ok-clause-ok
+returns-in-Ok-clause-ok c = grind (arith, elements)
+
+pub returns-in-Text-clause-err : goal.returns-in-Text-clause-err
+returns-in-Text-clause-err c = grind (arith, elements)
+
+pub returns-in_err-reading-clause-each : goal.returns-in_err-reading-clause-each
+returns-in_err-reading-clause-each c = grind (arith, elements)
+
+pub returns-in_err-reading-clause-err : goal.returns-in_err-reading-clause-err
+returns-in_err-reading-clause-err c = grind (arith, elements)
+
+pub returns-in_err-reading-clause-ok : goal.returns-in_err-reading-clause-ok
+returns-in_err-reading-clause-ok c = grind (arith, elements)
+
+pub returns-in_err-reading-clause-only : goal.returns-in_err-reading-clause-only
+returns-in_err-reading-clause-only c = grind (arith, elements)
+
+pub returns-then-text-gt-MAX_TEXT_BYTES-clause-each : goal.returns-then-text-gt-MAX_TEXT_BYTES-clause-each
+returns-then-text-gt-MAX_TEXT_BYTES-clause-each c = grind (arith, elements)
+
+pub returns-then-text-gt-MAX_TEXT_BYTES-clause-err : goal.returns-then-text-gt-MAX_TEXT_BYTES-clause-err
+returns-then-text-gt-MAX_TEXT_BYTES-clause-err c = grind (arith, elements)
+
+pub returns-then-text-gt-MAX_TEXT_BYTES-clause-ok : goal.returns-then-text-gt-MAX_TEXT_BYTES-clause-ok
+returns-then-text-gt-MAX_TEXT_BYTES-clause-ok c = grind (arith, elements)
+
+pub returns-then-text-gt-MAX_TEXT_BYTES-clause-only : goal.returns-then-text-gt-MAX_TEXT_BYTES-clause-only
+returns-then-text-gt-MAX_TEXT_BYTES-clause-only c = grind (arith, elements)
