@@ -20,7 +20,7 @@ impl fmt::Display for Grouped {
         let mut power = GREATEST_POWER;
         for place in 0..PLACES {
             if self.0 >= power || power == 1 {
-                let digit = self.0 / power % 10;
+                let digit = self.0.checked_div(power).unwrap_or(0) % 10;
                 write!(f, "{digit}")?;
                 if power > 1 && place % 3 == 1 {
                     f.write_char(',')?;
@@ -53,7 +53,7 @@ pub(crate) enum Say<'a> {
     Nth(usize),
     /// What may stand somewhere, and from which number to which.
     Range {
-        what: &'static str,
+        what: &'a str,
         least: u64,
         most: u64,
     },
