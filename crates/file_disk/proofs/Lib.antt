@@ -4,3 +4,4 @@ mod Rewrites
 mod Goes
 mod Keeping
 mod Asking
+pub mod ByCalls

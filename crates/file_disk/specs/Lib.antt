@@ -1,6 +1,6 @@
 pub mod History
 pub mod FileLog
-pub mod Told
 pub mod HostFile
 pub mod InStep
+pub mod Told
 pub mod FileDisk
