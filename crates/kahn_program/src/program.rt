@@ -766,7 +766,7 @@ fn tell_stop<H: Host>(
     let Ok(line) = format!(in alloc; "{failure}\n") else {
         return 1;
     };
-    if tell::<H, Accepted>(host, names, &line.into_bytes()).is_err() {
+    if let Err(_) = tell::<H, Accepted>(host, names, &line.into_bytes()) {
         return 1;
     }
     let words = if options.explain { words } else { None };
