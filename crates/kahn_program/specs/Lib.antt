@@ -10,3 +10,4 @@ pub mod Statuses
 pub mod Runs
 pub mod Scripts
 pub mod Program
+pub mod Causes

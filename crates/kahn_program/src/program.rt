@@ -1,12 +1,15 @@
 //! The whole program over its host.
 
-ghost use Rattle.std.specs.Prelude.{Bool, ◌≡◌, ◌++◌, ◌≤◌, [], IfOk, OnOk, Ok, Some, codes, length, map, string_bytes};
+ghost use Rattle.std.specs.Prelude.{Bool, ◌≡◌, ◌++◌, ◌≤◌, [], IfErr, IfOk, OnOk, Ok, Some, codes, length, map, string_bytes};
 ghost use Rattle.std.specs.Option.{option_map};
-ghost use Rattle.host.specs.Requests.{Each, Has, IsFree, Read, Said};
+ghost use Rattle.host.specs.Requests.{Each, Has, IsFree, Read, Said, Told};
 ghost use Rattle.protocol.specs.Node.Common.{Fits, MAX_NODES, network_of, node_count};
 ghost use Rattle.cobaltmidge.specs.Texts.{AreInputsOf, IsNetOf};
 ghost use Rattle.fail_script.specs.Lines.{IsScript};
 ghost use Rattle.kahn_program.specs.Program.{IsAccepted, IsOpenIfAsked, IsWrittenIfAsked, Keeps, asked_files, file_names, given_of, name_if_output, AreKept, AreKeptIn, HasReport, IsDone};
+ghost use Rattle.kahn_program.specs.Causes.{HasCause, IsNoText, IsRefused, IsScriptStop, IsUnread};
+ghost use Rattle.kahn_program.specs.Failures.{failure_line, status_of};
+ghost use Rattle.kahn_program.specs.Readings.{IsInputsFailure, IsNetFailure, IsScriptFailure};
 ghost use Rattle.kahn_program.specs.Runs.{IsReport};
 ghost use Rattle.kahn_program.specs.Scripts.{AreLinesOf};
 ghost use Rattle.kahn_program.specs.Statuses.{status_of_run};
@@ -59,6 +62,11 @@ pub struct Stop {
 }
 
 impl From<AllocError> for Stop {
+    ghost use Rattle.kahn_program.specs.declared.failure.Failure.TheVariants.{NoMemory};
+    ghost use Rattle.std.specs.Prelude.{◌≡◌};
+
+    ghost from_gives = { λ _ stop. stop.failure ≡ NoMemory };
+
     fn from(_: AllocError) -> Self {
         Stop {
             failure: Failure::NoMemory,
@@ -68,6 +76,10 @@ impl From<AllocError> for Stop {
 }
 
 impl From<Failure> for Stop {
+    ghost use Rattle.std.specs.Prelude.{◌≡◌};
+
+    ghost from_gives = { λ failure stop. stop.failure ≡ failure };
+
     fn from(failure: Failure) -> Self {
         Stop {
             failure,
@@ -77,6 +89,10 @@ impl From<Failure> for Stop {
 }
 
 impl From<Refused> for Stop {
+    ghost use Rattle.kahn_program.specs.Causes.{IsNoText};
+
+    ghost from_gives = { λ _ stop. IsNoText stop.failure };
+
     fn from(refused: Refused) -> Self {
         Stop {
             failure: match refused.fault {
@@ -158,6 +174,7 @@ fn read_bytes<H: Host>(
 ) -> Result<Vec<u8>, Stop>
     ensures goes { GoesOn IsAccepted (wanted_of names.now) (H.asked host.old) (H.asked host.new) }
     ensures read { IfOk result (λ bytes. Has (Read (string_bytes path.now) (Ok bytes.items)) (H.asked host.new)) }
+    ensures unread { IfErr result (λ stop. IsUnread source (string_bytes path.now) (H.asked host.new) stop.failure) }
 {
     match read::<H, Accepted>(host, names, path) {
         Ok(bytes) => Ok(bytes),
@@ -185,7 +202,9 @@ fn refused_text(
     net: &[u8],
     inputs: Option<&[u8]>,
     script: Option<&[u8]>,
-) -> Stop {
+) -> Stop
+    ensures { result.failure ≡ failure }
+{
     let words = if options.explain {
         explanation(alloc, options, Some(net), inputs, script).unwrap_or(None)
     } else {
@@ -196,7 +215,8 @@ fn refused_text(
 
 // The network of a text.
 fn net_of(alloc: Global, options: &Options, net: &Vec<u8>) -> Result<Net, Stop>
-    ensures { IfOk result (IsNetOf net.now.items) }
+    ensures net { IfOk result (IsNetOf net.now.items) }
+    ensures cause { IfErr result (λ stop. IsNetFailure (Some net.now.items) stop.failure) }
 {
     match read_net(alloc, Some(net.as_slice())) {
         Ok(net) => Ok(net),
@@ -214,6 +234,7 @@ fn inputs_of(
 ) -> Result<Inputs, Stop>
     ensures inputs { IfOk result (AreInputsOf inputs.now.items net.now) }
     ensures fitting { IfOk result (Fits (network_of net.now.program)) }
+    ensures cause { IfErr result (λ stop. IsInputsFailure net.now (Some inputs.now.items) stop.failure) }
 {
     match read_inputs(alloc, Some(inputs.as_slice()), net) {
         Ok(inputs) => Ok(inputs),
@@ -234,7 +255,8 @@ fn lines_of(
     nodes: usize,
 ) -> Result<Vec<ScriptLine>, Stop>
     requires { nodes ≤ MAX_NODES }
-    ensures { IfOk result (λ lines. IsScript nodes script.now.items lines.items) }
+    ensures lines { IfOk result (λ lines. IsScript nodes script.now.items lines.items) }
+    ensures cause { IfErr result (λ stop. IsScriptFailure nodes (Some script.now.items) stop.failure) }
 {
     match read_script(alloc, Some(script.as_slice()), nodes as u8) {
         Ok(Script { lines }) => Ok(lines),
@@ -261,6 +283,7 @@ fn read_lines<H: Host>(
         (option_map (λ bytes. bytes.items) script.0) (H.asked host.new)) }
     ensures lines { IfOk result (λ script. AreLinesOf names.now.script nodes
         (option_map (λ bytes. bytes.items) script.0) script.1.items) }
+    ensures cause { IfErr result (λ stop. IsScriptStop (wanted_of names.now).script nodes (H.asked host.new) stop.failure) }
 {
     match &names.script {
         Some(path) => {
@@ -295,6 +318,7 @@ fn read_all<H: Host>(
     ensures fitting { IfOk result (λ all. Fits (network_of all.net.program) all.inputs) }
     ensures lines { IfOk result (λ all. AreLinesOf names.now.script (node_count (network_of all.net.program))
         (given_of all.texts).script all.lines.items) }
+    ensures cause { IfErr result (λ stop. HasCause (wanted_of names.now) (H.asked host.new) stop.failure) }
 {
     let net_text = read_bytes(host, alloc, names, Source::Net, &names.net)?;
     let net = net_of(alloc, options, &net_text)?;
@@ -393,6 +417,7 @@ fn open_if_asked<H: Host>(
     requires { IsReady IsAccepted (wanted_of names.now) (H.asked host.old) }
     ensures goes { GoesOn IsAccepted (wanted_of names.now) (H.asked host.old) (H.asked host.new) }
     ensures open { IfOk result (λ history. IsOpenIfAsked H.path_of (wanted_of names.now).history history (H.asked host.new)) }
+    ensures cause { IfErr result (λ stop. IsNoText stop.failure) }
 {
     match &names.history {
         Some(path) => Ok(Some(open_history::<H, Accepted>(host, alloc, names, path)?)),
@@ -412,6 +437,7 @@ fn finish_if_asked<H: Host>(
     requires open { IsOpenIfAsked H.path_of (wanted_of names.now).history history (H.asked host.old) }
     ensures goes { GoesOn IsAccepted (wanted_of names.now) (H.asked host.old) (H.asked host.new) }
     ensures written { OnOk result (IsWrittenIfAsked (wanted_of names.now).history (H.asked host.new) happened.now.items) }
+    ensures cause { IfErr result (λ stop. IsNoText stop.failure) }
 {
     match (&names.history, history) {
         (Some(path), Some(history)) => {
@@ -455,6 +481,7 @@ fn run_over<
     ensures report { IfOk result (λ report. IsReport (K.has_kept keeper.new)
         (IsWrittenIfAsked (wanted_of names.now).history (H.asked host.new)) options.now asked.entry.net asked.entry.inputs
         (map scripted_of asked.entry.lines.items) report.bytes.items report.complete) }
+    ensures cause { IfErr result (λ stop. IsNoText stop.failure) }
 {
     let RunTexts {
         net,
@@ -514,6 +541,7 @@ fn run_locked<H: Host, P: RunWatch + TurnWatch + Sync, R: Threads + Wait + Sync>
         (AreKeptIn (string_bytes folder.now) (opened_names opened.now) (H.asked host.new))
         (IsWrittenIfAsked (wanted_of names.now).history (H.asked host.new)) options.now asked.entry.net asked.entry.inputs
         (map scripted_of asked.entry.lines.items) report.bytes.items report.complete) }
+    ensures cause { IfErr result (λ stop. IsNoText stop.failure) }
 {
     let mut keeper = FileKeeper::new(alloc, folder, files);
     let report = run_over::<H, ResumedOutlet<H::Lines>, _, _, _>(
@@ -553,6 +581,7 @@ fn run_kept<H: Host, P: RunWatch + TurnWatch + Sync, R: Threads + Wait + Sync>(
         (file_names asked.entry.net.program.channels.items asked.entry.net.channel_names.items) (H.asked host.new))
         (IsWrittenIfAsked (wanted_of names.now).history (H.asked host.new)) options.now asked.entry.net asked.entry.inputs
         (map scripted_of asked.entry.lines.items) report.bytes.items report.complete) }
+    ensures cause { IfErr result (λ stop. IsNoText stop.failure) }
 {
     let outputs = file_names(alloc, &asked.net)?;
     let folder_texts = FolderTexts {
@@ -615,6 +644,7 @@ fn run_asked<H: Host, P: RunWatch + TurnWatch + Sync, R: Threads + Wait + Sync>(
         (AreKept (wanted_of names.now).state (file_names all.net.program.channels.items all.net.channel_names.items) (H.asked host.new))
         (IsWrittenIfAsked (wanted_of names.now).history (H.asked host.new)) options.now all.net all.inputs
         (map scripted_of all.lines.items) report.bytes.items report.complete) }
+    ensures cause { IfErr result (λ stop. IsNoText stop.failure) }
 {
     let Checked {
         texts,
@@ -659,6 +689,7 @@ fn report_asked<H: Host, P: RunWatch + TurnWatch + Sync, R: Threads + Wait + Syn
     requires wanted { wanted_of names.now ≡ asked_files options.now }
     ensures keeps { Keeps (wanted_of names.now) (H.asked host.old) (H.asked host.new) }
     ensures report { IfOk result (λ report. HasReport options.now report.bytes.items report.complete (H.asked host.new)) }
+    ensures cause { IfErr result (λ stop. HasCause (wanted_of names.now) (H.asked host.new) stop.failure) }
 {
     let all = read_all(host, alloc, options, names)?;
     let Some(n) = options.approx else {
@@ -682,6 +713,7 @@ fn say_report<H: Host>(
 ) -> u8
     ensures goes { GoesOn IsAccepted (wanted_of names.now) (H.asked host.old) (H.asked host.new) }
     ensures status { result ≤ 3 }
+    ensures unrefused { result ≡ 2 → ⊥ }
     ensures said { (complete : Bool) → result ≡ status_of_run complete
         → (complete ≡ report.complete) × Has (Said report.bytes.items (Ok tt)) (H.asked host.new) }
 {
@@ -728,12 +760,13 @@ fn tell_stop<H: Host>(
     ensures goes { GoesOn IsAccepted (wanted_of names.now) (H.asked host.old) (H.asked host.new) }
     ensures status { result ≤ 2 }
     ensures none { (complete : Bool) → result ≡ status_of_run complete → ⊥ }
+    ensures told { result ≡ 2 → (status_of stop.failure ≡ 2) × Has (Told (failure_line stop.failure) (Ok tt)) (H.asked host.new) }
 {
     let Stop { failure, words } = stop;
     let Ok(line) = format!(in alloc; "{failure}\n") else {
         return 1;
     };
-    if tell::<H, Accepted>(host, names, &line.into_bytes()).is_err() {
+    if let Err(_) = tell::<H, Accepted>(host, names, &line.into_bytes()) {
         return 1;
     }
     let words = if options.explain { words } else { None };
@@ -768,6 +801,7 @@ fn main_by_names<H: Host, P: RunWatch + TurnWatch + Sync, R: Threads + Wait + Sy
     ensures keeps { Keeps (wanted_of names.now) (H.asked host.old) (H.asked host.new) }
     ensures status { result ≤ 3 }
     ensures done { (complete : Bool) → result ≡ status_of_run complete → IsDone options.now complete (H.asked host.new) }
+    ensures refused { result ≡ 2 → IsRefused options.now (H.asked host.new) }
 {
     match report_asked(rt, alloc, host, options, names, watch) {
         Ok(report) => say_report(host, alloc, options, names, report),
@@ -794,6 +828,8 @@ pub fn main_of<H: Host, P: RunWatch + TurnWatch + Sync, R: Threads + Wait + Sync
     // Where the status is 0 or 3, what is said is the report that is asked for, of the texts that were read. Each output's stream is kept in
     // its own file of the folder, and what happened is written, where that is asked for.
     ensures done { (complete : Bool) → result ≡ status_of_run complete → IsDone options.now complete (H.asked host.new) }
+    // Where it is 2, the line was told of a fault that a text has which was read.
+    ensures refused { result ≡ 2 → IsRefused options.now (H.asked host.new) }
 {
     match names_of(options) {
         Ok(names) => main_by_names(rt, alloc, host, options, &names, watch),

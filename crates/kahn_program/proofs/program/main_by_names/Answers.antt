@@ -1,4 +1,4 @@
-use Rattle.std.proofs.Common.{rules}
+use Rattle.kahn_program.proofs.Causes.{cause_later}
 use Rattle.kahn_program.proofs.Said.{has_report_later}
 use Rattle.kahn_program.proofs.Logs.{keeps_goes, keeps_then}
 use Rattle.kahn_program.proofs.program.main_by_names.Goals as goal
@@ -15,4 +15,13 @@ returns-in-Ok-clause-done g c complete same =
       text = c.in-Ok.report.bytes.items;
       report = has_report_later _ _ _ _ _ _ c.say_report.ensures.goes.later said.0 c.in-Ok.ensures.report;
       said = said.1;
+    }
+
+pub returns-in-Err-clause-refused : goal.returns-in-Err-clause-refused
+returns-in-Err-clause-refused g c is =
+    let told = c.tell_stop.ensures.told is in record {
+      failure = c.in-Err.stop.failure;
+      of_text = told.0;
+      cause = cause_later _ _ _ _ _ c.requires.wanted c.tell_stop.ensures.goes.later c.in-Err.ensures.cause;
+      told = told.1;
     }

@@ -1,4 +1,3 @@
-use Rattle.std.proofs.Common.{rules}
 use Rattle.kahn_program.proofs.Logs.{keeps_as}
 use Rattle.kahn_program.proofs.program.main_of.Goals as goal
 

@@ -1,4 +1,4 @@
-use Rattle.std.proofs.Common.{rules, arith}
+use Rattle.std.proofs.Common.{arith}
 use Rattle.kahn_program.proofs.Naming.{named_more, names_end, names_next}
 use Rattle.kahn_program.proofs.program.names_of_files.Goals as goal
 

@@ -1,4 +1,5 @@
-use Rattle.std.proofs.Common.{refl}
+use Rattle.std.proofs.Common.{rules, refl}
+use Rattle.kahn_program.proofs.Causes.{approximation_fails, by_no_text, if_err}
 use Rattle.kahn_program.specs.Program.{given_of}
 use Rattle.kahn_program.proofs.Said.{approximation_report, if_ok, run_report}
 use Rattle.kahn_program.proofs.Logs.{keeps_goes, keeps_then, script_accepted}
@@ -26,3 +27,9 @@ pub returns-clause-report : goal.returns-clause-report
 returns-clause-report g c =
     approximation_report _ _ _ (given_of c.in_ok-all.all.texts) _ _ _ _ _ c.in-Some.is c.requires.wanted c.in_ok-all.ensures.read
     c.in_ok-all.ensures.net c.in_ok-all.ensures.inputs c.in_ok-bytes.ensures.ok
+
+pub returns-in_default-clause-cause : goal.returns-in_default-clause-cause
+returns-in_default-clause-cause g c = if_err _ _ _ (λ stop none. by_no_text _ _ _ none) c.run_asked.ensures.cause
+
+pub returns-in_err-bytes-clause-cause : goal.returns-in_err-bytes-clause-cause
+returns-in_err-bytes-clause-cause g c = search (rules, by_no_text, approximation_fails)

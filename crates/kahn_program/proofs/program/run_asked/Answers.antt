@@ -1,6 +1,12 @@
-use Rattle.std.proofs.Common.{rules}
+use Rattle.std.proofs.Common.{rules, string_bytes, ◌≡◌, ℕ, ℤ, List, Some, None, map}
+use Rattle.run_files.specs.Wanted.{wanted_of}
 use Rattle.run_files.proofs.Going.{read_later}
-use Rattle.kahn_program.specs.Program.{IsAccepted, given_of}
+use Rattle.cobaltmidge.specs.Scripts.{scripted_of}
+use Rattle.host.specs.Requests.{Request}
+use Rattle.replay.specs.declared.kept.ScriptedEvent.{ScriptedEvent}
+use Rattle.kahn_program.specs.Program.{AreKept, AreKeptIn, IsAccepted, IsWrittenIfAsked, file_names, given_of}
+use Rattle.kahn_program.specs.Runs.{IsReport}
+use Rattle.kahn_program.specs.declared.program.Report.{Report}
 use Rattle.kahn_program.proofs.Logs.{keeps_goes, keeps_then}
 use Rattle.kahn_program.proofs.Said.{if_ok, kept_asked, none_asked, report_maps}
 use Rattle.kahn_program.proofs.program.run_asked.Goals as goal
@@ -32,12 +38,36 @@ returns-clause-keeps g c = keeps_then _ _ _ _ (keeps_goes _ _ _ c.tell_apart.ens
 
 pub returns-in-Some-clause-report : goal.returns-in-Some-clause-report
 returns-in-Some-clause-report g c =
-    if_ok _ _ _ (λ report is. report_maps _ _ _ _ c.args.options.now c.args.all.net c.args.all.inputs _ _ _
-    (kept_asked _ _ _ _ (search rules)) (λ t wrote. wrote) is)
+    let outputs : List (List ℕ) = file_names c.args.all.net.program.channels.items c.args.all.net.channel_names.items in
+    let now : List Request = g.H.Host.asked c.run_kept.new.host in
+    let wrote : List ℕ → Type 0 = IsWrittenIfAsked (wanted_of c.args.names.now).history now in
+    let script : List ScriptedEvent = map scripted_of c.args.all.lines.items in
+    let is : (wanted_of c.args.names.now).state ≡ Some (string_bytes c.in-Some.folder) = search rules in
+    if_ok
+    (λ (report : Report). IsReport (AreKeptIn (string_bytes c.in-Some.folder) outputs now) wrote c.args.options.now c.args.all.net
+    c.args.all.inputs script report.bytes.items report.complete)
+    (λ (report : Report). IsReport (AreKept (wanted_of c.args.names.now).state outputs now) wrote c.args.options.now c.args.all.net
+    c.args.all.inputs script report.bytes.items report.complete)
+    c.run_kept.result
+    (λ report has. report_maps (AreKeptIn (string_bytes c.in-Some.folder) outputs now) (AreKept (wanted_of c.args.names.now).state outputs now)
+    wrote wrote c.args.options.now c.args.all.net c.args.all.inputs script report.bytes.items report.complete
+    (kept_asked ((wanted_of c.args.names.now).state) (string_bytes c.in-Some.folder) outputs now is) (λ t written. written) has)
     c.run_kept.ensures.report
 
 pub returns-clause-report : goal.returns-clause-report
 returns-clause-report g c =
-    if_ok _ _ _ (λ report is. report_maps _ _ _ _ c.args.options.now c.args.all.net c.args.all.inputs _ _ _
-    (λ streams kept. none_asked _ _ _ (search rules) streams) (λ t wrote. wrote) is)
+    let outputs : List (List ℕ) = file_names c.args.all.net.program.channels.items c.args.all.net.channel_names.items in
+    let now : List Request = g.H.Host.asked c.run_over.new.host in
+    let wrote : List ℕ → Type 0 = IsWrittenIfAsked (wanted_of c.args.names.now).history now in
+    let script : List ScriptedEvent = map scripted_of c.args.all.lines.items in
+    let any : List (List ℤ) → Type 0 = λ streams. Unit {0} in
+    let is : (wanted_of c.args.names.now).state ≡ None = search rules in
+    if_ok
+    (λ (report : Report). IsReport any wrote c.args.options.now c.args.all.net c.args.all.inputs script report.bytes.items report.complete)
+    (λ (report : Report). IsReport (AreKept (wanted_of c.args.names.now).state outputs now) wrote c.args.options.now c.args.all.net
+    c.args.all.inputs script report.bytes.items report.complete)
+    c.run_over.result
+    (λ report has. report_maps any (AreKept (wanted_of c.args.names.now).state outputs now) wrote wrote c.args.options.now c.args.all.net
+    c.args.all.inputs script report.bytes.items report.complete
+    (λ streams kept. none_asked ((wanted_of c.args.names.now).state) outputs now is streams) (λ t written. written) has)
     c.run_over.ensures.report

@@ -1,4 +1,6 @@
-use Rattle.std.proofs.Common.{rules, string_bytes, ◌∙◌}
+use Rattle.std.proofs.Common.{string_bytes, ap, ◌∙◌, List}
+use Rattle.run_files.specs.Opening.{opened_names}
+use Rattle.run_files.specs.declared.held_file.OpenedName.{OpenedName}
 use Rattle.kahn_program.proofs.Said.{kept_as, report_maps, written_later}
 use Rattle.run_files.proofs.Going.{ready_later}
 use Rattle.kahn_program.proofs.program.run_kept.Goals as goal
@@ -19,7 +21,10 @@ returns-in-Ok-clause-keeps g c = record {
 pub returns-in-Ok-clause-report : goal.returns-in-Ok-clause-report
 returns-in-Ok-clause-report g c =
     report_maps _ _ _ _ c.args.options.now c.args.asked.net c.args.asked.inputs _ _ _
-    (kept_as (string_bytes c.args.folder.now) _ _ _ _ (c.in_ok-open.ensures.named ∙ c.in_ok-outputs.ensures) c.let_go.ensures.later)
+    (kept_as (string_bytes c.args.folder.now) (opened_names c.as_slice.result.now) _ (g.H.Host.asked c.run_locked.new.host)
+    (g.H.Host.asked c.let_go.new.host)
+    (ap (λ (opened : List OpenedName). opened_names opened) c.as_slice.ensures.value ∙ (c.in_ok-open.ensures.named ∙ c.in_ok-outputs.ensures))
+    c.let_go.ensures.later)
     (written_later _ _ _ c.let_go.ensures.later) c.in-Ok.ensures.report
 
 pub let_go-requires-in-Err-clause-held : goal.let_go-requires-in-Err-clause-held

@@ -1,6 +1,16 @@
-use Rattle.std.proofs.Common.{rules}
+use Rattle.std.proofs.Common.{rules, ◌≡◌, ◌∙◌, sym, subst, Ok}
+use Rattle.host.specs.Requests.{Has, Told}
+use Rattle.kahn_program.specs.Failures.{failure_line}
 use Rattle.run_files.proofs.Going.{goes_then}
 use Rattle.kahn_program.proofs.program.tell_stop.Goals as goal
 
 pub returns-clause-goes : goal.returns-clause-goes
 returns-clause-goes g c = search (rules, goes_then)
+
+pub returns-clause-told : goal.returns-clause-told
+returns-clause-told g c is =
+    let line : c.into_bytes.result.items ≡ failure_line c.args.stop.failure = search rules in (
+      sym c.status.ensures ∙ is,
+      c.tell_words.ensures.later _
+          (subst (λ bytes. Has (Told bytes (Ok tt)) (g.H.Host.asked c.tell.new.host)) line c.in_default-tell.ensures.told),
+    )
