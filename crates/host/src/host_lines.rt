@@ -1,6 +1,6 @@
 // Lines that are put to a file by calls of the system.
 ghost use Rattle.std.specs.Prelude.{◌≡◌, ◌∷◌, ◌++◌, [], true, List, IsTrue, string_bytes};
-ghost use Rattle.host.specs.LineRequests.{Put, Synced};
+ghost use Rattle.host.specs.LineRequests.{Put};
 ghost use Rattle.host.specs.StdFile.{writes_of};
 ghost use Rattle.host.specs.Writes.{Write, Synced as SyncedWrite, IsPutAndSynced, taken};
 
