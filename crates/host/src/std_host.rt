@@ -370,7 +370,12 @@ impl Host for StdHost {
         match open_lines(&rt, lock, name, waits) {
             Ok((lines, bytes)) => {
                 let held = Ok(Snapshot::of(&bytes));
-                self.note(&Noted::Opened(Snapshot::of(&lock.folder), Snapshot::of(name), held));
+                self.note(&Noted::Opened(
+                    Snapshot::of(&lock.folder),
+                    Snapshot::of(name),
+                    waits,
+                    held,
+                ));
                 Ok((lines, bytes))
             }
             Err(error) => {
@@ -378,6 +383,7 @@ impl Host for StdHost {
                 self.note(&Noted::Opened(
                     Snapshot::of(&lock.folder),
                     Snapshot::of(name),
+                    waits,
                     Err(fault),
                 ));
                 Err(fault)
