@@ -104,7 +104,7 @@ def type_rows(kind, invariant, traits):
 def functions_named(crate, name):
     """The functions that a name of a crate stands for: those of a type or a trait, or one function."""
     return [function for function in sources.functions_of(crate)
-            if (function.owner == name and (function.is_public or function.of)) or (not function.owner and function.name == name)]
+            if function.owner == name and (function.is_public or function.of) or function.path == name and function.is_public]
 
 
 def kind_in(crate, name):
