@@ -146,6 +146,8 @@ def heading_from(lines, at):
 def ghosts_from(lines, at):
     """The ghost members of the block at a line."""
     found = []
+    if lines[at].endswith(";"):
+        return found
     for number in range(at + 1, len(lines)):
         if lines[number] in ("}", "};"):
             break
@@ -315,7 +317,7 @@ def definitions(file):
         raise NotThere(f"no file {file}")
     lines, found = lines_of(ROOT / file), {}
     for at, line in enumerate(lines):
-        named = re.match(r"(?:\w+ )*pub (?:\w+ )*([^\s(){}]+)", line)
+        named = re.match(r"(?:\w+ )*pub (?:(?:record|data|mutual) )*([^\s(){}]+)", line)
         above = at
         while above and lines[above - 1].startswith("--"):
             above -= 1
