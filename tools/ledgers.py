@@ -201,28 +201,36 @@ def rows_in_two(head, text):
 
 # What a row of "Main contracts" names.
 
-def unknown_clauses(crate, text):
-    """The names in a row of main contracts that its crate doesn't have: functions in front of a colon, clauses behind it."""
+def unknown_names(crate, text):
+    """The names in a row of main contracts that its crate doesn't have: calls, types or definitions in front of a colon, clauses behind it."""
     missing, owner = [], ""
     for part in text.split(";"):
         calls, colon, clauses = part.partition("`:")
-        found = []
+        known = set()
         for name in re.findall(r"`([\w:]+)`", calls + ("`" if colon else "")):
             kind, _, last = name.rpartition("::")
             owner = kind or owner
             here = [function for function in sources.functions_of(crate) if function.name == last and function.owner in (owner, kind)]
-            if not here and not is_named(crate, name):
+            ghosts = ghosts_of(crate, name)
+            known |= {clause.name for function in here for clause in function.clauses} | set(ghosts or ())
+            if not here and ghosts is None and not is_defined(crate, name):
                 missing.append(name)
-            found += here
-        known = {clause.name for function in found for clause in function.clauses}
         missing += [name for name in re.findall(r"`(\w+)`", clauses) if name not in known]
     return missing
 
 
-def is_named(crate, name):
-    """Whether a crate has a type, a ghost field or a definition of this name."""
-    kinds = sources.kinds_of(crate)
-    if name in kinds or any(name == ghost[0] for kind in kinds.values() for ghost in kind.ghosts):
+def ghosts_of(crate, name):
+    """The names of the ghost members of a type or a trait, which may be of a crate below; nothing where there is no such type."""
+    for below in [crate, *sorted(sources.crates_below(crate))]:
+        kind = sources.kinds_of(below).get(name)
+        if kind:
+            return [ghost[0] for ghost in kind.ghosts]
+    return None
+
+
+def is_defined(crate, name):
+    """Whether a crate's `specs/` or a ghost field has this name."""
+    if any(name == ghost[0] for kind in sources.kinds_of(crate).values() for ghost in kind.ghosts):
         return True
     files = (sources.ROOT / "crates" / crate / "specs").rglob("*.antt")
     return any(re.search(rf"\b{re.escape(name)} :", file.read_text(encoding="utf-8")) for file in files)

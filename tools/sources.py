@@ -43,6 +43,7 @@ class Function:
     doc: list
     clauses: list
     body: str
+    locals: set
 
     @property
     def path(self):
@@ -191,7 +192,7 @@ def source(path):
                 text = body_from(lines, at)
                 found.functions.append(Function(
                     function[3], owner, of, in_trait or (function[2] or "").strip() == "pub", bool(SELF.search(text)),
-                    comment_above(lines, at), clauses_at(lines, at), only_body(text, len(function[1] or ""))))
+                    comment_above(lines, at), clauses_at(lines, at), only_body(text, len(function[1] or "")), locals_of(text)))
     return found
 
 
@@ -378,16 +379,21 @@ def worked_out(node, crate):
 
 # Calls.
 
-WORD = re.compile(r"(?:(\w+)(?:::<[^()]*?>)?::|(\.)\s*)?\b(\w+)(?=(?:::<[^()]*>)?\()|(\w+)::(\w+)\b(?!\()|(?<=[(,\s])([a-z]\w*)(?=[,)\n])")
+LOCAL = re.compile(r"(?<![\w.])([a-z]\w*)(?=: [^:])|let (?:mut )?(\w+)|for (\w+) in|\((\w+)\)(?= =>)")
+CALL = re.compile(r"(?:(\w+)(?:::<[^()]*?>)?::|(\.)\s*)?\b(\w+)(?=(?:::<[^()]*>)?\()")
+PATH = re.compile(r"(\w+)::(\w+)\b(?!\()")
+BARE = re.compile(r"(?<=[(,\s])([a-z]\w*)(?=[,)\n])")
 
 
-@functools.cache
-def called_in(body):
-    """The names that a body calls, each with the type in front of it, a dot, or nothing."""
-    found = set()
-    for kind, dot, name, other_kind, value, word in WORD.findall(body):
-        found.add((kind or dot or other_kind, name or value or word))
-    return found
+def locals_of(text):
+    """The names of a function's parameters and variables."""
+    return {name for names in LOCAL.findall(text) for name in names if name}
+
+
+def calls_of(function):
+    """What a function's body calls, or names as a value: each name with the type in front of it, a dot, or nothing."""
+    found = {(kind or dot, name) for kind, dot, name in CALL.findall(function.body)} | set(PATH.findall(function.body))
+    return found | {("", name) for name in BARE.findall(function.body) if name not in function.locals}
 
 
 def is_called(function, kind, name, own):
@@ -416,7 +422,7 @@ def reached():
     found = {id(function) for function in left}
     while left:
         here = left.pop()
-        for kind, name in called_in(here.body):
+        for kind, name in calls_of(here):
             for function in by_name.get(name, ()):
                 if id(function) not in found and is_called(function, kind, name, here.owner):
                     found.add(id(function))
