@@ -151,13 +151,28 @@ def listing(what, functions):
 
 
 def wrapped(text, columns=140):
-    """A text in lines, which end between words."""
+    """A text in lines, which end between words, and never within backticks."""
     lines = [""]
-    for word in text.split(" "):
+    for word in re.findall(r"(?:`[^`]*`|[^\s`])+", text):
         if lines[-1] and len(lines[-1]) + len(word) >= columns:
             lines.append("")
         lines[-1] = f"{lines[-1]} {word}".strip()
     return lines
+
+
+# Wrong bodies.
+
+def count_of_edits(crate, folder):
+    """How many wrong bodies stand in a folder of a crate."""
+    return len(list((sources.ROOT / "crates" / crate / folder).glob("*.edit")))
+
+
+def tried(crate):
+    """What is tried of a crate's wrong bodies."""
+    gated, others = count_of_edits(crate, "refused"), count_of_edits(crate, "wrong")
+    parts = [f"The gate tries {gated} wrong {'bodies' if gated != 1 else 'body'} of this crate (`refused/`)."] if gated else []
+    parts += [f"`tools/wrong_bodies {crate}` tries {others}{' more' if gated else ''} (`wrong/`)."] if others else []
+    return wrapped(" ".join([*parts, f"`tools/wrong_bodies --table {crate}` prints each with what refuses it."]))
 
 
 # Definitions.
