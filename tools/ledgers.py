@@ -6,6 +6,7 @@ import sources
 
 TEXT_COLUMNS = 320
 ROW_COLUMNS = 400
+STATEMENT_COLUMNS = 120
 HEAD = ["| Call | What its source says | Clause |", "|---|---|---|"]
 
 
@@ -185,6 +186,15 @@ def laws(file, wanted=()):
         if name not in found:
             raise sources.NotThere(f"no definition {name} in {file}")
         rows += [f"| {head} | {text} |" for head, text in rows_in_two(f"`{name}`", found[name])]
+    return rows
+
+
+def fields(file, name):
+    """The table of a record's fields: the comment above each, or what it says where it has none and is short."""
+    rows = ["| Field | What its source says |", "|---|---|"]
+    for field, comment, said in sources.fields(file, name):
+        text = comment or (f"`{said}`" if len(said) <= STATEMENT_COLUMNS else "")
+        rows += [f"| {head} | {text} |" for head, text in rows_in_two(f"`{field}`", text)]
     return rows
 
 

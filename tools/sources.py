@@ -327,6 +327,21 @@ def definitions(file):
     return found
 
 
+def fields(file, name):
+    """The fields of a record: each with the comment above it, and with what it says."""
+    lines, found, comment = quoted_definition(lines_of(ROOT / file), name), [], []
+    for line in lines:
+        field = re.match(r"  pub (\S+) : (.*)", line)
+        if field:
+            found.append([field[1], " ".join(comment), field[2]])
+            comment = []
+        elif line.startswith("  --"):
+            comment.append(line.strip("- "))
+        elif found and line.startswith("    "):
+            found[-1][2] += " " + line.strip()
+    return found
+
+
 def quoted(file, path, names):
     """What a source says of a function or of a definition."""
     if not (ROOT / file).is_file():
