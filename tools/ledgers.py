@@ -1,5 +1,6 @@
 """ledgers: the tables that tools/pages writes of the sources: what each call of a crate says, and which calls the program never makes."""
 
+import hashlib
 import re
 
 import sources
@@ -130,15 +131,25 @@ def besides(crate, more):
 
 
 def ledger(crate, more=()):
-    """The table of a crate, and the calls that promise nothing."""
-    rows, plain, silent = [], [], []
+    """The table of a crate, the calls that promise nothing, and above both a sum of all clauses: where one changes, so does its page."""
+    rows, called = [], []
     for name in sources.exported(crate):
         functions = functions_named(crate, name)
         rows += kind_in(crate, name) + [row for function in functions if not is_plain(function) for row in function_rows(function)]
-        plain += [function for function in functions if is_plain(function)]
-        silent += [function for function in functions if not function.clauses and not function.of]
-    rows += [row for function in besides(crate, more) for row in function_rows(function)]
-    return (HEAD + rows if rows else []) + listing("What its name says, by its `ensures`", plain) + listing("Without a clause", silent)
+        called += functions
+    private = list(besides(crate, more))
+    rows += [row for function in private for row in function_rows(function)]
+    plain = [function for function in called if is_plain(function)]
+    silent = [function for function in called if not function.clauses and not function.of]
+    return ([f"<!-- clauses {sum_of(crate, called + private)} -->", *HEAD, *rows]
+            + listing("What its name says, by its `ensures`", plain) + listing("Without a clause", silent))
+
+
+def sum_of(crate, functions):
+    """A sum of the clauses of functions and of the ghost members of a crate's types."""
+    said = [line.strip() for function in functions for clause in function.clauses for line in clause.lines]
+    said += [text for name in sources.exported(crate) if (kind := sources.kinds_of(crate).get(name)) for _, _, text in kind.ghosts]
+    return hashlib.sha256(" ".join(" ".join(said).split()).encode()).hexdigest()[:8]
 
 
 def is_plain(function):

@@ -154,8 +154,8 @@ def ghosts_from(lines, at):
             break
         ghost = GHOST.match(lines[number])
         if ghost and ghost[1] != "use":
-            text = " ".join(lines[number:number + 2])
-            found.append((ghost[1], comment_above(lines, number), text))
+            end = next((at for at in range(number, len(lines)) if lines[at].rstrip().endswith(("},", "};", "}")) or at > number + 40), number)
+            found.append((ghost[1], comment_above(lines, number), " ".join(lines[number:end + 1])))
     return found
 
 
