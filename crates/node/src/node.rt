@@ -48,7 +48,7 @@ pub struct Node<C: SlotCell> {
     pub number: u8,
     pub state: NodeState,
     pub store: Store<C>,
-    // It has the record that its store holds, and a crash leaves no other. While it is up the store is ready.
+    // The store's record names the node, and a crash leaves no other. While the node is up the store is ready.
     pub ghost kept: { HasRecord number (mode_view state.mode) store },
 }
 
@@ -187,7 +187,7 @@ impl<C: SlotCell> Node<C> {
         ensures view { IfOk result (λ prospect. prospect_view (view_of self.now) prospect
             ≡ hear_prospect (network_of net.now.program) self.now.number packet.now.from
             packet.now.body (view_of self.now)) }
-        // Its store takes the change without a cause of its own to refuse it, and what isn't a tentative image fits.
+        // Its store takes the change without a cause of its own to refuse it, and what isn't a tentative image fits as the record did.
         ensures can { IfOk result (λ prospect. CanBeMade (view_of self.now) prospect) }
     {
         match self.store.record() {

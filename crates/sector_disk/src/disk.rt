@@ -74,7 +74,7 @@ pub trait Disk: Drop {
     /// Reads whole sectors, from the sector `first` on. Refuses with `Device` (20) and `Range` (21), and then leaves
     /// the bytes handed in as they were. No bytes are in range where `first` is at most the number of sectors.
     fn read(&mut self, first: usize, into: &mut [u8]) -> Result<(), DiskFault>
-        // 21 exactly where the bytes aren't whole sectors of the disk, and then nothing changes.
+        // 21 exactly where the bytes aren't whole sectors of the disk.
         ensures range { IsErrOf result DiskFault.Range
             ↔ ¬ (IsInRange (sector_count self.old) first (length into.old)) }
         ensures out_of_range { IsErrOf result DiskFault.Range → self.new ≡ self.old }
@@ -121,9 +121,10 @@ pub trait Disk: Drop {
     /// The device crashes and comes back. What it holds then is settled: one of the contents that a crash might leave,
     /// by the fill byte where one is given.
     fn crash(&mut self, fill: Option<u8>)
-        // The new content is one that a crash might have left, and the only one that another may leave.
+        // The new content is one that a crash might have left.
         ensures left { may_leave self.old (content self.new) }
         ensures filled { settles_to self.old fill (content self.new) }
+        // Another crash leaves no other.
         ensures durable { Only (content self.new) (may_leave self.new) }
         ensures time { TimePasses moment left_since may_leave self.old self.new }
         ensures counts { SameCounts failure_count call_count failed_call self.old self.new }

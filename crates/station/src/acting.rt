@@ -107,7 +107,8 @@ impl<C: SlotCell, O: Outlet> Station<C, O> {
         // prepared.
         ensures unchanged { LeavesCells (event_view event.now) (answer_view result)
             → IsCellUnchanged self.old self.new }
-        // A node whose device failed may be recovered after the rounds that were armed with the call that failed, or one round later.
+        // A node whose device failed may be recovered as many rounds later as were armed with the call that failed,
+        // and one round later where none were.
         ensures armed { IfOk result (λ reply. reply_view reply ≡ Down
             → RestartsAsArmed lent.now.round self.old self.new) }
         // What the cell holds is as it was then, also where a `Recover` looked at the device.
