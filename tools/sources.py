@@ -12,7 +12,7 @@ import re
 
 ROOT = pathlib.Path(__file__).resolve().parent.parent
 CLAUSE = re.compile(r"\s*(requires|ensures)\*? (?:(\w+) )?\{")
-FUNCTION = re.compile(r"( {4})?(?:#\[[^]]*\] )?(pub (?:\(\w+\) )?|pub\(\w+\) )?(?:unsafe )?fn (\w+)")
+FUNCTION = re.compile(r"( {4})?(pub |pub\(\w+\) )?(?:unsafe )?fn (\w+)")
 GHOST = re.compile(r"    (?:pub )?ghost (\w+)( =|:)(.*)")
 SELF = re.compile(r"\bfn \w+(?:<[^{]*?>)?\(\s*(?:&(?:'\w+ )?)?(?:mut )?self\b")
 TYPE = re.compile(r"pub (struct|enum|trait) (\w+)")
@@ -51,7 +51,7 @@ class Function:
 
     def is_law(self):
         """Whether it does nothing, so that its contract alone matters."""
-        return not self.body.strip("{} \n")
+        return not self.owner and not self.body
 
 
 @dataclasses.dataclass
@@ -77,7 +77,7 @@ def clause_lines(lines, at):
     """The lines between a function's signature and its body, or its end where it has none."""
     indent, found = indent_of(lines[at]), []
     for line in lines[at:]:
-        if found or CLAUSE.match(line) or line.strip().startswith("//") and indent_of(line) >= indent:
+        if found or CLAUSE.match(line) or line.strip().startswith("//"):
             if line.strip() in ("{", "{}") and indent_of(line) == indent:
                 return found
             found.append(line)
@@ -116,22 +116,19 @@ def comment_above(lines, at):
     return found[::-1]
 
 
-def body_from(lines, at):
-    """The text from a function's line to the end of its body, without comments."""
-    indent, found = indent_of(lines[at]), []
+def head_and_body(lines, at):
+    """The text of a function's signature and clauses, and that of its body, both without comments. A method of a trait may have no body."""
+    indent, head, body, in_clauses = indent_of(lines[at]), [], [], False
     for line in lines[at:]:
-        found.append(re.sub(r"//.*", "", line))
-        if found[1:] and indent_of(line) == indent and line.strip() in ("}", "};", "{}") or line.rstrip().endswith("};") and not found[1:]:
+        code = re.sub(r"//.*", "", line).rstrip()
+        in_clauses |= bool(CLAUSE.match(code))
+        if body or code == " " * indent + "{" or code.endswith("{") and not in_clauses:
+            body.append(code)
+        else:
+            head.append(code)
+        if not body and code.endswith((";", "{}")) or body and code == " " * indent + "}":
             break
-    return "\n".join(found)
-
-
-def only_body(text, indent):
-    """The body alone, where the whole text of a function begins with its signature and clauses."""
-    start = re.search(rf"^ {{{indent}}}\{{", text, re.M)
-    if start:
-        return text[start.start():]
-    return text[text.find("{"):] if "{" in text else ""
+    return "\n".join(head), "\n".join(body)
 
 
 def heading_from(lines, at):
@@ -154,7 +151,7 @@ def ghosts_from(lines, at):
             break
         ghost = GHOST.match(lines[number])
         if ghost and ghost[1] != "use":
-            end = next((at for at in range(number, len(lines)) if lines[at].rstrip().endswith(("},", "};", "}")) or at > number + 40), number)
+            end = next(last for last in range(number, len(lines)) if lines[last].rstrip().endswith(("},", "};", "}")))
             found.append((ghost[1], comment_above(lines, number), " ".join(lines[number:end + 1])))
     return found
 
@@ -189,10 +186,10 @@ def source(path):
                 owner, of, in_trait = kind[2], "", True
         if function := FUNCTION.match(line):
             if bool(function[1]) == bool(owner):
-                text = body_from(lines, at)
+                head, body = head_and_body(lines, at)
                 found.functions.append(Function(
-                    function[3], owner, of, in_trait or (function[2] or "").strip() == "pub", bool(SELF.search(text)),
-                    comment_above(lines, at), clauses_at(lines, at), only_body(text, len(function[1] or "")), locals_of(text)))
+                    function[3], owner, of, in_trait or (function[2] or "").strip() == "pub", bool(SELF.search(f"{head}\n{body}")),
+                    comment_above(lines, at), clauses_at(lines, at), body, locals_of(f"{head}\n{body}")))
     return found
 
 
