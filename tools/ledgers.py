@@ -141,7 +141,7 @@ def ledger(crate, more=()):
     rows += [row for function in private for row in function_rows(function)]
     plain = [function for function in called if is_plain(function)]
     silent = [function for function in called if not function.clauses and not function.of]
-    return ([f"<!-- clauses {sum_of(crate, called + private)} -->", *HEAD, *rows]
+    return ([f"<!-- clauses {sum_of(crate, called + private)} -->", *(HEAD + rows if rows else [])]
             + listing("What its name says, by its `ensures`", plain) + listing("Without a clause", silent))
 
 
