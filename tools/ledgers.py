@@ -116,7 +116,7 @@ def kind_in(crate, name):
         return []
     if kind.word == "trait":
         return list(trait_rows(kind))
-    invariants = {of: about for file in sources.files_of(crate) for of, about in sources.source(file).invariants.items()}
+    invariants = sources.invariants_of(crate)
     met = [trait for of, trait in sources.met_traits(crate) if of == name and sources.has_trait(trait)]
     return list(type_rows(kind, invariants.get(name), met))
 
@@ -146,9 +146,10 @@ def ledger(crate, more=()):
 
 
 def sum_of(crate, functions):
-    """A sum of the clauses of functions and of the ghost members of a crate's types."""
+    """A sum of the clauses of functions, and of the ghost members and invariants of a crate's types."""
     said = [line.strip() for function in functions for clause in function.clauses for line in clause.lines]
     said += [text for name in sources.exported(crate) if (kind := sources.kinds_of(crate).get(name)) for _, _, text in kind.ghosts]
+    said += [text for name, (_, _, text) in sources.invariants_of(crate).items() if name in sources.exported(crate)]
     return hashlib.sha256(" ".join(" ".join(said).split()).encode()).hexdigest()[:8]
 
 

@@ -224,6 +224,11 @@ def kinds_of(crate):
     return {name: kind for file in files_of(crate) for name, kind in source(file).kinds.items()}
 
 
+def invariants_of(crate):
+    """The invariants of a crate's types, by type."""
+    return {name: about for file in files_of(crate) for name, about in source(file).invariants.items()}
+
+
 def met_traits(crate):
     """Types of a crate, each with a trait that it meets."""
     return [pair for file in files_of(crate) for pair in source(file).met]
