@@ -89,8 +89,8 @@ def trait_rows(kind):
             yield from rows_of(f"`{kind.name}`, law", " ".join(comment), f"`{name}`")
 
 
-def type_rows(kind, invariant, traits):
-    """The rows of a type: what its ghost members say, what its invariant does, and which traits of the tree it meets."""
+def type_rows(kind, invariant, traits, written):
+    """The rows of a type: what its ghost members say, what its invariant does, which traits of the tree it meets, and what `{}` writes of it."""
     bare = [f"`{name}`" for name, comment, _ in kind.ghosts if not comment]
     said = ([f"ghost field{'s' if bare[1:] else ''} {', '.join(bare)}"] if bare else []) + (["its invariant"] if invariant else [])
     doc = " ".join(invariant[1] if invariant and invariant[1] else kind.doc)
@@ -101,6 +101,8 @@ def type_rows(kind, invariant, traits):
             yield from rows_of(f"`{kind.name}`", " ".join(comment), f"ghost field `{name}`")
     if traits:
         yield from rows_of(f"`{kind.name}`", "Meets " + ", ".join(f"`{trait}`" for trait in traits) + ".", "")
+    if written:
+        yield from rows_of(f"`{kind.name}`", "What `{}` writes of it is exactly this.", "its ghost `output`")
 
 
 def functions_named(crate, name):
@@ -118,7 +120,7 @@ def kind_in(crate, name):
         return list(trait_rows(kind))
     invariants = sources.invariants_of(crate)
     met = [trait for of, trait in sources.met_traits(crate) if of == name and sources.has_trait(trait)]
-    return list(type_rows(kind, invariants.get(name), met))
+    return list(type_rows(kind, invariants.get(name), met, sources.is_written(crate, name)))
 
 
 def besides(crate, more):

@@ -163,13 +163,15 @@ class Source:
     kinds: dict
     invariants: dict
     met: list
+    written: set
 
 
 @functools.cache
 def source(path):
-    """What a file of `src/` has: functions, types and traits by name, types whose `Model` has an invariant, and types with a trait that they meet."""
+    """What a file of `src/` has: functions, types and traits by name, types whose `Model` has an invariant, types with a trait that they meet, and
+    types of which a clause says what `{}` writes."""
     lines = lines_of(path)
-    found, owner, of, in_trait = Source([], {}, {}, []), "", "", False
+    found, owner, of, in_trait = Source([], {}, {}, [], set()), "", "", False
     for at, line in enumerate(lines):
         if line in ("}", "};"):
             owner, of, in_trait = "", "", False
@@ -178,6 +180,8 @@ def source(path):
             if block:
                 owner, of, in_trait = block[2].split("::")[-1], (block[1] or "").split("::")[-1], False
                 found.met.append((owner, of))
+                if of == "Display" and any(ghost[0] == "output" for ghost in ghosts_from(lines, at)):
+                    found.written.add(owner)
                 if of == "Model" and (about := next((g for g in ghosts_from(lines, at) if g[0] == "invariant"), None)):
                     found.invariants[owner] = about
         elif kind := TYPE.match(line):
@@ -227,6 +231,11 @@ def kinds_of(crate):
 def invariants_of(crate):
     """The invariants of a crate's types, by type."""
     return {name: about for file in files_of(crate) for name, about in source(file).invariants.items()}
+
+
+def is_written(crate, name):
+    """Whether a clause says what `{}` writes of a type of a crate."""
+    return any(name in source(file).written for file in files_of(crate))
 
 
 def met_traits(crate):
