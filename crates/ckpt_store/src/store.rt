@@ -25,6 +25,7 @@ use std::alloc::{AllocError, Global};
 pub struct Store<C: SlotCell> {
     cell: C,
     known: Option<Known>,
+    // Whatever a crash may leave of the cell is a record. While the store is ready the cell is, and spells the one that is known.
     pub ghost kept: { IsKept C.is_ready C.whole C.may_leave_whole cell known },
 }
 
@@ -45,6 +46,8 @@ impl<C: SlotCell> Store<C> {
     /// a slot that the header names and doesn't fit it, or where the record is longer than one may be; with `Reopen` (23)
     /// where the cell isn't ready; with `Device` (20); and with `NoMemory` (1). A refusal hands the cell back.
     pub fn open(alloc: Global, cell: C) -> Result<Store<C>, Refused<C>>
+        // A record is answered exactly where the cell holds one, unless the cell or memory refuses; 22, 30, 31 and 32 are told by
+        // the first offence in header, permanent image and tentative one. A crash at any moment leaves what it might have left before.
         ensures opens { Opens cell result }
         ensures ready { IfOk result (λ store. IsSome (known_in store)) }
     {
@@ -98,6 +101,8 @@ impl<C: SlotCell> Store<C> {
     ) -> Result<(), StoreFault>
         requires listed { ForSome (known_in self.old) (λ kept. initiator < length kept.highest) }
         requires like { ForSome (known_in self.old) (λ kept. IsLike kept.permanent image) }
+        // The record is changed whole or not at all, at any moment of the call. What it is then and why it is refused is told by
+        // `with_tentative` and `refusal_to_take`; by two such words each further change says its own.
         ensures { Changes (refusal_to_take initiator number) (with_tentative initiator number image)
             self.old self.new result }
     {

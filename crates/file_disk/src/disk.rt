@@ -217,8 +217,10 @@ impl<F: SectorFile> Disk for FileDisk<F> {
             × (history_of self.new
             ≡ Put (content_of self.new) (SECTOR_BYTES * first) (length bytes.now) done
             (history_of self.old)) }
+        // A lost file isn't asked.
         ensures spared { lost_of self.old ≡ true → history_of self.new ≡ history_of self.old }
         ensures lost { lost_of self.new ≡ lost_of self.old }
+        // Whatever the file might have held at a moment of the call is what a crash might have left of the disk at one.
         ensures kept { KeepsUp self.old self.new }
 
         // It fails where a fault was armed, where the file refused, and where the file is lost. There it is Ok only if

@@ -16,6 +16,7 @@ use std::fs::File;
 pub struct HostFile<F: RawFile = StdFile> {
     raw: F,
     log: FileLog,
+    // What it notes was asked by the calls of the system that were made for it, and there were no others.
     pub ghost told: { ∥ IsAskedBy (logged log) (F.writes raw) ∥₁ },
 }
 

@@ -74,11 +74,13 @@ pub trait StableCell: Drop {
         ensures any_moment { LeavesOnly moment left_since self.old self.new (may_leave self.old) }
         ensures beside { beside ValueCall.Looks self.old self.new }
         ensures same_value { value self.new ≡ value self.old }
+        // The room and what is armed stay, and no device call that was counted is forgotten.
         ensures same_setup { LeavesSetup capacity armed call_count self.old self.new }
 
         ensures too_large { ¬ (IsErrOf result CellFault.TooLarge) }
         ensures unchanged { (IsErrOf result CellFault.NoMemory ⊎ IsErrOf result CellFault.Reopen)
             → self.new ≡ self.old }
+        // 20 exactly where the device's failures rose, and then the cell isn't ready; 23 exactly where it wasn't.
         ensures cause { HasCause (failure_count self.old) (failure_count self.new)
             (is_ready self.old) (is_ready self.new) result };
 
@@ -94,6 +96,7 @@ pub trait StableCell: Drop {
         ensures same_setup { LeavesSetup capacity armed call_count self.old self.new }
 
         ensures memory { IsErrOf result CellFault.NoMemory → IsTrue (asks_memory self.old) }
+        // 22 exactly where the cell is ready and the value is longer than the room.
         ensures too_large { IsErrOf result CellFault.TooLarge
             ↔ (IsTrue (is_ready self.old) × (capacity self.old < length new.now)) }
         ensures unchanged { (IsErrOf result CellFault.NoMemory ⊎ IsErrOf result CellFault.TooLarge

@@ -257,6 +257,7 @@ impl<D: Disk> StableCell for GateCell<D> {
             (IsGate (other_area (content_of self.old)) (content_of self.new)) }
         ensures frame { OnOk result
             (HoldsFrame new.now (D.sector_count (disk_in self.new)) (content_of self.new)) }
+        // At a 20 the call that failed is the last one: nothing is done after a failure.
         ensures stopped { IsErrOf result CellFault.Device
             → HasStopped D.call_count D.failed_call 4 (disk_in self.old) (disk_in self.new) }
         ensures setup { SameSetup D.sector_count D.armed (disk_in self.old) (disk_in self.new) }

@@ -28,6 +28,7 @@ pub fn put_value<D: Disk>(
     requires durable { Only (D.content disk.old) (D.may_leave disk.old) }
     requires frame { IsFrame (value_in frame.now) frame.now }
     requires room { length (value_in frame.now) ≤ room_on size }
+    // The sectors stand for what they stood for or for the new value, and all that lies behind them stays.
     ensures any_moment { LeavesOnly D.moment D.left_since disk.old disk.new
         (PutLeaves size (D.content disk.old) (value_in frame.now)) }
     ensures settled { OnOk result (IsSettled (D.content disk.new) (D.may_leave disk.new) size (1 - active)

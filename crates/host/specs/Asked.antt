@@ -23,8 +23,8 @@ request_of (RemovedFile path answer) = requests.RemovedFile (string_bytes path.v
 request_of (RemovedFolder path answer) = requests.RemovedFolder (string_bytes path.value) answer
 request_of (Locked folder answer) = requests.Locked (string_bytes folder.value) answer
 request_of (Unlocked folder) = requests.Unlocked (string_bytes folder.value)
-request_of (Opened folder name answer) =
-    requests.Opened (string_bytes folder.value) (string_bytes name.value) (answered (λ bytes. bytes.value.items) answer)
+request_of (Opened folder name waits answer) =
+    requests.Opened (string_bytes folder.value) (string_bytes name.value) waits (answered (λ bytes. bytes.value.items) answer)
 request_of (Cut name len answer) = requests.Cut (string_bytes name.value) len answer
 request_of (Used name asked) = requests.Used (string_bytes name.value) (line_requests_in asked.value)
 request_of (Said bytes answer) = requests.Said bytes.value.items answer

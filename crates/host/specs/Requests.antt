@@ -1,5 +1,5 @@
 -- What a host was asked, the newest first, each request with its answer. A path is its bytes.
-use Rattle.std.specs.Prelude.{◌≡◌, ◌⊎◌, ℕ, List, [], ◌∷◌, Result, Ok, Err}
+use Rattle.std.specs.Prelude.{◌≡◌, ◌⊎◌, ℕ, Bool, List, [], ◌∷◌, Result, Ok, Err}
 use Rattle.host.specs.Answers.{Answer}
 use Rattle.host.specs.LineRequests as lines
 use Rattle.host.specs.declared.fault.HostFault.{HostFault}
@@ -28,8 +28,8 @@ pub data Request : Type 0 where
   -- the lock of a folder
   Locked : (folder : List ℕ) (answer : Answer) → Request
   Unlocked : (folder : List ℕ) → Request
-  -- a file of lines of a locked folder, and what it holds
-  Opened : (folder name : List ℕ) (answer : Result (List ℕ) HostFault) → Request
+  -- a file of lines of a locked folder, and what it holds; whether each put to it waits until it stands on the disk
+  Opened : (folder name : List ℕ) (waits : Bool) (answer : Result (List ℕ) HostFault) → Request
   -- it has so many bytes from now on, the first ones
   Cut : (name : List ℕ) (len : ℕ) (answer : Answer) → Request
   -- it was asked all this since it was opened, and is closed
@@ -73,7 +73,7 @@ lock_change (Synced path answer) = Leaves
 lock_change (Renamed from to answer) = Leaves
 lock_change (RemovedFile path answer) = Leaves
 lock_change (RemovedFolder path answer) = Leaves
-lock_change (Opened folder name answer) = Leaves
+lock_change (Opened folder name waits answer) = Leaves
 lock_change (Cut name len answer) = Leaves
 lock_change (Used name asked) = Leaves
 lock_change (Said bytes answer) = Leaves

@@ -32,7 +32,7 @@ pub enum Noted {
     RemovedFolder(Path, Answer),
     Locked(Path, Answer),
     Unlocked(Path),
-    Opened(Path, Path, Result<Bytes, HostFault>),
+    Opened(Path, Path, bool, Result<Bytes, HostFault>),
     Cut(Path, u64, Answer),
     Used(Path, Snapshot<LinesAsked>),
     Said(Bytes, Answer),

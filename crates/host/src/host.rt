@@ -102,7 +102,7 @@ pub trait Host {
         name: &String,
         waits: bool,
     ) -> Result<(Self::Lines, Vec<u8>), HostFault>
-        ensures asked { asked self.new ≡ Opened (folder_of lock.now) (string_bytes name.now) (answered (λ opened. opened.1.items) result)
+        ensures asked { asked self.new ≡ Opened (folder_of lock.now) (string_bytes name.now) waits (answered (λ opened. opened.1.items) result)
             ∷ asked self.old }
         ensures name { IfOk result (λ opened. Self.Lines.name_of opened.0 ≡ string_bytes name.now) }
         ensures fresh { IfOk result (λ opened. Self.Lines.asked opened.0 ≡ []) };

@@ -1,7 +1,7 @@
 // The host that a program runs on. That each call makes the call of the system that it notes stands here alone, and is read.
 ghost use Rattle.std.specs.Prelude.{◌≡◌, [], ◌∷◌, IfOk, string_bytes};
 ghost use Rattle.host.specs.Asked.{request_of};
-ghost use Rattle.host.specs.HostLines.{lines_name, requests_of as lines_requests};
+ghost use Rattle.host.specs.HostLines.{is_waiting, lines_name, requests_of as lines_requests};
 ghost use Rattle.host.specs.StdHost.{held_folder, made_path, requests_of};
 
 use crate::asked::{Answer, Asked, Noted};
@@ -169,6 +169,7 @@ fn open_lines(
 ) -> io::Result<(HostLines, Vec<u8>)>
     ensures name { IfOk result (λ opened. lines_name opened.0 ≡ string_bytes name.now) }
     ensures fresh { IfOk result (λ opened. lines_requests opened.0 ≡ []) }
+    ensures waits { IfOk result (λ opened. is_waiting opened.0 ≡ waits) }
 {
     let HeldLock {
         file: shared,
@@ -370,7 +371,12 @@ impl Host for StdHost {
         match open_lines(&rt, lock, name, waits) {
             Ok((lines, bytes)) => {
                 let held = Ok(Snapshot::of(&bytes));
-                self.note(&Noted::Opened(Snapshot::of(&lock.folder), Snapshot::of(name), held));
+                self.note(&Noted::Opened(
+                    Snapshot::of(&lock.folder),
+                    Snapshot::of(name),
+                    waits,
+                    held,
+                ));
                 Ok((lines, bytes))
             }
             Err(error) => {
@@ -378,6 +384,7 @@ impl Host for StdHost {
                 self.note(&Noted::Opened(
                     Snapshot::of(&lock.folder),
                     Snapshot::of(name),
+                    waits,
                     Err(fault),
                 ));
                 Err(fault)

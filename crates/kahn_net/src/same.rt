@@ -150,6 +150,7 @@ pub(crate) fn is_same_passes(a: &[u16], b: &[u16]) -> bool
 
 /// Whether two processes read alike. Nothing is allocated.
 pub fn is_same_process(a: &Process, b: &Process) -> bool
+    // By node, first values, prelude and body, also within blocks and repetitions; names don't count.
     ensures { IsTrue result ↔ (code_of a.now ≡ code_of b.now) }
 {
     a.node == b.node

@@ -1,14 +1,25 @@
 -- Why the program over its host ends without a report, in a log that goes on.
-use Rattle.std.proofs.Common.{◌≡◌, inl, inr, sym, subst, ℕ, ℤ, List, Option, Some, None, Ok, Err, Result}
+use Rattle.std.proofs.Common.{◌≡◌, inl, inr, sym, subst, refl, ℕ, ℤ, Bool, List, Option, Some, None, Ok, Err, Result}
 use Rattle.std.specs.Prelude.{IfErr}
-use Rattle.cobaltmidge.specs.Texts.{IsNetOf}
+use Rattle.cobaltmidge.specs.Failing.{is_counted}
+use Rattle.cobaltmidge.specs.Texts.{AreInputsOf, IsNetOf}
+use Rattle.run_files.specs.Causes.{IsCaused}
+use Rattle.run_files.specs.declared.fault.FilesFault.{FilesFault}
+use Rattle.run_files.specs.declared.fault.FilesFault.TheVariants as files
+use Rattle.run_files.proofs.Caused.{caused_later}
 use Rattle.host.specs.Requests.{Request, Has, Later, Read}
 use Rattle.protocol.specs.Node.Common.{Net, Network, network_of, node_count}
 use Rattle.run_files.specs.Wanted.{Wanted}
-use Rattle.kahn_program.specs.Causes.{HasCause, IsNoText, IsScriptStop, IsUnread, inputs_refused, inputs_unread, net_refused, net_unread, no_text, script_stops}
+use Rattle.kahn_program.specs.Causes.{HasCause, HasFileFault, IsScriptStop, IsStopped, IsUnread, failure_of, in_memory}
+use Rattle.kahn_program.specs.Causes.{inputs_refused, inputs_unread, net_refused, net_unread, script_stops, stopped, too_long}
 use Rattle.kahn_program.specs.Readings.{IsInputsFailure, IsNetFailure}
-use Rattle.kahn_program.specs.Runnable.{IsApproximationFailure}
+use Rattle.kahn_program.specs.Asked.{settings_of}
+use Rattle.kahn_program.specs.Keeping.{IsKeptFailure}
+use Rattle.kahn_program.specs.Runnable.{IsApproximationFailure, IsReportless}
+use Rattle.kahn_program.specs.declared.asked.Options.{Options}
 use Rattle.kahn_program.specs.declared.failure.Failure.{Failure}
+use Rattle.kahn_program.specs.declared.failure.Failure.TheVariants.{Line, Whole, NotText, Unreadable, Approximation}
+use Rattle.kahn_program.specs.declared.failure.Failure.TheVariants.{NoMemory, State, InUse, Unwritten, Other}
 use Rattle.kahn_program.specs.declared.failure.Source.{Source}
 use Rattle.kahn_program.specs.declared.failure.Source.TheVariants as source
 
@@ -23,6 +34,83 @@ stop_later None nodes a b failure later h = h
 stop_later (Some path) nodes a b failure later (inl h) = inl (unread_later source.Script path a b failure later h)
 stop_later (Some path) nodes a b failure later (inr h) = inr (h.0, later _ h.1, h.2)
 
+-- what stopped a run stands in what the log has become
+pub stopped_later : (failed other : ℕ → Type 0) (o : Wanted) (a b : List Request) (failure : Failure) → Later a b
+    → ((number : ℕ) → failed number → other number) → IsStopped failed o a failure → IsStopped other o b failure
+stopped_later failed other o a b (Line source line number) later more h = absurd h
+stopped_later failed other o a b (Whole source number) later more h = absurd h
+stopped_later failed other o a b (NotText source) later more h = absurd h
+stopped_later failed other o a b (Unreadable source) later more h = absurd h
+stopped_later failed other o a b (Approximation number) later more h = absurd h
+stopped_later failed other o a b NoMemory later more h = tt
+stopped_later failed other o a b (State number) later more (inl h) = inl (more number h)
+stopped_later failed other o a b (State number) later more (inr (inl h)) = inr (inl (h.0, caused_later o a b later files.OtherState h.1))
+stopped_later failed other o a b (State number) later more (inr (inr (inl h))) =
+    inr (inr (inl (h.0, caused_later o a b later files.Failed h.1)))
+stopped_later failed other o a b (State number) later more (inr (inr (inr h))) = inr (inr (inr h))
+stopped_later failed other o a b InUse later more h = caused_later o a b later files.InUse h
+stopped_later failed other o a b Unwritten later more h = caused_later o a b later files.Unwritten h
+stopped_later failed other o a b (Other number) later more h = h
+
+pub file_fault_later : (o : Wanted) (a b : List Request) → Later a b → (number : ℕ) → HasFileFault o a number → HasFileFault o b number
+file_fault_later o a b later number (inl h) = inl (h.0, h.1.0, h.1.1, h.1.2, later _ h.1.3)
+file_fault_later o a b later number (inr (inl h)) = inr (inl (h.0, h.1.0, h.1.1, later _ h.1.2, h.1.3))
+file_fault_later o a b later number (inr (inr h)) = inr (inr h)
+
+-- a refusal of the files
+files_stop : (failed : ℕ → Type 0) (o : Wanted) (e : List Request) (fault : FilesFault) → IsCaused o e fault
+    → IsStopped failed o e (failure_of fault)
+files_stop failed o e files.NoMemory h = tt
+files_stop failed o e files.InUse h = h
+files_stop failed o e files.OtherState h = inr (inl (refl, h))
+files_stop failed o e files.Failed h = inr (inr (inl (refl, h)))
+files_stop failed o e files.Unwritten h = h
+files_stop failed o e files.Astray h = inr (inr (inr refl))
+
+pub stopped_by_files : (failed : ℕ → Type 0) (o : Wanted) (e : List Request) (failure : Failure) (fault : FilesFault)
+    → failure ≡ failure_of fault → IsCaused o e fault → IsStopped failed o e failure
+stopped_by_files failed o e failure fault is h = subst (IsStopped failed o e) (sym is) (files_stop failed o e fault h)
+
+-- a failure of the run itself
+run_stops : (options : Options) (keeps : Bool) (failed : ℕ → Type 0) (o : Wanted) (e : List Request) (failure : Failure)
+    → IsReportless options keeps failure → IsKeptFailure failed failure → IsStopped failed o e (in_memory failure)
+run_stops options keeps failed o e (Line source line number) (inl h) kept = absurd h
+run_stops options keeps failed o e (Line source line number) (inr (inl h)) kept = absurd h
+run_stops options keeps failed o e (Line source line number) (inr (inr (inl h))) kept = absurd (cc)
+run_stops options keeps failed o e (Line source line number) (inr (inr (inr h))) kept = absurd (cc)
+run_stops options keeps failed o e (Whole source number) (inl h) kept = absurd h
+run_stops options keeps failed o e (Whole source number) (inr (inl h)) kept = absurd h
+run_stops options keeps failed o e (Whole source number) (inr (inr (inl h))) kept = absurd (cc)
+run_stops options keeps failed o e (Whole source number) (inr (inr (inr h))) kept = absurd (cc)
+run_stops options keeps failed o e (NotText source) (inl h) kept = absurd h
+run_stops options keeps failed o e (NotText source) (inr (inl h)) kept = absurd h
+run_stops options keeps failed o e (NotText source) (inr (inr (inl h))) kept = absurd (cc)
+run_stops options keeps failed o e (NotText source) (inr (inr (inr h))) kept = absurd (cc)
+run_stops options keeps failed o e (Unreadable source) (inl h) kept = absurd h
+run_stops options keeps failed o e (Unreadable source) (inr (inl h)) kept = absurd h
+run_stops options keeps failed o e (Unreadable source) (inr (inr (inl h))) kept = absurd (cc)
+run_stops options keeps failed o e (Unreadable source) (inr (inr (inr h))) kept = absurd (cc)
+run_stops options keeps failed o e (Approximation number) (inl h) kept = absurd h
+run_stops options keeps failed o e (Approximation number) (inr (inl h)) kept = absurd h
+run_stops options keeps failed o e (Approximation number) (inr (inr (inl h))) kept = absurd (cc)
+run_stops options keeps failed o e (Approximation number) (inr (inr (inr h))) kept = absurd (cc)
+run_stops options keeps failed o e NoMemory h kept = tt
+run_stops options keeps failed o e (State number) h kept = inl kept
+run_stops options keeps failed o e InUse (inl h) kept = absurd h
+run_stops options keeps failed o e InUse (inr (inl h)) kept = absurd h
+run_stops options keeps failed o e InUse (inr (inr (inl h))) kept = absurd (cc)
+run_stops options keeps failed o e InUse (inr (inr (inr h))) kept = absurd (cc)
+run_stops options keeps failed o e Unwritten h kept = tt
+run_stops options keeps failed o e (Other number) (inl h) kept = (is_counted (settings_of options), h)
+run_stops options keeps failed o e (Other number) (inr (inl h)) kept = absurd h
+run_stops options keeps failed o e (Other number) (inr (inr (inl h))) kept = absurd (cc)
+run_stops options keeps failed o e (Other number) (inr (inr (inr h))) kept = absurd (cc)
+
+pub stopped_by_run : (options : Options) (keeps : Bool) (failed : ℕ → Type 0) (o : Wanted) (e : List Request) (told failure : Failure)
+    → told ≡ in_memory failure → IsReportless options keeps failure → IsKeptFailure failed failure → IsStopped failed o e told
+stopped_by_run options keeps failed o e told failure is h kept =
+    subst (IsStopped failed o e) (sym is) (run_stops options keeps failed o e failure h kept)
+
 still_caused : (o : Wanted) (a b : List Request) (failure : Failure) → Later a b → HasCause o a failure → HasCause o b failure
 still_caused o a b failure later (net_unread h) = net_unread (unread_later source.Net o.net a b failure later h)
 still_caused o a b failure later (net_refused bytes read h) = net_refused bytes (later _ read) h
@@ -31,7 +119,10 @@ still_caused o a b failure later (inputs_refused net_bytes bytes net read of_net
     inputs_refused net_bytes bytes net (later _ read) of_net (later _ inputs) h
 still_caused o a b failure later (script_stops net_bytes net read of_net h) =
     script_stops net_bytes net (later _ read) of_net (stop_later o.script (node_count (network_of net.program)) a b failure later h)
-still_caused o a b failure later (no_text h) = no_text h
+still_caused o a b failure later (too_long net_bytes bytes net inputs n read of_net inputs_read of_inputs h) =
+    too_long net_bytes bytes net inputs n (later _ read) of_net (later _ inputs_read) of_inputs h
+still_caused o a b failure later (stopped h) =
+    stopped (stopped_later (HasFileFault o a) (HasFileFault o b) o a b failure later (file_fault_later o a b later) h)
 
 -- the cause stands in what the log has become
 pub cause_later : (o p : Wanted) (a b : List Request) (failure : Failure) → o ≡ p → Later a b → HasCause o a failure → HasCause p b failure
@@ -60,14 +151,14 @@ by_script o a b e net_bytes net nodes failure first second read of_net same h =
     let P : ℕ → Type 0 = λ n. IsScriptStop o.script n e failure in
     script_stops net_bytes net (second _ (first _ read)) of_net (subst P same h)
 
-pub by_no_text : (o : Wanted) (e : List Request) (failure : Failure) → IsNoText failure → HasCause o e failure
-by_no_text o e failure h = no_text h
+pub by_stop : (o : Wanted) (e : List Request) (failure : Failure) → IsStopped (HasFileFault o e) o e failure → HasCause o e failure
+by_stop o e failure h = stopped h
 
--- want of memory and too long a history are no text's
-pub approximation_fails : (net : Network) (inputs : List (List ℤ)) (n : ℕ) (failure : Failure)
-    → IsApproximationFailure net inputs n failure → IsNoText failure
-approximation_fails net inputs n failure (inl h) = let P : Failure → Type 0 = λ f. IsNoText f in subst P (sym h.0) tt
-approximation_fails net inputs n failure (inr h) = let P : Failure → Type 0 = λ f. IsNoText f in subst P (sym h) tt
+pub by_approximation : (o : Wanted) (e : List Request) (net_bytes bytes : List ℕ) (net : Net) (inputs : List (List ℤ)) (n : ℕ)
+    (failure : Failure) → Has (Read o.net (Ok net_bytes)) e → IsNetOf net_bytes net → Has (Read o.inputs (Ok bytes)) e
+    → AreInputsOf bytes net inputs → IsApproximationFailure (network_of net.program) inputs n failure → HasCause o e failure
+by_approximation o e net_bytes bytes net inputs n failure read of_net inputs_read of_inputs h =
+    too_long net_bytes bytes net inputs n read of_net inputs_read of_inputs h
 
 pub if_err : {T E : Type 0} (P Q : E → Type 0) (result : Result T E) → ((x : E) → P x → Q x) → IfErr result P → IfErr result Q
 if_err P Q (Ok x) more h = tt

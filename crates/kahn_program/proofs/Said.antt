@@ -21,9 +21,10 @@ use Rattle.output_file.specs.InFile.{IsInFile}
 use Rattle.output_file.specs.Output.{asked_of, held_of, items_of}
 use Rattle.output_file.specs.declared.resumed.ResumedOutlet.{ResumedOutlet}
 use Rattle.run_files.specs.Keeping.{IsKept}
-use Rattle.run_files.specs.Opening.{AreOpened, AreUsed, opened_names}
+use Rattle.run_files.specs.Opening.{AreOpened, AreUsed, opened_names, paths_in}
+use Rattle.run_files.specs.Syncing.{AreSyncedIf}
 use Rattle.run_files.specs.declared.held_file.OpenedName.{OpenedName}
-use Rattle.run_files.proofs.Going.{read_later}
+use Rattle.run_files.proofs.Going.{read_later, synced_later}
 use Rattle.kahn_program.specs.Runs.{IsApproximated, IsReport, IsReportBy, IsWrittenIf}
 use Rattle.kahn_program.specs.Scripts.{AreLinesOf}
 use Rattle.kahn_program.specs.Statuses.{status_of_run}
@@ -55,9 +56,9 @@ written_later None a b later text h = tt
 written_later (Some path) a b later text (inl h) = inl (h.0, later _ h.1, later _ h.2, later _ h.3)
 written_later (Some path) a b later text (inr h) = inr (later _ h.0, later _ h.1)
 
-kept_later : (folder name : List ℕ) (stream : List ℤ) (a b : List Request) → Later a b → IsKept folder name stream a
-    → IsKept folder name stream b
-kept_later folder name stream a b later is = record {
+kept_later : (sync : Bool) (folder name : List ℕ) (stream : List ℤ) (a b : List Request) → Later a b → IsKept sync folder name stream a
+    → IsKept sync folder name stream b
+kept_later sync folder name stream a b later is = record {
   bytes = is.bytes;
   opened = later _ is.opened;
   asked = is.asked;
@@ -68,23 +69,24 @@ kept_later folder name stream a b later is = record {
   no_more = is.no_more;
 }
 
-kept_in_later : (folder : List ℕ) (names : List (List ℕ)) (a b : List Request) → Later a b → (streams : List (List ℤ))
-    → AreKeptIn folder names a streams → AreKeptIn folder names b streams
-kept_in_later folder names a b later [] are = tt
-kept_in_later folder [] a b later (stream ∷ streams) are = are
-kept_in_later folder (name ∷ names) a b later (stream ∷ streams) are =
-    (kept_later folder name stream a b later are.0, kept_in_later folder names a b later streams are.1)
+kept_in_later : (sync : Bool) (folder : List ℕ) (names : List (List ℕ)) (a b : List Request) → Later a b → (streams : List (List ℤ))
+    → AreKeptIn sync folder names a streams → AreKeptIn sync folder names b streams
+kept_in_later sync folder names a b later [] are = tt
+kept_in_later sync folder [] a b later (stream ∷ streams) are = are
+kept_in_later sync folder (name ∷ names) a b later (stream ∷ streams) are =
+    (kept_later sync folder name stream a b later are.0, kept_in_later sync folder names a b later streams are.1)
 
-all_kept_later : (state : Option (List ℕ)) (names : List (List ℕ)) (a b : List Request) → Later a b → (streams : List (List ℤ))
-    → AreKept state names a streams → AreKept state names b streams
-all_kept_later None names a b later streams are = tt
-all_kept_later (Some folder) names a b later streams are = kept_in_later folder names a b later streams are
+all_kept_later : (sync : Bool) (state : Option (List ℕ)) (names : List (List ℕ)) (a b : List Request) → Later a b
+    → (streams : List (List ℤ)) → AreKept sync state names a streams → AreKept sync state names b streams
+all_kept_later sync None names a b later streams are = tt
+all_kept_later sync (Some folder) names a b later streams are =
+    (kept_in_later sync folder names a b later streams are.0, synced_later sync (paths_in folder names ++ folder ∷ []) a b later are.1)
 
 module _ {F : Type 0} {file : FileWords F} where
-  kept_one : (folder : List ℕ) (one : OpenedName) (outlet : ResumedOutlet F file) (stream : List ℤ) (e : List Request)
-      → Has (Opened folder (string_bytes one.name) (Ok one.bytes.value.items)) e → Has (Used (string_bytes one.name) (asked_of outlet)) e
-      → IsInFile stream outlet → IsKept folder (string_bytes one.name) stream e
-  kept_one folder one outlet stream e opened used is = record {
+  kept_one : (sync : Bool) (folder : List ℕ) (one : OpenedName) (outlet : ResumedOutlet F file) (stream : List ℤ) (e : List Request)
+      → Has (Opened folder (string_bytes one.name) sync (Ok one.bytes.value.items)) e
+      → Has (Used (string_bytes one.name) (asked_of outlet)) e → IsInFile stream outlet → IsKept sync folder (string_bytes one.name) stream e
+  kept_one sync folder one outlet stream e opened used is = record {
     bytes = one.bytes.value.items;
     opened = opened;
     asked = asked_of outlet;
@@ -96,39 +98,42 @@ module _ {F : Type 0} {file : FileWords F} where
   }
 
   -- streams that are in files that were opened and given back are kept
-  pub kept_in : (folder : List ℕ) (opened : List OpenedName) (outlets : List (ResumedOutlet F file)) (e : List Request)
-      → AreOpened folder opened e → AreUsed opened outlets e → (streams : List (List ℤ)) → AreInFiles outlets streams
-      → AreKeptIn folder (opened_names opened) e streams
-  kept_in folder opened outlets e were used [] are = tt
-  kept_in folder opened [] e were used (stream ∷ streams) are = absurd are
-  kept_in folder [] (outlet ∷ outlets) e were used (stream ∷ streams) are = absurd used
-  kept_in folder (one ∷ opened) (outlet ∷ outlets) e were used (stream ∷ streams) are =
-      (kept_one folder one outlet stream e were.0 used.0 are.0, kept_in folder opened outlets e were.1 used.1 streams are.1)
+  pub kept_in : (sync : Bool) (folder : List ℕ) (opened : List OpenedName) (outlets : List (ResumedOutlet F file)) (e : List Request)
+      → AreOpened sync folder opened e → AreUsed opened outlets e → (streams : List (List ℤ)) → AreInFiles outlets streams
+      → AreKeptIn sync folder (opened_names opened) e streams
+  kept_in sync folder opened outlets e were used [] are = tt
+  kept_in sync folder opened [] e were used (stream ∷ streams) are = absurd are
+  kept_in sync folder [] (outlet ∷ outlets) e were used (stream ∷ streams) are = absurd used
+  kept_in sync folder (one ∷ opened) (outlet ∷ outlets) e were used (stream ∷ streams) are =
+      (kept_one sync folder one outlet stream e were.0 used.0 are.0, kept_in sync folder opened outlets e were.1 used.1 streams are.1)
 
 -- the same by names that are others' in other words
-pub kept_as : (folder : List ℕ) (names others : List (List ℕ)) (a b : List Request) → names ≡ others → Later a b
-    → (streams : List (List ℤ)) → AreKeptIn folder names a streams → AreKeptIn folder others b streams
-kept_as folder names others a b same later streams are =
-    let P : List (List ℕ) → Type 0 = λ ns. AreKeptIn folder ns b streams in subst P same (kept_in_later folder names a b later streams are)
+pub kept_as : (sync : Bool) (folder : List ℕ) (names others : List (List ℕ)) (a b : List Request) → names ≡ others → Later a b
+    → AreSyncedIf sync (paths_in folder others ++ folder ∷ []) b → (streams : List (List ℤ)) → AreKeptIn sync folder names a streams
+    → AreKept sync (Some folder) others b streams
+kept_as sync folder names others a b same later synced streams are =
+    let P : List (List ℕ) → Type 0 = λ ns. AreKeptIn sync folder ns b streams in
+    (subst P same (kept_in_later sync folder names a b later streams are), synced)
 
 -- what is kept in the folder that is asked for
-pub kept_asked : (state : Option (List ℕ)) (folder : List ℕ) (names : List (List ℕ)) (e : List Request) → state ≡ Some folder
-    → (streams : List (List ℤ)) → AreKeptIn folder names e streams → AreKept state names e streams
-kept_asked state folder names e is streams are =
-    let P : Option (List ℕ) → Type 0 = λ s. AreKept s names e streams in subst P (sym is) are
+pub kept_asked : (sync : Bool) (state : Option (List ℕ)) (folder : List ℕ) (names : List (List ℕ)) (e : List Request)
+    → state ≡ Some folder → (streams : List (List ℤ)) → AreKept sync (Some folder) names e streams → AreKept sync state names e streams
+kept_asked sync state folder names e is streams are =
+    let P : Option (List ℕ) → Type 0 = λ s. AreKept sync s names e streams in subst P (sym is) are
 
 -- where none is asked for, nothing is to be kept
-pub none_asked : (state : Option (List ℕ)) (names : List (List ℕ)) (e : List Request) → state ≡ None
-    → (streams : List (List ℤ)) → AreKept state names e streams
-none_asked state names e is streams = let P : Option (List ℕ) → Type 0 = λ s. AreKept s names e streams in subst P (sym is) tt
+pub none_asked : (sync : Bool) (state : Option (List ℕ)) (names : List (List ℕ)) (e : List Request) → state ≡ None
+    → (streams : List (List ℤ)) → AreKept sync state names e streams
+none_asked sync state names e is streams =
+    let P : Option (List ℕ) → Type 0 = λ s. AreKept sync s names e streams in subst P (sym is) tt
 
-pub report_later : (state path : Option (List ℕ)) (names : List (List ℕ)) (a b : List Request) (options : Options) (net : Net)
-    (inputs : List (List ℤ)) (script : List ScriptedEvent) (text : List ℕ) (told : Bool) → Later a b
-    → IsReport (AreKept state names a) (IsWrittenIfAsked path a) options net inputs script text told
-    → IsReport (AreKept state names b) (IsWrittenIfAsked path b) options net inputs script text told
-report_later state path names a b options net inputs script text told later =
-    report_maps (AreKept state names a) (AreKept state names b) (IsWrittenIfAsked path a) (IsWrittenIfAsked path b) options net inputs
-    script text told (all_kept_later state names a b later) (written_later path a b later)
+pub report_later : (sync : Bool) (state path : Option (List ℕ)) (names : List (List ℕ)) (a b : List Request) (options : Options)
+    (net : Net) (inputs : List (List ℤ)) (script : List ScriptedEvent) (text : List ℕ) (told : Bool) → Later a b
+    → IsReport (AreKept sync state names a) (IsWrittenIfAsked path a) options net inputs script text told
+    → IsReport (AreKept sync state names b) (IsWrittenIfAsked path b) options net inputs script text told
+report_later sync state path names a b options net inputs script text told later =
+    report_maps (AreKept sync state names a) (AreKept sync state names b) (IsWrittenIfAsked path a) (IsWrittenIfAsked path b) options net
+    inputs script text told (all_kept_later sync state names a b later) (written_later path a b later)
 
 pub status_is : (a b : Bool) → status_of_run a ≡ status_of_run b → a ≡ b
 status_is true true same = refl
@@ -153,7 +158,7 @@ pub run_report : (options : Options) (o : Wanted) (given : Given) (net : Net) (i
     → options.approx ≡ None → o ≡ asked_files options → o.script ≡ option_map string_bytes name
     → WereRead o given a → Later a e → IsNetOf given.net net → AreInputsOf given.inputs net inputs
     → AreLinesOf name (node_count (network_of net.program)) given.script lines
-    → IsReport (AreKept o.state (file_names net.program.channels.items net.channel_names.items) e) (IsWrittenIfAsked o.history e) options net
+    → IsReport (AreKept o.sync o.state (file_names net.program.channels.items net.channel_names.items) e) (IsWrittenIfAsked o.history e) options net
     inputs (map scripted_of lines) text told
     → HasReport options text told e
 run_report options o given net inputs name lines text told a e none same script read later of_net of_inputs are report =
@@ -164,9 +169,9 @@ run_report options o given net inputs name lines text told a e none same script 
     let Q : Wanted → Type 0 = λ w. WereRead w given e in
     let outputs : List (List ℕ) = file_names net.program.channels.items net.channel_names.items in
     let R : Wanted → Type 0 = λ w.
-    IsReport (AreKept w.state outputs e) (IsWrittenIfAsked w.history e) options net inputs (map scripted_of lines) text told in
+    IsReport (AreKept w.sync w.state outputs e) (IsWrittenIfAsked w.history e) options net inputs (map scripted_of lines) text told in
     let S : Option ℕ → Type 0 = λ n.
-    IsReportBy n (AreKept (asked_files options).state outputs e) (IsWrittenIfAsked (asked_files options).history e) options net inputs
+    IsReportBy n (AreKept (asked_files options).sync (asked_files options).state outputs e) (IsWrittenIfAsked (asked_files options).history e) options net inputs
     given.script text told in
     record {
       given = given;
@@ -187,7 +192,7 @@ approximation_report options n o given net inputs text told e some same read of_
     let Q : Wanted → Type 0 = λ w. WereRead w given e in
     let outputs : List (List ℕ) = file_names net.program.channels.items net.channel_names.items in
     let S : Option ℕ → Type 0 = λ m.
-    IsReportBy m (AreKept (asked_files options).state outputs e) (IsWrittenIfAsked (asked_files options).history e) options net inputs
+    IsReportBy m (AreKept (asked_files options).sync (asked_files options).state outputs e) (IsWrittenIfAsked (asked_files options).history e) options net inputs
     given.script text told in
     record {
       given = given;
@@ -199,13 +204,13 @@ approximation_report options n o given net inputs text told e some same read of_
       report = subst S (sym some) report;
     }
 
-by_later : (approx : Option ℕ) (state path : Option (List ℕ)) (names : List (List ℕ)) (a b : List Request) (options : Options) (net : Net)
-    (inputs : List (List ℤ)) (script : Option (List ℕ)) (text : List ℕ) (told : Bool) → Later a b
-    → IsReportBy approx (AreKept state names a) (IsWrittenIfAsked path a) options net inputs script text told
-    → IsReportBy approx (AreKept state names b) (IsWrittenIfAsked path b) options net inputs script text told
-by_later (Some n) state path names a b options net inputs script text told later report = report
-by_later None state path names a b options net inputs script text told later report =
-    (report.0, report.1, report_later state path names a b options net inputs (map scripted_of report.0) text told later report.2)
+by_later : (approx : Option ℕ) (sync : Bool) (state path : Option (List ℕ)) (names : List (List ℕ)) (a b : List Request)
+    (options : Options) (net : Net) (inputs : List (List ℤ)) (script : Option (List ℕ)) (text : List ℕ) (told : Bool) → Later a b
+    → IsReportBy approx (AreKept sync state names a) (IsWrittenIfAsked path a) options net inputs script text told
+    → IsReportBy approx (AreKept sync state names b) (IsWrittenIfAsked path b) options net inputs script text told
+by_later (Some n) sync state path names a b options net inputs script text told later report = report
+by_later None sync state path names a b options net inputs script text told later report =
+    (report.0, report.1, report_later sync state path names a b options net inputs (map scripted_of report.0) text told later report.2)
 
 pub has_report_later : (options : Options) (text : List ℕ) (told other : Bool) (a b : List Request) → Later a b → other ≡ told
     → HasReport options text told a → HasReport options text other b
@@ -219,7 +224,7 @@ has_report_later options text told other a b later same has =
       of_net = has.of_net;
       of_inputs = has.of_inputs;
       report =
-          by_later options.approx (asked_files options).state (asked_files options).history
+          by_later options.approx (asked_files options).sync (asked_files options).state (asked_files options).history
           (file_names has.net.program.channels.items has.net.channel_names.items) a b options has.net has.inputs has.given.script text told
           later has.report;
     })

@@ -1,5 +1,5 @@
 -- Where the items of a run's outputs go, beside its report.
-use Rattle.std.specs.Prelude.{◌≡◌, ℤ, Bool, true, List, map}
+use Rattle.std.specs.Prelude.{◌≡◌, ℕ, ℤ, Bool, true, List, map}
 use Rattle.station.specs.declared.output.Output.{Output}
 use Rattle.kahn_program.specs.declared.failure.Failure.{Failure}
 use Rattle.kahn_program.specs.declared.failure.Failure.TheVariants.{Line, Whole, NotText, Unreadable, Approximation}
@@ -21,3 +21,16 @@ IsKeeperFailure keeps (State number) = keeps ≡ true
 IsKeeperFailure keeps InUse = ⊥
 IsKeeperFailure keeps Unwritten = ⊥
 IsKeeperFailure keeps (Other number) = ⊥
+
+-- where what outlets take is refused or failed, why: by the number of the refusal
+abbrev pub IsKeptFailure : (ℕ → Type 0) → Failure → Type 0
+IsKeptFailure failed (Line source line number) = Unit {0}
+IsKeptFailure failed (Whole source number) = Unit {0}
+IsKeptFailure failed (NotText source) = Unit {0}
+IsKeptFailure failed (Unreadable source) = Unit {0}
+IsKeptFailure failed (Approximation number) = Unit {0}
+IsKeptFailure failed NoMemory = Unit {0}
+IsKeptFailure failed (State number) = failed number
+IsKeptFailure failed InUse = Unit {0}
+IsKeptFailure failed Unwritten = Unit {0}
+IsKeptFailure failed (Other number) = Unit {0}

@@ -13,6 +13,8 @@ use Rattle.net_text.specs.Names.{NameTree}
 use Rattle.protocol.specs.Node.Common.{Channel, Port, Outside, Process, Net, network_of, node_count}
 use Rattle.run_files.specs.Keeping.{IsKept, IsWrittenTo}
 use Rattle.run_files.specs.History.{IsOpenFor}
+use Rattle.run_files.specs.Opening.{paths_in}
+use Rattle.run_files.specs.Syncing.{AreSyncedIf}
 use Rattle.run_files.specs.Rules.{Given, WereRead, rule}
 use Rattle.run_files.specs.declared.happened.HistoryFile.{HistoryFile}
 use Rattle.run_files.specs.Wanted.{Wanted}
@@ -62,16 +64,18 @@ file_names [] names = []
 file_names (channel ∷ channels) [] = []
 file_names (channel ∷ channels) (name ∷ names) = name_if_output channel.consumer name (file_names channels names)
 
--- each output's stream is kept in its own file of the folder
-abbrev pub AreKeptIn : List ℕ → List (List ℕ) → List Request → List (List ℤ) → Type 0
-AreKeptIn folder names e [] = Unit {0}
-AreKeptIn folder [] e (stream ∷ streams) = ⊥
-AreKeptIn folder (name ∷ names) e (stream ∷ streams) = IsKept folder name stream e × AreKeptIn folder names e streams
+-- each output's stream is kept in its own file of the folder; each put to it waits for the disk, where that is asked for (`sync`)
+abbrev pub AreKeptIn : Bool → List ℕ → List (List ℕ) → List Request → List (List ℤ) → Type 0
+AreKeptIn sync folder names e [] = Unit {0}
+AreKeptIn sync folder [] e (stream ∷ streams) = ⊥
+AreKeptIn sync folder (name ∷ names) e (stream ∷ streams) = IsKept sync folder name stream e × AreKeptIn sync folder names e streams
 
--- where a folder is asked for
-abbrev pub AreKept : Option (List ℕ) → List (List ℕ) → List Request → List (List ℤ) → Type 0
-AreKept None names e streams = Unit {0}
-AreKept (Some folder) names e streams = AreKeptIn folder names e streams
+-- Where a folder is asked for, they are kept there; and where that is asked for the folder, its texts and the files as they were found stand on
+-- the disk.
+abbrev pub AreKept : Bool → Option (List ℕ) → List (List ℕ) → List Request → List (List ℤ) → Type 0
+AreKept sync None names e streams = Unit {0}
+AreKept sync (Some folder) names e streams =
+    AreKeptIn sync folder names e streams × AreSyncedIf sync (paths_in folder names ++ folder ∷ []) e
 
 -- where a file for it is asked for, this is written there
 abbrev pub IsWrittenIfAsked : Option (List ℕ) → List Request → List ℕ → Type 0
@@ -109,7 +113,7 @@ pub record HasReport (options : Options) (text : List ℕ) (complete : Bool) (e 
   pub inputs : List (List ℤ)
   pub of_net : IsNetOf given.net net
   pub of_inputs : AreInputsOf given.inputs net inputs
-  pub report : IsReportOf (AreKept (asked_files options).state (file_names net.program.channels.items net.channel_names.items) e)
+  pub report : IsReportOf (AreKept (asked_files options).sync (asked_files options).state (file_names net.program.channels.items net.channel_names.items) e)
       (IsWrittenIfAsked (asked_files options).history e) options net inputs given.script text complete
 
 -- such a report was said

@@ -1,9 +1,9 @@
 //! Outlets over files, which outlast a run.
 
-ghost use Rattle.std.specs.Prelude.{◌≡◌, true, IfErr, IfOk, OnOk};
+ghost use Rattle.std.specs.Prelude.{◌≡◌, ◌⊎◌, [], ℕ, true, IfErr, OnOk};
 ghost use Rattle.output_file.specs.Output.{taken_of};
-ghost use Rattle.kahn_program.specs.Keeping.{IsKeeperFailure, taken_streams};
-ghost use Rattle.kahn_program.specs.KeptFiles.{AreInFiles, closed_of};
+ghost use Rattle.kahn_program.specs.Keeping.{IsKeeperFailure, IsKeptFailure, taken_streams};
+ghost use Rattle.kahn_program.specs.KeptFiles.{AreInFiles, HasFailedBy, IsFaultOf, SomeAtFault, closed_of};
 ghost use Rattle.output_file.specs.InFile.{IsInFile};
 
 use crate::failure::Failure;
@@ -27,6 +27,9 @@ pub const ITEM_DIFFERS: u8 = 81;
 /// The refusal of a run of which a file failed.
 pub const FILE_FAILED: u8 = 82;
 
+/// The refusal of a run whose files came back otherwise than they were opened: a fault of this program.
+pub const ASTRAY: u8 = 83;
+
 /// A run's outlets over files, one for each output, in order of the channels.
 #[derive(Drop)]
 pub struct FileKeeper<'a, F: LineFile> {
@@ -34,7 +37,7 @@ pub struct FileKeeper<'a, F: LineFile> {
     folder: &'a String,
     // the last output's first
     files: Vec<HeldFile<F>>,
-    // those of a run that is over
+    // those of a run that is over, also of one that failed
     closed: Vec<ResumedOutlet<F>>,
     // what there is to say of the file that failed
     words: Option<String>,
@@ -63,7 +66,7 @@ impl<'a, F: LineFile> FileKeeper<'a, F> {
         }
     }
 
-    /// The outlets of a run that is over, one for each output, in order of the channels.
+    /// The outlets of a run that is over, in order of the channels: of one that failed those up to the one that did.
     pub fn into_closed(self) -> Vec<ResumedOutlet<F>>
         ensures { result.items ≡ closed_of self.entry }
     {
@@ -123,6 +126,7 @@ fn put_all<F: LineFile>(
 ) -> Result<(), Failure>
     ensures kept { OnOk result (IsInFile (taken_of outlet.old) outlet.new) }
     ensures err { IfErr result (IsKeeperFailure true) }
+    ensures cause { IfErr result (IsFaultOf outlet.new) }
 {
     if outlet.first_difference().is_some() {
         *words = difference_words(alloc, folder, outlet);
@@ -133,6 +137,7 @@ fn put_all<F: LineFile>(
     match outlet.flush() {
         Ok(()) => Ok(()),
         Err(_) => {
+            let _ = outlet.is_broken();
             *words = failure_words(alloc, folder, outlet);
             Err(Failure::State {
                 number: FILE_FAILED,
@@ -141,28 +146,28 @@ fn put_all<F: LineFile>(
     }
 }
 
-// The outlets of a run that is over, each with its file.
+// What the outlets of a run that is over took is put to their files, up to the first failure. They are added here, also the one that failed.
 fn put_each<F: LineFile>(
     alloc: Global,
     folder: &String,
     outputs: Vec<Output<ResumedOutlet<F>>>,
+    outlets: &mut Vec<ResumedOutlet<F>>,
     words: &mut Option<String>,
-) -> Result<Vec<ResumedOutlet<F>>, Failure>
-    ensures kept { IfOk result (λ outlets. AreInFiles outlets.items
-        (taken_streams taken_of outputs.items)) }
+) -> Result<(), Failure>
+    requires { outlets.old.items ≡ [] }
+    ensures kept { OnOk result (AreInFiles outlets.new.items (taken_streams taken_of outputs.items)) }
     ensures err { IfErr result (IsKeeperFailure true) }
+    ensures cause { IfErr result (IsKeptFailure (λ number. SomeAtFault number outlets.new.items)) }
 {
-    let Ok(mut outlets) = Vec::with_capacity(alloc, outputs.len()) else {
-        return Err(Failure::NoMemory);
-    };
     for output in outputs {
         let Output { mut outlet, .. } = output;
-        put_all(alloc, folder, &mut outlet, words)?;
+        let put = put_all(alloc, folder, &mut outlet, words);
         let Ok(()) = outlets.push(outlet) else {
             return Err(Failure::NoMemory);
         };
+        put?;
     }
-    Ok(outlets)
+    Ok(())
 }
 
 impl<'a, F: LineFile> Keeper<ResumedOutlet<F>> for FileKeeper<'a, F> {
@@ -170,11 +175,11 @@ impl<'a, F: LineFile> Keeper<ResumedOutlet<F>> for FileKeeper<'a, F> {
 
     ghost has_kept = { λ keeper streams. AreInFiles keeper.closed.items streams };
 
+    ghost has_failed = { λ keeper number. HasFailedBy keeper number };
+
     fn open(&mut self, alloc: Global, net: &Net) -> Result<Vec<Output<ResumedOutlet<F>>>, Failure> {
         if self.files.len() != count_outputs(net) {
-            return Err(Failure::State {
-                number: OTHER_STATE,
-            });
+            return Err(Failure::State { number: ASTRAY });
         }
         let mut maker = FileOutlets {
             alloc,
@@ -194,9 +199,12 @@ impl<'a, F: LineFile> Keeper<ResumedOutlet<F>> for FileKeeper<'a, F> {
         ensures kept { OnOk result (AreInFiles self.new.closed.items
             (taken_streams taken_of outputs.items)) }
         ensures err { IfErr result (IsKeeperFailure true) }
+        ensures cause { IfErr result (IsKeptFailure (HasFailedBy self.new)) }
     {
-        self.closed = put_each(alloc, self.folder, outputs, &mut self.words)?;
-        Ok(())
+        let mut outlets = Vec::new(alloc);
+        let put = put_each(alloc, self.folder, outputs, &mut outlets, &mut self.words);
+        self.closed = outlets;
+        put
     }
 
     fn take_words(&mut self) -> Option<String> {

@@ -8,7 +8,7 @@ ghost use Rattle.history_text.specs.Histories.{history_text};
 ghost use Rattle.run_log.specs.Lines.{happenings};
 ghost use Rattle.world.specs.WholeView.{net_in, world_of};
 ghost use Rattle.cobaltmidge.specs.Runs.{released_streams};
-ghost use Rattle.kahn_program.specs.Keeping.{IsKeeperFailure};
+ghost use Rattle.kahn_program.specs.Keeping.{IsKeeperFailure, IsKeptFailure};
 ghost use Rattle.kahn_program.specs.Runnable.{IsReportless, IsUnwritten, run_failure};
 ghost use Rattle.kahn_program.specs.Runs.{IsReport, IsToldOf, IsWrittenIf, first_items, is_whole};
 ghost use Rattle.kahn_program.specs.declared.failure.Failure.TheVariants.{NoMemory, Unwritten};
@@ -148,6 +148,7 @@ fn close_outputs<O: Outlet, K: Keeper<O>>(
     ensures kept { OnOk result (K.has_kept keeper.new
         (released_streams (network_of (net_in world).value.program) (world_of world).stations)) }
     ensures err { IfErr result (IsKeeperFailure K.keeps) }
+    ensures cause { IfErr result (IsKeptFailure (K.has_failed keeper.new)) }
 {
     let Ok(closed) = world.close(alloc) else {
         return Err(Failure::NoMemory);
@@ -226,6 +227,8 @@ pub fn report_of_run<
     // A device failed (20), memory is missing (1), a count would pass 2^63 - 1 (44), what outlasts the run failed, or what happened
     // can't be written.
     ensures err { IfErr result (IsReportless options.now K.keeps) }
+    // Where what outlasts the run is refused or failed, the keeper says why.
+    ensures cause { IfErr result (IsKeptFailure (K.has_failed keeper.new)) }
 {
     let outputs = keeper.open(alloc, &net)?;
     let Ok(net) = Arc::new(alloc, net) else {

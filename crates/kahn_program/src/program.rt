@@ -1,13 +1,13 @@
 //! The whole program over its host.
 
-ghost use Rattle.std.specs.Prelude.{Bool, ◌≡◌, ◌++◌, ◌≤◌, [], IfErr, IfOk, OnOk, Ok, Some, codes, length, map, string_bytes};
+ghost use Rattle.std.specs.Prelude.{Bool, ◌≡◌, ◌⊎◌, ◌++◌, ◌≤◌, [], IfErr, IfOk, OnOk, Ok, Err, Some, codes, length, map, string_bytes};
 ghost use Rattle.std.specs.Option.{option_map};
 ghost use Rattle.host.specs.Requests.{Each, Has, IsFree, Read, Said, Told};
 ghost use Rattle.protocol.specs.Node.Common.{Fits, MAX_NODES, network_of, node_count};
 ghost use Rattle.cobaltmidge.specs.Texts.{AreInputsOf, IsNetOf};
 ghost use Rattle.fail_script.specs.Lines.{IsScript};
 ghost use Rattle.kahn_program.specs.Program.{IsAccepted, IsOpenIfAsked, IsWrittenIfAsked, Keeps, asked_files, file_names, given_of, name_if_output, AreKept, AreKeptIn, HasReport, IsDone};
-ghost use Rattle.kahn_program.specs.Causes.{HasCause, IsNoText, IsRefused, IsScriptStop, IsUnread};
+ghost use Rattle.kahn_program.specs.Causes.{HasCause, HasFailed, HasFileFault, IsRefused, IsScriptStop, IsStopped, IsToldOf, IsUnread, in_memory};
 ghost use Rattle.kahn_program.specs.Failures.{failure_line, status_of};
 ghost use Rattle.kahn_program.specs.Readings.{IsInputsFailure, IsNetFailure, IsScriptFailure};
 ghost use Rattle.kahn_program.specs.Runs.{IsReport};
@@ -17,13 +17,14 @@ ghost use Rattle.cobaltmidge.specs.Scripts.{scripted_of};
 ghost use Rattle.run_files.specs.Opening.{AreOpened, opened_names};
 ghost use Rattle.run_files.specs.Rules.{GoesOn, IsReady, WasReadIf, WereRead, rule};
 ghost use Rattle.run_files.specs.Wanted.{wanted_of};
+ghost use Rattle.host.specs.declared.fault.HostFault.{HostFault};
 
 use crate::approximating::report_of_approximation;
 use crate::asked::Options;
 use crate::explaining::explanation;
 use crate::failure::{Failure, Source};
 use crate::keeper::{InMemory, Keeper};
-use crate::kept_files::{FILE_FAILED, FileKeeper, OTHER_STATE};
+use crate::kept_files::{ASTRAY, FILE_FAILED, FileKeeper, OTHER_STATE};
 use crate::network_run::report_of_run;
 use crate::reading::{read_inputs, read_net, read_script};
 use cobaltmidge::{RunWatch, TurnWatch, events_of};
@@ -89,9 +90,10 @@ impl From<Failure> for Stop {
 }
 
 impl From<Refused> for Stop {
-    ghost use Rattle.kahn_program.specs.Causes.{IsNoText};
+    ghost use Rattle.std.specs.Prelude.{◌≡◌};
+    ghost use Rattle.kahn_program.specs.Causes.{failure_of};
 
-    ghost from_gives = { λ _ stop. IsNoText stop.failure };
+    ghost from_gives = { λ refused stop. stop.failure ≡ failure_of refused.fault };
 
     fn from(refused: Refused) -> Self {
         Stop {
@@ -105,6 +107,7 @@ impl From<Refused> for Stop {
                     number: FILE_FAILED,
                 },
                 FilesFault::Unwritten => Failure::Unwritten,
+                FilesFault::Astray => Failure::State { number: ASTRAY },
             },
             words: refused.words,
         }
@@ -417,7 +420,7 @@ fn open_if_asked<H: Host>(
     requires { IsReady IsAccepted (wanted_of names.now) (H.asked host.old) }
     ensures goes { GoesOn IsAccepted (wanted_of names.now) (H.asked host.old) (H.asked host.new) }
     ensures open { IfOk result (λ history. IsOpenIfAsked H.path_of (wanted_of names.now).history history (H.asked host.new)) }
-    ensures cause { IfErr result (λ stop. IsNoText stop.failure) }
+    ensures cause { IfErr result (λ stop. IsStopped (λ number. ⊥) (wanted_of names.now) (H.asked host.new) stop.failure) }
 {
     match &names.history {
         Some(path) => Ok(Some(open_history::<H, Accepted>(host, alloc, names, path)?)),
@@ -437,14 +440,20 @@ fn finish_if_asked<H: Host>(
     requires open { IsOpenIfAsked H.path_of (wanted_of names.now).history history (H.asked host.old) }
     ensures goes { GoesOn IsAccepted (wanted_of names.now) (H.asked host.old) (H.asked host.new) }
     ensures written { OnOk result (IsWrittenIfAsked (wanted_of names.now).history (H.asked host.new) happened.now.items) }
-    ensures cause { IfErr result (λ stop. IsNoText stop.failure) }
+    ensures cause { IfErr result (λ stop. IsStopped (λ number. ⊥) (wanted_of names.now) (H.asked host.new) stop.failure) }
 {
-    match (&names.history, history) {
-        (Some(path), Some(history)) => {
-            finish_history::<H, Accepted>(host, alloc, names, path, history, happened)?;
-            Ok(())
-        }
-        _ => Ok(()),
+    match history {
+        Some(history) => match &names.history {
+            Some(path) => {
+                finish_history::<H, Accepted>(host, alloc, names, path, history, happened)?;
+                Ok(())
+            }
+            None => {
+                drop_history::<H, Accepted>(host, names, history);
+                Ok(())
+            }
+        },
+        None => Ok(()),
     }
 }
 
@@ -453,8 +462,19 @@ fn drop_if_asked<H: Host>(host: &mut H, names: &Names, history: Option<HistoryFi
     requires { IsOpenIfAsked H.path_of (wanted_of names.now).history history (H.asked host.old) }
     ensures { GoesOn IsAccepted (wanted_of names.now) (H.asked host.old) (H.asked host.new) }
 {
-    if let Some(history) = history {
-        drop_history::<H, Accepted>(host, names, &history.made);
+    match history {
+        Some(history) => drop_history::<H, Accepted>(host, names, history),
+        None => {}
+    }
+}
+
+// What happened is written to a text in memory, so that this fails for want of memory alone.
+fn in_memory(failure: Failure) -> Failure
+    ensures { result ≡ in_memory failure }
+{
+    match failure {
+        Failure::Unwritten => Failure::NoMemory,
+        other => other,
     }
 }
 
@@ -481,7 +501,7 @@ fn run_over<
     ensures report { IfOk result (λ report. IsReport (K.has_kept keeper.new)
         (IsWrittenIfAsked (wanted_of names.now).history (H.asked host.new)) options.now asked.entry.net asked.entry.inputs
         (map scripted_of asked.entry.lines.items) report.bytes.items report.complete) }
-    ensures cause { IfErr result (λ stop. IsNoText stop.failure) }
+    ensures cause { IfErr result (λ stop. IsStopped (K.has_failed keeper.new) (wanted_of names.now) (H.asked host.new) stop.failure) }
 {
     let RunTexts {
         net,
@@ -514,6 +534,7 @@ fn run_over<
         }
         Err(failure) => {
             drop_if_asked(host, names, history);
+            let failure = in_memory(failure);
             let words = keeper.take_words();
             Err(Stop { failure, words })
         }
@@ -535,13 +556,14 @@ fn run_locked<H: Host, P: RunWatch + TurnWatch + Sync, R: Threads + Wait + Sync>
 ) -> Result<Report, Stop>
     requires ready { IsReady IsAccepted (wanted_of names.now) (H.asked host.old) }
     requires fitting { Fits (network_of asked.net.program) asked.inputs }
-    requires opened { AreOpened (string_bytes folder.now) opened.now (H.asked host.old) }
+    requires opened { AreOpened names.now.sync (string_bytes folder.now) opened.now (H.asked host.old) }
     ensures goes { GoesOn IsAccepted (wanted_of names.now) (H.asked host.old) (H.asked host.new) }
     ensures report { IfOk result (λ report. IsReport
-        (AreKeptIn (string_bytes folder.now) (opened_names opened.now) (H.asked host.new))
+        (AreKeptIn names.now.sync (string_bytes folder.now) (opened_names opened.now) (H.asked host.new))
         (IsWrittenIfAsked (wanted_of names.now).history (H.asked host.new)) options.now asked.entry.net asked.entry.inputs
         (map scripted_of asked.entry.lines.items) report.bytes.items report.complete) }
-    ensures cause { IfErr result (λ stop. IsNoText stop.failure) }
+    ensures cause { IfErr result (λ stop. IsStopped (HasFileFault (wanted_of names.now) (H.asked host.new)) (wanted_of names.now)
+        (H.asked host.new) stop.failure) }
 {
     let mut keeper = FileKeeper::new(alloc, folder, files);
     let report = run_over::<H, ResumedOutlet<H::Lines>, _, _, _>(
@@ -553,9 +575,10 @@ fn run_locked<H: Host, P: RunWatch + TurnWatch + Sync, R: Threads + Wait + Sync>
         asked,
         &mut keeper,
         watch,
-    )?;
+    );
+    // Also where it failed, so that what the files were asked stands in the host's log.
     give_back::<H, Accepted>(host, alloc, names, folder, opened, keeper.into_closed())?;
-    Ok(report)
+    report
 }
 
 // A run of which what left is kept in a folder.
@@ -577,11 +600,12 @@ fn run_kept<H: Host, P: RunWatch + TurnWatch + Sync, R: Threads + Wait + Sync>(
     requires fitting { Fits (network_of asked.net.program) asked.inputs }
     ensures keeps { Keeps (wanted_of names.now) (H.asked host.old) (H.asked host.new) }
     ensures report { IfOk result (λ report. IsReport
-        (AreKeptIn (string_bytes folder.now)
+        (AreKept names.now.sync (Some (string_bytes folder.now))
         (file_names asked.entry.net.program.channels.items asked.entry.net.channel_names.items) (H.asked host.new))
         (IsWrittenIfAsked (wanted_of names.now).history (H.asked host.new)) options.now asked.entry.net asked.entry.inputs
         (map scripted_of asked.entry.lines.items) report.bytes.items report.complete) }
-    ensures cause { IfErr result (λ stop. IsNoText stop.failure) }
+    ensures cause { IfErr result (λ stop. IsStopped (HasFileFault (wanted_of names.now) (H.asked host.new)) (wanted_of names.now)
+        (H.asked host.new) stop.failure) }
 {
     let outputs = file_names(alloc, &asked.net)?;
     let folder_texts = FolderTexts {
@@ -641,10 +665,12 @@ fn run_asked<H: Host, P: RunWatch + TurnWatch + Sync, R: Threads + Wait + Sync>(
     requires fitting { Fits (network_of all.net.program) all.inputs }
     ensures keeps { Keeps (wanted_of names.now) (H.asked host.old) (H.asked host.new) }
     ensures report { IfOk result (λ report. IsReport
-        (AreKept (wanted_of names.now).state (file_names all.net.program.channels.items all.net.channel_names.items) (H.asked host.new))
+        (AreKept names.now.sync (wanted_of names.now).state
+        (file_names all.net.program.channels.items all.net.channel_names.items) (H.asked host.new))
         (IsWrittenIfAsked (wanted_of names.now).history (H.asked host.new)) options.now all.net all.inputs
         (map scripted_of all.lines.items) report.bytes.items report.complete) }
-    ensures cause { IfErr result (λ stop. IsNoText stop.failure) }
+    ensures cause { IfErr result (λ stop. IsStopped (HasFileFault (wanted_of names.now) (H.asked host.new)) (wanted_of names.now)
+        (H.asked host.new) stop.failure) }
 {
     let Checked {
         texts,
@@ -716,6 +742,7 @@ fn say_report<H: Host>(
     ensures unrefused { result ≡ 2 → ⊥ }
     ensures said { (complete : Bool) → result ≡ status_of_run complete
         → (complete ≡ report.complete) × Has (Said report.bytes.items (Ok tt)) (H.asked host.new) }
+    ensures failed { result ≡ 1 → (fault : HostFault) × Has (Said report.bytes.items (Err fault)) (H.asked host.new) }
 {
     let Report {
         bytes,
@@ -749,22 +776,26 @@ fn tell_words<H: Host>(host: &mut H, names: &Names, words: Option<String>)
     }
 }
 
-// Tells why there is no report, and gives the exit status: 1 where the line can't be written.
+// Tells why there is no report, and gives the exit status: 1 where the line can't be written. Where there is no memory for it `no_memory` is
+// told, which is the line of that.
 fn tell_stop<H: Host>(
     host: &mut H,
     alloc: Global,
     options: &Options,
     names: &Names,
     stop: Stop,
+    no_memory: &Vec<u8>,
 ) -> u8
+    requires { no_memory.now.items ≡ failure_line Failure.NoMemory }
     ensures goes { GoesOn IsAccepted (wanted_of names.now) (H.asked host.old) (H.asked host.new) }
     ensures status { result ≤ 2 }
     ensures none { (complete : Bool) → result ≡ status_of_run complete → ⊥ }
     ensures told { result ≡ 2 → (status_of stop.failure ≡ 2) × Has (Told (failure_line stop.failure) (Ok tt)) (H.asked host.new) }
+    ensures failed { result ≡ 1 → IsToldOf stop.failure (H.asked host.new) ⊎ IsToldOf Failure.NoMemory (H.asked host.new) }
 {
     let Stop { failure, words } = stop;
     let Ok(line) = format!(in alloc; "{failure}\n") else {
-        return 1;
+        return tell_no_memory(host, names, no_memory);
     };
     if let Err(_) = tell::<H, Accepted>(host, names, &line.into_bytes()) {
         return 1;
@@ -774,16 +805,36 @@ fn tell_stop<H: Host>(
     failure.status()
 }
 
-// Tells that there is no memory, not even for the names.
-fn tell_no_memory<H: Host>(host: &mut H, alloc: Global, options: &Options) -> u8
+// The line that tells of want of memory.
+fn no_memory_line(alloc: Global) -> Result<Vec<u8>, AllocError>
+    ensures { IfOk result (λ line. line.items ≡ failure_line Failure.NoMemory) }
+{
+    let failure = Failure::NoMemory;
+    let line = format!(in alloc; "{failure}\n")?;
+    Ok(line.into_bytes())
+}
+
+// Tells it, and gives the exit status.
+fn tell_no_memory<H: Host>(host: &mut H, names: &Names, line: &Vec<u8>) -> u8
+    requires { line.now.items ≡ failure_line Failure.NoMemory }
+    ensures goes { GoesOn IsAccepted (wanted_of names.now) (H.asked host.old) (H.asked host.new) }
+    ensures status { result ≡ 1 }
+    ensures told { IsToldOf Failure.NoMemory (H.asked host.new) }
+{
+    let _ = tell::<H, Accepted>(host, names, line);
+    1
+}
+
+// Tells that there is no memory, not even for the names or for that line: where there is some for it now.
+fn tell_at_least<H: Host>(host: &mut H, alloc: Global, options: &Options) -> u8
     ensures keeps { Keeps (asked_files options.now) (H.asked host.old) (H.asked host.new) }
     ensures status { result ≡ 1 }
+    ensures told { (H.asked host.new ≡ H.asked host.old) ⊎ IsToldOf Failure.NoMemory (H.asked host.new) }
 {
     let _ = options;
-    let Ok(line) = format!(in alloc; "no memory\n") else {
-        return 1;
-    };
-    let _ = host.tell(&line.into_bytes());
+    if let Ok(line) = no_memory_line(alloc) {
+        let _ = host.tell(&line);
+    }
     1
 }
 
@@ -794,18 +845,44 @@ fn main_by_names<H: Host, P: RunWatch + TurnWatch + Sync, R: Threads + Wait + Sy
     host: &mut H,
     options: &Options,
     names: &Names,
+    no_memory: &Vec<u8>,
     watch: &mut P,
 ) -> u8
     requires free { IsFree (H.asked host.old) }
     requires wanted { wanted_of names.now ≡ asked_files options.now }
+    requires line { no_memory.now.items ≡ failure_line Failure.NoMemory }
     ensures keeps { Keeps (wanted_of names.now) (H.asked host.old) (H.asked host.new) }
     ensures status { result ≤ 3 }
     ensures done { (complete : Bool) → result ≡ status_of_run complete → IsDone options.now complete (H.asked host.new) }
     ensures refused { result ≡ 2 → IsRefused options.now (H.asked host.new) }
+    ensures failed { result ≡ 1 → HasFailed options.now (H.asked host.old) (H.asked host.new) }
 {
     match report_asked(rt, alloc, host, options, names, watch) {
         Ok(report) => say_report(host, alloc, options, names, report),
-        Err(stop) => tell_stop(host, alloc, options, names, stop),
+        Err(stop) => tell_stop(host, alloc, options, names, stop, no_memory),
+    }
+}
+
+// The program, with the line that tells of want of memory.
+fn main_with<H: Host, P: RunWatch + TurnWatch + Sync, R: Threads + Wait + Sync>(
+    rt: &R,
+    alloc: Global,
+    host: &mut H,
+    options: &Options,
+    no_memory: &Vec<u8>,
+    watch: &mut P,
+) -> u8
+    requires free { IsFree (H.asked host.old) }
+    requires line { no_memory.now.items ≡ failure_line Failure.NoMemory }
+    ensures keeps { Keeps (asked_files options.now) (H.asked host.old) (H.asked host.new) }
+    ensures status { result ≤ 3 }
+    ensures done { (complete : Bool) → result ≡ status_of_run complete → IsDone options.now complete (H.asked host.new) }
+    ensures refused { result ≡ 2 → IsRefused options.now (H.asked host.new) }
+    ensures failed { result ≡ 1 → HasFailed options.now (H.asked host.old) (H.asked host.new) }
+{
+    match names_of(options) {
+        Ok(names) => main_by_names(rt, alloc, host, options, &names, no_memory, watch),
+        Err(_) => tell_at_least(host, alloc, options),
     }
 }
 
@@ -830,9 +907,12 @@ pub fn main_of<H: Host, P: RunWatch + TurnWatch + Sync, R: Threads + Wait + Sync
     ensures done { (complete : Bool) → result ≡ status_of_run complete → IsDone options.now complete (H.asked host.new) }
     // Where it is 2, the line was told of a fault that a text has which was read.
     ensures refused { result ≡ 2 → IsRefused options.now (H.asked host.new) }
+    // Where it is 1, the line was told of a failure that has its cause in the log, or the report couldn't be said. Nothing at all was asked
+    // where there wasn't even memory for the line of that.
+    ensures failed { result ≡ 1 → HasFailed options.now (H.asked host.old) (H.asked host.new) }
 {
-    match names_of(options) {
-        Ok(names) => main_by_names(rt, alloc, host, options, &names, watch),
-        Err(_) => tell_no_memory(host, alloc, options),
+    match no_memory_line(alloc) {
+        Ok(line) => main_with(rt, alloc, host, options, &line, watch),
+        Err(_) => tell_at_least(host, alloc, options),
     }
 }

@@ -48,6 +48,7 @@ pub struct Node<C: SlotCell> {
     pub number: u8,
     pub state: NodeState,
     pub store: Store<C>,
+    // The store's record names the node, and a crash leaves no other. While the node is up the store is ready.
     pub ghost kept: { HasRecord number (mode_view state.mode) store },
 }
 
@@ -182,9 +183,11 @@ impl<C: SlotCell> Node<C> {
         requires here { packet.now.to ≡ self.now.number }
         requires listed { length (view_of self.now).kept.highest
             ≡ node_count (network_of net.now.program) }
+        // One definition for all packets (`hear_prospect`): what is put of its record, what becomes of its memory, and what it says.
         ensures view { IfOk result (λ prospect. prospect_view (view_of self.now) prospect
             ≡ hear_prospect (network_of net.now.program) self.now.number packet.now.from
             packet.now.body (view_of self.now)) }
+        // Its store takes the change without a cause of its own to refuse it, and what isn't a tentative image fits as the record did.
         ensures can { IfOk result (λ prospect. CanBeMade (view_of self.now) prospect) }
     {
         match self.store.record() {
@@ -219,6 +222,8 @@ impl<C: SlotCell> Node<C> {
     /// it, and asks. Changes nothing, and refuses for want of memory alone.
     pub fn plan_start(&self, alloc: Global, net: &Net) -> Result<Prospect, AllocError>
         requires { IsLikeNow (view_of self.now) }
+        // The current image becomes a tentative one exactly where it runs, holds none, and fewer than 8 decisions are unsettled;
+        // 44 exactly where the number would pass 2^63 - 1.
         ensures view { IfOk result (λ prospect. prospect_view (view_of self.now) prospect
             ≡ start_prospect (network_of net.now.program) self.now.number (view_of self.now)) }
         ensures can { IfOk result (λ prospect. CanBeMade (view_of self.now) prospect) }
@@ -233,6 +238,7 @@ impl<C: SlotCell> Node<C> {
     /// part, who are told. Changes nothing, and refuses for want of memory alone.
     pub fn plan_decide(&self, alloc: Global) -> Result<Prospect, AllocError>
         requires { MayBeDecided self.now.number (view_of self.now) }
+        // Exactly where the image is that of the checkpoint for which answers are collected, and none is missing.
         ensures view { IfOk result (λ prospect. prospect_view (view_of self.now) prospect
             ≡ decide_prospect self.now.number (view_of self.now)) }
         ensures can { IfOk result (λ prospect. CanBeMade (view_of self.now) prospect) }
@@ -252,6 +258,8 @@ impl<C: SlotCell> Node<C> {
         round: u64,
     ) -> Result<Outcome, AllocError>
         requires { CanBeMade (view_of self.old) prospect }
+        // It comes out as planned, or failed exactly where the device did: then the node is down with the old record or the new one.
+        // 22 is answered for a tentative image alone. A crash at any moment leaves what it might have left before, or the new record.
         ensures event { IsPutEvent (prospect_view (view_of self.old) prospect) round
             (view_of self.old) (view_of self.new) self.old.store self.new.store result }
         ensures unchanged { LeavesCell result → cell_in self.new.store ≡ cell_in self.old.store }
@@ -289,6 +297,7 @@ impl<C: SlotCell> Node<C> {
     /// down, for as many rounds as of a start. Refuses for want of memory alone; device calls may have been made then, and
     /// nothing else is changed.
     pub fn recover(&mut self, alloc: Global, net: &Net, round: u64) -> Result<Outcome, AllocError>
+        // As of `carry_out`; 44 exactly where there is no next epoch, and never 22.
         ensures event { IsPutEvent (recover_prospect (network_of net.now.program) self.old.number
             (view_of self.old)) round
             (view_of self.old) (view_of self.new) self.old.store self.new.store result }

@@ -131,6 +131,7 @@ impl Running {
         kept: &Record,
         version: u64,
     ) -> Result<Option<Arc<Job>>, AllocError>
+        // The process that is next in turn, with at most 64 items of each input, and room up to 64 and no further than its share.
         ensures job { IfOk result (λ job. option_map shared_view job
             ≡ next_job (network_of net.now.value.program) inputs.now room
             (running_node kept.now version (running_view self.old))) }
@@ -181,10 +182,12 @@ impl Running {
         requires { (running_view self.old).out ≡ Some (job_view done.now.job.value)
             → ImageTakes channels.now done.now.job.value.process done.now.taken.items done.now.sent.items
             self.old.current }
+        // Taken in exactly where its job is the one that is out, and else nothing is changed.
         ensures step { IfOk result (λ applied. IsTaken channels.now (job_view done.now.job.value)
             (standing_of done.now.state) done.now.taken.items done.now.sent.items
             (running_view self.old) applied (running_view self.new)) }
         ensures err { OnErr result (running_view self.new ≡ running_view self.old) }
+        // 50 is never the answer.
         ensures full { ¬ (IsErrOf result LogFault.Full) }
     {
         let job: &Job = &done.job;
@@ -235,6 +238,8 @@ impl Running {
     /// Hears what a packet says of a channel: an item goes to its inbox, and an acknowledgement to its window. Anything else
     /// changes nothing here. Refuses for want of memory alone, and then nothing is changed.
     pub fn hear(&mut self, body: &Body) -> Result<(), AllocError>
+        // An item is taken where its position is the next one and the inbox has a place. One that overtook others is held in the
+        // window, and all others are dropped. An acknowledgement of an older epoch is dropped too.
         ensures ok { OnOk result (running_view self.new ≡ hearing body.now (running_view self.old)) }
         ensures err { OnErr result (running_view self.new ≡ running_view self.old) }
     {

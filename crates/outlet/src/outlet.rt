@@ -27,5 +27,6 @@ pub trait Outlet: Drop {
         ensures failed { IsErrOf result OutletFault.Failed → (taken self.new ≡ taken self.old)
             ⊎ (taken self.new ≡ taken self.old ++ item ∷ []) }
         ensures no_memory { IsErrOf result OutletFault.NoMemory → taken self.new ≡ taken self.old }
+        // The count of failures rises by one at 60, and at nothing else.
         ensures count { failures self.new ≡ failures_after result (failures self.old) };
 }

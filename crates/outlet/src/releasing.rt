@@ -41,16 +41,21 @@ pub fn release<O: Outlet>(outlet: &mut O, log: &Log, covered: u64) -> Result<(),
     requires { CanRelease log.now (length (O.taken outlet.old)) covered }
     ensures ok { OnOk result (O.taken outlet.new ≡ O.taken outlet.old
         ++ released_items log.now (length (O.taken outlet.old)) covered) }
+    // It took a beginning of these items, and not all.
     ensures no_memory { IsErrOf result OutletFault.NoMemory
         → TookSome (released_items log.now (length (O.taken outlet.old)) covered)
         (O.taken outlet.old) (O.taken outlet.new) }
+    // It took a beginning or all, and there was one at least.
     ensures failed { IsErrOf result OutletFault.Failed
         → TookSomeOrAll (released_items log.now (length (O.taken outlet.old)) covered)
         (O.taken outlet.old) (O.taken outlet.new) }
+    // No append that failed is passed over.
     ensures count { O.failures outlet.new ≡ failures_after result (O.failures outlet.old) }
     ensures reaches { OnOk result
         (length (O.taken outlet.new) ≡ max (length (O.taken outlet.old)) covered) }
+    // Whatever it answers, it may be called again as it is.
     ensures again { CanRelease log.now (length (O.taken outlet.new)) covered }
+    // What was a beginning of a history is one still, where the log is of that history.
     ensures history { (history : List ℤ) → IsLogOf log.now history
         → IsPrefix (O.taken outlet.old) history → IsPrefix (O.taken outlet.new) history }
 {

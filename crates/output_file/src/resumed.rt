@@ -35,9 +35,12 @@ pub struct ResumedOutlet<F: LineFile> {
     failures: Past<OutletFault>,
     ghost within: { count ≤ length items.items },
     ghost held_within: { held ≤ length items.items },
+    // An item that isn't held is taken as soon as it is there.
     ghost nothing_ahead: { length items.items ≤ max count held },
     ghost differs: { (position : ℕ) → difference ≡ Some position
         → (position ≡ count) × (count < length items.items) },
+    // What the file was asked to put, and behind it what the block holds, are the lines of the items behind those held.
+    // Each put stands where the one before ends, and none comes behind a put that failed.
     ghost written: { IsWritten (length (lines_of (take held items.items))) (lines_of (drop held items.items))
         (F.asked lines.file) lines.end lines.block.items lines.broken },
     ghost small: { length lines.block.items ≤ BLOCK_BYTES },

@@ -37,6 +37,7 @@ pub struct Done {
     pub state: ProcState,
     pub taken: Vec<usize>,
     pub sent: Vec<History>,
+    // It is a turn on all input histories on which the process stands so, and whose next items are those at hand.
     pub ghost turn: { ∥ IsOwnTurn job.value.net.value.program job.value.process job.value.state
         job.value.items.items job.value.room.items state taken.items sent.items ∥₁ },
 }

@@ -122,17 +122,17 @@ module _ (accepts : Given → Type 0) (o : Wanted) where
       inl (string_bytes name, after.later _ (first.later _ it.1), subst P it.0 (after.later _ wrote), renamed)
 
 module _ (accepts : Given → Type 0) (o : Wanted) where
-  pub opened_goes : (folder : List ℕ) (opened : List OpenedName) (old new : List Request) → GoesOn accepts o old new
-      → AreOpened folder opened old → AreOpened folder opened new
-  opened_goes folder [] old new goes are = tt
-  opened_goes folder (one ∷ opened) old new goes are = (goes.later _ are.0, opened_goes folder opened old new goes are.1)
+  pub opened_goes : (sync : Bool) (folder : List ℕ) (opened : List OpenedName) (old new : List Request) → GoesOn accepts o old new
+      → AreOpened sync folder opened old → AreOpened sync folder opened new
+  opened_goes sync folder [] old new goes are = tt
+  opened_goes sync folder (one ∷ opened) old new goes are = (goes.later _ are.0, opened_goes sync folder opened old new goes are.1)
 
-  pub opened_more : (folder : List ℕ) (opened : List OpenedName) (one : OpenedName) (old new : List Request) → GoesOn accepts o old new
-      → AreOpened folder opened old → Has (Opened folder (string_bytes one.name) (Ok one.bytes.value.items)) new
-      → AreOpened folder (opened ++ one ∷ []) new
-  opened_more folder [] one old new goes are has = (has, tt)
-  opened_more folder (other ∷ opened) one old new goes are has =
-      (goes.later _ are.0, opened_more folder opened one old new goes are.1 has)
+  pub opened_more : (sync : Bool) (folder : List ℕ) (opened : List OpenedName) (one : OpenedName) (old new : List Request)
+      → GoesOn accepts o old new → AreOpened sync folder opened old
+      → Has (Opened folder (string_bytes one.name) sync (Ok one.bytes.value.items)) new → AreOpened sync folder (opened ++ one ∷ []) new
+  opened_more sync folder [] one old new goes are has = (has, tt)
+  opened_more sync folder (other ∷ opened) one old new goes are has =
+      (goes.later _ are.0, opened_more sync folder opened one old new goes are.1 has)
 
   module _ {F : Type 0} {file : FileWords F} where
     pub used_more : (opened : List OpenedName) (outlets : List (ResumedOutlet F file)) (one : OpenedName) (outlet : ResumedOutlet F file)
@@ -263,13 +263,14 @@ pub synced_both : (sync : Bool) (a b : List (List ℕ)) (e : List Request) → A
 synced_both true a b e first second = each_both IsSynced a b e first second
 synced_both false a b e first second = tt
 
-pub opened_at : (folder : List ℕ) (opened : List OpenedName) (e : List Request) (k : ℕ) (one : OpenedName) → AreOpened folder opened e
-    → slice_get opened k ≡ Some one → Has (Opened folder (string_bytes one.name) (Ok one.bytes.value.items)) e
-opened_at folder [] e k it are there = absurd (cc)
-opened_at folder (other ∷ opened) e zero it are there =
-    let P : OpenedName → Type 0 = λ o. Has (Opened folder (string_bytes o.name) (Ok o.bytes.value.items)) e in
+pub opened_at : (sync : Bool) (folder : List ℕ) (opened : List OpenedName) (e : List Request) (k : ℕ) (one : OpenedName)
+    → AreOpened sync folder opened e → slice_get opened k ≡ Some one
+    → Has (Opened folder (string_bytes one.name) sync (Ok one.bytes.value.items)) e
+opened_at sync folder [] e k it are there = absurd (cc)
+opened_at sync folder (other ∷ opened) e zero it are there =
+    let P : OpenedName → Type 0 = λ o. Has (Opened folder (string_bytes o.name) sync (Ok o.bytes.value.items)) e in
     subst P (some_is other it there) are.0
-opened_at folder (other ∷ opened) e (suc k) it are there = opened_at folder opened e k it are.1 there
+opened_at sync folder (other ∷ opened) e (suc k) it are there = opened_at sync folder opened e k it are.1 there
 
 -- the same request in other words
 pub under_as : (folder path other bytes text : List ℕ) (e : List Request) → path ≡ other → bytes ≡ text
@@ -295,10 +296,10 @@ pub free_still : (folder : List ℕ) (fault : HostFault) (old new : List Request
     → IsFree new
 free_still folder fault old new is free = let P : List Request → Type 0 = λ e. IsFree e in subst P (sym is) free
 
-pub opened_as : (folder name : List ℕ) (a b : Vec ℕ Global) (e : List Request) → a ≡ b → Has (Opened folder name (Ok b.items)) e
-    → Has (Opened folder name (Ok a.items)) e
-opened_as folder name a b e same h =
-    let P : Vec ℕ Global → Type 0 = λ v. Has (Opened folder name (Ok v.items)) e in subst P (sym same) h
+pub opened_as : (sync : Bool) (folder name : List ℕ) (a b : Vec ℕ Global) (e : List Request) → a ≡ b
+    → Has (Opened folder name sync (Ok b.items)) e → Has (Opened folder name sync (Ok a.items)) e
+opened_as sync folder name a b e same h =
+    let P : Vec ℕ Global → Type 0 = λ v. Has (Opened folder name sync (Ok v.items)) e in subst P (sym same) h
 
 pub one_longer : {A : Type 0} (count : ℕ) (xs : List A) (x : A) → count ≡ length xs → count + 1 ≡ length (xs ++ x ∷ [])
 one_longer count xs x same = omega (arith, same, length-append xs (x ∷ []))

@@ -1,15 +1,16 @@
 -- What stands in a host's log of what a run keeps.
-use Rattle.std.specs.Prelude.{◌≡◌, ◌⊎◌, ℕ, ℤ, List, Ok}
+use Rattle.std.specs.Prelude.{◌≡◌, ◌⊎◌, ℕ, ℤ, Bool, List, Ok}
 use Rattle.host.specs.LineRequests as lines
 use Rattle.host.specs.LineRequests.{content_after}
 use Rattle.host.specs.Requests.{Request, MadeFile, OpenedDevice, Wrote, Renamed, Opened, Used, Has}
 use Rattle.output_file.specs.Lines.{lines_of}
 
--- The file of this name was opened in this folder, and was asked all this since: one that held the lines of some items, and did what it
+-- The file of this name was opened in this folder, so that each put waits for the disk where that is asked for (`sync`), and was asked all
+-- this since: one that held the lines of some items, and did what it
 -- was asked, holds those of others, which are the stream, or the ones it had where the stream hasn't come further.
-pub record IsKept (folder name : List ℕ) (stream : List ℤ) (e : List Request) : Type 0 where
+pub record IsKept (sync : Bool) (folder name : List ℕ) (stream : List ℤ) (e : List Request) : Type 0 where
   pub bytes : List ℕ
-  pub opened : Has (Opened folder name (Ok bytes)) e
+  pub opened : Has (Opened folder name sync (Ok bytes)) e
   pub asked : List lines.Request
   pub used : Has (Used name asked) e
   pub held : List ℤ

@@ -3,7 +3,9 @@ pub mod Places
 pub mod Rules
 pub mod Keeping
 pub mod Faults
+pub mod Causes
 pub mod History
 pub mod Opening
+pub mod Making
 pub mod Removing
 pub mod Syncing

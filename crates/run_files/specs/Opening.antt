@@ -1,5 +1,5 @@
 -- Files of a folder that a host was asked to open or to make.
-use Rattle.std.specs.Prelude.{◌≡◌, ◌⊎◌, ◌≤◌, ℕ, zero, suc, List, [], ◌∷◌, ◌++◌, Ok, codes, drop, length, map, string_bytes}
+use Rattle.std.specs.Prelude.{◌≡◌, ◌⊎◌, ◌≤◌, ℕ, zero, suc, Bool, List, [], ◌∷◌, ◌++◌, Ok, codes, drop, length, map, string_bytes}
 use Rattle.std.specs.declared.alloc.Global.{Global}
 use Rattle.std.specs.declared.string.String.{String}
 use Rattle.host.specs.Requests.{Request, MadeFile, MadeFolder, Renamed, Opened, Cut, Used, Has}
@@ -44,11 +44,11 @@ pub record IsNewFolder (folder : List ℕ) (outputs : List (List ℕ)) (e : List
   pub files : OfEach IsFileMade (paths_in making outputs) e
   pub renamed : Has (Renamed making folder (Ok tt)) e
 
--- each of these was opened in the folder
-abbrev pub AreOpened : List ℕ → List OpenedName → List Request → Type 0
-AreOpened folder [] e = Unit {0}
-AreOpened folder (one ∷ opened) e =
-    Has (Opened folder (string_bytes one.name) (Ok one.bytes.value.items)) e × AreOpened folder opened e
+-- each of these was opened in the folder, so that each put waits for the disk where that is asked for
+abbrev pub AreOpened : Bool → List ℕ → List OpenedName → List Request → Type 0
+AreOpened sync folder [] e = Unit {0}
+AreOpened sync folder (one ∷ opened) e =
+    Has (Opened folder (string_bytes one.name) sync (Ok one.bytes.value.items)) e × AreOpened sync folder opened e
 
 -- their names
 abbrev pub opened_names : List OpenedName → List (List ℕ)

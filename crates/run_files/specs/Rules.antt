@@ -85,11 +85,12 @@ rule accepts o (RemovedFile path answer) e = Has (MadeFile path (Ok tt)) e
 rule accepts o (RemovedFolder path answer) e = Has (MadeFolder path (Ok tt)) e
 rule accepts o (Locked folder answer) e = IsReady accepts o e × IsFree e × (o.state ≡ Some folder)
 rule accepts o (Unlocked folder) e = IsHeld folder e
--- only under the lock, and of a folder of these texts
-rule accepts o (Opened folder name answer) e = IsReady accepts o e × IsHeld folder e × HasSameTexts o folder e
+-- only under the lock, and of a folder of these texts; each put waits for the disk where that is asked for, and only there
+rule accepts o (Opened folder name waits answer) e =
+    IsReady accepts o e × IsHeld folder e × HasSameTexts o folder e × (waits ≡ o.sync)
 rule accepts o (Cut name len answer) e =
-    IsReady accepts o e × ((folder bytes : List ℕ) × IsHeld folder e × Has (Opened folder name (Ok bytes)) e)
-rule accepts o (Used name asked) e = (folder bytes : List ℕ) × Has (Opened folder name (Ok bytes)) e
+    IsReady accepts o e × ((folder bytes : List ℕ) × IsHeld folder e × Has (Opened folder name o.sync (Ok bytes)) e)
+rule accepts o (Used name asked) e = (folder bytes : List ℕ) × Has (Opened folder name o.sync (Ok bytes)) e
 rule accepts o (Said bytes answer) e = Unit {0}
 rule accepts o (Told bytes answer) e = Unit {0}
 

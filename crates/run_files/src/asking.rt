@@ -2,6 +2,7 @@
 ghost use Rattle.std.specs.Prelude.{◌≡◌, ◌⊎◌, ℕ, List, IfOk, IfErr, Ok, Err, OnOk, Some, [], string_bytes};
 ghost use Rattle.host.specs.Requests.{Has, HasUnder, IsHeld, Read, Looked, Placed, MadeFile, MadeFolder, OpenedDevice, Wrote, Synced, Renamed};
 ghost use Rattle.host.specs.Requests.{Opened, Cut, Used, Said, Told};
+ghost use Rattle.run_files.specs.Making.{IsNotMade};
 ghost use Rattle.run_files.specs.Removing.{IsFileRemoved, IsFolderRemoved};
 ghost use Rattle.run_files.specs.Rules.{GoesOn, HasSameTexts, IsReady};
 ghost use Rattle.run_files.specs.Wanted.{wanted_of};
@@ -33,6 +34,7 @@ pub fn look<H: Host, J: Judge>(
 ) -> Result<Standing, HostFault>
     ensures goes { GoesOn J.accepts (wanted_of names.now) (H.asked host.old) (H.asked host.new) }
     ensures looked { IfOk result (λ standing. Has (Looked (string_bytes path.now) (Ok standing)) (H.asked host.new)) }
+    ensures fault { IfErr result (λ fault. Has (Looked (string_bytes path.now) (Err fault)) (H.asked host.new)) }
 {
     host.look(path)
 }
@@ -45,6 +47,7 @@ pub fn place<H: Host, J: Judge>(
 ) -> Result<String, HostFault>
     ensures goes { GoesOn J.accepts (wanted_of names.now) (H.asked host.old) (H.asked host.new) }
     ensures placed { IfOk result (λ place. Has (Placed (string_bytes path.now) (Ok (string_bytes place))) (H.asked host.new)) }
+    ensures fault { IfErr result (λ fault. Has (Placed (string_bytes path.now) (Err fault)) (H.asked host.new)) }
 {
     host.place(path)
 }
@@ -59,6 +62,7 @@ pub fn make<H: Host, J: Judge>(
     ensures goes { GoesOn J.accepts (wanted_of names.now) (H.asked host.old) (H.asked host.new) }
     ensures made { IfOk result (λ file. Has (MadeFile (string_bytes path.now) (Ok tt)) (H.asked host.new)) }
     ensures path { IfOk result (λ file. H.path_of file ≡ string_bytes path.now) }
+    ensures fault { IfErr result (λ fault. Has (MadeFile (string_bytes path.now) (Err fault)) (H.asked host.new)) }
 {
     host.make_file(path)
 }
@@ -75,6 +79,7 @@ pub fn write<H: Host, J: Judge>(
         ⊎ Has (OpenedDevice (H.path_of file.old) (Ok tt)) (H.asked host.old) }
     ensures goes { GoesOn J.accepts (wanted_of names.now) (H.asked host.old) (H.asked host.new) }
     ensures wrote { OnOk result (Has (Wrote (H.path_of file.old) bytes.now.items (Ok tt)) (H.asked host.new)) }
+    ensures fault { IfErr result (λ fault. Has (Wrote (H.path_of file.old) bytes.now.items (Err fault)) (H.asked host.new)) }
 {
     host.write(file, bytes)
 }
@@ -90,6 +95,7 @@ pub fn make_file<H: Host, J: Judge>(
     ensures goes { GoesOn J.accepts (wanted_of names.now) (H.asked host.old) (H.asked host.new) }
     ensures made { OnOk result (Has (MadeFile (string_bytes path.now) (Ok tt)) (H.asked host.new)) }
     ensures wrote { OnOk result (Has (Wrote (string_bytes path.now) bytes.now.items (Ok tt)) (H.asked host.new)) }
+    ensures fault { IfErr result (λ fault. IsNotMade (string_bytes path.now) bytes.now.items fault (H.asked host.new)) }
 {
     let mut file = make::<H, J>(host, names, path)?;
     match write::<H, J>(host, names, &mut file, bytes) {
@@ -110,6 +116,7 @@ pub fn make_folder<H: Host, J: Judge>(
     requires { IsReady J.accepts (wanted_of names.now) (H.asked host.old) }
     ensures goes { GoesOn J.accepts (wanted_of names.now) (H.asked host.old) (H.asked host.new) }
     ensures made { OnOk result (Has (MadeFolder (string_bytes path.now) (Ok tt)) (H.asked host.new)) }
+    ensures fault { IfErr result (λ fault. Has (MadeFolder (string_bytes path.now) (Err fault)) (H.asked host.new)) }
 {
     host.make_folder(path)
 }
@@ -119,6 +126,7 @@ pub fn sync<H: Host, J: Judge>(host: &mut H, names: &Names, path: &String) -> Re
     requires { IsReady J.accepts (wanted_of names.now) (H.asked host.old) }
     ensures goes { GoesOn J.accepts (wanted_of names.now) (H.asked host.old) (H.asked host.new) }
     ensures synced { OnOk result (Has (Synced (string_bytes path.now) (Ok tt)) (H.asked host.new)) }
+    ensures fault { IfErr result (λ fault. Has (Synced (string_bytes path.now) (Err fault)) (H.asked host.new)) }
 {
     host.sync(path)
 }
@@ -135,6 +143,7 @@ pub fn rename_folder<H: Host, J: Judge>(
     requires wanted { (wanted_of names.now).state ≡ Some (string_bytes to.now) }
     ensures goes { GoesOn J.accepts (wanted_of names.now) (H.asked host.old) (H.asked host.new) }
     ensures renamed { OnOk result (Has (Renamed (string_bytes from.now) (string_bytes to.now) (Ok tt)) (H.asked host.new)) }
+    ensures fault { IfErr result (λ fault. Has (Renamed (string_bytes from.now) (string_bytes to.now) (Err fault)) (H.asked host.new)) }
 {
     host.rename(from, to)
 }
@@ -151,6 +160,7 @@ pub fn rename_file<H: Host, J: Judge>(
     requires wanted { (wanted_of names.now).history ≡ Some (string_bytes to.now) }
     ensures goes { GoesOn J.accepts (wanted_of names.now) (H.asked host.old) (H.asked host.new) }
     ensures renamed { OnOk result (Has (Renamed (string_bytes from.now) (string_bytes to.now) (Ok tt)) (H.asked host.new)) }
+    ensures fault { IfErr result (λ fault. Has (Renamed (string_bytes from.now) (string_bytes to.now) (Err fault)) (H.asked host.new)) }
 {
     host.rename(from, to)
 }
@@ -186,7 +196,10 @@ pub fn open_lines<H: Host, J: Judge>(
     requires held { IsHeld (string_bytes folder.now) (H.asked host.old) }
     requires same { HasSameTexts (wanted_of names.now) (string_bytes folder.now) (H.asked host.old) }
     ensures goes { GoesOn J.accepts (wanted_of names.now) (H.asked host.old) (H.asked host.new) }
-    ensures opened { IfOk result (λ opened. Has (Opened (string_bytes folder.now) (string_bytes name.now) (Ok opened.1.items)) (H.asked host.new)) }
+    ensures opened { IfOk result (λ opened. Has (Opened (string_bytes folder.now) (string_bytes name.now) names.now.sync (Ok opened.1.items))
+        (H.asked host.new)) }
+    ensures fault { IfErr result (λ fault. Has (Opened (string_bytes folder.now) (string_bytes name.now) names.now.sync (Err fault))
+        (H.asked host.new)) }
     ensures name { IfOk result (λ opened. H.Lines.name_of opened.0 ≡ string_bytes name.now) }
     ensures fresh { IfOk result (λ opened. H.Lines.asked opened.0 ≡ []) }
 {
@@ -206,10 +219,11 @@ pub fn cut<H: Host, J: Judge>(
 ) -> Result<(), HostFault>
     requires ready { IsReady J.accepts (wanted_of names.now) (H.asked host.old) }
     requires held { IsHeld (string_bytes folder.now) (H.asked host.old) }
-    requires opened { Has (Opened (string_bytes folder.now) (string_bytes name.now) (Ok bytes.now.items)) (H.asked host.old) }
+    requires opened { Has (Opened (string_bytes folder.now) (string_bytes name.now) names.now.sync (Ok bytes.now.items)) (H.asked host.old) }
     requires name { H.Lines.name_of lines.old ≡ string_bytes name.now }
     ensures goes { GoesOn J.accepts (wanted_of names.now) (H.asked host.old) (H.asked host.new) }
     ensures cut { OnOk result (Has (Cut (string_bytes name.now) len (Ok tt)) (H.asked host.new)) }
+    ensures fault { IfErr result (λ fault. Has (Cut (string_bytes name.now) len (Err fault)) (H.asked host.new)) }
     ensures name { H.Lines.name_of lines.new ≡ H.Lines.name_of lines.old }
     ensures same { H.Lines.asked lines.new ≡ H.Lines.asked lines.old }
 {
@@ -228,7 +242,8 @@ pub fn take_back<H: Host, J: Judge>(
     bytes: &Snapshot<Vec<u8>>,
     lines: H::Lines,
 )
-    requires opened { Has (Opened (string_bytes folder.now) (string_bytes name.now) (Ok bytes.now.value.items)) (H.asked host.old) }
+    requires opened { Has (Opened (string_bytes folder.now) (string_bytes name.now) names.now.sync (Ok bytes.now.value.items))
+        (H.asked host.old) }
     requires name { H.Lines.name_of lines ≡ string_bytes name.now }
     ensures goes { GoesOn J.accepts (wanted_of names.now) (H.asked host.old) (H.asked host.new) }
     ensures used { Has (Used (string_bytes name.now) (H.Lines.asked lines)) (H.asked host.new) }
@@ -243,6 +258,7 @@ pub fn take_back<H: Host, J: Judge>(
 pub fn say<H: Host, J: Judge>(host: &mut H, names: &Names, bytes: &Vec<u8>) -> Result<(), HostFault>
     ensures goes { GoesOn J.accepts (wanted_of names.now) (H.asked host.old) (H.asked host.new) }
     ensures said { OnOk result (Has (Said bytes.now.items (Ok tt)) (H.asked host.new)) }
+    ensures fault { IfErr result (λ fault. Has (Said bytes.now.items (Err fault)) (H.asked host.new)) }
 {
     host.say(bytes)
 }
@@ -255,6 +271,7 @@ pub fn tell<H: Host, J: Judge>(
 ) -> Result<(), HostFault>
     ensures goes { GoesOn J.accepts (wanted_of names.now) (H.asked host.old) (H.asked host.new) }
     ensures told { OnOk result (Has (Told bytes.now.items (Ok tt)) (H.asked host.new)) }
+    ensures fault { IfErr result (λ fault. Has (Told bytes.now.items (Err fault)) (H.asked host.new)) }
 {
     host.tell(bytes)
 }

@@ -1,6 +1,6 @@
 // Why the files of a run were refused.
 ghost use Rattle.std.specs.Prelude.{◌≡◌};
-ghost use Rattle.run_files.specs.Faults.{or_memory};
+ghost use Rattle.run_files.specs.Faults.{of_missing, or_memory};
 
 use host::HostFault;
 use std::alloc::{AllocError, AllocFailed};
@@ -18,6 +18,8 @@ pub enum FilesFault {
     Failed,
     /// What happens can't be written.
     Unwritten,
+    /// A file came back under another name than it was opened by, or one too many did: a fault of this program (83).
+    Astray,
 }
 
 /// The same, with what there is to say of it: the file, and why in words.
@@ -64,6 +66,16 @@ impl FilesFault {
         match fault {
             HostFault::NoMemory => FilesFault::NoMemory,
             _ => self,
+        }
+    }
+
+    /// What a host's fault comes to where a file of the folder isn't read or opened: the folder is another's where the file isn't there.
+    pub fn of_missing(fault: HostFault) -> FilesFault
+        ensures { result ≡ of_missing fault }
+    {
+        match fault {
+            HostFault::NotThere => FilesFault::OtherState,
+            _ => FilesFault::Failed,
         }
     }
 }

@@ -7,21 +7,23 @@ ghost use Rattle.output_file.specs.Output.{asked_of};
 ghost use Rattle.run_files.specs.Opening.{AreMade, AreHeldAs, AreOpened, AreUsed, IsCutTo, IsHeldAs, IsNewFolder, opened_names, path_in, paths_in};
 ghost use Rattle.run_files.specs.Removing.{AreRemoved, IsCleared, IsFileRemoved, IsFolderRemoved};
 ghost use Rattle.run_files.specs.Rules.{GoesOn, HasSameTexts, IsReady, rule};
+ghost use Rattle.run_files.specs.Causes.{HasSuch, IsCaused, IsTaken, IsTextOf, IsTakenBy, IsUndone, IsUnreadable};
+ghost use Rattle.run_files.specs.Faults.{or_memory};
+ghost use Rattle.host.specs.declared.fault.HostFault.TheVariants as host_fault;
 ghost use Rattle.run_files.specs.Syncing.{AreSyncedIf};
 ghost use Rattle.run_files.specs.Wanted.{wanted_of};
-ghost use Rattle.run_files.specs.declared.fault.FilesFault.TheVariants.{OtherState, InUse};
-ghost use Rattle.host.specs.declared.fault.HostFault.TheVariants as host_fault;
+ghost use Rattle.run_files.specs.declared.fault.FilesFault.TheVariants.{Astray};
 
 use crate::asking::{
-    cut, make_file, make_folder, open_lines, read, remove_file, remove_folder, rename_folder, sync,
-    take_back,
+    cut, look, make_file, make_folder, open_lines, read, remove_file, remove_folder, rename_folder,
+    sync, take_back,
 };
 use crate::fault::{FilesFault, Refused};
-use crate::happened::{MAX_NAMES, fresh_name};
+use crate::happened::{LAST_NAME, fresh_name};
 use crate::held_file::{HeldFile, OpenedName};
 use crate::names::{Judge, Names};
 use crate::words::{no_memory, refused, refused_by};
-use host::{Host, HostFault, LineFile};
+use host::{Host, HostFault, LineFile, Standing};
 use output_file::{HeldItems, LinesFault, ResumedOutlet, read_items};
 use std::alloc::{AllocError, Global};
 use std::snapshot::Snapshot;
@@ -82,14 +84,14 @@ fn compare<H: Host, J: Judge>(
     tail: &str,
     text: &Vec<u8>,
 ) -> Result<(), Refused>
-    requires { IsHeld (string_bytes folder.now) (H.asked host.old) }
+    requires held { IsHeld (string_bytes folder.now) (H.asked host.old) }
+    requires wanted { (wanted_of names.now).state ≡ Some (string_bytes folder.now) }
+    requires text { (path : List ℕ) × IsTextOf (wanted_of names.now) tail.now path
+        × Has (Read path (Ok text.now.items)) (H.asked host.old) }
     ensures goes { GoesOn J.accepts (wanted_of names.now) (H.asked host.old) (H.asked host.new) }
     ensures same { OnOk result (HasUnder (string_bytes folder.now)
         (Read (string_bytes folder.now ++ tail.now) (Ok text.now.items)) (H.asked host.new)) }
-    // A folder is told to be another run's only where a file of it holds another text, or isn't there.
-    ensures cause { IfErr result (λ refused. refused.fault ≡ OtherState →
-        ((bytes : List ℕ) × Has (Read (string_bytes folder.now ++ tail.now) (Ok bytes)) (H.asked host.new) × (bytes ≢ text.now.items))
-        ⊎ Has (Read (string_bytes folder.now ++ tail.now) (Err host_fault.NotThere)) (H.asked host.new)) }
+    ensures cause { IfErr result (λ refused. IsCaused (wanted_of names.now) (H.asked host.new) refused.fault) }
 {
     let Ok(path) = in_folder(alloc, folder, tail) else {
         return Err(no_memory());
@@ -103,14 +105,10 @@ fn compare<H: Host, J: Judge>(
                 other_text(alloc, &path, &bytes, text),
             ))
         },
-        Err(HostFault::NotThere) => Err(refused_by(
-            host,
-            alloc,
-            FilesFault::OtherState,
-            HostFault::NotThere,
-            &path,
-        )),
-        Err(fault) => Err(refused_by(host, alloc, FilesFault::Failed, fault, &path)),
+        Err(fault) => {
+            let refusal = FilesFault::of_missing(fault);
+            Err(refused_by(host, alloc, refusal, fault, &path))
+        }
     }
 }
 
@@ -133,6 +131,28 @@ fn other_text(
     format!(in alloc; "{path}: line {line} differs from the text of this run")
 }
 
+// A folder of the nth name beside the one of this name. None where something stands there.
+fn make_nth<H: Host, J: Judge>(
+    host: &mut H,
+    alloc: Global,
+    names: &Names,
+    folder: &String,
+    nth: u64,
+) -> Result<Option<String>, Refused>
+    requires { IsReady J.accepts (wanted_of names.now) (H.asked host.old) }
+    ensures goes { GoesOn J.accepts (wanted_of names.now) (H.asked host.old) (H.asked host.new) }
+    ensures made { IfOk result (λ made. IfSome made (λ making. Has (MadeFolder (string_bytes making) (Ok tt)) (H.asked host.new))) }
+    ensures taken { IfOk result (λ made. IfNone made (HasSuch (IsUndone (wanted_of names.now)) (H.asked host.new))) }
+    ensures cause { IfErr result (λ refused. IsCaused (wanted_of names.now) (H.asked host.new) refused.fault) }
+{
+    let making = fresh_name(alloc, folder.as_str(), "making", nth)?;
+    match make_folder::<H, J>(host, names, &making) {
+        Ok(()) => Ok(Some(making)),
+        Err(HostFault::IsThere) => Ok(None),
+        Err(fault) => Err(refused_by(host, alloc, FilesFault::Failed, fault, &making)),
+    }
+}
+
 // A folder where nothing stands, beside the one of this name. An older one that was left there stays.
 fn make_beside<H: Host, J: Judge>(
     host: &mut H,
@@ -143,19 +163,20 @@ fn make_beside<H: Host, J: Judge>(
     requires { IsReady J.accepts (wanted_of names.now) (H.asked host.old) }
     ensures goes { GoesOn J.accepts (wanted_of names.now) (H.asked host.old) (H.asked host.new) }
     ensures made { IfOk result (λ making. Has (MadeFolder (string_bytes making) (Ok tt)) (H.asked host.new)) }
+    ensures cause { IfErr result (λ refused. IsCaused (wanted_of names.now) (H.asked host.new) refused.fault) }
 {
-    for nth in 0..MAX_NAMES {
-        let making = fresh_name(alloc, folder.as_str(), "making", nth)?;
-        match make_folder::<H, J>(host, names, &making) {
-            Ok(()) => return Ok(making),
-            Err(HostFault::IsThere) => {}
-            Err(fault) => return Err(refused_by(host, alloc, FilesFault::Failed, fault, &making)),
+    for nth in 0..LAST_NAME {
+        if let Some(making) = make_nth::<H, J>(host, alloc, names, folder, nth)? {
+            return Ok(making);
         }
     }
-    Err(refused(
-        FilesFault::Failed,
-        format!(in alloc; "{folder}.making: too many folders of this name are left"),
-    ))
+    match make_nth::<H, J>(host, alloc, names, folder, LAST_NAME)? {
+        Some(making) => Ok(making),
+        None => Err(refused(
+            FilesFault::Failed,
+            format!(in alloc; "{folder}.making: too many folders of this name are left"),
+        )),
+    }
 }
 
 // The path of an output's file in a folder.
@@ -202,6 +223,7 @@ fn fill<H: Host, J: Judge>(
     ensures goes { GoesOn J.accepts (wanted_of names.now) (H.asked host.old) (H.asked host.new) }
     ensures made { AreMade result.0 paths.now (H.asked host.new) }
     ensures all { IfNone result.1 (length paths.now ≤ result.0) }
+    ensures cause { IfSome result.1 (λ refused. IsCaused (wanted_of names.now) (H.asked host.new) refused.fault) }
 {
     let nothing = Vec::new(alloc);
     let mut made = 0;
@@ -248,6 +270,7 @@ fn settle<H: Host, J: Judge>(
     requires { IsReady J.accepts (wanted_of names.now) (H.asked host.old) }
     ensures goes { GoesOn J.accepts (wanted_of names.now) (H.asked host.old) (H.asked host.new) }
     ensures synced { OnOk result (AreSyncedIf names.now.sync (map string_bytes paths.now) (H.asked host.new)) }
+    ensures cause { IfErr result (λ refused. IsCaused (wanted_of names.now) (H.asked host.new) refused.fault) }
 {
     if !names.sync {
         return Ok(());
@@ -270,6 +293,7 @@ fn settle_one<H: Host, J: Judge>(
     requires { IsReady J.accepts (wanted_of names.now) (H.asked host.old) }
     ensures goes { GoesOn J.accepts (wanted_of names.now) (H.asked host.old) (H.asked host.new) }
     ensures synced { OnOk result (AreSyncedIf names.now.sync (string_bytes path.now ∷ []) (H.asked host.new)) }
+    ensures cause { IfErr result (λ refused. IsCaused (wanted_of names.now) (H.asked host.new) refused.fault) }
 {
     if !names.sync {
         return Ok(());
@@ -277,6 +301,28 @@ fn settle_one<H: Host, J: Judge>(
     match sync::<H, J>(host, names, path) {
         Ok(()) => Ok(()),
         Err(fault) => Err(refused_by(host, alloc, FilesFault::Failed, fault, path)),
+    }
+}
+
+// Whether a name wasn't given since something stands there.
+fn is_taken(fault: HostFault) -> bool
+    ensures taken { IsTrue result → IsTaken fault }
+    ensures free { result ≡ false → ¬ (IsTaken fault) }
+{
+    match fault {
+        HostFault::NotEmpty | HostFault::IsThere | HostFault::NoFolder => true,
+        HostFault::NoMemory | HostFault::NotThere | HostFault::InUse | HostFault::Other => false,
+    }
+}
+
+// Whether another process has the lock.
+fn is_busy(fault: HostFault) -> bool
+    ensures busy { IsTrue result → fault ≡ host_fault.InUse }
+    ensures free { result ≡ false → fault ≢ host_fault.InUse }
+{
+    match fault {
+        HostFault::InUse => true,
+        _ => false,
     }
 }
 
@@ -295,14 +341,19 @@ fn give_name<H: Host, J: Judge>(
     ensures goes { GoesOn J.accepts (wanted_of names.now) (H.asked host.old) (H.asked host.new) }
     ensures renamed { IfOk result (λ named. IsTrue named
         → Has (Renamed (string_bytes making.now) (string_bytes folder.now) (Ok tt)) (H.asked host.new)) }
+    ensures taken { IfOk result (λ named. named ≡ false → IsTakenBy (string_bytes making.now) (string_bytes folder.now) (H.asked host.new)) }
     ensures synced { IfOk result (λ named. AreSyncedIf names.now.sync (map string_bytes paths.now ++ string_bytes making.now ∷ []) (H.asked host.new)) }
+    ensures cause { IfErr result (λ refused. IsCaused (wanted_of names.now) (H.asked host.new) refused.fault) }
 {
     settle::<H, J>(host, alloc, names, paths)?;
     settle_one::<H, J>(host, alloc, names, making)?;
     match rename_folder::<H, J>(host, names, making, folder) {
         Ok(()) => Ok(true),
-        Err(HostFault::NotEmpty) | Err(HostFault::IsThere) | Err(HostFault::NoFolder) => Ok(false),
-        Err(fault) => Err(refused_by(host, alloc, FilesFault::Failed, fault, folder)),
+        Err(fault) => if is_taken(fault) {
+            Ok(false)
+        } else {
+            Err(refused_by(host, alloc, FilesFault::Failed, fault, folder))
+        },
     }
 }
 
@@ -323,7 +374,9 @@ fn fill_and_name<H: Host, J: Judge>(
     ensures made { AreMade result.0 paths.now (H.asked host.new) }
     ensures renamed { IfOk result.1 (λ named. IsTrue named
         → Has (Renamed (string_bytes making.now) (string_bytes folder.now) (Ok tt)) (H.asked host.new)) }
+    ensures taken { IfOk result.1 (λ named. named ≡ false → IsTakenBy (string_bytes making.now) (string_bytes folder.now) (H.asked host.new)) }
     ensures all { IfOk result.1 (λ named. length paths.now ≤ result.0) }
+    ensures cause { IfErr result.1 (λ refused. IsCaused (wanted_of names.now) (H.asked host.new) refused.fault) }
 {
     let (made, failed) = fill::<H, J>(host, alloc, names, paths, texts);
     match failed {
@@ -349,7 +402,9 @@ fn make<H: Host, J: Judge>(
     requires wanted { (wanted_of names.now).state ≡ Some (string_bytes folder.now) }
     ensures goes { GoesOn J.accepts (wanted_of names.now) (H.asked host.old) (H.asked host.new) }
     ensures named { IfOk result (λ named. IsTrue named → IsNewFolder (string_bytes folder.now) (map string_bytes outputs.now) (H.asked host.new)) }
+    ensures taken { IfOk result (λ named. named ≡ false → (making : List ℕ) × IsTakenBy making (string_bytes folder.now) (H.asked host.new)) }
     ensures cleared { IfOk result (λ named. named ≡ false → IsCleared (map string_bytes outputs.now) (H.asked host.new)) }
+    ensures cause { IfErr result (λ refused. IsCaused (wanted_of names.now) (H.asked host.new) refused.fault) }
 {
     let making = make_beside::<H, J>(host, alloc, names, folder)?;
     let paths = match paths_of(alloc, &making, outputs) {
@@ -381,12 +436,14 @@ fn is_made<H: Host, J: Judge>(
     names: &Names,
     folder: &String,
 ) -> Result<bool, Refused>
-    ensures { GoesOn J.accepts (wanted_of names.now) (H.asked host.old) (H.asked host.new) }
+    requires wanted { (wanted_of names.now).state ≡ Some (string_bytes folder.now) }
+    ensures goes { GoesOn J.accepts (wanted_of names.now) (H.asked host.old) (H.asked host.new) }
+    ensures cause { IfErr result (λ refused. IsCaused (wanted_of names.now) (H.asked host.new) refused.fault) }
 {
     let path = in_folder(alloc, folder, "/net")?;
-    match read::<H, J>(host, names, &path) {
+    match look::<H, J>(host, names, &path) {
+        Ok(Standing::Nothing) | Err(HostFault::NotThere) => Ok(false),
         Ok(_) => Ok(true),
-        Err(HostFault::NotThere) => Ok(false),
         Err(HostFault::NoFolder) => Err(refused(
             FilesFault::OtherState,
             format!(in alloc; "{folder} is no folder"),
@@ -406,7 +463,8 @@ fn make_if_missing<H: Host, J: Judge>(
 ) -> Result<(), Refused>
     requires ready { IsReady J.accepts (wanted_of names.now) (H.asked host.old) }
     requires wanted { (wanted_of names.now).state ≡ Some (string_bytes folder.now) }
-    ensures { GoesOn J.accepts (wanted_of names.now) (H.asked host.old) (H.asked host.new) }
+    ensures goes { GoesOn J.accepts (wanted_of names.now) (H.asked host.old) (H.asked host.new) }
+    ensures cause { IfErr result (λ refused. IsCaused (wanted_of names.now) (H.asked host.new) refused.fault) }
 {
     if is_made::<H, J>(host, alloc, names, folder)? {
         return Ok(());
@@ -427,7 +485,8 @@ fn make_if_missing<H: Host, J: Judge>(
 
 // What the lines of a file hold.
 fn items_of(alloc: Global, path: &String, bytes: &Vec<u8>) -> Result<HeldItems, Refused>
-    ensures { IfOk result (λ held. HoldsLines bytes.now.items held.items.items (drop held.bytes bytes.now.items)) }
+    ensures lines { IfOk result (λ held. HoldsLines bytes.now.items held.items.items (drop held.bytes bytes.now.items)) }
+    ensures cause { IfErr result (λ refused. IsUnreadable bytes.now.items refused.fault) }
 {
     match read_items(alloc, bytes.as_slice()) {
         Ok(held) => Ok(held),
@@ -452,12 +511,14 @@ fn cut_tail<H: Host, J: Judge>(
 ) -> Result<(), Refused>
     requires ready { IsReady J.accepts (wanted_of names.now) (H.asked host.old) }
     requires held { IsHeld (string_bytes folder.now) (H.asked host.old) }
-    requires opened { Has (Opened (string_bytes folder.now) (string_bytes name.now) (Ok bytes.now.items)) (H.asked host.old) }
+    requires opened { Has (Opened (string_bytes folder.now) (string_bytes name.now) names.now.sync (Ok bytes.now.items))
+        (H.asked host.old) }
     requires name { H.Lines.name_of file.old ≡ string_bytes name.now }
     ensures goes { GoesOn J.accepts (wanted_of names.now) (H.asked host.old) (H.asked host.new) }
     ensures cut { OnOk result (IsCutTo (string_bytes name.now) len (length bytes.now.items) (H.asked host.new)) }
     ensures name { H.Lines.name_of file.new ≡ H.Lines.name_of file.old }
     ensures same { H.Lines.asked file.new ≡ H.Lines.asked file.old }
+    ensures cause { IfErr result (λ refused. IsCaused (wanted_of names.now) (H.asked host.new) refused.fault) }
 {
     if bytes.len() as u64 <= len {
         return Ok(());
@@ -478,26 +539,25 @@ fn open_one<H: Host, J: Judge>(
     name: &String,
 ) -> Result<(HeldFile<H::Lines>, Snapshot<Vec<u8>>), Refused>
     requires ready { IsReady J.accepts (wanted_of names.now) (H.asked host.old) }
+    requires wanted { (wanted_of names.now).state ≡ Some (string_bytes folder.now) }
     requires lock { H.folder_of lock.now ≡ string_bytes folder.now }
     requires held { IsHeld (string_bytes folder.now) (H.asked host.old) }
     requires same { HasSameTexts (wanted_of names.now) (string_bytes folder.now) (H.asked host.old) }
     ensures goes { GoesOn J.accepts (wanted_of names.now) (H.asked host.old) (H.asked host.new) }
-    ensures opened { IfOk result (λ one. Has (Opened (string_bytes folder.now) (string_bytes name.now) (Ok one.1.value.items)) (H.asked host.new)) }
+    ensures opened { IfOk result (λ one. Has (Opened (string_bytes folder.now) (string_bytes name.now) names.now.sync (Ok one.1.value.items))
+        (H.asked host.new)) }
     ensures named { IfOk result (λ one. H.Lines.name_of one.0.file ≡ string_bytes name.now) }
     ensures lines { IfOk result (λ one. HoldsLines one.1.value.items one.0.held.items.items (drop one.0.held.bytes one.1.value.items)) }
     ensures cut { IfOk result (λ one. IsCutTo (string_bytes name.now) one.0.held.bytes (length one.1.value.items) (H.asked host.new)) }
+    ensures cause { IfErr result (λ refused. IsCaused (wanted_of names.now) (H.asked host.new) refused.fault) }
 {
     let path = format!(in alloc; "{folder}/{name}")?;
     let (mut file, bytes) = match open_lines::<H, J>(host, names, lock, folder, name) {
         Ok(opened) => opened,
-        Err(HostFault::NotThere) => return Err(refused_by(
-            host,
-            alloc,
-            FilesFault::OtherState,
-            HostFault::NotThere,
-            &path,
-        )),
-        Err(fault) => return Err(refused_by(host, alloc, FilesFault::Failed, fault, &path)),
+        Err(fault) => {
+            let refusal = FilesFault::of_missing(fault);
+            return Err(refused_by(host, alloc, refusal, fault, &path));
+        }
     };
     let held = items_of(alloc, &path, &bytes)?;
     cut_tail::<H, J>(
@@ -516,13 +576,15 @@ fn open_each<H: Host, J: Judge>(
     outputs: Vec<String>,
 ) -> Result<(Vec<HeldFile<H::Lines>>, Vec<OpenedName>), Refused>
     requires ready { IsReady J.accepts (wanted_of names.now) (H.asked host.old) }
+    requires wanted { (wanted_of names.now).state ≡ Some (string_bytes folder.now) }
     requires lock { H.folder_of lock.now ≡ string_bytes folder.now }
     requires held { IsHeld (string_bytes folder.now) (H.asked host.old) }
     requires same { HasSameTexts (wanted_of names.now) (string_bytes folder.now) (H.asked host.old) }
     ensures goes { GoesOn J.accepts (wanted_of names.now) (H.asked host.old) (H.asked host.new) }
-    ensures opened { IfOk result (λ all. AreOpened (string_bytes folder.now) all.1.items (H.asked host.new)) }
+    ensures opened { IfOk result (λ all. AreOpened names.now.sync (string_bytes folder.now) all.1.items (H.asked host.new)) }
     ensures named { IfOk result (λ all. opened_names all.1.items ≡ map string_bytes outputs.items) }
     ensures files { IfOk result (λ all. AreHeldAs all.1.items all.0.items (H.asked host.new)) }
+    ensures cause { IfErr result (λ refused. IsCaused (wanted_of names.now) (H.asked host.new) refused.fault) }
 {
     let mut files = Vec::with_capacity(alloc, outputs.len())?;
     let mut opened = Vec::with_capacity(alloc, outputs.len())?;
@@ -545,16 +607,18 @@ fn open_locked<H: Host, J: Judge>(
     outputs: Vec<String>,
 ) -> Result<(Vec<HeldFile<H::Lines>>, Vec<OpenedName>), Refused>
     requires ready { IsReady J.accepts (wanted_of names.now) (H.asked host.old) }
+    requires wanted { (wanted_of names.now).state ≡ Some (string_bytes folder.now) }
     requires lock { H.folder_of lock.now ≡ string_bytes folder.now }
     requires held { IsHeld (string_bytes folder.now) (H.asked host.old) }
     requires net { Has (Read (wanted_of names.now).net (Ok texts.net.now.items)) (H.asked host.old) }
     requires inputs { Has (Read (wanted_of names.now).inputs (Ok texts.inputs.now.items)) (H.asked host.old) }
     ensures goes { GoesOn J.accepts (wanted_of names.now) (H.asked host.old) (H.asked host.new) }
-    ensures opened { IfOk result (λ all. AreOpened (string_bytes folder.now) all.1.items (H.asked host.new)) }
+    ensures opened { IfOk result (λ all. AreOpened names.now.sync (string_bytes folder.now) all.1.items (H.asked host.new)) }
     ensures named { IfOk result (λ all. opened_names all.1.items ≡ map string_bytes outputs.items) }
     ensures files { IfOk result (λ all. AreHeldAs all.1.items all.0.items (H.asked host.new)) }
     ensures synced { IfOk result (λ all. AreSyncedIf names.now.sync
         (paths_in (string_bytes folder.now) (map string_bytes outputs.items) ++ string_bytes folder.now ∷ []) (H.asked host.new)) }
+    ensures cause { IfErr result (λ refused. IsCaused (wanted_of names.now) (H.asked host.new) refused.fault) }
 {
     compare::<H, J>(host, alloc, names, folder, "/net", texts.net)?;
     compare::<H, J>(host, alloc, names, folder, "/inputs", texts.inputs)?;
@@ -564,6 +628,20 @@ fn open_locked<H: Host, J: Judge>(
     let home = home_of(alloc, folder.as_str())?;
     settle_one::<H, J>(host, alloc, names, &home)?;
     open_each::<H, J>(host, alloc, names, lock, folder, outputs)
+}
+
+// The refusal of a folder of which the lock isn't got.
+fn not_locked<H: Host>(host: &H, alloc: Global, fault: HostFault, folder: &String) -> Refused
+    ensures busy { fault ≡ host_fault.InUse → result.fault ≡ FilesFault.InUse }
+    ensures failed { fault ≢ host_fault.InUse → result.fault ≡ or_memory FilesFault.Failed fault }
+{
+    if is_busy(fault) {
+        return refused(
+            FilesFault::InUse,
+            format!(in alloc; "another run is at work in {folder}"),
+        );
+    }
+    refused_by(host, alloc, FilesFault::Failed, fault, folder)
 }
 
 /// The folder of this name, which is made where it isn't there; `outputs` are the names of its outputs' files, in order of the channels. It is
@@ -586,7 +664,7 @@ pub fn open_folder<H: Host, J: Judge>(
     ensures later { Later (H.asked host.old) (H.asked host.new) }
     ensures held { IfOk result (λ all. IsHeld (string_bytes folder.now) (H.asked host.new)) }
     ensures lock { IfOk result (λ all. H.folder_of all.lock ≡ string_bytes folder.now) }
-    ensures opened { IfOk result (λ all. AreOpened (string_bytes folder.now) all.opened.items (H.asked host.new)) }
+    ensures opened { IfOk result (λ all. AreOpened names.now.sync (string_bytes folder.now) all.opened.items (H.asked host.new)) }
     // The files are those of the outputs, in order.
     ensures named { IfOk result (λ all. opened_names all.opened.items ≡ map string_bytes outputs.items) }
     // Each holds the lines of its items, and what stood behind them is taken off.
@@ -595,15 +673,13 @@ pub fn open_folder<H: Host, J: Judge>(
     ensures synced { IfOk result (λ all. AreSyncedIf names.now.sync
         (paths_in (string_bytes folder.now) (map string_bytes outputs.items) ++ string_bytes folder.now ∷ []) (H.asked host.new)) }
     ensures err { OnErr result (IsFree (H.asked host.new)) }
+    // Why it is refused stands in the log.
+    ensures cause { IfErr result (λ refused. IsCaused (wanted_of names.now) (H.asked host.new) refused.fault) }
 {
     make_if_missing::<H, J>(host, alloc, names, folder, texts, outputs.as_slice())?;
     let lock = match host.lock(folder) {
         Ok(lock) => lock,
-        Err(HostFault::InUse) => return Err(refused(
-            FilesFault::InUse,
-            format!(in alloc; "another run is at work in {folder}"),
-        )),
-        Err(fault) => return Err(refused_by(host, alloc, FilesFault::Failed, fault, folder)),
+        Err(fault) => return Err(not_locked(host, alloc, fault, folder)),
     };
     match open_locked::<H, J>(host, alloc, names, &lock, folder, texts, outputs) {
         Ok((files, opened)) => Ok(OpenFolder {
@@ -640,15 +716,17 @@ fn give_one<H: Host, J: Judge>(
     opened: &OpenedName,
     outlet: ResumedOutlet<H::Lines>,
 ) -> Result<(), Refused>
-    requires { Has (Opened (string_bytes folder.now) (string_bytes opened.now.name) (Ok opened.now.bytes.value.items)) (H.asked host.old) }
+    requires { Has (Opened (string_bytes folder.now) (string_bytes opened.now.name) names.now.sync (Ok opened.now.bytes.value.items))
+        (H.asked host.old) }
     ensures goes { GoesOn J.accepts (wanted_of names.now) (H.asked host.old) (H.asked host.new) }
     ensures used { OnOk result (Has (Used (string_bytes opened.now.name) (asked_of outlet)) (H.asked host.new)) }
+    ensures cause { IfErr result (λ refused. refused.fault ≡ Astray) }
 {
     let file = outlet.into_file();
     let OpenedName { name, bytes } = opened;
     if !file.is_named(name) {
         return Err(refused(
-            FilesFault::Failed,
+            FilesFault::Astray,
             format!(in alloc; "{name} came back as another file"),
         ));
     }
@@ -672,15 +750,16 @@ pub fn give_back<H: Host, J: Judge>(
     opened: &[OpenedName],
     outlets: Vec<ResumedOutlet<H::Lines>>,
 ) -> Result<(), Refused>
-    requires { AreOpened (string_bytes folder.now) opened.now (H.asked host.old) }
+    requires { AreOpened names.now.sync (string_bytes folder.now) opened.now (H.asked host.old) }
     ensures goes { GoesOn J.accepts (wanted_of names.now) (H.asked host.old) (H.asked host.new) }
     ensures used { OnOk result (AreUsed opened.now outlets.items (H.asked host.new)) }
+    ensures cause { IfErr result (λ refused. refused.fault ≡ Astray) }
 {
     let mut next = 0;
     for outlet in outlets {
         let Some(one) = nth_of(opened, next) else {
             return Err(refused(
-                FilesFault::Failed,
+                FilesFault::Astray,
                 format!(in alloc; "{folder}: more files came back than were opened"),
             ));
         };

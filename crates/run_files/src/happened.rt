@@ -1,10 +1,12 @@
 // The file into which what happens is written: beside the one of its name, which it becomes once it is whole.
-ghost use Rattle.std.specs.Prelude.{◌≡◌, IfOk, IfSome, OnOk, Some, Ok, string_bytes};
+ghost use Rattle.std.specs.Prelude.{◌≡◌, ℕ, List, IfErr, IfOk, IfSome, IfNone, OnOk, Some, Ok, Err, string_bytes};
 ghost use Rattle.std.specs.Option.{option_map};
 ghost use Rattle.host.specs.Requests.{Has, Looked, MadeFile, Renamed};
 ghost use Rattle.host.specs.declared.host.Standing.TheVariants.{Device};
 ghost use Rattle.run_files.specs.History.{IsOpenFor};
 ghost use Rattle.run_files.specs.Keeping.{IsWrittenTo};
+ghost use Rattle.run_files.specs.Causes.{HasSuch, IsCaused, IsUnwritten};
+ghost use Rattle.run_files.specs.Removing.{IsFileRemoved};
 ghost use Rattle.run_files.specs.Rules.{GoesOn, IsReady};
 ghost use Rattle.run_files.specs.Wanted.{wanted_of};
 
@@ -15,11 +17,11 @@ use crate::words::{refused, refused_by};
 use host::{Host, HostFault, Standing};
 use std::alloc::{AllocError, Global};
 
-/// How many names are tried for a file or a folder that is made.
-pub const MAX_NAMES: u64 = 100;
+/// The number of the last name that is tried for a file or a folder that is made, from 0.
+pub const LAST_NAME: u64 = 99;
 
-/// A file into which what happens is to be written.
-#[derive(Drop)]
+/// A file into which what happens is to be written. It isn't `Drop`, so that it can't be forgotten: it is written and gets its name
+/// (`finish_history`), or it is taken away (`drop_history`).
 pub struct HistoryFile<F: Drop> {
     pub file: F,
     /// The name under which it was made. None for a device, as a terminal or a pipe.
@@ -40,6 +42,33 @@ pub(crate) fn fresh_name(
     format!(in alloc; "{path}.{ending}.{nth}")
 }
 
+// A file of the nth name beside the one of this name. None where something stands there.
+fn make_nth<H: Host, J: Judge>(
+    host: &mut H,
+    alloc: Global,
+    names: &Names,
+    path: &String,
+    nth: u64,
+) -> Result<Option<HistoryFile<H::File>>, Refused>
+    requires ready { IsReady J.accepts (wanted_of names.now) (H.asked host.old) }
+    requires wanted { (wanted_of names.now).history ≡ Some (string_bytes path.now) }
+    ensures goes { GoesOn J.accepts (wanted_of names.now) (H.asked host.old) (H.asked host.new) }
+    ensures open { IfOk result (λ made. IfSome made (λ history. IsOpenFor (string_bytes path.now) (option_map string_bytes history.made)
+        (H.path_of history.file) (H.asked host.new))) }
+    ensures taken { IfOk result (λ made. IfNone made (HasSuch (IsUnwritten (string_bytes path.now)) (H.asked host.new))) }
+    ensures cause { IfErr result (λ refused. IsCaused (wanted_of names.now) (H.asked host.new) refused.fault) }
+{
+    let made = fresh_name(alloc, path.as_str(), "new", nth)?;
+    match make::<H, J>(host, names, &made) {
+        Ok(file) => Ok(Some(HistoryFile {
+            file,
+            made: Some(made),
+        })),
+        Err(HostFault::IsThere) => Ok(None),
+        Err(fault) => Err(refused_by(host, alloc, FilesFault::Unwritten, fault, &made)),
+    }
+}
+
 // A file beside the one of this name. An older one that was left there stays.
 fn make_beside<H: Host, J: Judge>(
     host: &mut H,
@@ -47,28 +76,26 @@ fn make_beside<H: Host, J: Judge>(
     names: &Names,
     path: &String,
 ) -> Result<HistoryFile<H::File>, Refused>
-    requires { IsReady J.accepts (wanted_of names.now) (H.asked host.old) }
+    requires ready { IsReady J.accepts (wanted_of names.now) (H.asked host.old) }
+    requires wanted { (wanted_of names.now).history ≡ Some (string_bytes path.now) }
     ensures goes { GoesOn J.accepts (wanted_of names.now) (H.asked host.old) (H.asked host.new) }
     ensures open { IfOk result (λ history. IsOpenFor (string_bytes path.now) (option_map string_bytes history.made)
         (H.path_of history.file) (H.asked host.new)) }
+    ensures cause { IfErr result (λ refused. IsCaused (wanted_of names.now) (H.asked host.new) refused.fault) }
 {
-    for nth in 0..MAX_NAMES {
-        let made = fresh_name(alloc, path.as_str(), "new", nth)?;
-        match make::<H, J>(host, names, &made) {
-            Ok(file) => {
-                return Ok(HistoryFile {
-                    file,
-                    made: Some(made),
-                });
-            }
-            Err(HostFault::IsThere) => {}
-            Err(fault) => return Err(refused_by(host, alloc, FilesFault::Unwritten, fault, &made)),
+    for nth in 0..LAST_NAME {
+        match make_nth::<H, J>(host, alloc, names, path, nth)? {
+            Some(history) => return Ok(history),
+            None => {}
         }
     }
-    Err(refused(
-        FilesFault::Unwritten,
-        format!(in alloc; "{path}.new: too many files of this name are left"),
-    ))
+    match make_nth::<H, J>(host, alloc, names, path, LAST_NAME)? {
+        Some(history) => Ok(history),
+        None => Err(refused(
+            FilesFault::Unwritten,
+            format!(in alloc; "{path}.new: too many files of this name are left"),
+        )),
+    }
 }
 
 // A device of this name.
@@ -84,6 +111,7 @@ fn open_device<H: Host, J: Judge>(
     ensures goes { GoesOn J.accepts (wanted_of names.now) (H.asked host.old) (H.asked host.new) }
     ensures open { IfOk result (λ history. IsOpenFor (string_bytes path.now) (option_map string_bytes history.made)
         (H.path_of history.file) (H.asked host.new)) }
+    ensures cause { IfErr result (λ refused. IsCaused (wanted_of names.now) (H.asked host.new) refused.fault) }
 {
     match host.open_device(path) {
         Ok(file) => Ok(HistoryFile { file, made: None }),
@@ -103,6 +131,7 @@ pub fn open_history<H: Host, J: Judge>(
     ensures goes { GoesOn J.accepts (wanted_of names.now) (H.asked host.old) (H.asked host.new) }
     ensures open { IfOk result (λ history. IsOpenFor (string_bytes path.now) (option_map string_bytes history.made)
         (H.path_of history.file) (H.asked host.new)) }
+    ensures cause { IfErr result (λ refused. IsCaused (wanted_of names.now) (H.asked host.new) refused.fault) }
 {
     match look::<H, J>(host, names, path) {
         Ok(Standing::Device) => open_device::<H, J>(host, alloc, names, path),
@@ -127,6 +156,7 @@ fn rename<H: Host, J: Judge>(
     requires made { IfSome made.now (λ name. Has (MadeFile (string_bytes name) (Ok tt)) (H.asked host.old)) }
     ensures goes { GoesOn J.accepts (wanted_of names.now) (H.asked host.old) (H.asked host.new) }
     ensures renamed { OnOk result (IfSome made.now (λ name. Has (Renamed (string_bytes name) (string_bytes path.now) (Ok tt)) (H.asked host.new))) }
+    ensures fault { IfErr result (λ fault. (from : List ℕ) × Has (Renamed from (string_bytes path.now) (Err fault)) (H.asked host.new)) }
 {
     match made {
         Some(name) => rename_file::<H, J>(host, names, name, path),
@@ -135,11 +165,14 @@ fn rename<H: Host, J: Judge>(
 }
 
 /// Takes the file away that was made for what happens, since nothing is written to it.
-pub fn drop_history<H: Host, J: Judge>(host: &mut H, names: &Names, made: &Option<String>)
-    requires { IfSome made.now (λ name. Has (MadeFile (string_bytes name) (Ok tt)) (H.asked host.old)) }
-    ensures { GoesOn J.accepts (wanted_of names.now) (H.asked host.old) (H.asked host.new) }
+pub fn drop_history<H: Host, J: Judge>(host: &mut H, names: &Names, history: HistoryFile<H::File>)
+    requires { IfSome history.made (λ name. Has (MadeFile (string_bytes name) (Ok tt)) (H.asked host.old)) }
+    ensures goes { GoesOn J.accepts (wanted_of names.now) (H.asked host.old) (H.asked host.new) }
+    ensures removed { IfSome history.made (λ name. IsFileRemoved (string_bytes name) (H.asked host.new)) }
 {
-    if let Some(name) = made {
+    let HistoryFile { file, made } = history;
+    drop(file);
+    if let Some(name) = &made {
         remove_file::<H, J>(host, names, name);
     }
 }
@@ -158,16 +191,20 @@ pub fn finish_history<H: Host, J: Judge>(
     requires open { IsOpenFor (string_bytes path.now) (option_map string_bytes history.made) (H.path_of history.file) (H.asked host.old) }
     ensures goes { GoesOn J.accepts (wanted_of names.now) (H.asked host.old) (H.asked host.new) }
     ensures written { OnOk result (IsWrittenTo (string_bytes path.now) bytes.now.items (H.asked host.new)) }
+    ensures cause { IfErr result (λ refused. IsCaused (wanted_of names.now) (H.asked host.new) refused.fault) }
 {
     if let Err(fault) = write::<H, J>(host, names, &mut history.file, bytes) {
         let refusal = refused_by(host, alloc, FilesFault::Unwritten, fault, path);
-        drop_history::<H, J>(host, names, &history.made);
+        drop_history::<H, J>(host, names, history);
         return Err(refusal);
     }
     if let Err(fault) = rename::<H, J>(host, names, path, &history.made) {
         let refusal = refused_by(host, alloc, FilesFault::Unwritten, fault, path);
-        drop_history::<H, J>(host, names, &history.made);
+        drop_history::<H, J>(host, names, history);
         return Err(refusal);
     }
+    let HistoryFile { file, made } = history;
+    drop(file);
+    drop(made);
     Ok(())
 }

@@ -1,7 +1,9 @@
 // The names that a run writes are told apart from those that it reads.
-ghost use Rattle.std.specs.Prelude.{◌≡◌, OnOk, string_bytes};
+ghost use Rattle.std.specs.Prelude.{◌≡◌, ◌≢◌, false, IfErr, IsTrue, Ok, OnOk, Some, string_bytes};
 ghost use Rattle.std.specs.Option.{option_map};
 ghost use Rattle.run_files.specs.Places.{ends_or_slash, is_within};
+ghost use Rattle.host.specs.Requests.{Has, Placed};
+ghost use Rattle.run_files.specs.Causes.{IsCaused, IsRead};
 ghost use Rattle.run_files.specs.Rules.{GoesOn, IfAsked, IsApart, IsElsewhere, IsOutside};
 ghost use Rattle.run_files.specs.Wanted.{wanted_of};
 
@@ -35,19 +37,32 @@ fn is_within(folder: &[u8], place: &[u8]) -> bool
     }
 }
 
+// Whether these are one place.
+fn is_same(place: &String, at: &String) -> bool
+    ensures same { IsTrue result → string_bytes place.now ≡ string_bytes at.now }
+    ensures other { result ≡ false → string_bytes place.now ≢ string_bytes at.now }
+{
+    place.as_str() == at.as_str()
+}
+
 // Refuses unless the file of this name stands at another place.
 fn differ<H: Host, J: Judge>(
     host: &mut H,
     alloc: Global,
     names: &Names,
+    history: &String,
     at: &String,
     name: &String,
 ) -> Result<(), Refused>
+    requires wanted { (wanted_of names.now).history ≡ Some (string_bytes history.now) }
+    requires placed { Has (Placed (string_bytes history.now) (Ok (string_bytes at.now))) (H.asked host.old) }
+    requires read { IsRead (wanted_of names.now) (string_bytes name.now) }
     ensures goes { GoesOn J.accepts (wanted_of names.now) (H.asked host.old) (H.asked host.new) }
     ensures apart { OnOk result (IsElsewhere (string_bytes at.now) (string_bytes name.now) (H.asked host.new)) }
+    ensures cause { IfErr result (λ refused. IsCaused (wanted_of names.now) (H.asked host.new) refused.fault) }
 {
     match place::<H, J>(host, names, name) {
-        Ok(other) => if other.as_str() == at.as_str() {
+        Ok(other) => if is_same(&other, at) {
             Err(refused(
                 FilesFault::Unwritten,
                 format!(in alloc; "{at} is a text of the run"),
@@ -64,13 +79,17 @@ fn differ_from_script<H: Host, J: Judge>(
     host: &mut H,
     alloc: Global,
     names: &Names,
+    history: &String,
     at: &String,
 ) -> Result<(), Refused>
+    requires wanted { (wanted_of names.now).history ≡ Some (string_bytes history.now) }
+    requires placed { Has (Placed (string_bytes history.now) (Ok (string_bytes at.now))) (H.asked host.old) }
     ensures goes { GoesOn J.accepts (wanted_of names.now) (H.asked host.old) (H.asked host.new) }
     ensures apart { OnOk result (IfAsked (option_map string_bytes names.now.script) (IsElsewhere (string_bytes at.now)) (H.asked host.new)) }
+    ensures cause { IfErr result (λ refused. IsCaused (wanted_of names.now) (H.asked host.new) refused.fault) }
 {
     match &names.script {
-        Some(script) => differ::<H, J>(host, alloc, names, at, script),
+        Some(script) => differ::<H, J>(host, alloc, names, history, at, script),
         None => Ok(()),
     }
 }
@@ -80,11 +99,16 @@ fn stay_outside<H: Host, J: Judge>(
     host: &mut H,
     alloc: Global,
     names: &Names,
+    history: &String,
     at: &String,
     folder: &String,
 ) -> Result<(), Refused>
+    requires wanted { (wanted_of names.now).history ≡ Some (string_bytes history.now) }
+    requires placed { Has (Placed (string_bytes history.now) (Ok (string_bytes at.now))) (H.asked host.old) }
+    requires state { (wanted_of names.now).state ≡ Some (string_bytes folder.now) }
     ensures goes { GoesOn J.accepts (wanted_of names.now) (H.asked host.old) (H.asked host.new) }
     ensures apart { OnOk result (IsOutside (string_bytes at.now) (string_bytes folder.now) (H.asked host.new)) }
+    ensures cause { IfErr result (λ refused. IsCaused (wanted_of names.now) (H.asked host.new) refused.fault) }
 {
     match place::<H, J>(host, names, folder) {
         Ok(other) => if is_within(other.as_bytes(), at.as_bytes()) {
@@ -104,13 +128,17 @@ fn stay_outside_if_asked<H: Host, J: Judge>(
     host: &mut H,
     alloc: Global,
     names: &Names,
+    history: &String,
     at: &String,
 ) -> Result<(), Refused>
+    requires wanted { (wanted_of names.now).history ≡ Some (string_bytes history.now) }
+    requires placed { Has (Placed (string_bytes history.now) (Ok (string_bytes at.now))) (H.asked host.old) }
     ensures goes { GoesOn J.accepts (wanted_of names.now) (H.asked host.old) (H.asked host.new) }
     ensures apart { OnOk result (IfAsked (option_map string_bytes names.now.state) (IsOutside (string_bytes at.now)) (H.asked host.new)) }
+    ensures cause { IfErr result (λ refused. IsCaused (wanted_of names.now) (H.asked host.new) refused.fault) }
 {
     match &names.state {
-        Some(folder) => stay_outside::<H, J>(host, alloc, names, at, folder),
+        Some(folder) => stay_outside::<H, J>(host, alloc, names, history, at, folder),
         None => Ok(()),
     }
 }
@@ -122,17 +150,19 @@ fn is_apart<H: Host, J: Judge>(
     names: &Names,
     name: &String,
 ) -> Result<(), Refused>
+    requires wanted { (wanted_of names.now).history ≡ Some (string_bytes name.now) }
     ensures goes { GoesOn J.accepts (wanted_of names.now) (H.asked host.old) (H.asked host.new) }
     ensures apart { OnOk result (IsApart (wanted_of names.now) (string_bytes name.now) (H.asked host.new)) }
+    ensures cause { IfErr result (λ refused. IsCaused (wanted_of names.now) (H.asked host.new) refused.fault) }
 {
     let at = match place::<H, J>(host, names, name) {
         Ok(at) => at,
         Err(fault) => return Err(refused_by(host, alloc, FilesFault::Unwritten, fault, name)),
     };
-    differ::<H, J>(host, alloc, names, &at, &names.net)?;
-    differ::<H, J>(host, alloc, names, &at, &names.inputs)?;
-    differ_from_script::<H, J>(host, alloc, names, &at)?;
-    stay_outside_if_asked::<H, J>(host, alloc, names, &at)?;
+    differ::<H, J>(host, alloc, names, name, &at, &names.net)?;
+    differ::<H, J>(host, alloc, names, name, &at, &names.inputs)?;
+    differ_from_script::<H, J>(host, alloc, names, name, &at)?;
+    stay_outside_if_asked::<H, J>(host, alloc, names, name, &at)?;
     Ok(())
 }
 
@@ -144,6 +174,7 @@ pub fn tell_apart<H: Host, J: Judge>(
 ) -> Result<(), Refused>
     ensures goes { GoesOn J.accepts (wanted_of names.now) (H.asked host.old) (H.asked host.new) }
     ensures apart { OnOk result (IfAsked (wanted_of names.now).history (IsApart (wanted_of names.now)) (H.asked host.new)) }
+    ensures cause { IfErr result (λ refused. IsCaused (wanted_of names.now) (H.asked host.new) refused.fault) }
 {
     match &names.history {
         Some(name) => is_apart::<H, J>(host, alloc, names, name),

@@ -62,11 +62,13 @@ pub struct RunLog<C: SlotCell, O: Outlet, ThisRun: Run> {
     // Whether the world was found incomplete, and no event came since.
     incomplete: bool,
     totals: RunCount<ThisRun>,
+    // A history leads from the opening world to this one, by this script; where what happens is written it is what the lines say.
     pub ghost replays: { ∥ HasHappened ThisRun.rooms ThisRun.script ThisRun.opening ThisRun.keeps lines.items passed
         (armed_view armed) ∥₁ },
     pub ghost same_keeps: { keeps ≡ ThisRun.keeps },
     pub ghost same_rooms: { rooms_in armed.world ≡ ThisRun.rooms },
     pub ghost same_script: { script.items ≡ ThisRun.script },
+    // The totals are the numbers of what is written.
     pub ghost numbers: { ThisRun.keeps ≡ true → numbers_in lines.items stops ≡ run_numbers totals },
     pub ghost running: { stopped ≡ false → stops ≡ 0 },
     pub ghost still: { incomplete ≡ true → are_quiet (world_of armed.world) ≡ false },
@@ -332,16 +334,22 @@ impl<C: SlotCell, O: Outlet, ThisRun: Run> RunLog<C, O, ThisRun> {
     ) -> Result<TurnAnswer, HubFault>
         requires part { 0 < seat_parts count.old }
         ensures parts { seat_parts count.new ≡ seat_parts count.old }
+        // It adds one to one number of its seat: to that of the events, or to that of the answer.
         ensures counted { IfOk result (λ answer. seat_numbers count.new
             ≡ counted (turn_kind answer) (seat_numbers count.old)) }
+        // A job that is granted is of a process of this node.
         ensures home { IfOk result (IsGrantedIn node) }
+        // What is said behind all that had happened has the very answer that is given, or the answer was counted.
         ensures written { IfOk result
             (IsTurnWritten self.old.keeps node self.old.lines.items self.new.lines.items) }
+        // What is answered is so in a world to which a history of this run leads.
         ensures told { IfOk result (TellsTurn ThisRun.rooms ThisRun.script ThisRun.opening node) }
+        // Where the run is stopped no event is made. `install` has no such clause: a job that is out comes back all the same.
         ensures stopped { self.old.stopped ≡ true
             → IfOk result (λ answer. answer ≡ turns.Stopped) }
         ensures refused { OnErr result (seat_numbers count.new ≡ seat_numbers count.old) }
         ensures unchanged { OnErr result (IsSameLog self.old self.new) }
+        // 44 only where a count stands at 2^63 - 1.
         ensures full { IfErr result (λ fault. fault ≡ PastNumber → IsFull self.old) }
     {
         if self.stopped {
@@ -526,9 +534,12 @@ impl<C: SlotCell, O: Outlet, ThisRun: Run> RunLog<C, O, ThisRun> {
     pub fn close(mut self, all: &mut SeatCount<ThisRun>) -> (World<C, O>, History)
         // Kept or not, a history leads there.
         ensures run { HasRun ThisRun.rooms ThisRun.script ThisRun.opening (world_of result.0) }
+        // Where it was written it is this one: each entry is the event that was next for its node, a turn that came back to it, or the
+        // script's next line once its round had come; its answer is that of the step.
         ensures leads { ThisRun.keeps ≡ true → LeadsTo ThisRun.rooms ThisRun.script ThisRun.opening
             (happenings result.1.lines.items) (world_of result.0) }
         ensures lines { result.1.lines ≡ self.lines }
+        // Whoever has the parts of all seats learns that it has as many events and answers of each kind as they got.
         ensures numbers { seat_parts all.old ≡ ThisRun.seats → ThisRun.keeps ≡ true
             → numbers_in result.1.lines.items result.1.stops ≡ seat_numbers all.old }
     {

@@ -100,6 +100,7 @@ pub fn end_of<C: SlotCell, O: Outlet>(
     bounds: Bounds,
 ) -> RunEnd
     requires { length channels.now ≤ MAX_CHANNELS }
+    // That a run was stopped says nothing of its world.
     ensures { IsOver channels.now bounds (world_of world.now) result }
 {
     if world.complete() {

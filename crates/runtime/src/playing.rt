@@ -188,6 +188,7 @@ pub fn run_world<
     ensures run { HasRun (rooms_in world) script.items (world_of world) (world_of result.world) }
     ensures leads { keeps_history ≡ true → LeadsTo (rooms_in world) script.items (world_of world)
         (happenings result.history.lines.items) (world_of result.world) }
+    // The world is as the end says: nothing is left to do, the rounds are over, or each output has its items.
     ensures over { IsOver (network_of (net_in world).value.program).channels bounds (world_of result.world)
         result.end }
     // Where the run came to its end, the events of the script's lines of round 0 come before all others.

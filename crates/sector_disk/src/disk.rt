@@ -74,15 +74,20 @@ pub trait Disk: Drop {
     /// Reads whole sectors, from the sector `first` on. Refuses with `Device` (20) and `Range` (21), and then leaves
     /// the bytes handed in as they were. No bytes are in range where `first` is at most the number of sectors.
     fn read(&mut self, first: usize, into: &mut [u8]) -> Result<(), DiskFault>
+        // 21 exactly where the bytes aren't whole sectors of the disk.
         ensures range { IsErrOf result DiskFault.Range
             ↔ ¬ (IsInRange (sector_count self.old) first (length into.old)) }
         ensures out_of_range { IsErrOf result DiskFault.Range → self.new ≡ self.old }
         ensures bytes { OnOk result
             (into.new ≡ take (length into.old) (drop (SECTOR_BYTES * first) (content self.old))) }
         ensures same_bytes { OnErr result (into.new ≡ into.old) }
+        // Reads give what they gave, and a crash leaves nothing that it might not have left before.
         ensures quiet { IsQuiet content may_leave self.old self.new }
+        // The clock goes on, and forgets no content that a crash might have left.
         ensures time { TimePasses moment left_since may_leave self.old self.new }
+        // 20 exactly where the count of failures rises. The call counts, but for a 21; one that failed is the last that failed.
         ensures counted { IsCounted failure_count call_count failed_call self.old self.new result }
+        // The size stays, and what is armed.
         ensures setup { SameSetup sector_count armed self.old self.new };
 
     /// Writes whole sectors, from the sector `first` on. They are in doubt until a sync, also where the write failed.
@@ -93,6 +98,7 @@ pub trait Disk: Drop {
         ensures out_of_range { IsErrOf result DiskFault.Range → self.new ≡ self.old }
         ensures written { OnOk result
             (IsOverwritten (content self.old) (SECTOR_BYTES * first) bytes.now (content self.new)) }
+        // Whatever it answers, nothing else changes, in the content and in what a crash may leave.
         ensures elsewhere { SameOutside (SECTOR_BYTES * first) (length bytes.now)
             (content self.old) (content self.new) }
         ensures crash { OneStepFrom (may_leave self.old) (may_leave self.new)
@@ -105,6 +111,7 @@ pub trait Disk: Drop {
     /// Refuses with `Device` (20) alone.
     fn sync(&mut self) -> Result<(), DiskFault>
         ensures range { ¬ (IsErrOf result DiskFault.Range) }
+        // Then a crash leaves what reads give, and nothing else.
         ensures durable { OnOk result (Only (content self.old) (may_leave self.new)) }
         ensures quiet { IsQuiet content may_leave self.old self.new }
         ensures time { TimePasses moment left_since may_leave self.old self.new }
@@ -114,8 +121,10 @@ pub trait Disk: Drop {
     /// The device crashes and comes back. What it holds then is settled: one of the contents that a crash might leave,
     /// by the fill byte where one is given.
     fn crash(&mut self, fill: Option<u8>)
+        // The new content is one that a crash might have left.
         ensures left { may_leave self.old (content self.new) }
         ensures filled { settles_to self.old fill (content self.new) }
+        // Another crash leaves no other.
         ensures durable { Only (content self.new) (may_leave self.new) }
         ensures time { TimePasses moment left_since may_leave self.old self.new }
         ensures counts { SameCounts failure_count call_count failed_call self.old self.new }

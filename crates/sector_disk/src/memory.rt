@@ -119,6 +119,7 @@ impl Disk for MemDisk {
         ensures fails { IsErrOf result DiskFault.Device
             ↔ (IsInRange (sectors_of self.old) first (length into.old)
             × IsSome (fault_met (faults_of self.old))) }
+        // But for a 21 the call is counted, and a fault that it meets is noted.
         ensures faults { ¬ (IsErrOf result DiskFault.Range)
             → faults_of self.new ≡ after_call (faults_of self.old) }
         ensures doubt { doubt_of self.new ≡ doubt_of self.old }

@@ -6,8 +6,11 @@ ghost use Rattle.starting_again.specs.Laws.{LeavesAtEachMoment, LeavesItsOwn, Le
 /// which all nodes are down and nothing is in flight. The records and what has left are the same, and checkpoints are coordinated
 /// over the stop as over an event. There is such a world, from whichever one it starts.
 pub fn starting_again_law()
+    // `WorldInvariant` holds of the new world, of which nothing else is asked.
     ensures keeps { KeepsAgain }
+    // By each channel the same has left, and the records are the same, so the recovery line is.
     ensures same { HasTheSame }
+    // Steps of the abstract machine lead over the stop, of which none writes a record, and checkpoints stay coordinated.
     ensures goes_on { GoesOnAgain }
     ensures one { OneStartsAgain }
 {}
@@ -16,8 +19,11 @@ pub fn starting_again_law()
 /// of a world is true of a fresh one over what some world left.
 pub fn leaving_law()
     ensures leaves { LeavesItsOwn }
+    // What its stations give back are those outputs, once they stand by channel.
     ensures gives_back { GivesBackItsOwn }
+    // Each node has a record from which it can start again, and each output a prefix of its channel's history.
     ensures sound { LeftAreSound }
+    // A fresh world over what some world left has its invariant, and has let leave what these outputs took.
     ensures opens { OpensSoundly }
     ensures one { OneOpens }
 {}

@@ -80,15 +80,18 @@ impl<C: SlotCell, O: Outlet> Station<C, O> {
         requires sound { IsSoundStation (setting_by lent.now (traffic_of wire.old))
             (station_view O.taken O.failures self.old) }
         requires node { event_node (event_view event.now) < NODES }
+        // Either the cell isn't touched, or nothing leaves, and a crash at any moment leaves the record of before or the next one.
         ensures moved { HasMoved C.moment C.left_since_whole (cell_in self.old.node.store)
             (cell_in self.new.node.store) (view_of self.old.node).kept
             (next_kept (setting_by lent.now (traffic_of wire.old)) (event_view event.now)
             (station_view O.taken O.failures self.old))
             (outlet_views O.taken O.failures self.old.outputs.items)
             (outlet_views O.taken O.failures self.new.outputs.items) }
+        // A refusal is want of memory, of an event that takes memory, and the whole view is as it was.
         ensures refused { OnErr result
             ((station_view O.taken O.failures self.new ≡ station_view O.taken O.failures self.old)
             × TakesMemory (event_view event.now)) }
+        // It is a step of the station by cases of the event: the answer, what is there afterwards, and what is in flight.
         ensures come { IfOk result
             (λ reply. HasCome (setting_by lent.now (traffic_of wire.old))
             (fits_in (C.slot_capacity (cell_in self.old.node.store))) (event_view event.now)
@@ -97,12 +100,18 @@ impl<C: SlotCell, O: Outlet> Station<C, O> {
         ensures same_traffic { OnErr result (traffic_of wire.new ≡ traffic_of wire.old) }
         ensures same_room { C.slot_capacity (cell_in self.new.node.store)
             ≡ C.slot_capacity (cell_in self.old.node.store) }
+        // No fault is armed but by an `Arm` which isn't refused, none is disarmed, and no call that was counted is forgotten.
         ensures device { LeavesDeviceBy (event_view event.now) (answer_view result)
             self.old self.new }
+        // A cell is touched only where a record was put, a packet was heard, a crash settled it, a recovery began, or a failure was
+        // prepared.
         ensures unchanged { LeavesCells (event_view event.now) (answer_view result)
             → IsCellUnchanged self.old self.new }
+        // A node whose device failed may be recovered as many rounds later as were armed with the call that failed,
+        // and one round later where none were.
         ensures armed { IfOk result (λ reply. reply_view reply ≡ Down
             → RestartsAsArmed lent.now.round self.old self.new) }
+        // What the cell holds is as it was then, also where a `Recover` looked at the device.
         ensures held { OnErr result (LeavesWhatItFound (event_view event.now) self.old self.new) }
     {
         match event {

@@ -1,5 +1,7 @@
 use Rattle.std.proofs.Common.{rules}
 use Rattle.run_files.proofs.Going.{goes_then, has_goes, ready_goes}
+use Rattle.std.proofs.Common.{inr, subst, Err}
+use Rattle.host.specs.Requests.{Has, Wrote}
 use Rattle.run_files.proofs.asking.make_file.Goals as goal
 
 pub write-requires-clause-ready : goal.write-requires-clause-ready
@@ -16,3 +18,9 @@ remove_file-requires-after_bounds g c κs within = has_goes _ _ _ _ _ c.write.en
 
 pub returns-clause-goes : goal.returns-clause-goes
 returns-clause-goes g c = search (rules, goes_then)
+
+pub returns-clause-fault : goal.returns-clause-fault
+returns-clause-fault g c =
+    inr (c.remove_file.ensures.goes.later _
+    (subst (λ p. Has (Wrote p c.args.bytes.now.items (Err c.in-Err.fault)) (g.H.Host.asked c.write.new.host)) c.in_ok-file.ensures.path
+    c.in-Err.ensures.fault))

@@ -1,6 +1,7 @@
 use Rattle.std.proofs.Common.{rules, refl}
 use Rattle.run_files.specs.Opening.{IsFileMade}
 use Rattle.run_files.proofs.Going.{goes_then, first_goes, first_next, goes_still, made_later, ready_goes}
+use Rattle.run_files.proofs.Caused.{unmade_by}
 use Rattle.run_files.proofs.folder.fill.Goals as goal
 
 pub make_file-requires-after_bounds : goal.make_file-requires-after_bounds
@@ -22,3 +23,6 @@ loop-path-preserved g c = record {
 
 pub loop-path-init : goal.loop-path-init
 loop-path-init g c = record { goes = goes_still _ _ _; count = refl; made = tt }
+
+pub returns-in-Err-clause-cause : goal.returns-in-Err-clause-cause
+returns-in-Err-clause-cause g c = unmade_by _ _ _ _ _ _ c.refused_by.ensures c.in-Err.ensures.fault

@@ -6,7 +6,7 @@ use Rattle.run_files.proofs.folder.give_back.Goals as goal
 
 pub give_one-requires-after_bounds : goal.give_one-requires-after_bounds
 give_one-requires-after_bounds g c κs within =
-    opened_at _ _ _ _ _ (opened_goes _ _ _ _ _ _ c.loop-outlet.invariant.goes c.requires) c.in-Some-nth_of.ensures
+    opened_at _ _ _ _ _ _ (opened_goes _ _ _ _ _ _ _ c.loop-outlet.invariant.goes c.requires) c.in-Some-nth_of.ensures
 
 pub returns-in_err-give_one-clause-goes : goal.returns-in_err-give_one-clause-goes
 returns-in_err-give_one-clause-goes g c = goes_then _ _ _ _ _ c.loop-outlet.invariant.goes c.give_one.ensures.goes

@@ -1,10 +1,12 @@
-use Rattle.std.proofs.Common.{rules, ap, ◌∙◌, ◌≤◌, List, Ok, length, map, string_bytes}
+use Rattle.std.proofs.Common.{rules, refl, false, ◌≡◌, ap, ◌∙◌, ◌≤◌, List, Ok, length, map, string_bytes}
 use Rattle.std.specs.Prelude.{IsTrue}
 use Rattle.std.specs.declared.alloc.Global.{Global}
 use Rattle.std.specs.declared.string.String.{String}
 use Rattle.host.specs.Requests.{Has, Renamed}
+use Rattle.run_files.specs.Causes.{IsTakenBy}
 use Rattle.run_files.proofs.Making.{cleared, new_folder, of_answer}
 use Rattle.run_files.proofs.Going.{goes_then, has_goes, ready_goes}
+use Rattle.run_files.proofs.Caused.{caused_later, of_error}
 use Rattle.run_files.proofs.folder.make.Goals as goal
 
 pub returns-in-Err-clause-goes : goal.returns-in-Err-clause-goes
@@ -46,3 +48,13 @@ returns-in-Ok-false-clause-cleared g c is =
     (of_answer _ _ (λ named. length c.as_slice-all.result.now ≤ c.fill_and_name-made.result.0) c.in-Ok-false.is made.all)
     (ap (λ (paths : List (String Global)). map (λ (path : String Global). string_bytes path) paths) c.as_slice-all.ensures.value ∙ c.in-Ok.ensures)
     c.clear.ensures.folder
+
+pub returns-in-Ok-false-clause-taken : goal.returns-in-Ok-false-clause-taken
+returns-in-Ok-false-clause-taken g c = λ is.
+    let taken = of_answer _ _ (λ named. named ≡ false → IsTakenBy (string_bytes c.in_ok-making.making) (string_bytes c.args.folder.now)
+    (g.H.Host.asked c.fill_and_name-made.new.host)) c.in-Ok-false.is c.fill_and_name-made.ensures.taken (search rules) in
+    (string_bytes c.in_ok-making.making, (taken.0, c.clear.ensures.goes.later _ taken.1, taken.2))
+
+pub returns-clause-cause : goal.returns-clause-cause
+returns-clause-cause g c =
+    caused_later _ _ _ c.clear-in-Err-named.ensures.goes.later _ (of_error _ _ _ c.in-Err-named.is c.fill_and_name-made.ensures.cause)

@@ -23,8 +23,8 @@ returns-in_err-push-clause-goes g c = goes_then _ _ _ _ _ c.loop-name.invariant.
 pub loop-name-preserved : goal.loop-name-preserved
 loop-name-preserved g c = record {
   goes = goes_then _ _ _ _ _ c.loop-name.invariant.goes c.open_one.ensures.goes;
-  opened = subst (λ items. AreOpened (string_bytes c.args.folder.now) items (g.H.Host.asked c.open_one.new.host)) (sym c.in_ok-push-2.ensures.items)
-      (opened_more _ _ _ _ _ _ _ c.open_one.ensures.goes c.loop-name.invariant.opened c.in_ok-file.ensures.opened);
+  opened = subst (λ items. AreOpened c.args.names.now.sync (string_bytes c.args.folder.now) items (g.H.Host.asked c.open_one.new.host)) (sym c.in_ok-push-2.ensures.items)
+      (opened_more _ _ _ _ _ _ _ _ c.open_one.ensures.goes c.loop-name.invariant.opened c.in_ok-file.ensures.opened);
   named = names_more _ _ _ _ _ _ (names_opened _ _ _ c.in_ok-push-2.ensures.items) c.in-Some.ensures.steps.0 c.loop-name.invariant.named;
   files = held_longer _ _ _ _ _ _ _ _ c.in_ok-push-2.ensures.items c.in_ok-push.ensures.items c.open_one.ensures.goes.later
       c.loop-name.invariant.files

@@ -9,7 +9,7 @@ use Rattle.run_files.proofs.folder.open_each.Given as goal
 abbrev pub invariant-loop-name : goal.invariant-loop-name
 invariant-loop-name g l = record {
   goes : GoesOn g.J.Judge.accepts (wanted_of l.fn.names) (g.H.Host.asked l.fn.host) (g.H.Host.asked l.host);
-  opened : AreOpened (string_bytes l.fn.folder) l.opened.items (g.H.Host.asked l.host);
+  opened : AreOpened l.fn.names.sync (string_bytes l.fn.folder) l.opened.items (g.H.Host.asked l.host);
   named : opened_names l.opened.items ++ map string_bytes (into_iter_items l.name-iterator) ≡ map string_bytes l.fn.outputs.items;
   files : AreHeldAs l.opened.items l.files.items (g.H.Host.asked l.host);
 }

@@ -1,40 +1,38 @@
 use Rattle.run_files.proofs.Going.{free_still, held_now, later_by, ready_goes, ready_later, rules_by, rules_unlocked}
+use Rattle.run_files.proofs.Caused.{caused_later, unlocked_by}
+use Rattle.std.proofs.Common.{string_bytes}
 use Rattle.run_files.proofs.folder.open_folder.Goals as goal
-
-pub returns-in-Err-InUse-clause-rules : goal.returns-in-Err-InUse-clause-rules
-returns-in-Err-InUse-clause-rules g c each = rules_by _ _ _ _ _ c.in-Err-InUse.ensures.asked ((ready_goes _ _ _ _ c.make_if_missing.ensures c.requires.ready), c.make_if_missing.ensures.free c.requires.free, c.requires.wanted) (c.make_if_missing.ensures.rules each)
-
-pub returns-in-Err-InUse-clause-later : goal.returns-in-Err-InUse-clause-later
-returns-in-Err-InUse-clause-later g c r h = later_by _ _ _ c.in-Err-InUse.ensures.asked r (c.make_if_missing.ensures.later r h)
 
 pub returns-in-Err : goal.returns-in-Err
 returns-in-Err g c = record {
-  rules = λ each. rules_by _ _ _ _ _ c.in-Err.ensures.asked ((ready_goes _ _ _ _ c.make_if_missing.ensures c.requires.ready), c.make_if_missing.ensures.free c.requires.free, c.requires.wanted) (c.make_if_missing.ensures.rules each);
-  later = λ r h. later_by _ _ _ c.in-Err.ensures.asked r (c.make_if_missing.ensures.later r h);
+  rules = λ each. rules_by _ _ _ _ _ c.in-Err.ensures.asked ((ready_goes _ _ _ _ c.make_if_missing.ensures.goes c.requires.ready), c.make_if_missing.ensures.goes.free c.requires.free, c.requires.wanted) (c.make_if_missing.ensures.goes.rules each);
+  later = λ r h. later_by _ _ _ c.in-Err.ensures.asked r (c.make_if_missing.ensures.goes.later r h);
   held = tt;
   lock = tt;
   opened = tt;
   named = tt;
   files = tt;
   synced = tt;
-  err = free_still _ _ _ _ c.in-Err.ensures.asked (c.make_if_missing.ensures.free c.requires.free);
+  cause = unlocked_by _ _ (string_bytes c.args.folder.now) _ c.in-Err.fault _ c.requires.wanted c.in-Err.ensures.asked c.not_locked.ensures.busy
+      c.not_locked.ensures.failed;
+  err = free_still _ _ _ _ c.in-Err.ensures.asked (c.make_if_missing.ensures.goes.free c.requires.free);
 }
 
 pub open_locked-requires-clause-ready : goal.open_locked-requires-clause-ready
-open_locked-requires-clause-ready g c κs within = ready_later _ _ _ _ (later_by _ _ _ c.in-Ok.ensures.asked) (ready_goes _ _ _ _ c.make_if_missing.ensures c.requires.ready)
+open_locked-requires-clause-ready g c κs within = ready_later _ _ _ _ (later_by _ _ _ c.in-Ok.ensures.asked) (ready_goes _ _ _ _ c.make_if_missing.ensures.goes c.requires.ready)
 
 pub open_locked-requires-clause-net : goal.open_locked-requires-clause-net
-open_locked-requires-clause-net g c κs within = later_by _ _ _ c.in-Ok.ensures.asked _ (c.make_if_missing.ensures.later _ c.requires.net)
+open_locked-requires-clause-net g c κs within = later_by _ _ _ c.in-Ok.ensures.asked _ (c.make_if_missing.ensures.goes.later _ c.requires.net)
 
 pub open_locked-requires-clause-inputs : goal.open_locked-requires-clause-inputs
-open_locked-requires-clause-inputs g c κs within = later_by _ _ _ c.in-Ok.ensures.asked _ (c.make_if_missing.ensures.later _ c.requires.inputs)
+open_locked-requires-clause-inputs g c κs within = later_by _ _ _ c.in-Ok.ensures.asked _ (c.make_if_missing.ensures.goes.later _ c.requires.inputs)
 
 pub returns-in-Ok-open_locked-clause-rules : goal.returns-in-Ok-open_locked-clause-rules
-returns-in-Ok-open_locked-clause-rules g c each = c.open_locked.ensures.goes.rules (rules_by _ _ _ _ _ c.in-Ok.ensures.asked ((ready_goes _ _ _ _ c.make_if_missing.ensures c.requires.ready), c.make_if_missing.ensures.free c.requires.free, c.requires.wanted) (c.make_if_missing.ensures.rules each))
+returns-in-Ok-open_locked-clause-rules g c each = c.open_locked.ensures.goes.rules (rules_by _ _ _ _ _ c.in-Ok.ensures.asked ((ready_goes _ _ _ _ c.make_if_missing.ensures.goes c.requires.ready), c.make_if_missing.ensures.goes.free c.requires.free, c.requires.wanted) (c.make_if_missing.ensures.goes.rules each))
 
 pub returns-in-Ok-open_locked-clause-later : goal.returns-in-Ok-open_locked-clause-later
 returns-in-Ok-open_locked-clause-later g c r h =
-    c.open_locked.ensures.goes.later r (later_by _ _ _ c.in-Ok.ensures.asked r (c.make_if_missing.ensures.later r h))
+    c.open_locked.ensures.goes.later r (later_by _ _ _ c.in-Ok.ensures.asked r (c.make_if_missing.ensures.goes.later r h))
 
 pub returns-in-Ok-open_locked-clause-held : goal.returns-in-Ok-open_locked-clause-held
 returns-in-Ok-open_locked-clause-held g c = c.open_locked.ensures.goes.held _ (held_now _ _ _ c.in-Ok.ensures.asked)
@@ -43,9 +41,12 @@ pub returns-in-Err-open_locked-clause-rules : goal.returns-in-Err-open_locked-cl
 returns-in-Err-open_locked-clause-rules g c each =
     rules_unlocked _ _ _ _ _ _ c.unlock.ensures c.in-Ok.ensures.folder
     (c.open_locked.ensures.goes.held _ (held_now _ _ _ c.in-Ok.ensures.asked))
-    (c.open_locked.ensures.goes.rules (rules_by _ _ _ _ _ c.in-Ok.ensures.asked ((ready_goes _ _ _ _ c.make_if_missing.ensures c.requires.ready), c.make_if_missing.ensures.free c.requires.free, c.requires.wanted) (c.make_if_missing.ensures.rules each)))
+    (c.open_locked.ensures.goes.rules (rules_by _ _ _ _ _ c.in-Ok.ensures.asked ((ready_goes _ _ _ _ c.make_if_missing.ensures.goes c.requires.ready), c.make_if_missing.ensures.goes.free c.requires.free, c.requires.wanted) (c.make_if_missing.ensures.goes.rules each)))
 
 pub returns-in-Err-open_locked-clause-later : goal.returns-in-Err-open_locked-clause-later
 returns-in-Err-open_locked-clause-later g c r h =
     later_by _ _ _ c.unlock.ensures r
-    (c.open_locked.ensures.goes.later r (later_by _ _ _ c.in-Ok.ensures.asked r (c.make_if_missing.ensures.later r h)))
+    (c.open_locked.ensures.goes.later r (later_by _ _ _ c.in-Ok.ensures.asked r (c.make_if_missing.ensures.goes.later r h)))
+
+pub returns-in-Err-open_locked-clause-cause : goal.returns-in-Err-open_locked-clause-cause
+returns-in-Err-open_locked-clause-cause g c = caused_later _ _ _ (later_by _ _ _ c.unlock.ensures) _ c.in-Err-open_locked.ensures.cause

@@ -3,11 +3,13 @@ use Rattle.std.specs.declared.alloc.Global.{Global}
 use Rattle.std.specs.declared.string.String.{String}
 use Rattle.run_files.specs.Opening.{paths_in}
 use Rattle.run_files.specs.Syncing.{AreSyncedIf}
+use Rattle.run_files.specs.Wanted.{wanted_of}
 use Rattle.run_files.proofs.Going.{goes_then, in_any, ready_goes, synced_both, synced_later}
+use Rattle.run_files.specs.Causes.{IsTextOf, inputs, net}
 use Rattle.run_files.proofs.folder.open_locked.Goals as goal
 
-pub compare-requires-2-after_bounds : goal.compare-requires-2-after_bounds
-compare-requires-2-after_bounds g c κs within = c.compare.ensures.goes.held _ c.requires.held
+pub compare-requires-2-clause-held : goal.compare-requires-2-clause-held
+compare-requires-2-clause-held g c κs within = c.compare.ensures.goes.held _ c.requires.held
 
 pub returns-in_err-compare-2-clause-goes : goal.returns-in_err-compare-2-clause-goes
 returns-in_err-compare-2-clause-goes g c = search (rules, goes_then)
@@ -66,3 +68,9 @@ returns-clause-synced g c = in_any _ _ (λ all. synced_both _ _ _ _
     c.deref.ensures.value))
     c.in_ok-settle.ensures.synced))
     (synced_later _ _ _ _ (goes_then _ _ _ _ _ c.settle_one-2.ensures.goes c.open_each.ensures.goes).later c.in_ok-settle_one.ensures.synced))
+
+pub compare-requires-clause-text : goal.compare-requires-clause-text
+compare-requires-clause-text g c κs within = ((wanted_of c.args.names.now).net, net, c.requires.net)
+
+pub compare-requires-2-clause-text : goal.compare-requires-2-clause-text
+compare-requires-2-clause-text g c κs within = ((wanted_of c.args.names.now).inputs, inputs, c.compare.ensures.goes.later _ c.requires.inputs)

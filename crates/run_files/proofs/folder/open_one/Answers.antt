@@ -1,5 +1,8 @@
 use Rattle.std.proofs.Common.{rules}
 use Rattle.run_files.proofs.Going.{goes_then, has_goes, opened_as, ready_goes}
+use Rattle.run_files.proofs.Caused.{by_bytes, unopened_by}
+use Rattle.std.proofs.Common.{string_bytes}
+use Rattle.std.proofs.lemmas.Result.{err_from_is_err_and}
 use Rattle.run_files.proofs.folder.open_one.Goals as goal
 
 pub cut_tail-requires-clause-ready : goal.cut_tail-requires-clause-ready
@@ -16,4 +19,15 @@ returns-clause-goes g c = search (rules, goes_then)
 
 pub returns-clause-opened : goal.returns-clause-opened
 returns-clause-opened g c =
-    opened_as _ _ _ _ _ c.of.ensures (has_goes _ _ _ _ _ c.cut_tail.ensures.goes c.in-Ok.ensures.opened)
+    opened_as _ _ _ _ _ _ c.of.ensures (has_goes _ _ _ _ _ c.cut_tail.ensures.goes c.in-Ok.ensures.opened)
+
+pub returns-in-Err-clause-cause : goal.returns-in-Err-clause-cause
+returns-in-Err-clause-cause g c =
+    unopened_by _ _ (string_bytes c.args.folder.now) (string_bytes c.args.name.now) c.args.names.now.sync _ _ _ c.refused_by.ensures
+    c.of_missing-refusal.ensures c.requires.wanted c.in-Err.ensures.fault
+
+pub returns-in_err-held-clause-cause : goal.returns-in_err-held-clause-cause
+returns-in_err-held-clause-cause g c =
+    let p = err_from_is_err_and c.from_residual-in_err-held.result c.from_residual-in_err-held.ensures.1 in
+    rw (p.1, p.2) (by_bytes _ _ (string_bytes c.args.folder.now) (string_bytes c.args.name.now) _ c.args.names.now.sync _ c.requires.wanted
+    c.in-Ok.ensures.opened c.in_err-held.ensures.cause)
