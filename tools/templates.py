@@ -5,16 +5,19 @@ A source of Rattle may stand in a crate of crates.txt alone. So these programs a
 of the tree.
 
 Those of tables are libraries, with a function `run_program`. One program is made of them, which runs the one that its first word names: so
-what they all stand on is read and compiled once. Beside them stands a library that they share (`case_table`), which has no such function."""
+what they all stand on is read and compiled once. Beside them stands a library that they share (`case_table`), which has no such function.
+They may be made one program with kahnrun too, which then is what runs where the first word names none of them."""
 
 import pathlib
 import shutil
+import sys
 
 ROOT = pathlib.Path(__file__).resolve().parent.parent
 BENCH = ROOT / "bench/crates"
 TABLES = ROOT / "tables"
 ENDING = ".template"
 ALL = "all_tables"      # the program that is made of those of tables
+KAHNRUN = "kahnrun"     # the program with which they may be made one
 RUN = "pub fn run_program"
 
 
@@ -68,10 +71,14 @@ def programs():
     return [name for name in crate_lines(TABLES / "lines") if RUN in root_of(name)]
 
 
+def call_of(name):
+    """How the main function runs one of these programs of tables."""
+    return f"{name}::run_program({'&rt, &rt' if f'{RUN}<' in root_of(name) else '&rt'})"
+
+
 def main_of(names):
     """The program that runs one of these programs of tables: the one that its first word names."""
-    handed = {name: "&rt, &rt" if f"{RUN}<" in root_of(name) else "&rt" for name in names}
-    arms = "".join(f'            "{name}" => {name}::run_program({handed[name]}),\n' for name in names)
+    arms = "".join(f'            "{name}" => {call_of(name)},\n' for name in names)
     return f"""#![tactic(auto)]
 
 use std::env;
@@ -85,6 +92,50 @@ fn main(rt: HostRuntime) -> anyhow::Result<()> {{
     }}
 }}
 """
+
+
+MAIN = "fn main(rt: HostRuntime) -> ExitCode {\n"       # with which the main function of kahnrun begins
+
+# What stands before it where the programs of tables are one with it.
+TABLE_WORDS = """fn first_word(rt: &HostRuntime) -> Option<String> {
+    let mut words = env::args(rt).ok()?;
+    words.nth(1)
+}
+
+fn ended(rt: &HostRuntime, end: anyhow::Result<()>) -> ExitCode {
+    match end {
+        Ok(()) => ExitCode::SUCCESS,
+        Err(error) => {
+            let _ = std::io::Write::write_fmt(&mut rt.stderr(), format_args!("Error: {error}\\n"));
+            ExitCode::FAILURE
+        }
+    }
+}
+
+"""
+
+
+def main_with(names, text):
+    """The text of the main function of kahnrun, that runs one of these programs of tables where the first word names it."""
+    if text.count(MAIN) != 1:
+        sys.exit(f"the main function of {KAHNRUN} doesn't begin with {MAIN!r} any more")
+    arms = "".join(f'        Some("{name}") => return ended(&rt, {call_of(name)}),\n' for name in names)
+    choice = f"    let first = first_word(&rt);\n    match first.as_deref() {{\n{arms}        _ => {{}}\n    }}\n"
+    return text.replace(MAIN, TABLE_WORDS + MAIN + choice)
+
+
+def tree_of_all(tree):
+    """A copy of the tree in which the programs of tables are one with kahnrun; and the name of that program."""
+    names = programs()
+    tree_with(names, tree)
+    shutil.rmtree(tree / "crates" / ALL)
+    main = tree / "crates" / KAHNRUN / "src/main.rt"
+    main.write_text(main_with(names, main.read_text()))
+    lines = crate_lines(tree / "crates.txt")
+    del lines[ALL]
+    lines[KAHNRUN] = f"{lines[KAHNRUN].rstrip()} {' '.join(names)} anyhow"
+    (tree / "crates.txt").write_text("".join(f"{it}\n" for it in lines.values()))
+    return KAHNRUN
 
 
 def tree_with(names, tree):

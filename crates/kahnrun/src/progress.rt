@@ -13,8 +13,8 @@ const FIRST: u64 = 1_000;
 /// How many the line stands before it is written anew.
 const NEXT: u64 = 200;
 
-/// How many characters the line has at most, so that no terminal breaks it.
-const WIDTH: usize = 78;
+/// How many characters the line has at most before the two points that stand for further outputs, so that no terminal breaks it.
+const WIDTH: usize = 75;
 
 /// The line that says how far a run has come, where standard error is a terminal and the run isn't to be quiet. Once the run is over it
 /// is wiped away.
