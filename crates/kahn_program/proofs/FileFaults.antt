@@ -18,8 +18,8 @@ module _ {F : Type 0} {file : FileWords F} (o : Wanted) (folder : List ℕ) (num
   of_one : (one : OpenedName) (outlet : ResumedOutlet F file) → AreOpened o.sync folder (one ∷ []) e
       → Has (Used (string_bytes one.name) (asked_of outlet)) e → IsAtFault number outlet → HasFileFault o e number
   of_one one outlet opened used (inl differs) =
-      inl (differs.0, folder, string_bytes one.name, one.bytes.value.items, opened.0)
-  of_one one outlet opened used (inr failed) = inr (inl (failed.0, string_bytes one.name, asked_of outlet, used, failed.1))
+      inl (differs.0, (folder, string_bytes one.name, one.bytes.value.items, opened.0))
+  of_one one outlet opened used (inr failed) = inr (inl (failed.0, (string_bytes one.name, asked_of outlet, used, failed.1)))
 
   of_place : (k : ℕ) (opened : List OpenedName) (outlets : List (ResumedOutlet F file)) (outlet : ResumedOutlet F file)
       → AreOpened o.sync folder opened e → AreUsed opened outlets e → slice_get outlets k ≡ Some outlet → IsAtFault number outlet
