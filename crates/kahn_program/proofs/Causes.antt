@@ -11,7 +11,7 @@ use Rattle.run_files.specs.declared.fault.FilesFault.{FilesFault}
 use Rattle.run_files.specs.declared.fault.FilesFault.TheVariants as files
 use Rattle.run_files.proofs.Caused.{caused_later}
 use Rattle.host.specs.Requests.{Request, Has, Later, Read, Told}
-use Rattle.protocol.specs.Node.Common.{Net, Network, network_of, node_count}
+use Rattle.protocol.specs.Node.Common.{Net, network_of, node_count}
 use Rattle.run_files.specs.Wanted.{Wanted}
 use Rattle.kahn_program.specs.Causes.{HasCause, HasFileFault, IsScriptStop, IsStopped, IsUnread, failure_of, in_memory}
 use Rattle.kahn_program.specs.Causes.{HasFailed, IsToldOf, nothing, told}

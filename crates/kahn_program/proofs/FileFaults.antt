@@ -1,5 +1,5 @@
 -- What failed of the outlets of a run, in the host's log.
-use Rattle.std.proofs.Common.{◌≡◌, inl, inr, sym, subst, ℕ, zero, suc, Bool, List, [], ◌∷◌, Some, Ok, slice_get, string_bytes}
+use Rattle.std.proofs.Common.{◌≡◌, inl, inr, sym, subst, ℕ, zero, suc, List, [], ◌∷◌, Some, slice_get, string_bytes}
 use Rattle.host.specs.Requests.{Request, Has, Used}
 use Rattle.host.specs.declared.line_file.LineFile.{Ghosts as FileWords}
 use Rattle.output_file.specs.Output.{asked_of}
@@ -8,7 +8,7 @@ use Rattle.run_files.specs.Opening.{AreOpened, AreUsed}
 use Rattle.run_files.specs.Wanted.{Wanted}
 use Rattle.run_files.specs.declared.held_file.OpenedName.{OpenedName}
 use Rattle.kahn_program.specs.Causes.{HasFileFault}
-use Rattle.kahn_program.specs.KeptFiles.{HasFailedBy, IsAtFault, SomeAtFault}
+use Rattle.kahn_program.specs.KeptFiles.{HasFailedBy, IsAtFault}
 use Rattle.kahn_program.specs.declared.kept_files.FileKeeper.{FileKeeper}
 
 some_is : {A : Type 0} (x y : A) → Some x ≡ Some y → x ≡ y
