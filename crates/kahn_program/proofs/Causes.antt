@@ -1,5 +1,5 @@
 -- Why the program over its host ends without a report, in a log that goes on.
-use Rattle.std.proofs.Common.{◌≡◌, inl, inr, sym, subst, refl, ℕ, ℤ, Bool, List, Option, Some, None, Ok, Err, Result}
+use Rattle.std.proofs.Common.{◌≡◌, ◌⊎◌, inl, inr, sym, subst, refl, ℕ, ℤ, Bool, List, Option, Some, None, Ok, Err, Result}
 use Rattle.std.specs.Prelude.{IfErr}
 use Rattle.cobaltmidge.specs.Failing.{is_counted}
 use Rattle.cobaltmidge.specs.Texts.{AreInputsOf, IsNetOf}
@@ -11,11 +11,15 @@ use Rattle.host.specs.Requests.{Request, Has, Later, Read}
 use Rattle.protocol.specs.Node.Common.{Net, Network, network_of, node_count}
 use Rattle.run_files.specs.Wanted.{Wanted}
 use Rattle.kahn_program.specs.Causes.{HasCause, HasFileFault, IsScriptStop, IsStopped, IsUnread, failure_of, in_memory}
+use Rattle.kahn_program.specs.Causes.{HasFailed, IsToldOf, nothing, told}
+use Rattle.kahn_program.specs.Program.{asked_files}
+use Rattle.cobaltmidge.specs.declared.fault.RunFault.{RunFault}
+use Rattle.cobaltmidge.specs.declared.fault.RunFault.TheVariants as run_fault
 use Rattle.kahn_program.specs.Causes.{inputs_refused, inputs_unread, net_refused, net_unread, script_stops, stopped, too_long}
 use Rattle.kahn_program.specs.Readings.{IsInputsFailure, IsNetFailure}
 use Rattle.kahn_program.specs.Asked.{settings_of}
 use Rattle.kahn_program.specs.Keeping.{IsKeptFailure}
-use Rattle.kahn_program.specs.Runnable.{IsApproximationFailure, IsReportless}
+use Rattle.kahn_program.specs.Runnable.{IsApproximationFailure, IsReportless, IsUnwritten, run_failure}
 use Rattle.kahn_program.specs.declared.asked.Options.{Options}
 use Rattle.kahn_program.specs.declared.failure.Failure.{Failure}
 use Rattle.kahn_program.specs.declared.failure.Failure.TheVariants.{Line, Whole, NotText, Unreadable, Approximation}
@@ -163,3 +167,44 @@ by_approximation o e net_bytes bytes net inputs n failure read of_net inputs_rea
 pub if_err : {T E : Type 0} (P Q : E → Type 0) (result : Result T E) → ((x : E) → P x → Q x) → IfErr result P → IfErr result Q
 if_err P Q (Ok x) more h = tt
 if_err P Q (Err e) more h = more e h
+
+-- want of memory stops a run
+pub stopped_none : (failed : ℕ → Type 0) (o : Wanted) (e : List Request) (failure : Failure) → failure ≡ NoMemory
+    → IsStopped failed o e failure
+stopped_none failed o e failure is = subst (IsStopped failed o e) (sym is) tt
+
+-- what failed by one account failed by another
+pub kept_maps : (failed other : ℕ → Type 0) (failure : Failure) → ((number : ℕ) → failed number → other number)
+    → IsKeptFailure failed failure → IsKeptFailure other failure
+kept_maps failed other (Line source line number) more h = tt
+kept_maps failed other (Whole source number) more h = tt
+kept_maps failed other (NotText source) more h = tt
+kept_maps failed other (Unreadable source) more h = tt
+kept_maps failed other (Approximation number) more h = tt
+kept_maps failed other NoMemory more h = tt
+kept_maps failed other (State number) more h = more number h
+kept_maps failed other InUse more h = tt
+kept_maps failed other Unwritten more h = tt
+kept_maps failed other (Other number) more h = tt
+
+-- a failure of the run, or of what is written of it, is none of what is kept
+pub run_keeps : (failed : ℕ → Type 0) (fault : RunFault) (failure : Failure) → failure ≡ run_failure fault → IsKeptFailure failed failure
+run_keeps failed run_fault.NoMemory failure is = subst (IsKeptFailure failed) (sym is) tt
+run_keeps failed run_fault.Device failure is = subst (IsKeptFailure failed) (sym is) tt
+run_keeps failed run_fault.PastNumber failure is = subst (IsKeptFailure failed) (sym is) tt
+
+pub unwritten_keeps : (failed : ℕ → Type 0) (options : Options) (failure : Failure) → IsUnwritten options failure
+    → IsKeptFailure failed failure
+unwritten_keeps failed options failure (inl none) = subst (IsKeptFailure failed) (sym none) tt
+unwritten_keeps failed options failure (inr h) = subst (IsKeptFailure failed) (sym h.0) tt
+
+-- the line of a failure was told, or that of want of memory
+pub failed_by : (options : Options) (o : Wanted) (a b old : List Request) (failure : Failure) → o ≡ asked_files options → Later a b
+    → HasCause o a failure → IsToldOf failure b ⊎ IsToldOf NoMemory b → HasFailed options old b
+failed_by options o a b old failure same later cause (inl is) =
+    told failure (cause_later o (asked_files options) a b failure same later cause) is
+failed_by options o a b old failure same later cause (inr is) = told NoMemory (stopped tt) is
+
+pub failed_at_least : (options : Options) (old new : List Request) → (new ≡ old) ⊎ IsToldOf NoMemory new → HasFailed options old new
+failed_at_least options old new (inl same) = nothing same
+failed_at_least options old new (inr is) = told NoMemory (stopped tt) is

@@ -14,6 +14,7 @@ use Rattle.kahn_program.specs.Asked.{settings_of}
 use Rattle.kahn_program.specs.Runs.{IsToldOf, IsWrittenIf}
 use Rattle.kahn_program.proofs.Faults.{fault_is}
 use Rattle.kahn_program.proofs.Released.{report_is}
+use Rattle.kahn_program.proofs.Causes.{run_keeps, unwritten_keeps}
 use Rattle.kahn_program.proofs.network_run.report_of_run.Goals as goal
 
 pub returns-in-Err-clause-err : goal.returns-in-Err-clause-err
@@ -49,3 +50,6 @@ returns-clause-ok g c =
     (subst (λ (n : Net). IsWrittenIf (is_some options.history)
     (Appends (g.H.Write.contents c.args.history.now) (g.H.Write.contents c.tell_history.new.history))
     (history_text n happened)) (c.deref-3.ensures ∙ made) c.in_ok-tell_history.ensures.written)
+
+pub returns-in-Err-clause-cause : goal.returns-in-Err-clause-cause
+returns-in-Err-clause-cause g c = run_keeps _ _ _ c.run_failure.ensures

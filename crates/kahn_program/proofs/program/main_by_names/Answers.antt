@@ -1,4 +1,6 @@
-use Rattle.kahn_program.proofs.Causes.{cause_later}
+use Rattle.std.proofs.Common.{refl}
+use Rattle.kahn_program.specs.Causes.{unsaid}
+use Rattle.kahn_program.proofs.Causes.{cause_later, failed_by}
 use Rattle.kahn_program.proofs.Said.{has_report_later}
 use Rattle.kahn_program.proofs.Logs.{keeps_goes, keeps_then}
 use Rattle.kahn_program.proofs.program.main_by_names.Goals as goal
@@ -25,3 +27,13 @@ returns-in-Err-clause-refused g c is =
       cause = cause_later _ _ _ _ _ c.requires.wanted c.tell_stop.ensures.goes.later c.in-Err.ensures.cause;
       told = told.1;
     }
+
+pub returns-in-Ok-clause-failed : goal.returns-in-Ok-clause-failed
+returns-in-Ok-clause-failed g c = λ is.
+    let said = c.say_report.ensures.failed is in
+    unsaid c.in-Ok.report.bytes.items c.in-Ok.report.complete said.0
+    (has_report_later _ _ _ _ _ _ c.say_report.ensures.goes.later refl c.in-Ok.ensures.report) said.1
+
+pub returns-in-Err-clause-failed : goal.returns-in-Err-clause-failed
+returns-in-Err-clause-failed g c = λ is.
+    failed_by _ _ _ _ _ _ c.requires.wanted c.tell_stop.ensures.goes.later c.in-Err.ensures.cause (c.tell_stop.ensures.failed is)

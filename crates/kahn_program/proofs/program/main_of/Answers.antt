@@ -1,5 +1,5 @@
-use Rattle.kahn_program.proofs.Logs.{keeps_as}
+use Rattle.kahn_program.proofs.Causes.{failed_at_least}
 use Rattle.kahn_program.proofs.program.main_of.Goals as goal
 
-pub returns-in-Ok-clause-rules : goal.returns-in-Ok-clause-rules
-returns-in-Ok-clause-rules g c each = (keeps_as _ _ _ _ c.in-Ok.ensures c.main_by_names.ensures.keeps).rules each
+pub returns-in-Err-clause-failed : goal.returns-in-Err-clause-failed
+returns-in-Err-clause-failed g c is = failed_at_least _ _ _ c.tell_at_least.ensures.told

@@ -4,11 +4,13 @@ use Rattle.run_files.proofs.Going.{read_later}
 use Rattle.cobaltmidge.specs.Scripts.{scripted_of}
 use Rattle.host.specs.Requests.{Request}
 use Rattle.replay.specs.declared.kept.ScriptedEvent.{ScriptedEvent}
-use Rattle.kahn_program.specs.Program.{AreKept, AreKeptIn, IsAccepted, IsWrittenIfAsked, file_names, given_of}
+use Rattle.kahn_program.specs.Program.{AreKept, IsAccepted, IsWrittenIfAsked, file_names, given_of}
 use Rattle.kahn_program.specs.Runs.{IsReport}
 use Rattle.kahn_program.specs.declared.program.Report.{Report}
 use Rattle.kahn_program.proofs.Logs.{keeps_goes, keeps_then}
 use Rattle.kahn_program.proofs.Said.{if_ok, kept_asked, none_asked, report_maps}
+use Rattle.std.proofs.lemmas.Result.{err_from_is_err_and}
+use Rattle.kahn_program.proofs.Causes.{if_err, stopped_by_files, stopped_later}
 use Rattle.kahn_program.proofs.program.run_asked.Goals as goal
 
 pub run_kept-requires-clause-ready : goal.run_kept-requires-clause-ready
@@ -38,24 +40,26 @@ returns-clause-keeps g c = keeps_then _ _ _ _ (keeps_goes _ _ _ c.tell_apart.ens
 
 pub returns-in-Some-clause-report : goal.returns-in-Some-clause-report
 returns-in-Some-clause-report g c =
+    let sync = c.args.names.now.sync in
     let outputs : List (List ℕ) = file_names c.args.all.net.program.channels.items c.args.all.net.channel_names.items in
     let now : List Request = g.H.Host.asked c.run_kept.new.host in
     let wrote : List ℕ → Type 0 = IsWrittenIfAsked (wanted_of c.args.names.now).history now in
     let script : List ScriptedEvent = map scripted_of c.args.all.lines.items in
     let is : (wanted_of c.args.names.now).state ≡ Some (string_bytes c.in-Some.folder) = search rules in
     if_ok
-    (λ (report : Report). IsReport (AreKeptIn (string_bytes c.in-Some.folder) outputs now) wrote c.args.options.now c.args.all.net
+    (λ (report : Report). IsReport (AreKept sync (Some (string_bytes c.in-Some.folder)) outputs now) wrote c.args.options.now c.args.all.net
     c.args.all.inputs script report.bytes.items report.complete)
-    (λ (report : Report). IsReport (AreKept (wanted_of c.args.names.now).state outputs now) wrote c.args.options.now c.args.all.net
+    (λ (report : Report). IsReport (AreKept sync (wanted_of c.args.names.now).state outputs now) wrote c.args.options.now c.args.all.net
     c.args.all.inputs script report.bytes.items report.complete)
     c.run_kept.result
-    (λ report has. report_maps (AreKeptIn (string_bytes c.in-Some.folder) outputs now) (AreKept (wanted_of c.args.names.now).state outputs now)
+    (λ report has. report_maps (AreKept sync (Some (string_bytes c.in-Some.folder)) outputs now) (AreKept sync (wanted_of c.args.names.now).state outputs now)
     wrote wrote c.args.options.now c.args.all.net c.args.all.inputs script report.bytes.items report.complete
-    (kept_asked ((wanted_of c.args.names.now).state) (string_bytes c.in-Some.folder) outputs now is) (λ t written. written) has)
+    (kept_asked sync ((wanted_of c.args.names.now).state) (string_bytes c.in-Some.folder) outputs now is) (λ t written. written) has)
     c.run_kept.ensures.report
 
 pub returns-clause-report : goal.returns-clause-report
 returns-clause-report g c =
+    let sync = c.args.names.now.sync in
     let outputs : List (List ℕ) = file_names c.args.all.net.program.channels.items c.args.all.net.channel_names.items in
     let now : List Request = g.H.Host.asked c.run_over.new.host in
     let wrote : List ℕ → Type 0 = IsWrittenIfAsked (wanted_of c.args.names.now).history now in
@@ -64,10 +68,19 @@ returns-clause-report g c =
     let is : (wanted_of c.args.names.now).state ≡ None = search rules in
     if_ok
     (λ (report : Report). IsReport any wrote c.args.options.now c.args.all.net c.args.all.inputs script report.bytes.items report.complete)
-    (λ (report : Report). IsReport (AreKept (wanted_of c.args.names.now).state outputs now) wrote c.args.options.now c.args.all.net
+    (λ (report : Report). IsReport (AreKept sync (wanted_of c.args.names.now).state outputs now) wrote c.args.options.now c.args.all.net
     c.args.all.inputs script report.bytes.items report.complete)
     c.run_over.result
-    (λ report has. report_maps any (AreKept (wanted_of c.args.names.now).state outputs now) wrote wrote c.args.options.now c.args.all.net
+    (λ report has. report_maps any (AreKept sync (wanted_of c.args.names.now).state outputs now) wrote wrote c.args.options.now c.args.all.net
     c.args.all.inputs script report.bytes.items report.complete
-    (λ streams kept. none_asked ((wanted_of c.args.names.now).state) outputs now is streams) (λ t written. written) has)
+    (λ streams kept. none_asked sync ((wanted_of c.args.names.now).state) outputs now is streams) (λ t written. written) has)
     c.run_over.ensures.report
+
+pub returns-in_err-tell_apart-clause-cause : goal.returns-in_err-tell_apart-clause-cause
+returns-in_err-tell_apart-clause-cause g c =
+    let p = err_from_is_err_and c.from_residual-in_err-tell_apart.result c.from_residual-in_err-tell_apart.ensures.1 in
+    rw p.1 (stopped_by_files _ _ _ _ _ p.2 c.in_err-tell_apart.ensures.cause)
+
+pub returns-clause-cause : goal.returns-clause-cause
+returns-clause-cause g c =
+    if_err _ _ _ (λ stop h. stopped_later _ _ _ _ _ _ (λ r is. is) (λ number none. absurd none) h) c.run_over.ensures.cause

@@ -3,6 +3,12 @@ use Rattle.run_files.specs.Opening.{opened_names}
 use Rattle.run_files.specs.declared.held_file.OpenedName.{OpenedName}
 use Rattle.kahn_program.proofs.Said.{kept_as, report_maps, written_later}
 use Rattle.run_files.proofs.Going.{ready_later}
+use Rattle.std.proofs.Common.{subst, ◌++◌, ◌∷◌, [], ℕ}
+use Rattle.std.proofs.lemmas.Result.{err_from_is_err_and}
+use Rattle.run_files.specs.Opening.{paths_in}
+use Rattle.run_files.specs.Syncing.{AreSyncedIf}
+use Rattle.run_files.proofs.Going.{synced_later}
+use Rattle.kahn_program.proofs.Causes.{file_fault_later, stopped_by_files, stopped_later, stopped_none}
 use Rattle.kahn_program.proofs.program.run_kept.Goals as goal
 
 pub run_locked-requires-clause-ready : goal.run_locked-requires-clause-ready
@@ -21,10 +27,14 @@ returns-in-Ok-clause-keeps g c = record {
 pub returns-in-Ok-clause-report : goal.returns-in-Ok-clause-report
 returns-in-Ok-clause-report g c =
     report_maps _ _ _ _ c.args.options.now c.args.asked.net c.args.asked.inputs _ _ _
-    (kept_as (string_bytes c.args.folder.now) (opened_names c.as_slice.result.now) _ (g.H.Host.asked c.run_locked.new.host)
-    (g.H.Host.asked c.let_go.new.host)
+    (kept_as c.args.names.now.sync (string_bytes c.args.folder.now) (opened_names c.as_slice.result.now) _
+    (g.H.Host.asked c.run_locked.new.host) (g.H.Host.asked c.let_go.new.host)
     (ap (λ (opened : List OpenedName). opened_names opened) c.as_slice.ensures.value ∙ (c.in_ok-open.ensures.named ∙ c.in_ok-outputs.ensures))
-    c.let_go.ensures.later)
+    c.let_go.ensures.later
+    (subst (λ (names : List (List ℕ)). AreSyncedIf c.args.names.now.sync
+    (paths_in (string_bytes c.args.folder.now) names ++ string_bytes c.args.folder.now ∷ []) (g.H.Host.asked c.let_go.new.host))
+    c.in_ok-outputs.ensures
+    (synced_later _ _ _ _ (λ r h. c.let_go.ensures.later r (c.run_locked.ensures.goes.later r h)) c.in_ok-open.ensures.synced)))
     (written_later _ _ _ c.let_go.ensures.later) c.in-Ok.ensures.report
 
 pub let_go-requires-in-Err-clause-held : goal.let_go-requires-in-Err-clause-held
@@ -36,3 +46,17 @@ returns-clause-keeps g c = record {
   later = λ r h. c.let_go-in-Err.ensures.later r (c.run_locked.ensures.goes.later r (c.open_folder.ensures.later r h));
   free = λ free. c.let_go-in-Err.ensures.free;
 }
+
+pub returns-in_err-outputs-clause-cause : goal.returns-in_err-outputs-clause-cause
+returns-in_err-outputs-clause-cause g c =
+    let p = err_from_is_err_and c.from_residual-in_err-outputs.result c.from_residual-in_err-outputs.ensures.1 in
+    rw p.1 (stopped_none _ _ _ _ p.2)
+
+pub returns-in_err-open-clause-cause : goal.returns-in_err-open-clause-cause
+returns-in_err-open-clause-cause g c =
+    let p = err_from_is_err_and c.from_residual-in_err-open.result c.from_residual-in_err-open.ensures.1 in
+    rw p.1 (stopped_by_files _ _ _ _ _ p.2 c.in_err-open.ensures.cause)
+
+pub returns-clause-cause : goal.returns-clause-cause
+returns-clause-cause g c =
+    stopped_later _ _ _ _ _ _ c.let_go-in-Err.ensures.later (file_fault_later _ _ _ c.let_go-in-Err.ensures.later) c.in-Err.ensures.cause

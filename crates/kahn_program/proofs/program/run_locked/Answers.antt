@@ -1,12 +1,23 @@
-use Rattle.std.proofs.Common.{rules, string_bytes, subst}
-use Rattle.run_files.specs.Opening.{AreUsed}
-use Rattle.kahn_program.specs.KeptFiles.{AreInFiles}
-use Rattle.kahn_program.proofs.Said.{kept_in, report_maps, written_later}
+use Rattle.std.proofs.Common.{rules, string_bytes, subst, map, List, ℕ, ℤ}
+use Rattle.std.proofs.lemmas.Result.{err_from_is_err_and}
+use Rattle.cobaltmidge.specs.Scripts.{scripted_of}
+use Rattle.replay.specs.declared.kept.ScriptedEvent.{ScriptedEvent}
+use Rattle.run_files.specs.Opening.{AreUsed, opened_names}
+use Rattle.run_files.specs.Wanted.{wanted_of}
+use Rattle.run_files.specs.declared.fault.FilesFault.TheVariants.{Astray}
+use Rattle.run_files.proofs.Caused.{caused_as}
 use Rattle.run_files.proofs.Going.{goes_then, opened_goes}
+use Rattle.kahn_program.specs.KeptFiles.{AreInFiles}
+use Rattle.kahn_program.specs.Program.{AreKeptIn, IsWrittenIfAsked}
+use Rattle.kahn_program.specs.Runs.{IsReport}
+use Rattle.kahn_program.specs.declared.program.Report.{Report}
+use Rattle.kahn_program.proofs.Causes.{if_err, stopped_by_files, stopped_later}
+use Rattle.kahn_program.proofs.FileFaults.{fault_in_log}
+use Rattle.kahn_program.proofs.Said.{if_ok, kept_in, report_maps, written_later}
 use Rattle.kahn_program.proofs.program.run_locked.Goals as goal
 
 pub give_back-requires-after_bounds : goal.give_back-requires-after_bounds
-give_back-requires-after_bounds g c κs within = opened_goes _ _ _ _ _ _ c.run_over.ensures.goes c.requires.opened
+give_back-requires-after_bounds g c κs within = opened_goes _ _ _ _ _ _ _ c.run_over-report.ensures.goes c.requires.opened
 
 pub returns-in_err-give_back-clause-goes : goal.returns-in_err-give_back-clause-goes
 returns-in_err-give_back-clause-goes g c = search (rules, goes_then)
@@ -16,11 +27,40 @@ returns-clause-goes g c = search (rules, goes_then)
 
 pub returns-clause-report : goal.returns-clause-report
 returns-clause-report g c =
-    report_maps (λ streams. AreInFiles c.run_over.new.keeper.closed.items streams) _ _ _ c.args.options.now c.args.asked.net c.args.asked.inputs
-    _ _ _
-    (λ streams are. kept_in (string_bytes c.args.folder.now) c.args.opened.now c.run_over.new.keeper.closed.items
-    (g.H.Host.asked c.give_back.new.host)
-    (opened_goes _ _ _ _ _ _ (goes_then _ _ _ _ _ c.run_over.ensures.goes c.give_back.ensures.goes) c.requires.opened)
-    (subst (λ outlets. AreUsed c.args.opened.now outlets (g.H.Host.asked c.give_back.new.host)) c.into_closed.ensures
-    c.in_ok-give_back.ensures.used) streams are)
-    (written_later _ _ _ c.give_back.ensures.goes.later) c.in_ok-report.ensures.report
+    let closed = c.run_over-report.new.keeper.closed.items in
+    let sync = c.args.names.now.sync in
+    let script : List ScriptedEvent = map scripted_of c.args.asked.lines.items in
+    let history = (wanted_of c.args.names.now).history in
+    let before = g.H.Host.asked c.run_over-report.new.host in
+    let now = g.H.Host.asked c.give_back.new.host in
+    let filed : List (List ℤ) → Type 0 = λ streams. AreInFiles closed streams in
+    let kept : List (List ℤ) → Type 0 = λ streams.
+    AreKeptIn sync (string_bytes c.args.folder.now) (opened_names c.args.opened.now) now streams in
+    if_ok
+    (λ (report : Report). IsReport filed (IsWrittenIfAsked history before) c.args.options.now c.args.asked.net c.args.asked.inputs script
+    report.bytes.items report.complete)
+    (λ (report : Report). IsReport kept (IsWrittenIfAsked history now) c.args.options.now c.args.asked.net c.args.asked.inputs script
+    report.bytes.items report.complete)
+    c.run_over-report.result
+    (λ report has. report_maps filed kept (IsWrittenIfAsked history before) (IsWrittenIfAsked history now) c.args.options.now c.args.asked.net
+    c.args.asked.inputs script report.bytes.items report.complete
+    (λ streams are. kept_in sync (string_bytes c.args.folder.now) c.args.opened.now closed now
+    (opened_goes _ _ _ _ _ _ _ (goes_then _ _ _ _ _ c.run_over-report.ensures.goes c.give_back.ensures.goes) c.requires.opened)
+    (subst (λ outlets. AreUsed c.args.opened.now outlets now) c.into_closed.ensures c.in_ok-give_back.ensures.used) streams are)
+    (written_later history before now c.give_back.ensures.goes.later) has)
+    c.run_over-report.ensures.report
+
+pub returns-in_err-give_back-clause-cause : goal.returns-in_err-give_back-clause-cause
+returns-in_err-give_back-clause-cause g c =
+    let p = err_from_is_err_and c.from_residual-in_err-give_back.result c.from_residual-in_err-give_back.ensures.1 in
+    rw p.1 (stopped_by_files _ _ _ _ _ p.2 (caused_as _ _ _ Astray c.in_err-give_back.ensures.cause tt))
+
+pub returns-clause-cause : goal.returns-clause-cause
+returns-clause-cause g c =
+    let now = g.H.Host.asked c.give_back.new.host in
+    if_err _ _ _ (λ stop h. stopped_later _ _ _ _ _ _ c.give_back.ensures.goes.later
+    (λ number fault. fault_in_log (wanted_of c.args.names.now) (string_bytes c.args.folder.now) number now c.args.opened.now
+    c.run_over-report.new.keeper
+    (opened_goes _ _ _ _ _ _ _ (goes_then _ _ _ _ _ c.run_over-report.ensures.goes c.give_back.ensures.goes) c.requires.opened)
+    (subst (λ outlets. AreUsed c.args.opened.now outlets now) c.into_closed.ensures c.in_ok-give_back.ensures.used) fault) h)
+    c.run_over-report.ensures.cause

@@ -1,4 +1,6 @@
 use Rattle.std.proofs.Common.{rules, ◌∙◌, ap, map, subst}
+use Rattle.std.proofs.lemmas.Result.{err_from_is_err_and}
+use Rattle.kahn_program.proofs.Causes.{kept_maps, stopped_by_run, stopped_later, stopped_none}
 use Rattle.cobaltmidge.specs.Scripts.{scripted_of}
 use Rattle.run_files.specs.Wanted.{wanted_of}
 use Rattle.kahn_program.specs.Program.{IsWrittenIfAsked}
@@ -28,3 +30,24 @@ returns-in-Ok-clause-report g c =
 
 pub returns-clause-goes : goal.returns-clause-goes
 returns-clause-goes g c = search (rules, goes_then)
+
+pub returns-in_err-events-clause-cause : goal.returns-in_err-events-clause-cause
+returns-in_err-events-clause-cause g c =
+    let p = err_from_is_err_and c.from_residual-in_err-events.result c.from_residual-in_err-events.ensures.1 in
+    rw p.1 (stopped_none _ _ _ _ p.2)
+
+pub returns-in_err-history-clause-cause : goal.returns-in_err-history-clause-cause
+returns-in_err-history-clause-cause g c =
+    let p = err_from_is_err_and c.from_residual-in_err-history.result c.from_residual-in_err-history.ensures.1 in
+    rw (p.1, p.2) (stopped_later _ _ _ _ _ _ (λ r h. h) (λ number none. absurd none) c.in_err-history.ensures.cause)
+
+pub returns-in_err-finish_if_asked-in-Ok-clause-cause : goal.returns-in_err-finish_if_asked-in-Ok-clause-cause
+returns-in_err-finish_if_asked-in-Ok-clause-cause g c =
+    let p = err_from_is_err_and c.from_residual-in_err-finish_if_asked-in-Ok.result
+    c.from_residual-in_err-finish_if_asked-in-Ok.ensures.1 in
+    rw (p.1, p.2) (stopped_later _ _ _ _ _ _ (λ r h. h) (λ number none. absurd none) c.in_err-finish_if_asked-in-Ok.ensures.cause)
+
+pub returns-clause-cause : goal.returns-clause-cause
+returns-clause-cause g c =
+    stopped_by_run c.args.options.now g.K.Keeper.keeps _ _ _ _ _ c.in_memory-failure.ensures c.in-Err.ensures.err
+    (kept_maps _ _ _ c.take_words-words.ensures c.in-Err.ensures.cause)

@@ -19,3 +19,6 @@ returns-then-complete-clause-said g c complete same =
 pub returns-clause-said : goal.returns-clause-said
 returns-clause-said g c complete same =
     (status_is complete false (sym same) ∙ sym c.if-complete.false, c.tell_words-2.ensures.later _ c.in_default.ensures.said)
+
+pub returns-in-Err-clause-failed : goal.returns-in-Err-clause-failed
+returns-in-Err-clause-failed g c = λ is. (_, c.tell_words.ensures.later _ c.in-Err.ensures.fault)

@@ -1,4 +1,4 @@
-use Rattle.std.proofs.Common.{rules, ◌≡◌, ◌∙◌, sym, subst, Ok}
+use Rattle.std.proofs.Common.{rules, ◌≡◌, ◌∙◌, inl, inr, refl, sym, subst, Ok, Err}
 use Rattle.host.specs.Requests.{Has, Told}
 use Rattle.kahn_program.specs.Failures.{failure_line}
 use Rattle.run_files.proofs.Going.{goes_then}
@@ -13,4 +13,19 @@ returns-clause-told g c is =
       sym c.status.ensures ∙ is,
       c.tell_words.ensures.later _
           (subst (λ bytes. Has (Told bytes (Ok tt)) (g.H.Host.asked c.tell.new.host)) line c.in_default-tell.ensures.told),
+    )
+
+pub returns-in-Err-clause-failed : goal.returns-in-Err-clause-failed
+returns-in-Err-clause-failed g c = λ is.
+    let line : c.into_bytes.result.items ≡ failure_line c.args.stop.failure = search rules in
+    inl (_, subst (λ bytes. Has (Told bytes _) (g.H.Host.asked c.tell.new.host)) line c.in-Err.ensures.fault, inr (_, refl))
+
+pub returns-clause-failed : goal.returns-clause-failed
+returns-clause-failed g c = λ is.
+    let line : c.into_bytes.result.items ≡ failure_line c.args.stop.failure = search rules in
+    inl (
+      Ok tt,
+      c.tell_words.ensures.later _ (subst (λ bytes. Has (Told bytes (Ok tt)) (g.H.Host.asked c.tell.new.host)) line
+          c.in_default-tell.ensures.told),
+      inl (sym c.status.ensures ∙ is),
     )
