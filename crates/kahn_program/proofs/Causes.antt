@@ -1,14 +1,17 @@
 -- Why the program over its host ends without a report, in a log that goes on.
 use Rattle.std.proofs.Common.{◌≡◌, ◌⊎◌, inl, inr, sym, subst, refl, ℕ, ℤ, Bool, List, Option, Some, None, Ok, Err, Result}
-use Rattle.std.specs.Prelude.{IfErr}
+use Rattle.std.specs.Prelude.{IfErr, OnOk}
+use Rattle.host.specs.Answers.{Answer}
+use Rattle.host.specs.declared.fault.HostFault.{HostFault}
+use Rattle.kahn_program.specs.Failures.{failure_line}
 use Rattle.cobaltmidge.specs.Failing.{is_counted}
 use Rattle.cobaltmidge.specs.Texts.{AreInputsOf, IsNetOf}
 use Rattle.run_files.specs.Causes.{IsCaused}
 use Rattle.run_files.specs.declared.fault.FilesFault.{FilesFault}
 use Rattle.run_files.specs.declared.fault.FilesFault.TheVariants as files
 use Rattle.run_files.proofs.Caused.{caused_later}
-use Rattle.host.specs.Requests.{Request, Has, Later, Read}
-use Rattle.protocol.specs.Node.Common.{Net, Network, network_of, node_count}
+use Rattle.host.specs.Requests.{Request, Has, Later, Read, Told}
+use Rattle.protocol.specs.Node.Common.{Net, network_of, node_count}
 use Rattle.run_files.specs.Wanted.{Wanted}
 use Rattle.kahn_program.specs.Causes.{HasCause, HasFileFault, IsScriptStop, IsStopped, IsUnread, failure_of, in_memory}
 use Rattle.kahn_program.specs.Causes.{HasFailed, IsToldOf, nothing, told}
@@ -57,8 +60,8 @@ stopped_later failed other o a b Unwritten later more h = caused_later o a b lat
 stopped_later failed other o a b (Other number) later more h = h
 
 pub file_fault_later : (o : Wanted) (a b : List Request) → Later a b → (number : ℕ) → HasFileFault o a number → HasFileFault o b number
-file_fault_later o a b later number (inl h) = inl (h.0, h.1.0, h.1.1, h.1.2, later _ h.1.3)
-file_fault_later o a b later number (inr (inl h)) = inr (inl (h.0, h.1.0, h.1.1, later _ h.1.2, h.1.3))
+file_fault_later o a b later number (inl h) = inl (h.0, (h.1.0, h.1.1, h.1.2, later _ h.1.3))
+file_fault_later o a b later number (inr (inl h)) = inr (inl (h.0, (h.1.0, h.1.1, later _ h.1.2, h.1.3)))
 file_fault_later o a b later number (inr (inr h)) = inr (inr h)
 
 -- a refusal of the files
@@ -110,9 +113,9 @@ run_stops options keeps failed o e (Other number) (inr (inl h)) kept = absurd h
 run_stops options keeps failed o e (Other number) (inr (inr (inl h))) kept = absurd (cc)
 run_stops options keeps failed o e (Other number) (inr (inr (inr h))) kept = absurd (cc)
 
-pub stopped_by_run : (options : Options) (keeps : Bool) (failed : ℕ → Type 0) (o : Wanted) (e : List Request) (told failure : Failure)
-    → told ≡ in_memory failure → IsReportless options keeps failure → IsKeptFailure failed failure → IsStopped failed o e told
-stopped_by_run options keeps failed o e told failure is h kept =
+pub stopped_by_run : (options : Options) (keeps : Bool) (failed : ℕ → Type 0) (o : Wanted) (e : List Request) (shown failure : Failure)
+    → shown ≡ in_memory failure → IsReportless options keeps failure → IsKeptFailure failed failure → IsStopped failed o e shown
+stopped_by_run options keeps failed o e shown failure is h kept =
     subst (IsStopped failed o e) (sym is) (run_stops options keeps failed o e failure h kept)
 
 still_caused : (o : Wanted) (a b : List Request) (failure : Failure) → Later a b → HasCause o a failure → HasCause o b failure
@@ -159,10 +162,11 @@ pub by_stop : (o : Wanted) (e : List Request) (failure : Failure) → IsStopped 
 by_stop o e failure h = stopped h
 
 pub by_approximation : (o : Wanted) (e : List Request) (net_bytes bytes : List ℕ) (net : Net) (inputs : List (List ℤ)) (n : ℕ)
-    (failure : Failure) → Has (Read o.net (Ok net_bytes)) e → IsNetOf net_bytes net → Has (Read o.inputs (Ok bytes)) e
-    → AreInputsOf bytes net inputs → IsApproximationFailure (network_of net.program) inputs n failure → HasCause o e failure
-by_approximation o e net_bytes bytes net inputs n failure read of_net inputs_read of_inputs h =
-    too_long net_bytes bytes net inputs n read of_net inputs_read of_inputs h
+    (failure other : Failure) → Has (Read o.net (Ok net_bytes)) e → IsNetOf net_bytes net → Has (Read o.inputs (Ok bytes)) e
+    → AreInputsOf bytes net inputs → IsApproximationFailure (network_of net.program) inputs n failure → other ≡ failure
+    → HasCause o e other
+by_approximation o e net_bytes bytes net inputs n failure other read of_net inputs_read of_inputs h same =
+    subst (HasCause o e) (sym same) (too_long net_bytes bytes net inputs n read of_net inputs_read of_inputs h)
 
 pub if_err : {T E : Type 0} (P Q : E → Type 0) (result : Result T E) → ((x : E) → P x → Q x) → IfErr result P → IfErr result Q
 if_err P Q (Ok x) more h = tt
@@ -208,3 +212,15 @@ failed_by options o a b old failure same later cause (inr is) = told NoMemory (s
 pub failed_at_least : (options : Options) (old new : List Request) → (new ≡ old) ⊎ IsToldOf NoMemory new → HasFailed options old new
 failed_at_least options old new (inl same) = nothing same
 failed_at_least options old new (inr is) = told NoMemory (stopped tt) is
+
+-- a line that couldn't be written
+pub told_in_vain : (failure : Failure) (bytes : List ℕ) (fault : HostFault) (e : List Request) → bytes ≡ failure_line failure
+    → Has (Told bytes (Err fault)) e → IsToldOf failure e
+told_in_vain failure bytes fault e line has =
+    (Err fault, subst (λ (b : List ℕ). Has (Told b (Err fault)) e) line has, inr (fault, refl))
+
+-- the line of want of memory, written or not
+pub told_none : (result : Answer) (bytes : List ℕ) (e : List Request) → bytes ≡ failure_line NoMemory
+    → OnOk result (Has (Told bytes (Ok tt)) e) → IfErr result (λ fault. Has (Told bytes (Err fault)) e) → IsToldOf NoMemory e
+told_none (Ok done) bytes e line has other = (Ok tt, subst (λ (b : List ℕ). Has (Told b (Ok tt)) e) line has, inl refl)
+told_none (Err fault) bytes e line other has = told_in_vain NoMemory bytes fault e line has

@@ -1,5 +1,5 @@
 -- What failed of the outlets of a run, in the host's log.
-use Rattle.std.proofs.Common.{◌≡◌, inl, inr, sym, subst, ℕ, zero, suc, Bool, List, [], ◌∷◌, Some, Ok, slice_get, string_bytes}
+use Rattle.std.proofs.Common.{◌≡◌, inl, inr, sym, subst, ℕ, zero, suc, List, [], ◌∷◌, Some, slice_get, string_bytes}
 use Rattle.host.specs.Requests.{Request, Has, Used}
 use Rattle.host.specs.declared.line_file.LineFile.{Ghosts as FileWords}
 use Rattle.output_file.specs.Output.{asked_of}
@@ -8,7 +8,7 @@ use Rattle.run_files.specs.Opening.{AreOpened, AreUsed}
 use Rattle.run_files.specs.Wanted.{Wanted}
 use Rattle.run_files.specs.declared.held_file.OpenedName.{OpenedName}
 use Rattle.kahn_program.specs.Causes.{HasFileFault}
-use Rattle.kahn_program.specs.KeptFiles.{HasFailedBy, IsAtFault, SomeAtFault}
+use Rattle.kahn_program.specs.KeptFiles.{HasFailedBy, IsAtFault}
 use Rattle.kahn_program.specs.declared.kept_files.FileKeeper.{FileKeeper}
 
 some_is : {A : Type 0} (x y : A) → Some x ≡ Some y → x ≡ y
@@ -18,8 +18,8 @@ module _ {F : Type 0} {file : FileWords F} (o : Wanted) (folder : List ℕ) (num
   of_one : (one : OpenedName) (outlet : ResumedOutlet F file) → AreOpened o.sync folder (one ∷ []) e
       → Has (Used (string_bytes one.name) (asked_of outlet)) e → IsAtFault number outlet → HasFileFault o e number
   of_one one outlet opened used (inl differs) =
-      inl (differs.0, folder, string_bytes one.name, one.bytes.value.items, opened.0)
-  of_one one outlet opened used (inr failed) = inr (inl (failed.0, string_bytes one.name, asked_of outlet, used, failed.1))
+      inl (differs.0, (folder, string_bytes one.name, one.bytes.value.items, opened.0))
+  of_one one outlet opened used (inr failed) = inr (inl (failed.0, (string_bytes one.name, asked_of outlet, used, failed.1)))
 
   of_place : (k : ℕ) (opened : List OpenedName) (outlets : List (ResumedOutlet F file)) (outlet : ResumedOutlet F file)
       → AreOpened o.sync folder opened e → AreUsed opened outlets e → slice_get outlets k ≡ Some outlet → IsAtFault number outlet

@@ -1,5 +1,5 @@
 -- Streams in the files of outlets, one after another.
-use Rattle.std.proofs.Common.{◌≡◌, ◌++◌, [], ◌∷◌, inr, ℕ, ℤ, List, Some, length, refl, slice_get, sym, subst}
+use Rattle.std.proofs.Common.{◌≡◌, ◌++◌, [], ◌∷◌, ℕ, ℤ, List, Some, length, refl, slice_get, sym, subst}
 use Rattle.output_file.specs.InFile.{IsInFile}
 use Rattle.host.specs.declared.line_file.LineFile.{Ghosts as FileWords}
 use Rattle.output_file.specs.declared.resumed.ResumedOutlet.{ResumedOutlet}

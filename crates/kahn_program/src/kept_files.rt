@@ -1,6 +1,6 @@
 //! Outlets over files, which outlast a run.
 
-ghost use Rattle.std.specs.Prelude.{◌≡◌, ◌⊎◌, [], ℕ, true, IfErr, OnOk};
+ghost use Rattle.std.specs.Prelude.{◌≡◌, [], true, IfErr, OnOk};
 ghost use Rattle.output_file.specs.Output.{taken_of};
 ghost use Rattle.kahn_program.specs.Keeping.{IsKeeperFailure, IsKeptFailure, taken_streams};
 ghost use Rattle.kahn_program.specs.KeptFiles.{AreInFiles, HasFailedBy, IsFaultOf, SomeAtFault, closed_of};

@@ -41,10 +41,6 @@ module _ (o : Wanted) (a b : List Request) (later : Later a b) where
   caused_later Unwritten is = (is.0, is.1, unwritable_later is.0 is.2)
   caused_later Astray is = tt
 
-  -- the same of a refusal that is another in other words
-  pub caused_then : (fault other : FilesFault) → other ≡ fault → IsCaused o a fault → IsCaused o b other
-  caused_then fault other same is = subst (IsCaused o b) (sym same) (caused_later fault is)
-
 module _ (o : Wanted) (e : List Request) where
   -- a refusal since the host didn't do something, unless memory is missing
   by_undone : (fault : HostFault) (r : Request) → Has r e → (fault ≢ host.NoMemory → IsUndone o r) → IsCaused o e (or_memory Failed fault)
@@ -73,19 +69,6 @@ module _ (o : Wanted) (e : List Request) where
   pub unwritten_by : (name : List ℕ) (told : FilesFault) (fault : HostFault) (r : Request) → told ≡ or_memory Unwritten fault
       → o.history ≡ Some name → Has r e → IsUnwritten name r → IsCaused o e told
   unwritten_by name told fault r is wanted has of_it = subst (IsCaused o e) (sym is) (by_unwritten name fault r wanted has of_it)
-
-  by_other : (folder : List ℕ) (fault : HostFault) → o.state ≡ Some folder → IsOther o folder e → IsCaused o e (or_memory OtherState fault)
-  by_other folder host.NoMemory wanted is = tt
-  by_other folder host.NotThere wanted is = (folder, wanted, is)
-  by_other folder host.IsThere wanted is = (folder, wanted, is)
-  by_other folder host.InUse wanted is = (folder, wanted, is)
-  by_other folder host.NotEmpty wanted is = (folder, wanted, is)
-  by_other folder host.NoFolder wanted is = (folder, wanted, is)
-  by_other folder host.Other wanted is = (folder, wanted, is)
-
-  pub other_by : (folder : List ℕ) (told : FilesFault) (fault : HostFault) → told ≡ or_memory OtherState fault → o.state ≡ Some folder
-      → IsOther o folder e → IsCaused o e told
-  other_by folder told fault is wanted of_it = subst (IsCaused o e) (sym is) (by_other folder fault wanted of_it)
 
   -- a refusal of this kind
   pub caused_as : (told fault : FilesFault) → told ≡ fault → IsCaused o e fault → IsCaused o e told

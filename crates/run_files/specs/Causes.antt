@@ -1,5 +1,5 @@
 -- Why the files of a run are refused, by what stands in the host's log.
-use Rattle.std.specs.Prelude.{◌≡◌, ◌≢◌, ◌⊎◌, ◌<◌, ℕ, Bool, true, List, ◌++◌, Option, Some, Ok, Err, codes}
+use Rattle.std.specs.Prelude.{◌≡◌, ◌≢◌, ◌⊎◌, ℕ, Bool, true, List, ◌++◌, Some, Ok, Err, codes}
 use Rattle.host.specs.Requests.{Request, Read, Looked, Placed, MadeFile, MadeFolder, OpenedDevice, Wrote, Synced, Renamed, RemovedFile, RemovedFolder}
 use Rattle.host.specs.Requests.{Locked, Unlocked, Opened, Cut, Used, Said, Told, Has}
 use Rattle.host.specs.declared.fault.HostFault.{HostFault}
@@ -7,7 +7,6 @@ use Rattle.host.specs.declared.fault.HostFault.TheVariants as host
 use Rattle.host.specs.declared.host.Standing.TheVariants.{Folder}
 use Rattle.output_file.specs.Lines.{HasBadLine}
 use Rattle.run_files.specs.Places.{is_within}
-use Rattle.run_files.specs.Rules.{IfAsked}
 use Rattle.run_files.specs.Wanted.{Wanted}
 use Rattle.run_files.specs.declared.fault.FilesFault.{FilesFault}
 use Rattle.run_files.specs.declared.fault.FilesFault.TheVariants.{NoMemory, InUse, OtherState, Failed, Unwritten, Astray}

@@ -1,11 +1,11 @@
 // The folder in which what left outlasts the run: the texts of the network and of the inputs, a file of lines for each output, and a file
 // whose lock says that a run is at work.
-ghost use Rattle.std.specs.Prelude.{◌≡◌, ◌≢◌, ◌<◌, ◌≤◌, ◌++◌, ◌⊎◌, [], ◌∷◌, ℕ, List, IfOk, IfErr, IfSome, IfNone, OnOk, OnErr, IsTrue, Ok, Err, Some, false, drop, length, map, slice_get, string_bytes};
-ghost use Rattle.host.specs.Requests.{Each, Has, HasUnder, IsFree, IsHeld, Later, MadeFile, MadeFolder, Opened, Read, Renamed, Used};
+ghost use Rattle.std.specs.Prelude.{◌≡◌, ◌≢◌, ◌<◌, ◌≤◌, ◌++◌, [], ◌∷◌, ℕ, List, IfOk, IfErr, IfSome, IfNone, OnOk, OnErr, IsTrue, Ok, Err, Some, false, drop, length, map, slice_get, string_bytes};
+ghost use Rattle.host.specs.Requests.{Each, Has, HasUnder, IsFree, IsHeld, Later, MadeFolder, Opened, Read, Renamed, Used};
 ghost use Rattle.output_file.specs.Lines.{HoldsLines};
 ghost use Rattle.output_file.specs.Output.{asked_of};
-ghost use Rattle.run_files.specs.Opening.{AreMade, AreHeldAs, AreOpened, AreUsed, IsCutTo, IsHeldAs, IsNewFolder, opened_names, path_in, paths_in};
-ghost use Rattle.run_files.specs.Removing.{AreRemoved, IsCleared, IsFileRemoved, IsFolderRemoved};
+ghost use Rattle.run_files.specs.Opening.{AreMade, AreHeldAs, AreOpened, AreUsed, IsCutTo, IsNewFolder, opened_names, path_in, paths_in};
+ghost use Rattle.run_files.specs.Removing.{AreRemoved, IsCleared, IsFolderRemoved};
 ghost use Rattle.run_files.specs.Rules.{GoesOn, HasSameTexts, IsReady, rule};
 ghost use Rattle.run_files.specs.Causes.{HasSuch, IsCaused, IsTaken, IsTextOf, IsTakenBy, IsUndone, IsUnreadable};
 ghost use Rattle.run_files.specs.Faults.{or_memory};

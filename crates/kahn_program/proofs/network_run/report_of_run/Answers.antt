@@ -14,7 +14,7 @@ use Rattle.kahn_program.specs.Asked.{settings_of}
 use Rattle.kahn_program.specs.Runs.{IsToldOf, IsWrittenIf}
 use Rattle.kahn_program.proofs.Faults.{fault_is}
 use Rattle.kahn_program.proofs.Released.{report_is}
-use Rattle.kahn_program.proofs.Causes.{run_keeps, unwritten_keeps}
+use Rattle.kahn_program.proofs.Causes.{run_keeps}
 use Rattle.kahn_program.proofs.network_run.report_of_run.Goals as goal
 
 pub returns-in-Err-clause-err : goal.returns-in-Err-clause-err

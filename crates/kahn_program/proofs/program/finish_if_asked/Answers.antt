@@ -2,7 +2,7 @@ use Rattle.std.proofs.lemmas.Result.{err_from_is_err_and}
 use Rattle.kahn_program.proofs.Causes.{stopped_by_files}
 use Rattle.kahn_program.proofs.program.finish_if_asked.Goals as goal
 
-pub returns-in_err-finish_history-clause-cause : goal.returns-in_err-finish_history-clause-cause
-returns-in_err-finish_history-clause-cause g c =
-    let p = err_from_is_err_and c.from_residual-in_err-finish_history.result c.from_residual-in_err-finish_history.ensures.1 in
-    rw p.1 (stopped_by_files _ _ _ _ _ p.2 c.in_err-finish_history.ensures.cause)
+pub returns-in_err-finish_history-in-Some-history-clause-cause : goal.returns-in_err-finish_history-in-Some-history-clause-cause
+returns-in_err-finish_history-in-Some-history-clause-cause g c =
+    let p = err_from_is_err_and c.from_residual.result c.from_residual.ensures.1 in
+    rw p.1 (stopped_by_files _ _ _ _ _ p.2 c.in_err-finish_history-in-Some-history.ensures.cause)

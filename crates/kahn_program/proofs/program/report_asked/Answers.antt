@@ -1,6 +1,5 @@
-use Rattle.std.proofs.Common.{refl, subst, sym}
+use Rattle.std.proofs.Common.{refl}
 use Rattle.std.proofs.lemmas.Result.{err_from_is_err_and}
-use Rattle.kahn_program.specs.Runnable.{IsApproximationFailure}
 use Rattle.kahn_program.proofs.Causes.{by_approximation, by_stop, if_err}
 use Rattle.kahn_program.specs.Program.{given_of}
 use Rattle.kahn_program.proofs.Said.{approximation_report, if_ok, run_report}
@@ -36,6 +35,5 @@ returns-in_default-clause-cause g c = if_err _ _ _ (λ stop h. by_stop _ _ _ h) 
 pub returns-in_err-bytes-clause-cause : goal.returns-in_err-bytes-clause-cause
 returns-in_err-bytes-clause-cause g c =
     let p = err_from_is_err_and c.from_residual-in_err-bytes.result c.from_residual-in_err-bytes.ensures.1 in
-    rw p.1 (by_approximation _ _ _ _ c.in_ok-all.all.net _ _ _ c.in_ok-all.ensures.read.net c.in_ok-all.ensures.net
-    c.in_ok-all.ensures.read.inputs c.in_ok-all.ensures.inputs
-    (subst (λ failure. IsApproximationFailure _ _ _ failure) (sym p.2) c.in_err-bytes.ensures.err))
+    rw p.1 (by_approximation _ _ _ _ c.in_ok-all.all.net _ _ _ _ c.in_ok-all.ensures.read.net c.in_ok-all.ensures.net
+    c.in_ok-all.ensures.read.inputs c.in_ok-all.ensures.inputs c.in_err-bytes.ensures.err p.2)

@@ -6,7 +6,9 @@ use Rattle.host.specs.Requests.{Request}
 use Rattle.replay.specs.declared.kept.ScriptedEvent.{ScriptedEvent}
 use Rattle.kahn_program.specs.Program.{AreKept, IsAccepted, IsWrittenIfAsked, file_names, given_of}
 use Rattle.kahn_program.specs.Runs.{IsReport}
+use Rattle.kahn_program.specs.Causes.{HasFileFault, IsStopped}
 use Rattle.kahn_program.specs.declared.program.Report.{Report}
+use Rattle.kahn_program.specs.declared.program.Stop.{Stop}
 use Rattle.kahn_program.proofs.Logs.{keeps_goes, keeps_then}
 use Rattle.kahn_program.proofs.Said.{if_ok, kept_asked, none_asked, report_maps}
 use Rattle.std.proofs.lemmas.Result.{err_from_is_err_and}
@@ -78,9 +80,14 @@ returns-clause-report g c =
 
 pub returns-in_err-tell_apart-clause-cause : goal.returns-in_err-tell_apart-clause-cause
 returns-in_err-tell_apart-clause-cause g c =
-    let p = err_from_is_err_and c.from_residual-in_err-tell_apart.result c.from_residual-in_err-tell_apart.ensures.1 in
+    let p = err_from_is_err_and c.from_residual.result c.from_residual.ensures.1 in
     rw p.1 (stopped_by_files _ _ _ _ _ p.2 c.in_err-tell_apart.ensures.cause)
 
 pub returns-clause-cause : goal.returns-clause-cause
 returns-clause-cause g c =
-    if_err _ _ _ (λ stop h. stopped_later _ _ _ _ _ _ (λ r is. is) (λ number none. absurd none) h) c.run_over.ensures.cause
+    let o = wanted_of c.args.names.now in
+    let now : List Request = g.H.Host.asked c.run_over.new.host in
+    let none : ℕ → Type 0 = λ number. ⊥ in
+    if_err (λ (stop : Stop). IsStopped none o now stop.failure) (λ (stop : Stop). IsStopped (HasFileFault o now) o now stop.failure)
+    c.run_over.result (λ stop h. stopped_later none (HasFileFault o now) o now now stop.failure (λ r is. is) (λ number is. absurd is) h)
+    c.run_over.ensures.cause

@@ -7,6 +7,8 @@ use Rattle.std.proofs.Common.{subst, ◌++◌, ◌∷◌, [], ℕ}
 use Rattle.std.proofs.lemmas.Result.{err_from_is_err_and}
 use Rattle.run_files.specs.Opening.{paths_in}
 use Rattle.run_files.specs.Syncing.{AreSyncedIf}
+use Rattle.run_files.specs.Wanted.{wanted_of}
+use Rattle.kahn_program.specs.Causes.{HasFileFault}
 use Rattle.run_files.proofs.Going.{synced_later}
 use Rattle.kahn_program.proofs.Causes.{file_fault_later, stopped_by_files, stopped_later, stopped_none}
 use Rattle.kahn_program.proofs.program.run_kept.Goals as goal
@@ -49,7 +51,7 @@ returns-clause-keeps g c = record {
 
 pub returns-in_err-outputs-clause-cause : goal.returns-in_err-outputs-clause-cause
 returns-in_err-outputs-clause-cause g c =
-    let p = err_from_is_err_and c.from_residual-in_err-outputs.result c.from_residual-in_err-outputs.ensures.1 in
+    let p = err_from_is_err_and c.from_residual.result c.from_residual.ensures.1 in
     rw p.1 (stopped_none _ _ _ _ p.2)
 
 pub returns-in_err-open-clause-cause : goal.returns-in_err-open-clause-cause
@@ -59,4 +61,8 @@ returns-in_err-open-clause-cause g c =
 
 pub returns-clause-cause : goal.returns-clause-cause
 returns-clause-cause g c =
-    stopped_later _ _ _ _ _ _ c.let_go-in-Err.ensures.later (file_fault_later _ _ _ c.let_go-in-Err.ensures.later) c.in-Err.ensures.cause
+    let o = wanted_of c.args.names.now in
+    let before = g.H.Host.asked c.run_locked.new.host in
+    let now = g.H.Host.asked c.let_go-in-Err.new.host in
+    stopped_later (HasFileFault o before) (HasFileFault o now) o before now _ c.let_go-in-Err.ensures.later
+    (file_fault_later o before now c.let_go-in-Err.ensures.later) c.in-Err.ensures.cause

@@ -7,10 +7,12 @@ use Rattle.run_files.specs.Wanted.{wanted_of}
 use Rattle.run_files.specs.declared.fault.FilesFault.TheVariants.{Astray}
 use Rattle.run_files.proofs.Caused.{caused_as}
 use Rattle.run_files.proofs.Going.{goes_then, opened_goes}
-use Rattle.kahn_program.specs.KeptFiles.{AreInFiles}
+use Rattle.kahn_program.specs.Causes.{HasFileFault, IsStopped}
+use Rattle.kahn_program.specs.KeptFiles.{AreInFiles, HasFailedBy}
 use Rattle.kahn_program.specs.Program.{AreKeptIn, IsWrittenIfAsked}
 use Rattle.kahn_program.specs.Runs.{IsReport}
 use Rattle.kahn_program.specs.declared.program.Report.{Report}
+use Rattle.kahn_program.specs.declared.program.Stop.{Stop}
 use Rattle.kahn_program.proofs.Causes.{if_err, stopped_by_files, stopped_later}
 use Rattle.kahn_program.proofs.FileFaults.{fault_in_log}
 use Rattle.kahn_program.proofs.Said.{if_ok, kept_in, report_maps, written_later}
@@ -52,15 +54,20 @@ returns-clause-report g c =
 
 pub returns-in_err-give_back-clause-cause : goal.returns-in_err-give_back-clause-cause
 returns-in_err-give_back-clause-cause g c =
-    let p = err_from_is_err_and c.from_residual-in_err-give_back.result c.from_residual-in_err-give_back.ensures.1 in
+    let p = err_from_is_err_and c.from_residual.result c.from_residual.ensures.1 in
     rw p.1 (stopped_by_files _ _ _ _ _ p.2 (caused_as _ _ _ Astray c.in_err-give_back.ensures.cause tt))
 
 pub returns-clause-cause : goal.returns-clause-cause
 returns-clause-cause g c =
+    let o = wanted_of c.args.names.now in
+    let before = g.H.Host.asked c.run_over-report.new.host in
     let now = g.H.Host.asked c.give_back.new.host in
-    if_err _ _ _ (λ stop h. stopped_later _ _ _ _ _ _ c.give_back.ensures.goes.later
-    (λ number fault. fault_in_log (wanted_of c.args.names.now) (string_bytes c.args.folder.now) number now c.args.opened.now
-    c.run_over-report.new.keeper
+    let keeper = c.run_over-report.new.keeper in
+    let failed : ℕ → Type 0 = λ number. HasFailedBy keeper number in
+    if_err (λ (stop : Stop). IsStopped failed o before stop.failure) (λ (stop : Stop). IsStopped (HasFileFault o now) o now stop.failure)
+    c.run_over-report.result
+    (λ stop h. stopped_later failed (HasFileFault o now) o before now stop.failure c.give_back.ensures.goes.later
+    (λ number fault. fault_in_log o (string_bytes c.args.folder.now) number now c.args.opened.now keeper
     (opened_goes _ _ _ _ _ _ _ (goes_then _ _ _ _ _ c.run_over-report.ensures.goes c.give_back.ensures.goes) c.requires.opened)
     (subst (λ outlets. AreUsed c.args.opened.now outlets now) c.into_closed.ensures c.in_ok-give_back.ensures.used) fault) h)
     c.run_over-report.ensures.cause

@@ -33,7 +33,7 @@ returns-clause-goes g c = search (rules, goes_then)
 
 pub returns-in_err-events-clause-cause : goal.returns-in_err-events-clause-cause
 returns-in_err-events-clause-cause g c =
-    let p = err_from_is_err_and c.from_residual-in_err-events.result c.from_residual-in_err-events.ensures.1 in
+    let p = err_from_is_err_and c.from_residual.result c.from_residual.ensures.1 in
     rw p.1 (stopped_none _ _ _ _ p.2)
 
 pub returns-in_err-history-clause-cause : goal.returns-in_err-history-clause-cause
@@ -50,4 +50,4 @@ returns-in_err-finish_if_asked-in-Ok-clause-cause g c =
 pub returns-clause-cause : goal.returns-clause-cause
 returns-clause-cause g c =
     stopped_by_run c.args.options.now g.K.Keeper.keeps _ _ _ _ _ c.in_memory-failure.ensures c.in-Err.ensures.err
-    (kept_maps _ _ _ c.take_words-words.ensures c.in-Err.ensures.cause)
+    (kept_maps _ _ _ c.take_words-words.ensures.same c.in-Err.ensures.cause)

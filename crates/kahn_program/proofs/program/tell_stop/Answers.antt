@@ -1,6 +1,7 @@
-use Rattle.std.proofs.Common.{rules, ◌≡◌, ◌∙◌, inl, inr, refl, sym, subst, Ok, Err}
+use Rattle.std.proofs.Common.{rules, ◌≡◌, ◌∙◌, inl, sym, subst, Ok}
 use Rattle.host.specs.Requests.{Has, Told}
 use Rattle.kahn_program.specs.Failures.{failure_line}
+use Rattle.kahn_program.proofs.Causes.{told_in_vain}
 use Rattle.run_files.proofs.Going.{goes_then}
 use Rattle.kahn_program.proofs.program.tell_stop.Goals as goal
 
@@ -16,9 +17,9 @@ returns-clause-told g c is =
     )
 
 pub returns-in-Err-clause-failed : goal.returns-in-Err-clause-failed
-returns-in-Err-clause-failed g c = λ is.
+returns-in-Err-clause-failed g c is =
     let line : c.into_bytes.result.items ≡ failure_line c.args.stop.failure = search rules in
-    inl (_, subst (λ bytes. Has (Told bytes _) (g.H.Host.asked c.tell.new.host)) line c.in-Err.ensures.fault, inr (_, refl))
+    inl (told_in_vain _ _ _ _ line c.in-Err.ensures.fault)
 
 pub returns-clause-failed : goal.returns-clause-failed
 returns-clause-failed g c = λ is.

@@ -1,4 +1,4 @@
-use Rattle.std.proofs.Common.{rules, refl, false, ◌≡◌, ap, ◌∙◌, ◌≤◌, List, Ok, length, map, string_bytes}
+use Rattle.std.proofs.Common.{rules, false, ◌≡◌, ap, ◌∙◌, ◌≤◌, List, Ok, length, map, string_bytes}
 use Rattle.std.specs.Prelude.{IsTrue}
 use Rattle.std.specs.declared.alloc.Global.{Global}
 use Rattle.std.specs.declared.string.String.{String}

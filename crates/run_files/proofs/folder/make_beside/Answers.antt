@@ -1,6 +1,4 @@
-use Rattle.run_files.proofs.Caused.{caused_as, caused_then}
 use Rattle.run_files.proofs.Going.{goes_then, ready_goes}
-use Rattle.run_files.specs.declared.fault.FilesFault.TheVariants.{Failed}
 use Rattle.run_files.proofs.folder.make_beside.Goals as goal
 
 pub make_nth-requires-after_bounds : goal.make_nth-requires-after_bounds

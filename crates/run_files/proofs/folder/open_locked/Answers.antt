@@ -5,7 +5,7 @@ use Rattle.run_files.specs.Opening.{paths_in}
 use Rattle.run_files.specs.Syncing.{AreSyncedIf}
 use Rattle.run_files.specs.Wanted.{wanted_of}
 use Rattle.run_files.proofs.Going.{goes_then, in_any, ready_goes, synced_both, synced_later}
-use Rattle.run_files.specs.Causes.{IsTextOf, inputs, net}
+use Rattle.run_files.specs.Causes.{inputs, net}
 use Rattle.run_files.proofs.folder.open_locked.Goals as goal
 
 pub compare-requires-2-clause-held : goal.compare-requires-2-clause-held
