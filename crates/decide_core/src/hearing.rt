@@ -11,7 +11,6 @@ ghost use Rattle.decide_core.specs.InitiatorView.{took_view};
 ghost use Rattle.kahn_net.specs.declared.limits.TheConstants.{MAX_CHANNELS};
 
 use crate::initiator::{Initiator, commit_to};
-use ckpt_core::holds;
 use datagram::{Body, Need, Packet};
 use layout::producer_node;
 use net_check::Net;
@@ -57,6 +56,16 @@ fn are_met_by(net: &Net, home: u8, needs: &[Need], held: &Option<Tentative>) -> 
 {
     match held {
         Some(held) => are_met(net, home, needs, held),
+        None => false,
+    }
+}
+
+// Whether exactly the image of this initiator's checkpoint of this number is held. (As `ckpt_core::holds`, which stands beside this crate.)
+fn holds(tentative: &Option<Tentative>, initiator: u8, number: u64) -> bool
+    ensures { result ≡ holds initiator number tentative.now }
+{
+    match tentative {
+        Some(held) => held.initiator == initiator && held.number == number,
         None => false,
     }
 }
