@@ -209,9 +209,11 @@ fn twice_told<'a>(text: &'a str, this: &Declared, other: &Declared) -> Told<'a> 
         Kind::Variable(_) => "the variable % is declared twice: it is declared %",
         _ => "% is declared twice: it is declared %",
     };
-    Told::by(form)
-        .with(Say::Quoted(name_at(text, this.name)))
-        .with(where_is(text, other.name, this.name))
+    Told::two(
+        form,
+        Say::Quoted(name_at(text, this.name)),
+        where_is(text, other.name, this.name),
+    )
 }
 
 // The first declaration of a name that its space has already.
@@ -271,7 +273,9 @@ fn kind_words<'a>(text: &'a str, declared: &[Declared], kind: Kind) -> Say<'a> {
 fn first_unknown(text: &str, declared: &[Declared]) -> Option<Seen> {
     let mut reader = Reader::new(text);
     for _ in 0..text.len() {
-        let seen = reader.next_seen()?;
+        let Some(seen) = reader.next_seen() else {
+            return None;
+        };
         let kind = match seen.part {
             Part::Get | Part::Put => Kind::Inner,
             Part::Variable => Kind::Variable(seen.process()),
@@ -294,32 +298,47 @@ fn find_any<'d>(text: &str, declared: &'d [Declared], name: &str) -> Option<&'d 
     None
 }
 
-// What is said of a name that isn't declared as what it is used as, and what else of this name is declared, if anything is.
-fn unknown_told<'a>(text: &'a str, declared: &[Declared], seen: &Seen) -> Told<'a> {
+// What is said of the name of a variable that its process doesn't declare, and what else of this name is declared, if anything is.
+fn unknown_variable<'a>(text: &'a str, declared: &[Declared], seen: &Seen) -> Told<'a> {
     let word = name_at(text, seen.at);
     let name = Say::Quoted(word);
-    let other = find_any(text, declared, word);
-    let told = match (seen.part, other) {
-        (Part::Variable, Some(_)) => {
-            Told::by("no variable % is declared in the process %; % is %, declared %")
-        }
-        (Part::Variable, None) => Told::by("no variable % is declared in the process %"),
-        (_, Some(_)) => Told::by("no channel % is declared; % is %, declared %"),
-        (_, None) => Told::by("no channel % is declared"),
-    };
-    let told = match seen.part {
-        Part::Variable => {
-            let process = process_name(text, declared, seen.process());
-            told.with(name).with(Say::Quoted(process))
-        }
-        _ => told.with(name),
-    };
-    match other {
-        Some(other) => told
-            .with(name)
-            .with(kind_words(text, declared, other.kind))
-            .with(where_is(text, other.name, seen.at)),
-        None => told,
+    let process = Say::Quoted(process_name(text, declared, seen.process()));
+    match find_any(text, declared, word) {
+        Some(other) => Told::five(
+            "no variable % is declared in the process %; % is %, declared %",
+            [
+                name,
+                process,
+                name,
+                kind_words(text, declared, other.kind),
+                where_is(text, other.name, seen.at),
+            ],
+        ),
+        None => Told::two("no variable % is declared in the process %", name, process),
+    }
+}
+
+// The same of the name of a channel.
+fn unknown_channel<'a>(text: &'a str, declared: &[Declared], seen: &Seen) -> Told<'a> {
+    let word = name_at(text, seen.at);
+    let name = Say::Quoted(word);
+    match find_any(text, declared, word) {
+        Some(other) => Told::four(
+            "no channel % is declared; % is %, declared %",
+            name,
+            name,
+            kind_words(text, declared, other.kind),
+            where_is(text, other.name, seen.at),
+        ),
+        None => Told::one("no channel % is declared", name),
+    }
+}
+
+// What is said of a name that isn't declared as what it is used as.
+fn unknown_told<'a>(text: &'a str, declared: &[Declared], seen: &Seen) -> Told<'a> {
+    match seen.part {
+        Part::Variable => unknown_variable(text, declared, seen),
+        _ => unknown_channel(text, declared, seen),
     }
 }
 

@@ -94,9 +94,11 @@ pub fn explain_bytes(alloc: Global, bytes: &[u8]) -> Result<Option<Explanation>,
     let offset = error.valid_up_to();
     let line = line_at(bytes, offset);
     let told = match bytes.get(offset) {
-        Some(byte) => Told::by("not UTF-8: the byte % at offset %")
-            .with(Say::Byte(*byte))
-            .with(counted(offset)),
+        Some(byte) => Told::two(
+            "not UTF-8: the byte % at offset %",
+            Say::Byte(*byte),
+            counted(offset),
+        ),
         None => Told::by("not UTF-8: the text ends within a character"),
     };
     let found = Some(Found { offset, told });

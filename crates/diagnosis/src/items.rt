@@ -14,14 +14,12 @@ use std::fmt;
 
 // What stands at an offset of a line, and what was expected there.
 fn found_at<'a>(line: &'a str, offset: usize, expected: &'static str) -> Found<'a> {
+    let expected = Say::Text(expected);
     let told = match word(line, offset, line.len()).chars().next() {
-        Some(character) => Told::by("found %, expected %").with(Say::Character(character)),
-        None => Told::by("the line ends here, expected %"),
+        Some(character) => Told::two("found %, expected %", Say::Character(character), expected),
+        None => Told::one("the line ends here, expected %", expected),
     };
-    Found {
-        offset,
-        told: told.with(Say::Text(expected)),
-    }
+    Found { offset, told }
 }
 
 // How many spaces stand at the front.
@@ -67,16 +65,20 @@ fn behind_item(line: &str, start: usize) -> Result<usize, Found<'_>> {
     if within == len {
         return Ok(after(first, len));
     }
-    let (form, most) = if is_negative {
-        ("% is below -%, the least item", 1 << 63)
+    let number = Say::Quoted(word(line, start, after(first, len)));
+    let told = if is_negative {
+        Told::two(
+            "% is below -%, the least item",
+            number,
+            Say::Number(1 << 63),
+        )
     } else {
-        ("% is past %, the greatest item", i64::MAX as u64)
+        let most = Say::Number(i64::MAX as u64);
+        Told::two("% is past %, the greatest item", number, most)
     };
     Err(Found {
         offset: after(first, within),
-        told: Told::by(form)
-            .with(Say::Quoted(word(line, start, after(first, len))))
-            .with(Say::Number(most)),
+        told,
     })
 }
 
@@ -154,11 +156,13 @@ fn text_fault(text: &str, line: usize) -> Option<Found<'_>> {
     }
     let start = line_start(bytes, line);
     let len = line_from(bytes, start).len();
-    let found = line_fault(word(text, start, after(start, len)))?;
-    Some(Found {
-        offset: after(start, found.offset),
-        told: found.told,
-    })
+    match line_fault(word(text, start, after(start, len))) {
+        Some(found) => Some(Found {
+            offset: after(start, found.offset),
+            told: found.told,
+        }),
+        None => None,
+    }
 }
 
 /// Why a text is none of inputs: `fault` is what `net_text::parse_inputs` refused it by. Refuses for want of memory alone.
@@ -207,10 +211,10 @@ fn line_of_name(text: &[u8], name: &[u8]) -> Option<usize> {
 fn other_channel(net: &Net, name: &str) -> Option<(Say<'static>, usize)> {
     for (place, known) in net.channel_names.iter().enumerate() {
         if known.as_str() == name {
-            let channel = net.program.channels.get(place)?;
-            let what = match channel.consumer {
-                Port::Outside => "an output",
-                Port::Process(_) => "a channel between processes",
+            let what = match net.program.channels.get(place) {
+                Some(channel) if channel.consumer == Port::Outside => "an output",
+                Some(_) => "a channel between processes",
+                None => return None,
             };
             return Some((Say::Text(what), known.line()));
         }
@@ -228,11 +232,16 @@ struct InputNames<'a> {
 impl<'a> InputNames<'a> {
     // The name at this place, if it is one of them.
     fn name(&self, place: usize) -> Option<&'a str> {
-        let channel = self.net.program.channels.get(place)?;
+        let Some(channel) = self.net.program.channels.get(place) else {
+            return None;
+        };
         if channel.producer != Port::Outside {
             return None;
         }
-        let name = self.net.channel_names.get(place)?.as_str();
+        let Some(name) = self.net.channel_names.get(place) else {
+            return None;
+        };
+        let name = name.as_str();
         match self.missing_in {
             Some(text) if line_of_name(text, name.as_bytes()).is_some() => None,
             _ => Some(name),
@@ -258,18 +267,19 @@ impl<'a> fmt::Display for InputNames<'a> {
 fn unknown_told<'a>(net: &Net, name: &'a str, inputs: &'a str) -> Told<'a> {
     let shown = Say::Quoted(name);
     if let Some((what, line)) = other_channel(net, name) {
-        return Told::by("the network has no input %; % is %, declared in line % of the network")
-            .with(shown)
-            .with(shown)
-            .with(what)
-            .with(numbered(line));
+        return Told::four(
+            "the network has no input %; % is %, declared in line % of the network",
+            shown,
+            shown,
+            what,
+            numbered(line),
+        );
     }
     if inputs.is_empty() {
-        return Told::by("the network has no input %, nor any other").with(shown);
+        return Told::one("the network has no input %, nor any other", shown);
     }
-    Told::by("the network has no input %; its inputs: %")
-        .with(shown)
-        .with(Say::Text(inputs))
+    let form = "the network has no input %; its inputs: %";
+    Told::two(form, shown, Say::Text(inputs))
 }
 
 // How many items stand on a line behind its colon.
@@ -300,16 +310,16 @@ fn meaning_told<'a>(
     let shown = Say::Quoted(name);
     match fault {
         NetFault::TwiceNamed { .. } => match line_of_name(text.as_bytes(), name.as_bytes()) {
-            Some(other) => Told::by("% has its items already, in line %")
-                .with(shown)
-                .with(numbered(other)),
+            Some(other) => Told::two("% has its items already, in line %", shown, numbered(other)),
             None => Told::by(NO_MORE),
         },
         NetFault::UnknownName { .. } => unknown_told(net, name, inputs),
-        NetFault::Limit { .. } => Told::by("% has % items; at most %")
-            .with(shown)
-            .with(counted(count_items(rest(line, after(len, 1)))))
-            .with(counted(MAX_HISTORY_ITEMS)),
+        NetFault::Limit { .. } => Told::three(
+            "% has % items; at most %",
+            shown,
+            counted(count_items(rest(line, after(len, 1)))),
+            counted(MAX_HISTORY_ITEMS),
+        ),
         _ => Told::by(NO_MORE),
     }
 }
@@ -331,7 +341,7 @@ pub fn explain_inputs(
     let names = format!(in alloc; "{names}")?;
     let Some(line) = fault.line() else {
         let form = "no line for %; a line with the name and a colon alone gives no items";
-        return Explanation::whole(alloc, Told::by(form).with(Say::Text(names.as_str())));
+        return Explanation::whole(alloc, Told::one(form, Say::Text(names.as_str())));
     };
     let start = line_start(bytes, line);
     let told = meaning_told(text, start, net, names.as_str(), fault);

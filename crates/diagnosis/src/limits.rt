@@ -255,7 +255,9 @@ fn first_wanted(text: &str, wanted: Wanted) -> Option<Process> {
     let mut reader = Reader::new(text);
     let mut walk = Walk::new(0);
     for _ in 0..text.len() {
-        let seen = reader.next_seen()?;
+        let Some(seen) = reader.next_seen() else {
+            return None;
+        };
         if seen.at.piece == Piece::Word(Keyword::Process) {
             walk = Walk::new(seen.at.start);
         }
@@ -297,26 +299,31 @@ fn declared_past(counts: &mut Counts, kind: Kind) -> Option<Told<'static>> {
     if count <= most {
         return None;
     }
-    let told = Told::by("the % %; at most %");
-    Some(
-        told.with(Say::Nth(count))
-            .with(Say::Text(what))
-            .with(numbered(most)),
-    )
+    Some(Told::three(
+        "the % %; at most %",
+        Say::Nth(count),
+        Say::Text(what),
+        numbered(most),
+    ))
 }
 
 // What is past a limit by this piece, beside those before it.
 fn piece_past<'a>(text: &'a str, counts: &mut Counts, seen: &Seen) -> Option<Found<'a>> {
     match seen.part {
-        Part::Declares(kind) => Some(Found {
-            offset: seen.before.start,
-            told: declared_past(counts, kind)?,
-        }),
+        Part::Declares(kind) => match declared_past(counts, kind) {
+            Some(told) => Some(Found {
+                offset: seen.before.start,
+                told,
+            }),
+            None => None,
+        },
         Part::Node(number) if number >= u64::from(MAX_NODES) => Some(Found {
             offset: seen.at.start,
-            told: Told::by("node %; nodes are 0 to %")
-                .with(Say::Text(name_at(text, seen.at)))
-                .with(Say::Number(u64::from(MAX_NODES - 1))),
+            told: Told::two(
+                "node %; nodes are 0 to %",
+                Say::Text(name_at(text, seen.at)),
+                Say::Number(u64::from(MAX_NODES - 1)),
+            ),
         }),
         _ => None,
     }
@@ -331,7 +338,9 @@ fn first_past(text: &str) -> Option<Found<'_>> {
         variables: 0,
     };
     for _ in 0..text.len() {
-        let seen = reader.next_seen()?;
+        let Some(seen) = reader.next_seen() else {
+            return None;
+        };
         if let Some(past) = piece_past(text, &mut counts, &seen) {
             return Some(past);
         }
@@ -344,19 +353,25 @@ fn process_past<'a>(text: &'a str, process: Process) -> Option<Found<'a>> {
     if process.units > MAX_UNITS {
         return Some(Found {
             offset: process.start,
-            told: Told::by("the process % has % units; at most %")
-                .with(Say::Quoted(name_at(text, process.name)))
-                .with(counted(process.units))
-                .with(counted(MAX_UNITS)),
+            told: Told::three(
+                "the process % has % units; at most %",
+                Say::Quoted(name_at(text, process.name)),
+                counted(process.units),
+                counted(MAX_UNITS),
+            ),
         });
     }
-    let (offset, times) = process.past?;
-    Some(Found {
-        offset,
-        told: Told::by("repetitions within one another come to % passes; at most %")
-            .with(Say::Count(times))
-            .with(Say::Count(u64::from(MAX_NESTED_TIMES))),
-    })
+    match process.past {
+        Some((offset, times)) => Some(Found {
+            offset,
+            told: Told::two(
+                "repetitions within one another come to % passes; at most %",
+                Say::Count(times),
+                Say::Count(u64::from(MAX_NESTED_TIMES)),
+            ),
+        }),
+        None => None,
+    }
 }
 
 /// Where a text is past a limit.
@@ -371,14 +386,16 @@ pub(crate) fn past_limit(text: &str) -> Option<Found<'_>> {
 fn lazy_told<'a>(text: &'a str, process: Process) -> Told<'a> {
     let name = Say::Quoted(name_at(text, process.name));
     match process.passing {
-        Some(at) => Told::by(
+        Some(at) => Told::three(
             "the loop of the process % may go round without an item: the % in line % stands in an `if`, and may be passed by",
-        ).with(name)
-            .with(Say::Quoted(name_at(text, at)))
-            .with(numbered(at.line)),
-        None => Told::by(
+            name,
+            Say::Quoted(name_at(text, at)),
+            numbered(at.line),
+        ),
+        None => Told::one(
             "the loop of the process % may go round without an item: it has no `get` and no `stop`",
-        ).with(name),
+            name,
+        ),
     }
 }
 

@@ -154,20 +154,21 @@ fn is_late_variable(stuck: &Stuck) -> bool {
 fn unexpected<'a>(text: &'a str, stuck: &Stuck) -> Told<'a> {
     let found = what_stands(text, stuck);
     if is_of_second_edition(stuck) {
-        return Told::by("% needs `kahn 2;`: this text begins with `kahn 1;`").with(found);
+        return Told::one("% needs `kahn 2;`: this text begins with `kahn 1;`", found);
     }
     let is_operator = stuck.grammar.next == Next::Operator;
     if is_operator && is_comparison(stuck.at.piece) {
-        return Told::by("found % behind a comparison, which isn't compared again").with(found);
+        return Told::one(
+            "found % behind a comparison, which isn't compared again",
+            found,
+        );
     }
     let form = if is_late_variable(stuck) {
         "found %, expected %: variables are declared before the first statement"
     } else {
         "found %, expected %"
     };
-    Told::by(form)
-        .with(found)
-        .with(Say::Text(expected(&stuck.grammar)))
+    Told::two(form, found, Say::Text(expected(&stuck.grammar)))
 }
 
 // What is said of a character that begins no token.
@@ -175,9 +176,11 @@ fn bad_token<'a>(text: &'a str, stuck: &Stuck) -> Told<'a> {
     if stuck.at.start == 0 && has_mark(text) {
         return Told::by(MARK);
     }
-    Told::by("found %, which begins no token, expected %")
-        .with(what_stands(text, stuck))
-        .with(Say::Text(expected(&stuck.grammar)))
+    Told::two(
+        "found %, which begins no token, expected %",
+        what_stands(text, stuck),
+        Say::Text(expected(&stuck.grammar)),
+    )
 }
 
 // Whether a number behind a minus is what would be the least one, in an expression.
@@ -195,10 +198,7 @@ fn large_number<'a>(text: &'a str, stuck: &Stuck) -> Told<'a> {
     } else {
         "% is past %, the greatest number"
     };
-    Told::by(form)
-        .with(what_stands(text, stuck))
-        .with(greatest)
-        .with(greatest)
+    Told::three(form, what_stands(text, stuck), greatest, greatest)
 }
 
 // What is said of the piece at which a text is stuck.
@@ -208,13 +208,16 @@ fn stuck_told<'a>(text: &'a str, stuck: &Stuck) -> Told<'a> {
         (Piece::Bad, _) => bad_token(text, stuck),
         (Piece::LargeNumber, _) => large_number(text, stuck),
         (Piece::LongName, _) => long_name(at.end.saturating_sub(at.start)),
-        (_, Stop::TooDeep) => Told::by(
+        (_, Stop::TooDeep) => Told::two(
             "% opens more than % blocks, parentheses and minus signs within one another",
-        ).with(what_stands(text, stuck))
-            .with(numbered(MAX_NESTING)),
-        (_, Stop::Times) => Told::by("% times; a block is repeated 1 to % times")
-            .with(what_stands(text, stuck))
-            .with(Say::Count(MAX_TIMES as u64)),
+            what_stands(text, stuck),
+            numbered(MAX_NESTING),
+        ),
+        (_, Stop::Times) => Told::two(
+            "% times; a block is repeated 1 to % times",
+            what_stands(text, stuck),
+            Say::Count(MAX_TIMES as u64),
+        ),
         (_, Stop::Unexpected) => unexpected(text, stuck),
     }
 }
@@ -227,11 +230,13 @@ fn text_fault(text: &str) -> Option<Found<'_>> {
             told: too_long("a text", text.len(), MAX_TEXT_BYTES),
         });
     }
-    let stuck = stuck_in(text)?;
-    Some(Found {
-        offset: stuck.at.start,
-        told: stuck_told(text, &stuck),
-    })
+    match stuck_in(text) {
+        Some(stuck) => Some(Found {
+            offset: stuck.at.start,
+            told: stuck_told(text, &stuck),
+        }),
+        None => None,
+    }
 }
 
 /// Why a text is none of a network's: `fault` is what `net_text::parse` refused it by. Refuses for want of memory alone.

@@ -67,28 +67,38 @@ pub(crate) fn digits_len(bytes: &[u8]) -> usize {
     bytes.len()
 }
 
+// The keywords, as they are written.
+const KEYWORDS: &[(&str, Keyword)] = &[
+    ("kahn", Keyword::Kahn),
+    ("input", Keyword::Input),
+    ("chan", Keyword::Chan),
+    ("output", Keyword::Output),
+    ("process", Keyword::Process),
+    ("on", Keyword::On),
+    ("var", Keyword::Var),
+    ("loop", Keyword::Loop),
+    ("get", Keyword::Get),
+    ("put", Keyword::Put),
+    ("to", Keyword::To),
+    ("if", Keyword::If),
+    ("else", Keyword::Else),
+    ("stop", Keyword::Stop),
+    ("repeat", Keyword::Repeat),
+    ("div", Keyword::Div),
+    ("mod", Keyword::Mod),
+];
+
 /// What a word is.
 pub(crate) fn word_piece(word: &str) -> Piece {
-    match word {
-        "kahn" => Piece::Word(Keyword::Kahn),
-        "input" => Piece::Word(Keyword::Input),
-        "chan" => Piece::Word(Keyword::Chan),
-        "output" => Piece::Word(Keyword::Output),
-        "process" => Piece::Word(Keyword::Process),
-        "on" => Piece::Word(Keyword::On),
-        "var" => Piece::Word(Keyword::Var),
-        "loop" => Piece::Word(Keyword::Loop),
-        "get" => Piece::Word(Keyword::Get),
-        "put" => Piece::Word(Keyword::Put),
-        "to" => Piece::Word(Keyword::To),
-        "if" => Piece::Word(Keyword::If),
-        "else" => Piece::Word(Keyword::Else),
-        "stop" => Piece::Word(Keyword::Stop),
-        "repeat" => Piece::Word(Keyword::Repeat),
-        "div" => Piece::Word(Keyword::Div),
-        "mod" => Piece::Word(Keyword::Mod),
-        _ if word.len() > MAX_NAME_BYTES => Piece::LongName,
-        _ => Piece::Name,
+    for known in KEYWORDS {
+        if known.0 == word {
+            return Piece::Word(known.1);
+        }
+    }
+    if word.len() > MAX_NAME_BYTES {
+        Piece::LongName
+    } else {
+        Piece::Name
     }
 }
 

@@ -22,9 +22,10 @@ enum Field {
     Word(&'static str),
 }
 
-// A form of line: how it is told, and what stands behind its first word.
+// A form of line: the word that tells it from others, how it is told, and what stands behind its first word.
 #[derive(Clone, Copy)]
 struct Form {
+    word: &'static str,
     told: &'static str,
     fields: &'static [Field],
 }
@@ -74,16 +75,6 @@ struct Range {
     most: u32,
 }
 
-impl Range {
-    fn told(&self) -> Say<'static> {
-        Say::Range {
-            what: self.what,
-            least: u64::from(self.least),
-            most: u64::from(self.most),
-        }
-    }
-}
-
 // A fault of a line: the place of the word, and what is wrong there.
 type Fault<'a> = (usize, Told<'a>);
 
@@ -118,11 +109,34 @@ fn number_of(word: &str) -> Option<u64> {
 // What stands at a place of a line, and what was expected there.
 fn found_at<'a>(words: Words<'a>, place: usize, expected: Say<'static>) -> Fault<'a> {
     let told = if words.has(place) {
-        Told::by("found %, expected %").with(Say::Quoted(words.word(place)))
+        Told::two(
+            "found %, expected %",
+            Say::Quoted(words.word(place)),
+            expected,
+        )
     } else {
-        Told::by("the line ends here, expected %")
+        Told::one("the line ends here, expected %", expected)
     };
-    (place, told.with(expected))
+    (place, told)
+}
+
+// The same where a number of this range was expected.
+fn found_no_number<'a>(words: Words<'a>, place: usize, range: Range) -> Fault<'a> {
+    let what = Say::Text(range.what);
+    let least = Say::Count(u64::from(range.least));
+    let most = Say::Count(u64::from(range.most));
+    let told = if words.has(place) {
+        let found = Say::Quoted(words.word(place));
+        Told::four("found %, expected % from % to %", found, what, least, most)
+    } else {
+        Told::three(
+            "the line ends here, expected % from % to %",
+            what,
+            least,
+            most,
+        )
+    };
+    (place, told)
 }
 
 // What is wrong with the number of a node at a place, which may be any number.
@@ -140,22 +154,32 @@ fn number_fault(words: Words<'_>, place: usize, range: Range) -> Option<Fault<'_
             if u64::from(range.least) <= number && number <= u64::from(range.most) {
                 return None;
             }
-            let told = Told::by("% is out of range: % is from % to %")
-                .with(Say::Quoted(words.word(place)))
-                .with(Say::Text(range.what))
-                .with(Say::Count(u64::from(range.least)))
-                .with(Say::Count(u64::from(range.most)));
+            let told = Told::four(
+                "% is out of range: % is from % to %",
+                Say::Quoted(words.word(place)),
+                Say::Text(range.what),
+                Say::Count(u64::from(range.least)),
+                Say::Count(u64::from(range.most)),
+            );
             Some((place, told))
         }
-        None => Some(found_at(words, place, range.told())),
+        None => Some(found_no_number(words, place, range)),
     }
+}
+
+// What is said of a line of this form that ends before a place.
+fn short_line(place: usize, form: Form) -> Fault<'static> {
+    let told = Told::one(
+        "the line ends too soon: its form is `%`",
+        Say::Text(form.told),
+    );
+    (place, told)
 }
 
 // What is wrong with the word at a place.
 fn field_fault<'a>(words: Words<'a>, place: usize, form: Form, field: Field) -> Option<Fault<'a>> {
     if !words.has(place) {
-        let told = Told::by("the line ends too soon: its form is `%`");
-        return Some((place, told.with(Say::Text(form.told))));
+        return Some(short_line(place, form));
     }
     match field {
         Field::Word(wanted) => {
@@ -181,8 +205,8 @@ fn are_two(form: Form) -> bool {
 fn same_nodes(words: Words<'_>, form: Form) -> Option<Fault<'_>> {
     let (one, other) = (number_of(words.word(2)), number_of(words.word(3)));
     if are_two(form) && one == other {
-        let told = Told::by("the node % sends nothing to itself");
-        return Some((3, told.with(Say::Quoted(words.word(3)))));
+        let node = Say::Quoted(words.word(3));
+        return Some((3, Told::one("the node % sends nothing to itself", node)));
     }
     None
 }
@@ -196,90 +220,112 @@ fn form_fault<'a>(words: Words<'a>, form: Form) -> Option<Fault<'a>> {
     }
     let end = after(form.fields.len(), 2);
     if words.has(end) {
-        let told = Told::by("the line goes on too long: its form is `%`");
-        return Some((end, told.with(Say::Text(form.told))));
+        let told = Told::one(
+            "the line goes on too long: its form is `%`",
+            Say::Text(form.told),
+        );
+        return Some((end, told));
     }
     same_nodes(words, form)
 }
 
-const LOSE: Form = Form {
-    told: "R lose A B N",
-    fields: &[Field::Node, Field::OtherNode, Field::Count],
-};
+// The forms of lines, by the word behind the round; and of crashes, by the word behind the node.
+const EVENTS: &[Form] = &[
+    Form {
+        word: "lose",
+        told: "R lose A B N",
+        fields: &[Field::Node, Field::OtherNode, Field::Count],
+    },
+    Form {
+        word: "repeat",
+        told: "R repeat A B N",
+        fields: &[Field::Node, Field::OtherNode, Field::Count],
+    },
+    Form {
+        word: "delay",
+        told: "R delay A B N D",
+        fields: &[Field::Node, Field::OtherNode, Field::Count, Field::Rounds],
+    },
+    Form {
+        word: "fail",
+        told: "R fail K device N",
+        fields: &[Field::Node, Field::Word("device"), Field::Count],
+    },
+    Form {
+        word: "start",
+        told: "R start K",
+        fields: &[Field::Node],
+    },
+];
 
-const REPEAT: Form = Form {
-    told: "R repeat A B N",
-    fields: &[Field::Node, Field::OtherNode, Field::Count],
-};
+const CRASHES: &[Form] = &[
+    Form {
+        word: "now",
+        told: "R crash K now F T",
+        fields: &[Field::Node, Field::Word("now"), Field::Fill, Field::Rounds],
+    },
+    Form {
+        word: "delivery",
+        told: "R crash K delivery N F T",
+        fields: &[
+            Field::Node,
+            Field::Word("delivery"),
+            Field::Count,
+            Field::Fill,
+            Field::Rounds,
+        ],
+    },
+    Form {
+        word: "device",
+        told: "R crash K device N F T",
+        fields: &[
+            Field::Node,
+            Field::Word("device"),
+            Field::Count,
+            Field::Fill,
+            Field::Rounds,
+        ],
+    },
+];
 
-const DELAY: Form = Form {
-    told: "R delay A B N D",
-    fields: &[Field::Node, Field::OtherNode, Field::Count, Field::Rounds],
-};
+// The form of this word.
+fn form_of(forms: &'static [Form], word: &str) -> Option<Form> {
+    for form in forms {
+        if form.word == word {
+            return Some(*form);
+        }
+    }
+    None
+}
 
-const CRASH_NOW: Form = Form {
-    told: "R crash K now F T",
-    fields: &[Field::Node, Field::Word("now"), Field::Fill, Field::Rounds],
-};
-
-const CRASH_DELIVERY: Form = Form {
-    told: "R crash K delivery N F T",
-    fields: &[
-        Field::Node,
-        Field::Word("delivery"),
-        Field::Count,
-        Field::Fill,
-        Field::Rounds,
-    ],
-};
-
-const CRASH_DEVICE: Form = Form {
-    told: "R crash K device N F T",
-    fields: &[
-        Field::Node,
-        Field::Word("device"),
-        Field::Count,
-        Field::Fill,
-        Field::Rounds,
-    ],
-};
-
-const FAIL: Form = Form {
-    told: "R fail K device N",
-    fields: &[Field::Node, Field::Word("device"), Field::Count],
-};
-
-const START: Form = Form {
-    told: "R start K",
-    fields: &[Field::Node],
-};
+// What is wrong with a crash that isn't one of those there are.
+fn bad_crash(words: Words<'_>) -> Fault<'_> {
+    match CRASHES.first() {
+        Some(form) if !words.has(2) => short_line(2, *form),
+        _ => match node_fault(words, 2) {
+            Some(fault) => fault,
+            None => found_at(words, 3, Say::Text("`now`, `delivery` or `device`")),
+        },
+    }
+}
 
 // What is wrong with a crash.
 fn crash_fault(words: Words<'_>) -> Option<Fault<'_>> {
-    match words.word(3) {
-        "now" => form_fault(words, CRASH_NOW),
-        "delivery" => form_fault(words, CRASH_DELIVERY),
-        "device" => form_fault(words, CRASH_DEVICE),
-        _ => {
-            if let Some(fault) = field_fault(words, 2, CRASH_NOW, Field::Node) {
-                return Some(fault);
-            }
-            let expected = Say::Text("`now`, `delivery` or `device`");
-            Some(found_at(words, 3, expected))
-        }
+    match form_of(CRASHES, words.word(3)) {
+        Some(form) => form_fault(words, form),
+        None => Some(bad_crash(words)),
     }
 }
 
 // What is wrong with a line's words behind its round.
 fn event_fault(words: Words<'_>) -> Option<Fault<'_>> {
-    match words.word(1) {
-        "lose" => form_fault(words, LOSE),
-        "repeat" => form_fault(words, REPEAT),
-        "delay" => form_fault(words, DELAY),
-        "crash" => crash_fault(words),
-        "fail" => form_fault(words, FAIL),
-        "start" => form_fault(words, START),
-        _ => {
+    let word = words.word(1);
+    if word == "crash" {
+        return crash_fault(words);
+    }
+    match form_of(EVENTS, word) {
+        Some(form) => form_fault(words, form),
+        None => {
             let expected = "`lose`, `repeat`, `delay`, `crash`, `fail` or `start`";
             Some(found_at(words, 1, Say::Text(expected)))
         }
@@ -338,18 +384,18 @@ fn round_fault(words: Words<'_>, above: Option<Above>) -> Option<Fault<'_>> {
     if let Some(fault) = number_fault(words, 0, ROUNDS) {
         return Some(fault);
     }
-    let round = number_of(words.word(0))?;
-    let above = above?;
-    if round < above.round {
-        let told = Told::by("round % stands below round % of line %");
-        return Some((
+    match (number_of(words.word(0)), above) {
+        (Some(round), Some(above)) if round < above.round => Some((
             0,
-            told.with(Say::Number(round))
-                .with(Say::Number(above.round))
-                .with(numbered(above.line)),
-        ));
+            Told::three(
+                "round % stands below round % of line %",
+                Say::Number(round),
+                Say::Number(above.round),
+                numbered(above.line),
+            ),
+        )),
+        _ => None,
     }
-    None
 }
 
 // What is wrong with a line that has no form.
@@ -380,13 +426,17 @@ fn unknown_node(words: Words<'_>, nodes: u8) -> Option<Fault<'_>> {
     }
     let node = Say::Quoted(words.word(place));
     if nodes == 1 {
-        let told = Told::by("no node %: the network has node 0 alone");
-        return Some((place, told.with(node)));
+        return Some((
+            place,
+            Told::one("no node %: the network has node 0 alone", node),
+        ));
     }
-    let told = Told::by("no node %: the network has % nodes, 0 to %")
-        .with(node)
-        .with(Say::Number(u64::from(nodes)))
-        .with(Say::Number(u64::from(nodes.saturating_sub(1))));
+    let told = Told::three(
+        "no node %: the network has % nodes, 0 to %",
+        node,
+        Say::Number(u64::from(nodes)),
+        Say::Number(u64::from(nodes.saturating_sub(1))),
+    );
     Some((place, told))
 }
 
@@ -398,14 +448,17 @@ fn line_fault(text: &str, line: usize, nodes: u8, fault: ScriptFault) -> Option<
     let words = Words {
         line: word(text, start, after(start, len)),
     };
-    let (place, told) = match fault {
-        ScriptFault::UnknownNode { .. } => unknown_node(words, nodes)?,
-        _ => bad_line(words, line_above(text, line))?,
+    let fault = match fault {
+        ScriptFault::UnknownNode { .. } => unknown_node(words, nodes),
+        _ => bad_line(words, line_above(text, line)),
     };
-    Some(Found {
-        offset: after(start, words.offset(place)),
-        told,
-    })
+    match fault {
+        Some((place, told)) => Some(Found {
+            offset: after(start, words.offset(place)),
+            told,
+        }),
+        None => None,
+    }
 }
 
 // What is wrong with a script as a whole or at its first byte, or else with this line.

@@ -50,37 +50,45 @@ fn window_round(line: &[u8], offset: usize) -> Window {
     Window { start, end }
 }
 
-// These bytes as text. What isn't text or would move the terminal's cursor is another character.
-#[derive(Clone, Copy)]
-struct Plain<'a>(&'a [u8]);
+// How bytes are written: as text, of which what would move the terminal's cursor is another character; or as much white space as the text
+// takes. What isn't text is one character.
+#[derive(Clone, Copy, PartialEq, Eq)]
+enum Look {
+    Plain,
+    Space,
+}
 
-impl<'a> fmt::Display for Plain<'a> {
-    fn fmt<W: fmt::Write>(&self, f: &mut fmt::Formatter<W>) -> fmt::Result {
-        for chunk in self.0.utf8_chunks() {
-            for character in chunk.valid().chars() {
-                let is_plain = character == '\t' || !character.is_control();
-                f.write_char(if is_plain { character } else { '?' })?;
-            }
-            if !chunk.invalid().is_empty() {
-                f.write_char('?')?;
-            }
+impl Look {
+    // What is written in the place of what isn't text.
+    fn bad(self) -> char {
+        match self {
+            Look::Plain => '?',
+            Look::Space => ' ',
         }
-        Ok(())
+    }
+
+    // What is written in the place of a character.
+    fn of(self, character: char) -> char {
+        if character == '\t' || self == Look::Plain && !character.is_control() {
+            character
+        } else {
+            self.bad()
+        }
     }
 }
 
-// As much white space as these bytes take.
 #[derive(Clone, Copy)]
-struct Space<'a>(&'a [u8]);
+struct Written<'a>(&'a [u8], Look);
 
-impl<'a> fmt::Display for Space<'a> {
+impl<'a> fmt::Display for Written<'a> {
     fn fmt<W: fmt::Write>(&self, f: &mut fmt::Formatter<W>) -> fmt::Result {
+        let look = self.1;
         for chunk in self.0.utf8_chunks() {
             for character in chunk.valid().chars() {
-                f.write_char(if character == '\t' { '\t' } else { ' ' })?;
+                f.write_char(look.of(character))?;
             }
             if !chunk.invalid().is_empty() {
-                f.write_char(' ')?;
+                f.write_char(look.bad())?;
             }
         }
         Ok(())
@@ -145,11 +153,11 @@ impl<'a> fmt::Display for Marked<'a> {
         } else {
             " "
         };
-        let text = Plain(part(line, window.start, window.end));
+        let text = Written(part(line, window.start, window.end), Look::Plain);
         let end = if window.end < line.len() { ".." } else { "" };
         let margin = Margin(number);
         let under = if is_cut { "   " } else { " " };
-        let space = Space(part(line, window.start, self.offset));
+        let space = Written(part(line, window.start, self.offset), Look::Space);
         write!(
             f,
             "{number:>4} |{gap}{text}{end}\n{margin}{under}{space}^\n"

@@ -17,6 +17,14 @@ fn place_of(text: &str, declared: &[Declared], name: &str) -> Option<usize> {
     None
 }
 
+// The channel of this name.
+fn channel_of<'d>(text: &str, declared: &'d [Declared], name: &str) -> Option<&'d Declared> {
+    match place_of(text, declared, name) {
+        Some(place) => declared.get(place),
+        None => None,
+    }
+}
+
 // Notes a use, if it is the first one of its end.
 fn note(text: &str, declared: &mut [Declared], seen: &Seen) {
     let Some(place) = place_of(text, declared, name_at(text, seen.at)) else {
@@ -97,10 +105,12 @@ fn second_told<'a>(
                 Side::Puts => "a second producer: the process % puts on % too, %",
                 Side::Gets => "a second consumer: the process % gets from % too, %",
             };
-            Told::by(form)
-                .with(Say::Quoted(process))
-                .with(name)
-                .with(where_is(text, end.at, seen.at))
+            Told::three(
+                form,
+                Say::Quoted(process),
+                name,
+                where_is(text, end.at, seen.at),
+            )
         }
         None => {
             let form = match side {
@@ -111,9 +121,7 @@ fn second_told<'a>(
                     "a second consumer: % is an output, whose items go outside, declared %"
                 }
             };
-            Told::by(form)
-                .with(name)
-                .with(where_is(text, channel.name, seen.at))
+            Told::two(form, name, where_is(text, channel.name, seen.at))
         }
     }
 }
@@ -127,7 +135,9 @@ fn first_second<'a>(
 ) -> Option<Found<'a>> {
     let mut reader = Reader::new(text);
     for _ in 0..text.len() {
-        let seen = reader.next_seen()?;
+        let Some(seen) = reader.next_seen() else {
+            return None;
+        };
         if let Some(side) = side_of(seen.part) {
             if is_wanted(wanted, side) {
                 if let Some(found) = second_at(text, declared, &seen, side) {
@@ -147,13 +157,16 @@ fn second_at<'a>(
     seen: &Seen,
     side: Side,
 ) -> Option<Found<'a>> {
-    let place = place_of(text, declared, name_at(text, seen.at))?;
-    let channel = declared.get(place)?;
-    let end = stands_at(channel, side, seen.process())?;
-    Some(Found {
-        offset: seen.at.start,
-        told: second_told(text, declared, channel, seen, side, end),
-    })
+    let Some(channel) = channel_of(text, declared, name_at(text, seen.at)) else {
+        return None;
+    };
+    match stands_at(channel, side, seen.process()) {
+        Some(end) => Some(Found {
+            offset: seen.at.start,
+            told: second_told(text, declared, channel, seen, side, end),
+        }),
+        None => None,
+    }
 }
 
 // Where something else stands at this end of a channel.
@@ -201,9 +214,11 @@ fn first_without<'a>(text: &'a str, declared: &[Declared], side: Side) -> Option
             };
             return Some(Found {
                 offset: known.start,
-                told: Told::by(form)
-                    .with(channel_words(known.kind))
-                    .with(Say::Quoted(name_at(text, known.name))),
+                told: Told::two(
+                    form,
+                    channel_words(known.kind),
+                    Say::Quoted(name_at(text, known.name)),
+                ),
             });
         }
     }

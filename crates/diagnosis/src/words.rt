@@ -51,12 +51,6 @@ pub(crate) enum Say<'a> {
     Number(u64),
     /// A number as the first, the second and so on are counted: `65th`.
     Nth(usize),
-    /// What may stand somewhere, and from which number to which.
-    Range {
-        what: &'a str,
-        least: u64,
-        most: u64,
-    },
     /// Where something stands: in this line, or at this column of the same line.
     Line(usize),
     Column(usize),
@@ -146,14 +140,10 @@ impl<'a> fmt::Display for Say<'a> {
             Say::Character(character) => Character(character).fmt(f),
             Say::Byte(byte) => write!(f, "0x{byte:02X}"),
             Say::Count(number) => Grouped(number).fmt(f),
-            Say::Number(number) => write!(f, "{number}"),
+            Say::Number(number) => number.fmt(f),
             Say::Nth(number) => {
-                let ending = ending_of(number);
-                write!(f, "{number}{ending}")
-            }
-            Say::Range { what, least, most } => {
-                let (low, high) = (Grouped(least), Grouped(most));
-                write!(f, "{what} from {low} to {high}")
+                number.fmt(f)?;
+                f.write_str(ending_of(number))
             }
             Say::Line(line) => write!(f, "in line {line}"),
             Say::Column(column) => write!(f, "at column {column} of this line"),
@@ -183,28 +173,47 @@ const MOST_VALUES: usize = 5;
 pub(crate) struct Told<'a> {
     form: &'static str,
     values: [Say<'a>; MOST_VALUES],
-    count: usize,
 }
 
 impl<'a> Told<'a> {
-    /// A form, of whose marks nothing is said yet.
+    /// A form without a mark.
     pub(crate) fn by(form: &'static str) -> Told<'a> {
-        let values: [Say<'a>; MOST_VALUES] = [Say::Nothing; MOST_VALUES];
+        Told::one(form, Say::Nothing)
+    }
+
+    /// A form with one mark, and what is said in its place. So are the others, each with as many marks as its name says.
+    pub(crate) fn one(form: &'static str, value: Say<'a>) -> Told<'a> {
+        Told::two(form, value, Say::Nothing)
+    }
+
+    pub(crate) fn two(form: &'static str, first: Say<'a>, second: Say<'a>) -> Told<'a> {
+        Told::three(form, first, second, Say::Nothing)
+    }
+
+    pub(crate) fn three(
+        form: &'static str,
+        first: Say<'a>,
+        second: Say<'a>,
+        third: Say<'a>,
+    ) -> Told<'a> {
+        Told::four(form, first, second, third, Say::Nothing)
+    }
+
+    pub(crate) fn four(
+        form: &'static str,
+        first: Say<'a>,
+        second: Say<'a>,
+        third: Say<'a>,
+        fourth: Say<'a>,
+    ) -> Told<'a> {
         Told {
             form,
-            values,
-            count: 0,
+            values: [first, second, third, fourth, Say::Nothing],
         }
     }
 
-    /// What is said in the place of the next mark. A form has at most five.
-    pub(crate) fn with(self, value: Say<'a>) -> Told<'a> {
-        let mut told = self;
-        if told.count < MOST_VALUES {
-            told.values[told.count] = value;
-            told.count += 1;
-        }
-        told
+    pub(crate) fn five(form: &'static str, values: [Say<'a>; MOST_VALUES]) -> Told<'a> {
+        Told { form, values }
     }
 }
 
@@ -224,17 +233,21 @@ impl<'a> fmt::Display for Told<'a> {
 
 /// What is said of a text that is longer than one may be: what it is, its bytes, and how many it may have.
 pub(crate) fn too_long(what: &'static str, len: usize, most: usize) -> Told<'static> {
-    Told::by("% of % bytes; at most %")
-        .with(Say::Text(what))
-        .with(counted(len))
-        .with(counted(most))
+    Told::three(
+        "% of % bytes; at most %",
+        Say::Text(what),
+        counted(len),
+        counted(most),
+    )
 }
 
 /// What is said of a name of so many bytes, which are too many.
 pub(crate) fn long_name(len: usize) -> Told<'static> {
-    Told::by("a name of % bytes; at most %")
-        .with(counted(len))
-        .with(numbered(MAX_NAME_BYTES))
+    Told::two(
+        "a name of % bytes; at most %",
+        counted(len),
+        numbered(MAX_NAME_BYTES),
+    )
 }
 
 /// Whether a text begins with the mark of its byte order, as some editors write it.
