@@ -1,8 +1,9 @@
 -- What a stored image received of each channel is a count, since its spelling has no greater number there.
 use Rattle.std.proofs.Common.{◌≡◌, ℕ, suc, ◌≤◌, ◌++◌, Bool, true, false, cond, eqb, List, [], ◌∷◌, Option, Some, None, arith}
-use Rattle.std.proofs.Common.{option_map, length, map, subst}
-use Rattle.std.specs.Prelude.{find, slice_index}
+use Rattle.std.proofs.Common.{inl, inr, option_map, length, map, subst}
+use Rattle.std.specs.Prelude.{find, nat_le, slice_index}
 use Rattle.std.specs.List.{AllByRecursion}
+use Rattle.std.proofs.lemmas.Bool.Decides.{leb_tells}
 use Rattle.std.proofs.lemmas.List.Elements.{recursion_from_All}
 use Rattle.kahn_net.specs.declared.limits.TheConstants.{MAX_COUNT, MAX_CHANNELS, MAX_PROCESSES}
 use Rattle.record.specs.Ends.{received_at}
@@ -16,8 +17,11 @@ use Rattle.ckpt_codec.specs.Fields.{AreAllowed, Field, IsAllowed}
 use Rattle.ckpt_codec.specs.RecordText.{at_most, end_fields, ends_fields, ends_in, image_fields, processes_fields}
 use Rattle.ckpt_codec.specs.RecordText.{IsRecord, count, decisions_fields, head_fields, most_decisions, processes_in}
 use Rattle.ckpt_codec.specs.RecordText.{record_fields, rest_of, tentative_fields, wanted, wanted_or}
-use Rattle.protocol_laws.specs.Join.Holding.{at_most as below}
 use Rattle.protocol.specs.Node.Recovering.{IsRestorable}
+
+-- (as in protocol_laws, which isn't below this crate)
+below : (a b : ℕ) → nat_le a b ≡ true → a ≤ b
+below a b is = elim (leb_tells a b) [ inl yes_it ↦ yes_it.1 | inr not_it ↦ absurd (let e = not_it.0 in cc) ]
 
 -- what stands behind some fields
 behind : (xs ys : List Field) → AllByRecursion IsAllowed (xs ++ ys) → AllByRecursion IsAllowed ys

@@ -8,12 +8,11 @@ ghost use Rattle.station.specs.ReplyView.{reply_view};
 ghost use Rattle.world.specs.WholeView.{capacities_in, inputs_in, net_in, nodes_in, rooms_in, world_of};
 ghost use Rattle.world.specs.WorldView.{capacities, rooms};
 
-use node::next_after;
 use outlet::Outlet;
 use replay::{ArmedCrash, RunEvent};
 use slot_cell::SlotCell;
 use std::alloc::{AllocError, Global};
-use world::{Deed, Event, PlainEvent, Refused, Reply, World};
+use world::{Deed, Event, PlainEvent, Refused, Reply, World, next_after};
 
 /// A world, how many deliveries each of its nodes has had, and the crashes that are armed for the ends of some. A delivery for
 /// which a crash is armed is two events of the world, the delivery and the crash, with nothing between them.
