@@ -3,6 +3,7 @@
 import hashlib
 import re
 
+import calls
 import sources
 
 TEXT_COLUMNS = 320
@@ -203,6 +204,21 @@ def laws(file, wanted=()):
     return rows
 
 
+def names_table(groups):
+    """The table of these definitions: groups of a crate, a file of it and names. The comment above each is its meaning."""
+    rows, told = ["| Name | File | What its source says |", "|---|---|---|"], None
+    for crate, file, wanted in groups:
+        path = f"crates/{crate}/{file}" if file.endswith(".rt") else f"crates/{crate}/specs/{file}.antt"
+        found = sources.definitions(path)
+        for name in wanted:
+            if name not in found:
+                raise sources.NotThere(f"no definition {name} with a comment in {path}")
+            for head, text in rows_in_two(f"`{name}`", found[name]):
+                rows.append(f"| {head} | {'' if told == path else f'`{crate}`: `{file}`'} | {text} |")
+                told = path
+    return rows
+
+
 def fields(file, name):
     """The table of a record's fields: the comment above each, or what it says where it has none and is short."""
     rows = ["| Field | What its source says |", "|---|---|"]
@@ -219,7 +235,7 @@ def uncalled(crate):
     given = sources.exported(crate)
     return [function.path for function in sources.functions_of(crate)
             if function.is_public and not function.of and (function.owner or function.name) in given
-            and id(function) not in sources.reached() and not function.is_law()]
+            and id(function) not in calls.reached() and not function.is_law()]
 
 
 def not_called():

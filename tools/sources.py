@@ -42,6 +42,8 @@ class Function:
     has_self: bool
     doc: list
     clauses: list
+    block: str      # the heading of the `impl` or the trait in which it stands
+    head: str       # its signature and its clauses
     body: str
     locals: set
 
@@ -126,7 +128,8 @@ def head_and_body(lines, at):
             body.append(code)
         else:
             head.append(code)
-        if not body and code.endswith((";", "{}")) or body and code == " " * indent + "}":
+        is_closed = "".join(head).count("{") == "".join(head).count("}")
+        if not body and code.endswith((";", "{}")) and is_closed or body and code == " " * indent + "}":
             break
     return "\n".join(head), "\n".join(body)
 
@@ -171,12 +174,13 @@ def source(path):
     """What a file of `src/` has: functions, types and traits by name, types whose `Model` has an invariant, types with a trait that they meet, and
     types of which a clause says what `{}` writes."""
     lines = lines_of(path)
-    found, owner, of, in_trait = Source([], {}, {}, [], set()), "", "", False
+    found, owner, of, in_trait, heading = Source([], {}, {}, [], set()), "", "", False, ""
     for at, line in enumerate(lines):
         if line in ("}", "};"):
-            owner, of, in_trait = "", "", False
+            owner, of, in_trait, heading = "", "", False, ""
         elif line.startswith(("impl", "unsafe impl")):
-            block = IMPL.match(heading_from(lines, at))
+            heading = heading_from(lines, at)
+            block = IMPL.match(heading)
             if block:
                 owner, of, in_trait = block[2].split("::")[-1], (block[1] or "").split("::")[-1], False
                 found.met.append((owner, of))
@@ -187,13 +191,13 @@ def source(path):
         elif kind := TYPE.match(line):
             found.kinds[kind[2]] = Kind(kind[1], kind[2], comment_above(lines, at), ghosts_from(lines, at))
             if kind[1] == "trait":
-                owner, of, in_trait = kind[2], "", True
+                owner, of, in_trait, heading = kind[2], "", True, heading_from(lines, at)
         if function := FUNCTION.match(line):
             if bool(function[1]) == bool(owner):
                 head, body = head_and_body(lines, at)
                 found.functions.append(Function(
                     function[3], owner, of, in_trait or (function[2] or "").strip() == "pub", bool(SELF.search(f"{head}\n{body}")),
-                    comment_above(lines, at), clauses_at(lines, at), body, locals_of(f"{head}\n{body}")))
+                    comment_above(lines, at), clauses_at(lines, at), heading, head, body, locals_of(f"{head}\n{body}")))
     return found
 
 
@@ -223,6 +227,7 @@ def functions_of(crate):
     return [function for file in files_of(crate) for function in source(file).functions]
 
 
+@functools.cache
 def kinds_of(crate):
     """The types and traits of a crate, by name."""
     return {name: kind for file in files_of(crate) for name, kind in source(file).kinds.items()}
@@ -266,6 +271,7 @@ def trait_clauses(trait, name):
     return set()
 
 
+@functools.cache
 def has_trait(trait):
     """Whether a trait is one of the tree."""
     return any(trait in kinds_of(crate) for crate in uses())
@@ -324,18 +330,32 @@ def quoted_definition(lines, path):
 
 
 def definitions(file):
-    """The definitions of a file that have a comment, each with it."""
+    """The definitions of a file that have a comment, each with it: of a source in Rattle its types and functions, with the first paragraph."""
     if not (ROOT / file).is_file():
         raise NotThere(f"no file {file}")
-    lines, found = lines_of(ROOT / file), {}
+    lines = lines_of(ROOT / file)
+    return dict(defined_in_source(lines) if file.endswith(".rt") else defined_in_specs(lines))
+
+
+def defined_in_source(lines):
+    """The types and functions outside of any block that have a comment, each with its first paragraph."""
     for at, line in enumerate(lines):
-        named = re.match(r"(?:\w+ )*pub (?:(?:record|data|mutual) )*([^\s(){}]+)", line)
+        named = re.match(r"(?:pub(?:\(\w+\))? )?(?:unsafe )?(?:struct|enum|trait|fn|type|const) (\w+)", line)
+        if named and (comment := comment_above(lines, at)):
+            yield named[1], " ".join(comment[:comment.index("")] if "" in comment else comment)
+
+
+def defined_in_specs(lines):
+    """The definitions that have a comment, those of a `mutual` block among them, each with it."""
+    in_mutual = False
+    for at, line in enumerate(lines):
+        in_mutual = bool(re.fullmatch(r"(\w+ )*mutual", line)) or in_mutual and (not line or line.startswith(" "))
+        named = re.match(r"(?:\w+ )*pub (?:(?:record|data|mutual) )*([^\s(){}]+)", line[2:] if in_mutual and line.startswith("  pub") else line)
         above = at
-        while above and lines[above - 1].startswith("--"):
+        while above and lines[above - 1].lstrip().startswith("--"):
             above -= 1
         if named and above < at:
-            found[named[1]] = " ".join(text.lstrip("- ") for text in lines[above:at])
-    return found
+            yield named[1], " ".join(text.lstrip("- ") for text in lines[above:at])
 
 
 def fields(file, name):
@@ -403,54 +423,12 @@ def worked_out(node, crate):
     raise NotThere(f"a constant of {crate} isn't read")
 
 
-# Calls.
+# Names in a body.
 
 LOCAL = re.compile(r"(?<![\w.])([a-z]\w*)(?=: [^:])|let (?:mut )?(\w+)|for (\w+) in|\((\w+)\)(?= =>)")
-CALL = re.compile(r"(?:(\w+)(?:::<[^()]*?>)?::|(\.)\s*)?\b(\w+)(?=(?:::<[^()]*>)?\()")
-PATH = re.compile(r"(\w+)::(\w+)\b(?!\()")
 BARE = re.compile(r"(?<=[(,\s])([a-z]\w*)(?=[,)\n])")
 
 
 def locals_of(text):
     """The names of a function's parameters and variables."""
     return {name for names in LOCAL.findall(text) for name in names if name}
-
-
-def calls_of(function):
-    """What a function's body calls, or names as a value: each name with the type in front of it, a dot, or nothing."""
-    found = {(kind or dot, name) for kind, dot, name in CALL.findall(function.body)} | set(PATH.findall(function.body))
-    return found | {("", name) for name in BARE.findall(function.body) if name not in function.locals}
-
-
-def is_called(function, kind, name, own):
-    """Whether a call by these words, in a function of the type `own`, may be one of this function."""
-    if function.name != name:
-        return False
-    if kind == "":
-        return not function.owner
-    if kind == ".":
-        return function.has_self
-    if kind == "Self":
-        return function.owner == own
-    return kind in (function.owner, function.of) or not function.owner and kind[0].islower() or len(kind) == 1 and bool(function.owner)
-
-
-@functools.cache
-def reached():
-    """The functions that `main` of the program may come to, told by names: a method by a dot may be that of any type."""
-    crates = sorted(crates_below("kahnrun"))
-    every = [function for crate in crates for function in functions_of(crate)]
-    by_name = {}
-    for function in every:
-        by_name.setdefault(function.name, []).append(function)
-    # what std calls of its own traits has no call in a source
-    left = [function for function in every if function.of and not has_trait(function.of) or function.name == "main"]
-    found = {id(function) for function in left}
-    while left:
-        here = left.pop()
-        for kind, name in calls_of(here):
-            for function in by_name.get(name, ()):
-                if id(function) not in found and is_called(function, kind, name, here.owner):
-                    found.add(id(function))
-                    left.append(function)
-    return found

@@ -6,7 +6,8 @@ of the tree.
 
 Those of tables are libraries, with a function `run_program`. One program is made of them, which runs the one that its first word names: so
 what they all stand on is read and compiled once. Beside them stands a library that they share (`case_table`), which has no such function.
-They may be made one program with kahnrun too, which then is what runs where the first word names none of them."""
+They may be made one program with kahnrun too, which then is what runs where the first word names none of them. In that program are those of
+bench/crates that measure what their second word names there."""
 
 import pathlib
 import shutil
@@ -72,8 +73,9 @@ def programs():
 
 
 def call_of(name):
-    """How the main function runs one of these programs of tables."""
-    return f"{name}::run_program({'&rt, &rt' if f'{RUN}<' in root_of(name) else '&rt'})"
+    """How the main function runs one of these programs."""
+    is_of_any_host = home_of(name) == TABLES and f"{RUN}<" in root_of(name)
+    return f"{name}::run_program({'&rt, &rt' if is_of_any_host else '&rt'})"
 
 
 def main_of(names):
@@ -96,7 +98,7 @@ fn main(rt: HostRuntime) -> anyhow::Result<()> {{
 
 MAIN = "fn main(rt: HostRuntime) -> ExitCode {\n"       # with which the main function of kahnrun begins
 
-# What stands before it where the programs of tables are one with it.
+# What stands before it where other programs are one with it.
 TABLE_WORDS = """fn first_word(rt: &HostRuntime) -> Option<String> {
     let mut words = env::args(rt).ok()?;
     words.nth(1)
@@ -116,7 +118,7 @@ fn ended(rt: &HostRuntime, end: anyhow::Result<()>) -> ExitCode {
 
 
 def main_with(names, text):
-    """The text of the main function of kahnrun, that runs one of these programs of tables where the first word names it."""
+    """The text of the main function of kahnrun, that runs one of these programs where the first word names it."""
     if text.count(MAIN) != 1:
         sys.exit(f"the main function of {KAHNRUN} doesn't begin with {MAIN!r} any more")
     arms = "".join(f'        Some("{name}") => return ended(&rt, {call_of(name)}),\n' for name in names)
@@ -124,16 +126,42 @@ def main_with(names, text):
     return text.replace(MAIN, TABLE_WORDS + MAIN + choice)
 
 
+# The main function of a program of bench/crates that measures what its first word names, and what is made of it in a library.
+MEASURES = """fn main(rt: HostRuntime) -> anyhow::Result<()> {
+    match env::args(&rt)?.nth(1) {
+        Some(word) => measure(&rt, &word),
+"""
+MEASURES_IN_LIBRARY = """pub fn run_program(rt: &HostRuntime) -> anyhow::Result<()> {
+    match env::args(rt)?.nth(2) {
+        Some(word) => measure(rt, &word),
+"""
+
+
+def measuring():
+    """The programs of bench/crates that measure what their first word names."""
+    return [name for name in crate_lines(BENCH / "lines") if MEASURES in (BENCH / name / f"src/main.rt{ENDING}").read_text()]
+
+
+def make_measuring(name, crate):
+    """Makes a library of such a program."""
+    make_crate(name, crate)
+    main = crate / "src/main.rt"
+    (crate / "src/lib.rt").write_text(main.read_text().replace(MEASURES, MEASURES_IN_LIBRARY))
+    main.unlink()
+
+
 def tree_of_all(tree):
-    """A copy of the tree in which the programs of tables are one with kahnrun; and the name of that program."""
-    names = programs()
+    """A copy of the tree in which the programs of tables, and those that measure, are one with kahnrun; and the name of that program."""
+    names, measures = programs(), measuring()
     tree_with(names, tree)
     shutil.rmtree(tree / "crates" / ALL)
+    for name in measures:
+        make_measuring(name, tree / "crates" / name)
     main = tree / "crates" / KAHNRUN / "src/main.rt"
-    main.write_text(main_with(names, main.read_text()))
-    lines = crate_lines(tree / "crates.txt")
+    main.write_text(main_with([*names, *measures], main.read_text()))
+    lines = {**crate_lines(tree / "crates.txt"), **{name: line_of(name) for name in measures}}
     del lines[ALL]
-    lines[KAHNRUN] = f"{lines[KAHNRUN].rstrip()} {' '.join(names)} anyhow"
+    lines[KAHNRUN] = f"{lines[KAHNRUN].rstrip()} {' '.join([*names, *measures])} anyhow"
     (tree / "crates.txt").write_text("".join(f"{it}\n" for it in lines.values()))
     return KAHNRUN
 

@@ -29,7 +29,7 @@ pub record SpellsAt (slot : ℕ) (kept : RecordView) (left : Whole) : Type 0 whe
       (λ (t : Tentative). Lies (IsImageText (Some kept.permanent) t.image) (slot_in (1 - slot) left))
   pub short : spelled_length kept ≤ MAX_RECORD_BYTES
 
--- what was left is this record
+-- what a crash left of header and slots is this record
 abbrev pub Spells : RecordView → Whole → Type 0
 Spells kept left = (slot : ℕ) × SpellsAt slot kept left
 

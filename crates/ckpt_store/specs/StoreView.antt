@@ -67,7 +67,7 @@ record_behind whole (Some h) = record_beside whole h (image_spelled None (slot_i
 abbrev pub record_spelled : Whole → RecordView
 record_spelled whole = record_behind whole (header_spelled whole.header)
 
--- the record that the cell holds: of a ready store, the one that is known
+-- the record of a store, read off its cell in every state; of a ready store it is the one that is known
 abbrev pub record_in : {C : Type 0} {cell : CellWords C} {slots : SlotWords C} → Store C slots cell → RecordView
 record_in {slots = slots} store = record_spelled (slots.whole store.cell)
 

@@ -3,3 +3,9 @@ pub mod Streams
 mod Passing
 mod Next
 pub mod Named
+mod Filed
+mod Lists
+mod Naming
+mod Given
+pub mod Kept
+pub mod InFolder

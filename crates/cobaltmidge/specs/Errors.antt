@@ -107,6 +107,7 @@ refusal_text source (Some line) number words =
     source ++ codes " line " ++ decimal line ++ codes ": refusal " ++ decimal number ++ codes ": " ++ words
 refusal_text source None number words = source ++ codes ": refusal " ++ decimal number ++ codes ": " ++ words
 
+-- the line of an error: the text that is refused, the line of it, the number of the refusal, and words
 abbrev pub error_text : Error → List ℕ
 error_text NoMemory = codes "no memory"
 error_text (NetText fault) =

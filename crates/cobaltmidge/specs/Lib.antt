@@ -8,3 +8,9 @@ pub mod Resting
 pub mod Reasons
 pub mod Runs
 pub mod Scripts
+pub mod Accepting
+pub mod FileNames
+pub mod KeptOutlets
+pub mod KeptStreams
+pub mod Released
+pub mod KeptRuns

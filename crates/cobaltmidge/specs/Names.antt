@@ -25,7 +25,7 @@ abbrev pub IsInputNamed : Net → List ℕ → ℕ → Type 0
 IsInputNamed net name number =
     Reads net.channel_names.items number name × IsTrue (comes_in (slice_get net.program.channels.items number))
 
--- it is the output of this name
+-- the channel of this number is the output of this name
 abbrev pub IsOutputNamed : Net → List ℕ → ℕ → Type 0
 IsOutputNamed net name number =
     Reads net.channel_names.items number name × IsTrue (goes_out (slice_get net.program.channels.items number))

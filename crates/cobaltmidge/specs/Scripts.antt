@@ -27,8 +27,8 @@ at_node node what = run.World (ByNode node what)
 abbrev pub armed_call : (node count fill rounds : ℕ) → RunEvent
 armed_call node count fill rounds = at_node node (deed.Arm (record { call = count; fill = fill }) rounds)
 
--- The event of what a line does. A mere failure of a device is one by which a crash would fill with 0, and the node may be
--- recovered in the next round.
+-- The event of what a script's line does. A mere failure of a device is one by which a crash would fill with 0, and
+-- the node may be recovered in the next round.
 abbrev pub event_of : Act → RunEvent
 event_of (Lose from to count) = armed_packet from to count change.Lose
 event_of (Repeat from to count) = armed_packet from to count change.Repeat

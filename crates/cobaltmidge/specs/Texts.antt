@@ -48,20 +48,21 @@ pub record IsTextOfInputs (net : Net) (bytes : List ℕ) : Type 0 where
   pub text : IsInputsText bytes lines
   pub bound : Binds net.channel_names.items (network_of net.program) lines lists
 
--- the events of the script for so many nodes that this text is
+-- this text is a script for so many nodes, of these events
 pub record IsScriptOf (nodes : ℕ) (bytes : List ℕ) (events : List ScriptedEvent) : Type 0 where
   pub lines : List ScriptLine
   pub text : IsScript nodes bytes lines
   pub same : events ≡ map scripted_of lines
 
--- this text isn't in the grammar, or its tree has a fault
+-- why the text of a network is refused: it isn't in the grammar, or its tree has a fault
 pub data IsNetError : List ℕ → Error → Type 0 where
   bad_text : {bytes : List ℕ} {error : Error} (fault : TextFault) → IsParseFault bytes fault
       → error ≡ net_text_error fault → IsNetError bytes error
   bad_net : {bytes : List ℕ} {error : Error} (tree : List DeclarationTree) (fault : NetFault) → IsTextOf tree bytes
       → HasFault tree fault → error ≡ net_error fault → IsNetError bytes error
 
--- this text isn't of inputs' lines, or its lines have a fault for the network
+-- why the text of a network's inputs is refused: it isn't one of inputs' lines, or its lines have a fault for the
+-- network
 pub data IsInputsError : Net → List ℕ → Error → Type 0 where
   bad_lines : {net : Net} {bytes : List ℕ} {error : Error} (fault : TextFault) → IsInputsFault bytes fault
       → error ≡ inputs_text_error fault → IsInputsError net bytes error
@@ -79,7 +80,7 @@ pub data IsItemsError : Net → List InputTree → Error → Type 0 where
       → HasInputFault net.channel_names.items (network_of net.program) lines fault → error ≡ inputs_error fault
       → IsItemsError net lines error
 
--- this text is no script for so many nodes
+-- why the text of a script is refused: it is none for so many nodes
 pub data IsScriptError : ℕ → List ℕ → Error → Type 0 where
   bad_script : {nodes : ℕ} {bytes : List ℕ} {error : Error} (fault : ScriptFault) → IsScriptFault nodes bytes fault
       → error ≡ script_error fault → IsScriptError nodes bytes error

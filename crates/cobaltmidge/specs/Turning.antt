@@ -34,7 +34,7 @@ Follows (Granted job) old new =
     (done : DoneView) × (done.job ≡ job) × (answer : ReplyView) × IsRunStep (OfWorld (Install done)) old answer new
 Follows answer old new = new ≡ old
 
--- a turn of a node: the event that is next for it, and what follows it
+-- a turn of a node: the event that is next for it, and behind a grant the turn on that job taken in
 pub record IsNodeTurn (node : ℕ) (old new : ArmedView) : Type 0 where
   pub answer : ReplyView
   pub between : ArmedView
@@ -45,7 +45,8 @@ pub record IsNodeTurn (node : ℕ) (old new : ArmedView) : Type 0 where
 abbrev pub room_behind : ArmedView → ArmedView → ArmedView
 room_behind old new = if new.world.round == old.world.round then new else with_world (given_room new.world) new
 
--- a turn, and what comes behind it
+-- a turn of a node, and behind it more room for channels, where a round ended by it and the world stands still for
+-- want of room
 pub record IsWholeTurn (node : ℕ) (old new : ArmedView) : Type 0 where
   pub between : ArmedView
   pub turn : IsNodeTurn node old between

@@ -206,6 +206,9 @@ impl<'a> Run<'a> {
             (happenings finished.history.lines.items) (world_of finished.world)) }
         ensures over { IfOk result (λ finished. IsOver (network_of self.entry.network.now.net.value.program).channels
             (bounds_of self.entry.settings) (world_of finished.world) finished.end) }
+        ensures same { IfOk result (λ finished.
+            ∥ ((world_of finished.world).net ≡ network_of self.entry.network.now.net.value.program)
+            × ((world_of finished.world).inputs ≡ self.entry.inputs) ∥₁) }
         ensures network { IfOk result (λ finished. finished.network ≡ self.entry.network) }
         ensures settings { IfOk result (λ finished. finished.settings ≡ self.entry.settings) }
         ensures err { IfErr result (IsRunError (is_counted self.entry.settings)) }

@@ -120,7 +120,7 @@ AreScriptLines nodes round (text ∷ texts) lines =
     ⊎ ((line : ScriptLine) × (others : List ScriptLine) × (lines ≡ line ∷ others) × HasForm round text line
     × IsInNetwork nodes line.act × AreScriptLines nodes line.round texts others)
 
--- a script of these lines, for a network of so many nodes
+-- a text is a script of these lines, for a network of so many nodes
 pub record IsScript (nodes : ℕ) (text : List ℕ) (lines : List ScriptLine) : Type 0 where
   pub small : length text ≤ MAX_SCRIPT_BYTES
   pub lines_are : AreScriptLines nodes 0 (lines_of text) lines

@@ -32,6 +32,6 @@ happening_text Widened = codes "widened\n"
 abbrev pub happenings_text : List Happening → List ℕ
 happenings_text happened = flat_map happening_text happened
 
--- of a run of this network in which this happened
+-- the text of a network and of what happened in a run of it, a line for each event
 abbrev pub history_text : Net → List Happening → List ℕ
 history_text net happened = header_text net ++ happenings_text happened

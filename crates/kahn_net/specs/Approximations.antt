@@ -23,11 +23,13 @@ next_from codes inputs histories c [] = []
 next_from codes inputs histories c (channel ∷ channels) =
     next_history codes inputs histories c channel.producer ∷ next_from codes inputs histories (suc c) channels
 
+-- one step of Kahn's equations: each input is as it came, and each other channel has what its process puts there on
+-- these histories
 abbrev pub next_histories : Network → List (List ℤ) → List (List ℤ) → List (List ℤ)
 next_histories net inputs histories = next_from net.codes inputs histories 0 net.channels
 
--- The n-th approximation. At first the inputs are whole and every other history is empty (as inputs that fit have it);
--- then again and again each producer goes by the approximation before.
+-- The n-th approximation of a network's histories. At first the inputs are whole and every other history is empty (as
+-- inputs that fit have it); then again and again each producer goes by the approximation before.
 abbrev pub approximation : Network → List (List ℤ) → ℕ → List (List ℤ)
 approximation net inputs zero = inputs
 approximation net inputs (suc n) = next_histories net inputs (approximation net inputs n)
@@ -37,7 +39,7 @@ pub record Belongs (net : Network) (inputs : List (List ℤ)) (c k : ℕ) (v : �
   pub n : ℕ
   pub is : slice_get (history_of (approximation net inputs n) c) k ≡ Some v
 
--- the approximations have come to rest: this one and the next agree
+-- the approximations have come to rest at the n-th: it and the next one agree
 abbrev pub IsReached : Network → List (List ℤ) → ℕ → Type 0
 IsReached net inputs n = approximation net inputs n ≡ approximation net inputs (suc n)
 

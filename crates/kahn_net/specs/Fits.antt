@@ -21,7 +21,8 @@ IsEmptyInside channels inputs = (c : ℕ) → IsEmptyAt channels inputs c
 abbrev pub AreShort : List (List ℤ) → Type 0
 AreShort lists = (c : ℕ) (items : List ℤ) → slice_get lists c ≡ Some items → length items ≤ MAX_HISTORY_ITEMS
 
--- as many lists as channels, each within the limit, and none inside
+-- inputs fit a network: there is a list for each channel, none longer than the limit, and it is empty where a process
+-- puts
 pub record Fits (net : Network) (inputs : List (List ℤ)) : Type 0 where
   pub count : length inputs ≡ length net.channels
   pub few : AreShort inputs

@@ -7,18 +7,18 @@ use Rattle.kahn_net.specs.Valid.{is_passing}
 use Rattle.kahn_net.specs.Statements.{Act, Got, Sent, Point, Step, End, Ended, Waits, Stopped, Trace, no_steps}
 use Rattle.kahn_net.specs.Statements.{trace_of, then_do, sites_of}
 
--- a body again and again, at most this often
+-- a body again and again, at most so often
 abbrev pub passes : ℕ → ℕ → Block → List ℤ → List (List ℤ) → Trace
 passes zero site body vars unread = no_steps (Ended vars unread)
 passes (suc n) site body vars unread = then_do (trace_of site [] body vars unread) (passes n site body)
 
--- The loop, where there is one: its body again and again until it waits or stops. Each whole pass of a valid body takes
--- an item, so that one pass more than there are items unread is always enough.
+-- The trace of a process's loop, if it has one: its body again and again until it waits or stops. Each whole pass of
+-- a valid body takes an item, so that one pass more than there are items unread is always enough.
 abbrev pub loop_trace : ℕ → Option Block → List ℤ → List (List ℤ) → Trace
 loop_trace site None vars unread = no_steps (Ended vars unread)
 loop_trace site (Some body) vars unread = passes (suc (total unread)) site body vars unread
 
--- the acts of a process on these input histories: its prelude, and then its loop
+-- the trace of a process on these input histories: its prelude, and then its loop
 abbrev pub process_trace : Code → List (List ℤ) → Trace
 process_trace code inputs =
     then_do (trace_of 0 [] code.prelude code.vars inputs) (loop_trace (sites_of code.prelude) code.body)
@@ -28,7 +28,7 @@ abbrev pub sent_by : ℕ → Act → List ℤ → List ℤ
 sent_by channel (Got c item) later = later
 sent_by channel (Sent c item) later = if c == channel then item ∷ later else later
 
--- the items put on a channel, in order
+-- the items that acts put on a channel, in order
 abbrev pub sent_on : ℕ → List Step → List ℤ
 sent_on channel [] = []
 sent_on channel (step ∷ steps) = sent_by channel step.act (sent_on channel steps)
@@ -38,7 +38,7 @@ abbrev pub got_by : ℕ → Act → List ℤ → List ℤ
 got_by channel (Got c item) later = if c == channel then item ∷ later else later
 got_by channel (Sent c item) later = later
 
--- the items got from a channel, in order
+-- the items that acts get from a channel, in order
 abbrev pub got_on : ℕ → List Step → List ℤ
 got_on channel [] = []
 got_on channel (step ∷ steps) = got_by channel step.act (got_on channel steps)

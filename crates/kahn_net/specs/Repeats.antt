@@ -36,7 +36,8 @@ repeats_at code site =
 abbrev pub CanRemain : ℕ → ℕ → Type 0
 CanRemain left times = (1 ≤ left) × (left ≤ times)
 
--- at this point as many passes remain as can, of each repetition round its site
+-- at a point of a process at least one pass remains of each repetition round its site, and no more than the
+-- repetition has
 abbrev pub FitsRepeats : Code → Point → Type 0
 FitsRepeats code point = AllZip CanRemain point.left (repeats_at code point.site)
 

@@ -15,7 +15,8 @@ abbrev pub one_if_so : Bool → ℤ
 one_if_so holds = cond holds (pos 1) (pos 0)
 
 -- An operator's value: signed numbers of 64 bits, where a sum, a difference and a product wrap modulo 2 ^ 64. A
--- quotient truncates toward zero and wraps, a remainder is what it leaves, and both are 0 where the right value is.
+-- quotient truncates toward zero and wraps, a remainder is what it leaves, and both are 0 where the right value is. A
+-- comparison is 1 or 0.
 abbrev pub apply : Operator → ℤ → ℤ → ℤ
 apply Add a b = int_wrapping_add w64 a b
 apply Subtract a b = int_wrapping_sub w64 a b
@@ -29,14 +30,15 @@ apply LessOrEqual a b = one_if_so (int_le a b)
 apply Greater a b = one_if_so (int_lt b a)
 apply GreaterOrEqual a b = one_if_so (int_le b a)
 
--- the value of an expression, and that of the value to the left of links with them
 abbrev mutual
+  -- the value of an expression, with these values of its variables
   pub value_of : Tree → List ℤ → ℤ
   value_of (Number n) vars = n
   value_of (Name x) vars = slice_index_or vars x (pos 0)
   value_of (Minus value) vars = int_wrapping_neg w64 (value_of value vars)
   value_of (Chain first links) vars = value_along links vars (value_of first vars)
 
+  -- the value of a chain whose links so far came to `left`
   pub value_along : Links → List ℤ → ℤ → ℤ
   value_along NoLinks vars left = left
   value_along (LinkThen operator value rest) vars left =
@@ -69,7 +71,7 @@ pub data End : Type 0 where
   Waits : (point : Point) (vars : List ℤ) (channel : ℕ) → End
   Stopped : (vars : List ℤ) → End
 
--- the acts made, in order, and how it ends
+-- what statements do: the acts made, in order, and how it ends
 pub record Trace : Type 0 where
   pub steps : List Step
   pub end : End
@@ -93,7 +95,7 @@ from_end (Ended vars unread) go = go vars unread
 from_end (Waits point vars channel) go = no_steps (Waits point vars channel)
 from_end (Stopped vars) go = no_steps (Stopped vars)
 
--- the one, and then the other
+-- one trace, and behind it the trace that follows from how the first one ends
 abbrev pub then_do : Trace → (List ℤ → List (List ℤ) → Trace) → Trace
 then_do t go = let more = from_end t.end go in record { steps = t.steps ++ more.steps; end = more.end }
 
@@ -107,17 +109,17 @@ sites_of (StopThen rest) = sites_of rest
 sites_of (IfThen test first second rest) = sites_of first + (sites_of second + sites_of rest)
 sites_of (RepeatThen times body rest) = sites_of body + sites_of rest
 
--- an if takes its first block where the value isn't 0, and else the second
+-- an `if` takes its first block where the value isn't 0, and else its second
 abbrev pub choose : ℤ → Trace → Trace → Trace
 choose value first second = cond (int_eq value (pos 0)) second first
 
--- so many passes one after the other, each of which is told how many remain, itself included
+-- so many passes of a repetition, one after the other, each of which is told how many remain, itself included
 abbrev pub rounds : ℕ → (ℕ → List ℤ → List (List ℤ) → Trace) → List ℤ → List (List ℤ) → Trace
 rounds zero pass vars unread = no_steps (Ended vars unread)
 rounds (suc k) pass vars unread = then_do (pass (suc k) vars unread) (rounds k pass)
 
--- what statements do whose first get or put has this site, where so many passes of the repetitions round them remain,
--- with these variables, where this is unread on each channel
+-- The trace of statements of which the first get or put has the number `site`. So many passes of the repetitions
+-- round them remain, and `unread` is what is unread on each channel.
 abbrev pub trace_of : ℕ → List ℕ → Block → List ℤ → List (List ℤ) → Trace
 trace_of site left Nothing vars unread = no_steps (Ended vars unread)
 trace_of site left (GetThen x channel rest) vars unread =

@@ -3,11 +3,11 @@
 -- or schedule.
 use Rattle.std.specs.Prelude.{◌≡◌, ℕ, ◌+◌, ℤ, List, [], ◌∷◌, length, slice_index_or, take}
 
--- A history is a list of items, in order. This is the history of a channel, empty where there is no such channel.
+-- the history of a channel, a list of its items in order; it is empty where there is no such channel
 abbrev pub history_of : List (List ℤ) → ℕ → List ℤ
 history_of histories channel = slice_index_or histories channel []
 
--- part is a beginning of whole: it is as many of its first items
+-- `part` is as many of the first items of `whole`
 abbrev pub IsPrefix : List ℤ → List ℤ → Type 0
 IsPrefix part whole = part ≡ take (length part) whole
 

@@ -10,19 +10,20 @@ use Rattle.kahn_net.specs.declared.program.Process.{Process}
 use Rattle.kahn_net.specs.declared.program.Channel.{Channel}
 use Rattle.kahn_net.specs.declared.program.Program.{Program}
 
--- an expression, and the links of a chain, each with those after it
 mutual
+  -- an expression
   pub data Tree : Type 0 where
     Number : (value : ℤ) → Tree
     Name : (variable : ℕ) → Tree
     Minus : (value : Tree) → Tree
     Chain : (first : Tree) (links : Links) → Tree
 
+  -- the links of a chain of operators, each with those after it
   pub data Links : Type 0 where
     NoLinks : Links
     LinkThen : (operator : Operator) (value : Tree) (rest : Links) → Links
 
--- statements, each with those after it
+-- statements in a row: each one with those after it
 pub data Block : Type 0 where
   Nothing : Block
   GetThen : (variable channel : ℕ) (rest : Block) → Block
@@ -32,14 +33,14 @@ pub data Block : Type 0 where
   IfThen : (test : Tree) (first second rest : Block) → Block
   RepeatThen : (times : ℕ) (body rest : Block) → Block
 
--- a process: its node, its variables' first values, its prelude and the body of its loop
+-- the code of a process: its node, the first values of its variables, its prelude and the body of its loop
 pub record Code : Type 0 where
   pub node : ℕ
   pub vars : List ℤ
   pub prelude : Block
   pub body : Option Block
 
--- channels, by what stands at their ends, and processes
+-- a network as data without pointers: its channels, by what stands at their two ends, and the code of its processes
 pub record Network : Type 0 where
   pub channels : List Channel
   pub codes : List Code
@@ -84,5 +85,6 @@ abbrev pub code_of : Process → Code
 code_of p =
     record { node = p.node; vars = p.variables.items; prelude = block_of p.prelude.items; body = body_of p.body }
 
+-- the network of a `Program`, without the pointers of its boxes and vectors
 abbrev pub network_of : Program → Network
 network_of n = record { channels = n.channels.items; codes = map code_of n.processes.items }

@@ -116,7 +116,7 @@ code_gets channel code = block_gets channel code.prelude || body_gets channel co
 abbrev pub code_puts : ℕ → Code → Bool
 code_puts channel code = block_puts channel code.prelude || body_puts channel code.body
 
--- a process of a network with so many channels
+-- a process keeps the rules of processes, in a network with so many channels
 pub record IsValidCode (channels : ℕ) (code : Code) : Type 0 where
   pub node : code.node < MAX_NODES
   pub variables : length code.vars ≤ MAX_VARIABLES
@@ -126,6 +126,7 @@ pub record IsValidCode (channels : ℕ) (code : Code) : Type 0 where
   pub repeats : IsTrue (code_repeats_within code)
   pub passes : (body : Block) → code.body ≡ Some body → IsTrue (is_passing body)
 
+-- a network keeps the rules of networks, a field each
 pub record IsValid (net : Network) : Type 0 where
   pub channel_count : length net.channels ≤ MAX_CHANNELS
   pub process_count : length net.codes ≤ MAX_PROCESSES

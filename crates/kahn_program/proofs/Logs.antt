@@ -8,18 +8,20 @@ use Rattle.fail_script.specs.Lines.{IsScript}
 use Rattle.fail_script.specs.declared.act.ScriptLine.{ScriptLine}
 use Rattle.host.specs.Requests.{Request}
 use Rattle.run_files.specs.Rules.{GoesOn, WasReadIf}
+use Rattle.run_files.proofs.Left.{left_by_goes}
 use Rattle.run_files.specs.Wanted.{Wanted}
 use Rattle.kahn_program.specs.Program.{IsAccepted, Keeps}
 use Rattle.kahn_program.specs.Scripts.{AreLinesOf}
 
 pub keeps_goes : (o : Wanted) (a b : List Request) → GoesOn IsAccepted o a b → Keeps o a b
-keeps_goes o a b goes = record { rules = goes.rules; later = goes.later; free = goes.free }
+keeps_goes o a b goes = record { rules = goes.rules; later = goes.later; free = goes.free; cleared = left_by_goes _ _ a b goes }
 
 pub keeps_then : (o : Wanted) (a b c : List Request) → Keeps o a b → Keeps o b c → Keeps o a c
 keeps_then o a b c first second = record {
   rules = λ h. second.rules (first.rules h);
   later = λ r h. second.later r (first.later r h);
   free = λ h. second.free (first.free h);
+  cleared = λ path left. first.cleared path (second.cleared path left);
 }
 
 pub keeps_as : (o p : Wanted) (a b : List Request) → o ≡ p → Keeps o a b → Keeps p a b

@@ -1,5 +1,5 @@
 -- The report of a run in other words.
-use Rattle.std.proofs.Common.{◌≡◌, inl, inr, ◌∙◌, sym, ap, subst, refl, ℕ, ℤ, List, [], ◌∷◌, ◌++◌, Option, Some, None, Ok, Err, Result, Bool, true, false, map, string_bytes}
+use Rattle.std.proofs.Common.{◌≡◌, inl, inr, ◌∙◌, sym, ap, subst, refl, ℕ, ℤ, List, [], ◌++◌, Option, Some, None, Ok, Err, Result, Bool, true, false, map, string_bytes}
 use Rattle.std.specs.Prelude.{IfOk, is_some}
 use Rattle.std.specs.Option.{option_map}
 use Rattle.std.specs.Io.KnownBytes.{Appends}
@@ -7,24 +7,16 @@ use Rattle.std.specs.declared.alloc.Global.{Global}
 use Rattle.std.specs.declared.string.String.{String}
 use Rattle.std.proofs.Math.Logic.{∥∥₁_map}
 use Rattle.fail_script.specs.declared.act.ScriptLine.{ScriptLine}
-use Rattle.host.specs.Requests.{Request, Has, Later, Opened, Used}
+use Rattle.host.specs.Requests.{Request, Later}
 use Rattle.protocol.specs.Node.Common.{Net, network_of, node_count}
 use Rattle.replay.specs.declared.kept.ScriptedEvent.{ScriptedEvent}
+use Rattle.cobaltmidge.proofs.InFolder.{all_kept_later}
 use Rattle.cobaltmidge.specs.Scripts.{scripted_of}
 use Rattle.cobaltmidge.specs.Texts.{IsNetOf, AreInputsOf}
 use Rattle.run_files.specs.Rules.{Given, WereRead}
 use Rattle.run_files.specs.Wanted.{Wanted}
-use Rattle.kahn_program.specs.Program.{AreKept, AreKeptIn, HasReport, IsAccepted, IsWrittenIfAsked, asked_by, asked_files, file_names}
-use Rattle.kahn_program.specs.KeptFiles.{AreInFiles}
-use Rattle.host.specs.declared.line_file.LineFile.{Ghosts as FileWords}
-use Rattle.output_file.specs.InFile.{IsInFile}
-use Rattle.output_file.specs.Output.{asked_of, held_of, items_of}
-use Rattle.output_file.specs.declared.resumed.ResumedOutlet.{ResumedOutlet}
-use Rattle.run_files.specs.Keeping.{IsKept}
-use Rattle.run_files.specs.Opening.{AreOpened, AreUsed, opened_names, paths_in}
-use Rattle.run_files.specs.Syncing.{AreSyncedIf}
-use Rattle.run_files.specs.declared.held_file.OpenedName.{OpenedName}
-use Rattle.run_files.proofs.Going.{read_later, synced_later}
+use Rattle.kahn_program.specs.Program.{AreKept, HasReport, IsAccepted, IsWrittenIfAsked, asked_by, asked_files, file_names}
+use Rattle.run_files.proofs.Going.{read_later}
 use Rattle.kahn_program.specs.Runs.{IsApproximated, IsReport, IsReportBy, IsWrittenIf}
 use Rattle.kahn_program.specs.Scripts.{AreLinesOf}
 use Rattle.kahn_program.specs.Statuses.{status_of_run}
@@ -55,65 +47,6 @@ pub written_later : (path : Option (List ℕ)) (a b : List Request) → Later a 
 written_later None a b later text h = tt
 written_later (Some path) a b later text (inl h) = inl (h.0, later _ h.1, later _ h.2, later _ h.3)
 written_later (Some path) a b later text (inr h) = inr (later _ h.0, later _ h.1)
-
-kept_later : (sync : Bool) (folder name : List ℕ) (stream : List ℤ) (a b : List Request) → Later a b → IsKept sync folder name stream a
-    → IsKept sync folder name stream b
-kept_later sync folder name stream a b later is = record {
-  bytes = is.bytes;
-  opened = later _ is.opened;
-  asked = is.asked;
-  used = later _ is.used;
-  held = is.held;
-  items = is.items;
-  content = is.content;
-  no_more = is.no_more;
-}
-
-kept_in_later : (sync : Bool) (folder : List ℕ) (names : List (List ℕ)) (a b : List Request) → Later a b → (streams : List (List ℤ))
-    → AreKeptIn sync folder names a streams → AreKeptIn sync folder names b streams
-kept_in_later sync folder names a b later [] are = tt
-kept_in_later sync folder [] a b later (stream ∷ streams) are = are
-kept_in_later sync folder (name ∷ names) a b later (stream ∷ streams) are =
-    (kept_later sync folder name stream a b later are.0, kept_in_later sync folder names a b later streams are.1)
-
-all_kept_later : (sync : Bool) (state : Option (List ℕ)) (names : List (List ℕ)) (a b : List Request) → Later a b
-    → (streams : List (List ℤ)) → AreKept sync state names a streams → AreKept sync state names b streams
-all_kept_later sync None names a b later streams are = tt
-all_kept_later sync (Some folder) names a b later streams are =
-    (kept_in_later sync folder names a b later streams are.0, synced_later sync (paths_in folder names ++ folder ∷ []) a b later are.1)
-
-module _ {F : Type 0} {file : FileWords F} where
-  kept_one : (sync : Bool) (folder : List ℕ) (one : OpenedName) (outlet : ResumedOutlet F file) (stream : List ℤ) (e : List Request)
-      → Has (Opened folder (string_bytes one.name) sync (Ok one.bytes.value.items)) e
-      → Has (Used (string_bytes one.name) (asked_of outlet)) e → IsInFile stream outlet → IsKept sync folder (string_bytes one.name) stream e
-  kept_one sync folder one outlet stream e opened used is = record {
-    bytes = one.bytes.value.items;
-    opened = opened;
-    asked = asked_of outlet;
-    used = used;
-    held = held_of outlet;
-    items = items_of outlet;
-    content = is.content;
-    no_more = is.no_more;
-  }
-
-  -- streams that are in files that were opened and given back are kept
-  pub kept_in : (sync : Bool) (folder : List ℕ) (opened : List OpenedName) (outlets : List (ResumedOutlet F file)) (e : List Request)
-      → AreOpened sync folder opened e → AreUsed opened outlets e → (streams : List (List ℤ)) → AreInFiles outlets streams
-      → AreKeptIn sync folder (opened_names opened) e streams
-  kept_in sync folder opened outlets e were used [] are = tt
-  kept_in sync folder opened [] e were used (stream ∷ streams) are = absurd are
-  kept_in sync folder [] (outlet ∷ outlets) e were used (stream ∷ streams) are = absurd used
-  kept_in sync folder (one ∷ opened) (outlet ∷ outlets) e were used (stream ∷ streams) are =
-      (kept_one sync folder one outlet stream e were.0 used.0 are.0, kept_in sync folder opened outlets e were.1 used.1 streams are.1)
-
--- the same by names that are others' in other words
-pub kept_as : (sync : Bool) (folder : List ℕ) (names others : List (List ℕ)) (a b : List Request) → names ≡ others → Later a b
-    → AreSyncedIf sync (paths_in folder others ++ folder ∷ []) b → (streams : List (List ℤ)) → AreKeptIn sync folder names a streams
-    → AreKept sync (Some folder) others b streams
-kept_as sync folder names others a b same later synced streams are =
-    let P : List (List ℕ) → Type 0 = λ ns. AreKeptIn sync folder ns b streams in
-    (subst P same (kept_in_later sync folder names a b later streams are), synced)
 
 -- what is kept in the folder that is asked for
 pub kept_asked : (sync : Bool) (state : Option (List ℕ)) (folder : List ℕ) (names : List (List ℕ)) (e : List Request)

@@ -3,6 +3,7 @@ use Rattle.std.specs.Prelude.{is_some, not}
 use Rattle.cobaltmidge.specs.declared.settings.Settings.{Settings}
 use Rattle.kahn_program.specs.declared.asked.Options.{Options}
 
+-- how a run goes, by what the command line asks for
 abbrev pub settings_of : Options → Settings
 settings_of options = record {
   rounds = options.rounds;

@@ -25,11 +25,11 @@ failure_text InUse = codes "state: in use"
 failure_text Unwritten = codes "history: cannot be written"
 failure_text (Other number) = codes "refusal " ++ decimal number
 
--- and the line feed behind it
+-- the line of a failure, with the line feed behind it
 abbrev pub failure_line : Failure → List ℕ
 failure_line failure = failure_text failure ++ 10 ∷ []
 
--- 2 for a text that is refused, 1 for all else
+-- the status of a failure: 2 for a text that is refused, 1 for all else
 abbrev pub status_of : Failure → ℕ
 status_of (Line source line number) = 2
 status_of (Whole source number) = 2

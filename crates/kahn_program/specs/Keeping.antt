@@ -1,13 +1,9 @@
 -- Where the items of a run's outputs go, beside its report.
-use Rattle.std.specs.Prelude.{◌≡◌, ℕ, ℤ, Bool, true, List, map}
-use Rattle.station.specs.declared.output.Output.{Output}
+use Rattle.std.specs.Prelude.{◌≡◌, ℕ, Bool, true}
 use Rattle.kahn_program.specs.declared.failure.Failure.{Failure}
 use Rattle.kahn_program.specs.declared.failure.Failure.TheVariants.{Line, Whole, NotText, Unreadable, Approximation}
 use Rattle.kahn_program.specs.declared.failure.Failure.TheVariants.{NoMemory, State, InUse, Unwritten, Other}
-
--- what the outlets of these outputs took
-abbrev pub taken_streams : {O : Type 0} → (O → List ℤ) → List (Output O) → List (List ℤ)
-taken_streams {O} taken outputs = map (λ (output : Output O). taken output.outlet) outputs
+pub use Rattle.cobaltmidge.specs.KeptOutlets.{taken_streams}
 
 -- Memory is missing; or, where what outlets take outlasts the run, one of them failed.
 abbrev pub IsKeeperFailure : Bool → Failure → Type 0

@@ -141,7 +141,7 @@ pub data IsRunFailure : Bool → Options → Option (List ℕ) → Option (List 
       → IsReportFailure keeps options (network_of net.program) inputs script_bytes failure
       → IsRunFailure keeps options net_bytes input_bytes script_bytes failure
 
--- the line of such a failure was written; its status is this one
+-- the line of a failure by which a run ends without a report was written, and its status is this one
 abbrev pub HasTold : Bool → Options → Option (List ℕ) → Option (List ℕ) → Option (List ℕ) → Option (List ℕ)
     → Option (List ℕ) → ℕ → Type 0
 HasTold keeps options net_bytes input_bytes script_bytes before after status =

@@ -44,5 +44,6 @@ output_lines (channel ∷ channels) [] streams = []
 output_lines (channel ∷ channels) (name ∷ names) streams =
     line_if_output channel.consumer name streams (output_lines channels names)
 
+-- the text of a report: a line for each output, then `complete` or `partial`
 abbrev pub report_text : List Channel → List NameTree → List (List ℤ) → Bool → List ℕ
 report_text channels names streams complete = output_lines channels names streams ++ verdict complete

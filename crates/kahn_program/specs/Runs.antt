@@ -33,7 +33,8 @@ run_text net cut released complete =
     report_text net.program.channels.items net.channel_names.items (map (first_items cut) released)
     (is_whole cut complete)
 
--- this is told of a world, cut at so many items where each output has them
+-- this text, which says whether the run is complete, is what a report tells of a world, cut at so many items where
+-- each output has them
 abbrev pub IsToldOf : Net → Option ℕ → WorldView → List ℕ → Bool → Type 0
 IsToldOf net items now text told =
     (told ≡ is_whole (cut_at items (released_streams (network_of net.program) now.stations)) (are_quiet now))
@@ -85,8 +86,8 @@ abbrev pub IsReportOf : (List (List ℤ) → Type 0) → (List ℕ → Type 0) �
 IsReportOf kept wrote options net inputs script_bytes text told =
     IsReportBy options.approx kept wrote options net inputs script_bytes text told
 
--- The same of the network that a reader with these bytes describes, on the inputs that another gives, where the bytes
--- are known.
+-- A text is the report of a run of the network that a reader with these bytes describes, on the inputs that another
+-- gives, where the bytes are known.
 abbrev pub IsReported : (List (List ℤ) → Type 0) → (List ℕ → Type 0) → Options → Option (List ℕ) → Option (List ℕ) → Option (List ℕ) → List ℕ → Bool
     → Type 0
 IsReported kept wrote options net_bytes input_bytes script_bytes text told =
@@ -94,7 +95,7 @@ IsReported kept wrote options net_bytes input_bytes script_bytes text told =
     × IfSome input_bytes (λ bytes. AreInputsOf bytes net inputs)
     × IsReportOf kept wrote options net inputs script_bytes text told) ∥₁
 
--- and such a text was written
+-- the report of such a run was written behind what was written before
 abbrev pub HasWritten : (List (List ℤ) → Type 0) → (List ℕ → Type 0) → Options → Option (List ℕ) → Option (List ℕ) → Option (List ℕ)
     → Option (List ℕ) → Option (List ℕ) → Bool → Type 0
 HasWritten kept wrote options net_bytes input_bytes script_bytes before after told =

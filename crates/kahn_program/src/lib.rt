@@ -16,14 +16,14 @@ mod running;
 mod words;
 
 pub use asked::{MAX_APPROXIMATION, MAX_ITEMS, MAX_ROUNDS, Options};
-pub use cobaltmidge::{DEFAULT_ROUNDS, NoWatch, RunWatch, TurnWatch};
+pub use cobaltmidge::{Accepted, DEFAULT_ROUNDS, NoWatch, RunWatch, TurnWatch};
 pub use explaining::{ending, explanation};
 pub use failure::{Failure, Source};
 pub use keeper::{InMemory, Keeper};
 pub use kept_files::{FILE_FAILED, FileKeeper, ITEM_DIFFERS, OTHER_STATE};
 pub use printing::{print_failure, print_report};
-pub use program::{Accepted, main_of};
+pub use program::main_of;
 pub use reading::{read_inputs, read_net, read_script};
-pub use reporting::{Stream, count_outputs, report};
+pub use reporting::{Stream, report};
 pub use running::run;
 pub use words::{not_text, options};

@@ -1,12 +1,12 @@
 //! The whole program over its host.
 
-ghost use Rattle.std.specs.Prelude.{Bool, ◌≡◌, ◌⊎◌, ◌++◌, ◌≤◌, [], IfErr, IfOk, OnOk, Ok, Err, Some, codes, length, map, string_bytes};
+ghost use Rattle.std.specs.Prelude.{Bool, ◌≡◌, ◌⊎◌, ◌≤◌, IfErr, IfOk, OnOk, Ok, Err, Some, map, string_bytes};
 ghost use Rattle.std.specs.Option.{option_map};
 ghost use Rattle.host.specs.Requests.{Each, Has, IsFree, Read, Said, Told};
 ghost use Rattle.protocol.specs.Node.Common.{Fits, MAX_NODES, network_of, node_count};
 ghost use Rattle.cobaltmidge.specs.Texts.{AreInputsOf, IsNetOf};
 ghost use Rattle.fail_script.specs.Lines.{IsScript};
-ghost use Rattle.kahn_program.specs.Program.{IsAccepted, IsOpenIfAsked, IsWrittenIfAsked, Keeps, asked_files, file_names, given_of, name_if_output, AreKept, AreKeptIn, HasReport, IsDone};
+ghost use Rattle.kahn_program.specs.Program.{IsAccepted, IsOpenIfAsked, IsWrittenIfAsked, Keeps, asked_files, file_names, given_of, made_for, AreKept, AreKeptIn, HasReport, IsDone};
 ghost use Rattle.kahn_program.specs.Causes.{HasCause, HasFailed, HasFileFault, IsRefused, IsScriptStop, IsStopped, IsToldOf, IsUnread, in_memory};
 ghost use Rattle.kahn_program.specs.Failures.{failure_line, status_of};
 ghost use Rattle.kahn_program.specs.Readings.{IsInputsFailure, IsNetFailure, IsScriptFailure};
@@ -14,8 +14,9 @@ ghost use Rattle.kahn_program.specs.Runs.{IsReport};
 ghost use Rattle.kahn_program.specs.Scripts.{AreLinesOf};
 ghost use Rattle.kahn_program.specs.Statuses.{status_of_run};
 ghost use Rattle.cobaltmidge.specs.Scripts.{scripted_of};
+ghost use Rattle.run_files.specs.Leftovers.{AreGone, LeavesNothing};
 ghost use Rattle.run_files.specs.Opening.{AreOpened, opened_names};
-ghost use Rattle.run_files.specs.Rules.{GoesOn, IsReady, WasReadIf, WereRead, rule};
+ghost use Rattle.run_files.specs.Rules.{GoesOn, GoesWith, IsReady, WasReadIf, WereRead, rule};
 ghost use Rattle.run_files.specs.Wanted.{wanted_of};
 ghost use Rattle.host.specs.declared.fault.HostFault.{HostFault};
 
@@ -27,16 +28,14 @@ use crate::keeper::{InMemory, Keeper};
 use crate::kept_files::{ASTRAY, FILE_FAILED, FileKeeper, OTHER_STATE};
 use crate::network_run::report_of_run;
 use crate::reading::{read_inputs, read_net, read_script};
-use cobaltmidge::{RunWatch, TurnWatch, events_of};
+use cobaltmidge::{Accepted, RunWatch, TurnWatch, events_of, file_names};
 use fail_script::{Script, ScriptLine};
 use host::{Host, HostFault};
-use kahn_net::{Channel, Port};
 use net_check::{Inputs, Net};
-use net_text::Name;
 use outlet::{ListOutlet, Outlet};
 use output_file::ResumedOutlet;
 use run_files::{
-    FilesFault, FolderTexts, HeldFile, HistoryFile, Judge, Names, OpenFolder, OpenedName, Refused,
+    FilesFault, FolderTexts, HeldFile, HistoryFile, Names, OpenFolder, OpenedName, Refused,
     drop_history, finish_history, give_back, let_go, open_folder, open_history, read, say, tell,
     tell_apart,
 };
@@ -44,16 +43,6 @@ use std::alloc::{AllocError, Global};
 use std::sync::Wait;
 use std::thread::Threads;
 use world::node_count;
-
-/// What the program accepts: the text of a network, that of its inputs, and where a script is asked for that of a script for its nodes.
-#[derive(Drop)]
-pub struct Accepted;
-
-impl Judge for Accepted {
-    ghost use Rattle.kahn_program.specs.Program.{IsAccepted};
-
-    ghost accepts = { IsAccepted };
-}
 
 /// Why the program ends without a report, and what there is to say of it besides.
 #[derive(Drop)]
@@ -349,59 +338,6 @@ fn read_all<H: Host>(
     })
 }
 
-// The name of the file of an output. Neither the texts' files nor the lock's have such a name.
-fn file_name(alloc: Global, output: &str) -> Result<String, AllocError>
-    ensures { IfOk result (λ name. string_bytes name ≡ output.now ++ codes ".items") }
-{
-    let mut name = String::from_str(alloc, output)?;
-    name.push_str(".items")?;
-    Ok(name)
-}
-
-// Adds the name of a channel's file, if it is an output.
-fn add_name(
-    alloc: Global,
-    names: &mut Vec<String>,
-    channel: &Channel,
-    name: &Name,
-) -> Result<(), AllocError>
-    ensures { OnOk result (map string_bytes names.new.items
-        ≡ map string_bytes names.old.items ++ name_if_output channel.now.consumer name.now []) }
-{
-    if let Port::Outside = channel.consumer {
-        names.push(file_name(alloc, name.as_str())?)?;
-    }
-    Ok(())
-}
-
-// The names of the files of a network's outputs, in order of the channels.
-fn file_names(alloc: Global, net: &Net) -> Result<Vec<String>, AllocError>
-    ensures { IfOk result (λ names. map string_bytes names.items
-        ≡ file_names net.now.program.channels.items net.now.channel_names.items) }
-{
-    names_of_files(
-        alloc,
-        net.program.channels.as_slice(),
-        net.channel_names.as_slice(),
-    )
-}
-
-// Those of these channels with these names.
-fn names_of_files(
-    alloc: Global,
-    channels: &[Channel],
-    names: &[Name],
-) -> Result<Vec<String>, AllocError>
-    requires { length names.now ≡ length channels.now }
-    ensures { IfOk result (λ files. map string_bytes files.items ≡ file_names channels.now names.now) }
-{
-    let mut files = Vec::new(alloc);
-    for (number, channel) in channels.iter().enumerate() {
-        add_name(alloc, &mut files, channel, &names[number])?;
-    }
-    Ok(files)
-}
-
 /// What comes of a run or of an approximation.
 #[derive(Drop)]
 struct Report {
@@ -418,7 +354,8 @@ fn open_if_asked<H: Host>(
     names: &Names,
 ) -> Result<Option<HistoryFile<H::File>>, Stop>
     requires { IsReady IsAccepted (wanted_of names.now) (H.asked host.old) }
-    ensures goes { GoesOn IsAccepted (wanted_of names.now) (H.asked host.old) (H.asked host.new) }
+    ensures goes { IfOk result (λ history. GoesWith (made_for history) IsAccepted (wanted_of names.now) (H.asked host.old) (H.asked host.new)) }
+    ensures failed { IfErr result (λ stop. GoesOn IsAccepted (wanted_of names.now) (H.asked host.old) (H.asked host.new)) }
     ensures open { IfOk result (λ history. IsOpenIfAsked H.path_of (wanted_of names.now).history history (H.asked host.new)) }
     ensures cause { IfErr result (λ stop. IsStopped (λ number. ⊥) (wanted_of names.now) (H.asked host.new) stop.failure) }
 {
@@ -439,6 +376,7 @@ fn finish_if_asked<H: Host>(
     requires ready { IsReady IsAccepted (wanted_of names.now) (H.asked host.old) }
     requires open { IsOpenIfAsked H.path_of (wanted_of names.now).history history (H.asked host.old) }
     ensures goes { GoesOn IsAccepted (wanted_of names.now) (H.asked host.old) (H.asked host.new) }
+    ensures gone { AreGone (made_for history) (H.asked host.new) }
     ensures written { OnOk result (IsWrittenIfAsked (wanted_of names.now).history (H.asked host.new) happened.now.items) }
     ensures cause { IfErr result (λ stop. IsStopped (λ number. ⊥) (wanted_of names.now) (H.asked host.new) stop.failure) }
 {
@@ -460,7 +398,8 @@ fn finish_if_asked<H: Host>(
 // Takes away what was made for what happens, where nothing is written.
 fn drop_if_asked<H: Host>(host: &mut H, names: &Names, history: Option<HistoryFile<H::File>>)
     requires { IsOpenIfAsked H.path_of (wanted_of names.now).history history (H.asked host.old) }
-    ensures { GoesOn IsAccepted (wanted_of names.now) (H.asked host.old) (H.asked host.new) }
+    ensures goes { GoesOn IsAccepted (wanted_of names.now) (H.asked host.old) (H.asked host.new) }
+    ensures gone { AreGone (made_for history) (H.asked host.new) }
 {
     match history {
         Some(history) => drop_history::<H, Accepted>(host, names, history),
@@ -900,6 +839,8 @@ pub fn main_of<H: Host, P: RunWatch + TurnWatch + Sync, R: Threads + Wait + Sync
     // Each request keeps the rules, whatever the host answers.
     ensures rules { Each (rule IsAccepted (asked_files options.now)) (H.asked host.old)
         → Each (rule IsAccepted (asked_files options.now)) (H.asked host.new) }
+    // Nothing is left that it made: each file and folder got the name that is asked for, or the host was asked to take it away.
+    ensures cleared { LeavesNothing (H.asked host.old) (H.asked host.new) }
     // No lock is held at the end.
     ensures free { IsFree (H.asked host.new) }
     // Where the status is 0 or 3, what is said is the report that is asked for, of the texts that were read. Each output's stream is kept in

@@ -38,26 +38,6 @@ impl<'a> Stream<'a> {
     }
 }
 
-/// How many outputs these channels are.
-fn count(channels: &[Channel]) -> usize
-    ensures { result ≡ output_count channels.now }
-{
-    let mut outputs = 0;
-    for channel in channels {
-        if let Port::Outside = channel.consumer {
-            outputs += 1;
-        }
-    }
-    outputs
-}
-
-/// How many outputs a network has.
-pub fn count_outputs(net: &Net) -> usize
-    ensures { result ≡ output_count net.now.program.channels.items }
-{
-    count(&net.program.channels)
-}
-
 /// Writes each item after a space.
 fn write_items(text: &mut String, items: &[i64]) -> Result<(), AllocError>
     ensures { OnOk result (string_bytes text.new ≡ string_bytes text.old ++ items_text items.now) }

@@ -49,6 +49,7 @@ Refusals, as in `net line 4: refusal 14` on standard error:
   80  a folder of another network or of other inputs, or one that is damaged
   81  an item that differs from the one that the folder has
   82  a file of the folder that failed
+  83  a fault of this program: a file came back otherwise than it was opened
 
 Exit status:
    0  the report ends in `complete`
@@ -62,7 +63,7 @@ To run a network:
   kahnrun examples/running_sum.net examples/running_sum.inputs
 To break packets, nodes and disks meanwhile:
   kahnrun --script examples/two_nodes.script examples/two_nodes.net examples/two_nodes.inputs
-To keep what left, and go on with it after a kill:
+To keep what left, and add what is missing after a kill:
   kahnrun --state numbers --items 4 examples/kahn_1974.net examples/kahn_1974.inputs
 To see where and why a text is refused:
   kahnrun --explain NET INPUTS
@@ -169,7 +170,7 @@ fn command<'a>(alloc: Global) -> Result<Command<'a>, AllocError>
             alloc,
             "state",
             "FOLDER",
-            "Keeps what left in this folder, and goes on where an earlier run ended",
+            "Keeps what left in this folder; a later run computes again, compares, and adds what is missing",
         ))?
         .arg(flag(
             alloc,

@@ -38,7 +38,8 @@ pub record IsNamedIn (names : List NameTree) (lines : List InputTree) (c : ℕ) 
   pub here : slice_get lines i ≡ Some line
   pub reads : Reads names c line.name.text
 
--- the lists that the lines give to a network whose channels have these names, a list for each channel
+-- the items that the lines of a text give to the inputs of a network whose channels have these names, a list for each
+-- channel
 pub record Binds (names : List NameTree) (net : Network) (lines : List InputTree) (inputs : List (List ℤ)) : Type 0
   where
     pub count : length inputs ≡ length net.channels

@@ -91,7 +91,8 @@ pub record ResolvesProcess (channels : List NameTree) (process : ProcessTree) (c
   pub prelude : ResolvesBlock channels (variable_names process.variables) process.prelude code.prelude
   pub body : ResolvesLoop channels (variable_names process.variables) process.repeated code.body
 
--- a text, the names of its channels and processes, and the network that it is resolved to
+-- in the declarations of a text, the names of its channels and processes are replaced by their numbers, which gives
+-- this network
 pub record Resolves (text : List DeclarationTree) (channels processes : List NameTree) (net : Network) : Type 0 where
   pub channels_named : channels ≡ channel_names (channels_of text)
   pub processes_named : processes ≡ process_names (processes_of text)

@@ -346,7 +346,8 @@ IsText counts left declarations =
     IsWord keyword.Kahn
     >> (IsEdition counts left declarations First or IsEdition counts left declarations Second)
 
--- a text of this tree, in which no more may be open than the limit says
+-- a text is in the grammar of networks and has these declarations, with no more blocks, parentheses and minus signs
+-- open at once than the limit says
 pub record IsTextOf (declarations : List DeclarationTree) (text : List ℕ) : Type 0 where
   pub small : length text ≤ MAX_TEXT_BYTES
   pub tokens : List Lexeme

@@ -57,7 +57,7 @@ AreEntries number (line ∷ lines) es =
     ⊎ ((e : InputTree) × (others : List InputTree) × (es ≡ e ∷ others) × IsEntry number line e
     × AreEntries (suc number) lines others)
 
--- a text of these entries
+-- a text of inputs has these entries, line by line
 pub record IsInputsText (text : List ℕ) (es : List InputTree) : Type 0 where
   pub small : length text ≤ MAX_INPUTS_BYTES
   pub entries : AreEntries 1 (lines_of text) es

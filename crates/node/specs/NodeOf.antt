@@ -5,5 +5,6 @@ use Rattle.protocol.specs.Node.Common.{record_in, NodeView}
 use Rattle.node.specs.NodeView.{node_view}
 use Rattle.node.specs.declared.node.Node.{Node}
 
+-- a `Node` as data without pointers, with the record of its store
 abbrev pub view_of : {C : Type 0} {words : CellWords C} {slots : SlotWords C} → Node C slots words → NodeView
 view_of node = node_view (record_in node.store) node.state

@@ -7,7 +7,8 @@ use Rattle.protocol.specs.Node.Common.{next_record, room_for}
 use Rattle.node.specs.StoredView.{LeavesDevice, LeavesNext}
 use Rattle.protocol.specs.declared.outcome.Outcome.{Outcome}
 
--- The event comes out as its prospect says, at a node that was so and is so now, in this round.
+-- A call of a node that may put its record comes out as its event's prospect says, at a node that was so and is so
+-- now, in this round.
 pub record IsPutEvent {C : Type 0} {words : CellWords C} {slots : SlotWords C} (prospect : Prospect) (round : ℕ) (was now : NodeView)
     (old new : Store C slots words) {E : Type 0} (result : Result Outcome E) : Type 0 where
   -- what came of it; a node whose device failed comes back after the rounds that were armed with the call that failed

@@ -31,12 +31,12 @@ abbrev pub MayLeaveNext : {C : Type 0} {words : CellWords C} {slots : SlotWords 
 MayLeaveNext {slots = slots} next old left =
     slots.may_leave_whole (cell_in old) left ⊎ (Spells (record_in old) left ⊎ Spells next left)
 
--- and so it does at any moment between
+-- a crash at any moment of a call leaves what it might have left before, or this next record
 abbrev pub LeavesNext : {C : Type 0} {words : CellWords C} {slots : SlotWords C} → RecordView → Store C slots words → Store C slots words → Type 0
 LeavesNext {words = words} {slots = slots} next old new =
     LeavesOnly words.moment slots.left_since_whole (cell_in old) (cell_in new) (MayLeaveNext next old)
 
--- or nothing but that
+-- a crash at any moment of a call leaves only what it might have left before
 abbrev pub LeavesAsBefore : {C : Type 0} {words : CellWords C} {slots : SlotWords C} → Store C slots words → Store C slots words → Type 0
 LeavesAsBefore {words = words} {slots = slots} old new =
     LeavesOnly words.moment slots.left_since_whole (cell_in old) (cell_in new) (slots.may_leave_whole (cell_in old))

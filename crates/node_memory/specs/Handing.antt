@@ -5,7 +5,8 @@ use Rattle.outlet.specs.Faults.{failures_after}
 use Rattle.outlet.specs.declared.fault.OutletFault.{OutletFault}
 use Rattle.outlet.specs.declared.fault.OutletFault.TheVariants.{Failed, NoMemory}
 
--- What came of that, by what it has taken and how often it has failed, before and after.
+-- What came of handing an outlet the item that comes next, by what it has taken and how often it has failed, before
+-- and after.
 pub record IsHandedTo (log : Option LogState) (old new : List ℤ) (failures later : ℕ)
     (result : Result (Unit {0}) OutletFault) : Type 0 where
   -- it took the item

@@ -4,6 +4,7 @@ use Rattle.protocol.specs.Node.Common.{RunningView}
 use Rattle.node_memory.specs.JobView.{shared_view}
 use Rattle.node_memory.specs.declared.running.Running.{Running}
 
+-- what a node has in memory while it runs, of a `Running`, without pointers
 abbrev pub running_view : Running → RunningView
 running_view running = record {
   current = running.current;

@@ -9,7 +9,7 @@ use Rattle.std.specs.List.{AllByRecursion}
 abbrev pub item_line : ℤ → List ℕ
 item_line item = signed_decimal item ++ 10 ∷ []
 
--- the line of each item, one after another
+-- the lines of these items, one for each and one after another
 abbrev pub lines_of : List ℤ → List ℕ
 lines_of [] = []
 lines_of (item ∷ items) = item_line item ++ lines_of items

@@ -34,15 +34,15 @@ abbrev pub sent_in : Option LogState → ℕ
 sent_in None = 0
 sent_in (Some log) = log_end log
 
--- how many items were received from this channel: 0 where there is no such end
+-- how many items an image has received of a channel: 0 where it has no such end
 abbrev pub received_of : ImageView → ℕ → ℕ
 received_of image channel = received_at (end_of image channel)
 
--- the retained log of what was put on this channel
+-- the log in an image of what was put on a channel
 abbrev pub log_of : ImageView → ℕ → Option LogState
 log_of image channel = log_at (end_of image channel)
 
--- how many items were put on this channel: those before its log and those in it, and 0 where there is no such end
+-- how many items an image has put on a channel: those before its log and those in it, and 0 where it has no such end
 abbrev pub sent_of : ImageView → ℕ → ℕ
 sent_of image channel = sent_in (log_of image channel)
 

@@ -103,6 +103,8 @@ abbrev pub with_crash : ArmedCrash → ArmedView → ArmedView
 with_crash crash armed =
     record { world = armed.world; deliveries = armed.deliveries; crashes = armed.crashes ++ crash ∷ [] }
 
+-- a step of a world for which crashes are armed: an event, and behind a delivery for whose end a crash is armed, and
+-- in which no device failed, that crash; or one more crash is armed
 abbrev pub IsArmedStep : List (RecordView → Bool) → ArmedEvent → ArmedView → ReplyView → ArmedView → Type 0
 IsArmedStep fits (OfWorld event) old answer new = IsWorldStep fits event old answer new
 IsArmedStep fits (ArmCrash crash) old answer new = (answer ≡ reply.Acted) × (new ≡ with_crash crash old)

@@ -30,7 +30,7 @@ ReplaysStay = (fits : List (RecordView → Bool)) (script : List ScriptedEvent) 
     → ∥ (world.net ≡ opening.net) × (world.inputs ≡ opening.inputs)
     × (world.room ≡ room_after happened opening.room) ∥₁
 
--- a turn is taken in exactly where its job is the one that is out at its node, and else gone
+-- a turn is taken in exactly where its job is the one that is out at its node, and is else discarded
 abbrev pub InstallsAreTold : Type 0
 InstallsAreTold = (fits : List (RecordView → Bool)) (fit : RecordView → Bool) (done : DoneView) (old new : WorldView)
     (answer : ReplyView) (station : StationView) → slice_get fits (event_node (Install done)) ≡ Some fit
@@ -45,7 +45,7 @@ no_event (Made maker event answer ∷ rest) = false
 no_event (Silent reason ∷ rest) = no_event rest
 no_event (Widened ∷ rest) = false
 
--- what was said behind the last event holds still
+-- why no event was made, as a history says behind its last event, is still so in the world to which it leads
 abbrev pub SilencesStay : Type 0
 SilencesStay = (fits : List (RecordView → Bool)) (script : List ScriptedEvent) (opening : WorldView)
     (happened : List Happening) (passed : ℕ) (armed : ArmedView)

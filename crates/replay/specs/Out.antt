@@ -79,7 +79,7 @@ pub data IsOutBy (fits : List (RecordView → Bool)) (script : List ScriptedEven
 
 -- ---- the laws
 
--- Just those jobs are out that are so by the history, where none was at first.
+-- Just those jobs are out that are so by the history, where none was out in the world with which it begins.
 abbrev pub JobsAreTold : Type 0
 JobsAreTold = (fits : List (RecordView → Bool)) (script : List ScriptedEvent) (opening : WorldView)
     (happened : List Happening) (passed : ℕ) (armed : ArmedView)
@@ -88,7 +88,7 @@ JobsAreTold = (fits : List (RecordView → Bool)) (script : List ScriptedEvent) 
     → (IsOutAt armed.world node job → IsOutBy fits script opening node job happened passed armed)
     × (IsOutBy fits script opening node job happened passed armed → IsOutAt armed.world node job)
 
--- So what comes back of a job is taken in exactly where the job is out by the history, and else gone.
+-- What comes back of a job is taken in exactly where the job is out by the history, and is else discarded.
 abbrev pub InstallsFollowGrants : Type 0
 InstallsFollowGrants = (fits : List (RecordView → Bool)) (script : List ScriptedEvent) (opening : WorldView)
     (happened : List Happening) (passed : ℕ) (old : ArmedView) (done : DoneView) (answer : ReplyView) (new : ArmedView)

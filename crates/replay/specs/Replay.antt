@@ -67,6 +67,8 @@ has_idled world node = idled_at world.round (slice_get world.stations node)
 abbrev pub IsIdle : EventView → Type 0
 IsIdle event = (node : ℕ) × (event ≡ ByNode node deed.Idle)
 
+-- Why no event was made: the node could only let its turn pass, and has done so in this round; or the next line of
+-- the script isn't due; or there is none.
 abbrev pub IsSilence : List ScriptedEvent → Silence → ℕ → WorldView → Type 0
 IsSilence script (Nothing k) passed world = (has_idled world k ≡ true) × IsIdle (choice world k)
 IsSilence script NotYet passed world =
@@ -110,7 +112,8 @@ pub data IsReplay (fits : List (RecordView → Bool)) (script : List ScriptedEve
       → all ≡ before ++ next ∷ [] → after ≡ passed_after next passed
       → IsReplay fits script opening all after new
 
--- the same, however many lines were passed and whatever is armed
+-- what happened, in order, leads from one world to another, however many lines of the script were passed and whatever
+-- is armed
 abbrev pub LeadsTo : List (RecordView → Bool) → List ScriptedEvent → WorldView → List Happening → WorldView → Type 0
 LeadsTo fits script opening happened world =
     ∥ ((passed : ℕ) × (armed : ArmedView) × IsReplay fits script opening happened passed armed

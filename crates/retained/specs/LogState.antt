@@ -5,12 +5,12 @@ use Rattle.std.specs.Option.{option_to_list}
 use Rattle.kahn_net.specs.declared.limits.TheConstants.{MAX_COUNT}
 use Rattle.retained.specs.declared.log.TheConstants.{MAX_LOG_ITEMS}
 
--- the items from the position `base` on
+-- the log of a channel: the items from the position `base` on
 pub record LogState : Type 0 where
   pub base : ℕ
   pub items : List ℤ
 
--- the position behind the last item
+-- the position behind the last item of a log
 abbrev pub log_end : LogState → ℕ
 log_end log = log.base + length log.items
 
@@ -52,7 +52,7 @@ trimmed log position = record { base = position; items = drop (position - log.ba
 abbrev pub cut_at : LogState → ℕ → LogState
 cut_at log position = record { base = log.base; items = take (position - log.base) log.items }
 
--- the log holds this history from the log's base on
+-- a log holds this history from the log's base on
 pub record IsLogOf (log : LogState) (history : List ℤ) : Type 0 where
   pub count : length history ≡ log_end log
   pub items : log.items ≡ drop log.base history

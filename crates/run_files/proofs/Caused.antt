@@ -1,13 +1,17 @@
 -- Causes of refusals, which stay so.
-use Rattle.std.proofs.Common.{◌≡◌, ◌≢◌, inl, inr, ap, ◌∙◌, subst, sym, ℕ, Bool, List, ◌∷◌, ◌++◌, Result, Some, Ok, Err, refl}
+use Rattle.std.proofs.lemmas.Bool.Decides.{eqb_tells}
+use Rattle.std.specs.Fmt.{decimal}
+use Rattle.std.proofs.Common.{◌≡◌, ◌≢◌, ◌+◌, ◌<◌, ◌≤◌, zero, suc, arith, codes, inl, inr, ap, ◌∙◌, subst, sym, ℕ, Bool, List, ◌∷◌, ◌++◌, Result, Some, Ok, Err, refl}
 use Rattle.std.specs.Prelude.{IfErr}
 use Rattle.host.specs.Requests.{Request, Has, Later}
 use Rattle.host.specs.declared.fault.HostFault.{HostFault}
 use Rattle.host.specs.declared.fault.HostFault.TheVariants as host
-use Rattle.host.specs.Requests.{Locked, MadeFile, Opened, Read, Wrote}
+use Rattle.host.specs.Requests.{Locked, MadeFile, MadeFolder, Opened, Read, Wrote}
 use Rattle.run_files.specs.Making.{IsNotMade}
 use Rattle.run_files.specs.Causes.{HasSuch, IsCaused, IsOther, IsTextOf, IsUnreadable, no_folder, taken, other_text, no_text, no_lines, bad_line}
-use Rattle.run_files.specs.Causes.{IsUndone, IsUnwritable, IsUnwritten, is_text, in_folder, is_folder, undone}
+use Rattle.run_files.specs.Causes.{AreFilesTaken, AreFoldersTaken, IsUndone, IsUnwritable, IsUnwritten, is_text, in_folder, is_folder, undone, all_taken}
+use Rattle.run_files.specs.Causes.{tried_name}
+use Rattle.run_files.specs.declared.happened.TheConstants.{LAST_NAME}
 use Rattle.run_files.specs.Faults.{of_missing, or_memory}
 use Rattle.run_files.specs.Wanted.{Wanted}
 use Rattle.run_files.specs.declared.fault.FilesFault.{FilesFault}
@@ -32,12 +36,14 @@ module _ (o : Wanted) (a b : List Request) (later : Later a b) where
       in_folder folder place at is (later _ there) (later _ own) within
   unwritable_later name (is_folder has) = is_folder (later _ has)
   unwritable_later name (undone has) = undone (such_later (IsUnwritten name) has)
+  unwritable_later name (all_taken are) = all_taken (are.0, λ nth within. later _ (are.1 nth within))
 
   pub caused_later : (fault : FilesFault) → IsCaused o a fault → IsCaused o b fault
   caused_later NoMemory is = tt
   caused_later InUse is = (is.0, is.1, later _ is.2)
   caused_later OtherState is = (is.0, is.1, other_later is.0 is.2)
-  caused_later Failed is = such_later (IsUndone o) is
+  caused_later Failed (inl is) = inl (such_later (IsUndone o) is)
+  caused_later Failed (inr are) = inr (are.0, λ nth within. later _ (are.1 nth within))
   caused_later Unwritten is = (is.0, is.1, unwritable_later is.0 is.2)
   caused_later Astray is = tt
 
@@ -45,12 +51,12 @@ module _ (o : Wanted) (e : List Request) where
   -- a refusal since the host didn't do something, unless memory is missing
   by_undone : (fault : HostFault) (r : Request) → Has r e → (fault ≢ host.NoMemory → IsUndone o r) → IsCaused o e (or_memory Failed fault)
   by_undone host.NoMemory r has is = tt
-  by_undone host.NotThere r has is = (r, has, is (λ same. absurd (cc)))
-  by_undone host.IsThere r has is = (r, has, is (λ same. absurd (cc)))
-  by_undone host.InUse r has is = (r, has, is (λ same. absurd (cc)))
-  by_undone host.NotEmpty r has is = (r, has, is (λ same. absurd (cc)))
-  by_undone host.NoFolder r has is = (r, has, is (λ same. absurd (cc)))
-  by_undone host.Other r has is = (r, has, is (λ same. absurd (cc)))
+  by_undone host.NotThere r has is = inl (r, has, is (λ same. absurd (cc)))
+  by_undone host.IsThere r has is = inl (r, has, is (λ same. absurd (cc)))
+  by_undone host.InUse r has is = inl (r, has, is (λ same. absurd (cc)))
+  by_undone host.NotEmpty r has is = inl (r, has, is (λ same. absurd (cc)))
+  by_undone host.NoFolder r has is = inl (r, has, is (λ same. absurd (cc)))
+  by_undone host.Other r has is = inl (r, has, is (λ same. absurd (cc)))
 
   pub failed_by : (told : FilesFault) (fault : HostFault) (r : Request) → told ≡ or_memory Failed fault → Has r e → IsUndone o r
       → IsCaused o e told
@@ -79,11 +85,11 @@ module _ (o : Wanted) (e : List Request) where
       → Has (Read (folder ++ tail) (Err fault)) e → IsCaused o e (or_memory (of_missing fault) fault)
   by_missing folder tail path host.NoMemory wanted of_run has = tt
   by_missing folder tail path host.NotThere wanted of_run has = (folder, wanted, no_text tail path of_run has)
-  by_missing folder tail path host.IsThere wanted of_run has = (Read (folder ++ tail) (Err host.IsThere), has, λ same. absurd (cc))
-  by_missing folder tail path host.InUse wanted of_run has = (Read (folder ++ tail) (Err host.InUse), has, λ same. absurd (cc))
-  by_missing folder tail path host.NotEmpty wanted of_run has = (Read (folder ++ tail) (Err host.NotEmpty), has, λ same. absurd (cc))
-  by_missing folder tail path host.NoFolder wanted of_run has = (Read (folder ++ tail) (Err host.NoFolder), has, λ same. absurd (cc))
-  by_missing folder tail path host.Other wanted of_run has = (Read (folder ++ tail) (Err host.Other), has, λ same. absurd (cc))
+  by_missing folder tail path host.IsThere wanted of_run has = inl (Read (folder ++ tail) (Err host.IsThere), has, λ same. absurd (cc))
+  by_missing folder tail path host.InUse wanted of_run has = inl (Read (folder ++ tail) (Err host.InUse), has, λ same. absurd (cc))
+  by_missing folder tail path host.NotEmpty wanted of_run has = inl (Read (folder ++ tail) (Err host.NotEmpty), has, λ same. absurd (cc))
+  by_missing folder tail path host.NoFolder wanted of_run has = inl (Read (folder ++ tail) (Err host.NoFolder), has, λ same. absurd (cc))
+  by_missing folder tail path host.Other wanted of_run has = inl (Read (folder ++ tail) (Err host.Other), has, λ same. absurd (cc))
 
   pub missing_by : (folder tail path name : List ℕ) (told refusal : FilesFault) (fault : HostFault) → told ≡ or_memory refusal fault
       → refusal ≡ of_missing fault → o.state ≡ Some folder → IsTextOf o tail path → name ≡ folder ++ tail → Has (Read name (Err fault)) e
@@ -97,11 +103,11 @@ module _ (o : Wanted) (e : List Request) where
       → Has (Opened folder name waits (Err fault)) e → IsCaused o e (or_memory (of_missing fault) fault)
   by_unopened folder name waits host.NoMemory wanted has = tt
   by_unopened folder name waits host.NotThere wanted has = (folder, wanted, no_lines name waits has)
-  by_unopened folder name waits host.IsThere wanted has = (Opened folder name waits (Err host.IsThere), has, λ same. absurd (cc))
-  by_unopened folder name waits host.InUse wanted has = (Opened folder name waits (Err host.InUse), has, λ same. absurd (cc))
-  by_unopened folder name waits host.NotEmpty wanted has = (Opened folder name waits (Err host.NotEmpty), has, λ same. absurd (cc))
-  by_unopened folder name waits host.NoFolder wanted has = (Opened folder name waits (Err host.NoFolder), has, λ same. absurd (cc))
-  by_unopened folder name waits host.Other wanted has = (Opened folder name waits (Err host.Other), has, λ same. absurd (cc))
+  by_unopened folder name waits host.IsThere wanted has = inl (Opened folder name waits (Err host.IsThere), has, λ same. absurd (cc))
+  by_unopened folder name waits host.InUse wanted has = inl (Opened folder name waits (Err host.InUse), has, λ same. absurd (cc))
+  by_unopened folder name waits host.NotEmpty wanted has = inl (Opened folder name waits (Err host.NotEmpty), has, λ same. absurd (cc))
+  by_unopened folder name waits host.NoFolder wanted has = inl (Opened folder name waits (Err host.NoFolder), has, λ same. absurd (cc))
+  by_unopened folder name waits host.Other wanted has = inl (Opened folder name waits (Err host.Other), has, λ same. absurd (cc))
 
   pub unopened_by : (folder name : List ℕ) (waits : Bool) (told refusal : FilesFault) (fault : HostFault) → told ≡ or_memory refusal fault
       → refusal ≡ of_missing fault → o.state ≡ Some folder → Has (Opened folder name waits (Err fault)) e → IsCaused o e told
@@ -121,15 +127,15 @@ module _ (o : Wanted) (e : List Request) where
   by_unlocked folder told host.InUse wanted has busy failed = subst (IsCaused o e) (sym (busy refl)) (folder, wanted, has)
   by_unlocked folder told host.NoMemory wanted has busy failed = subst (IsCaused o e) (sym (failed (λ same. absurd (cc)))) tt
   by_unlocked folder told host.NotThere wanted has busy failed =
-      subst (IsCaused o e) (sym (failed (λ same. absurd (cc)))) (Locked folder (Err host.NotThere), has, λ same. absurd (cc))
+      subst (IsCaused o e) (sym (failed (λ same. absurd (cc)))) (inl (Locked folder (Err host.NotThere), has, λ same. absurd (cc)))
   by_unlocked folder told host.IsThere wanted has busy failed =
-      subst (IsCaused o e) (sym (failed (λ same. absurd (cc)))) (Locked folder (Err host.IsThere), has, λ same. absurd (cc))
+      subst (IsCaused o e) (sym (failed (λ same. absurd (cc)))) (inl (Locked folder (Err host.IsThere), has, λ same. absurd (cc)))
   by_unlocked folder told host.NotEmpty wanted has busy failed =
-      subst (IsCaused o e) (sym (failed (λ same. absurd (cc)))) (Locked folder (Err host.NotEmpty), has, λ same. absurd (cc))
+      subst (IsCaused o e) (sym (failed (λ same. absurd (cc)))) (inl (Locked folder (Err host.NotEmpty), has, λ same. absurd (cc)))
   by_unlocked folder told host.NoFolder wanted has busy failed =
-      subst (IsCaused o e) (sym (failed (λ same. absurd (cc)))) (Locked folder (Err host.NoFolder), has, λ same. absurd (cc))
+      subst (IsCaused o e) (sym (failed (λ same. absurd (cc)))) (inl (Locked folder (Err host.NoFolder), has, λ same. absurd (cc)))
   by_unlocked folder told host.Other wanted has busy failed =
-      subst (IsCaused o e) (sym (failed (λ same. absurd (cc)))) (Locked folder (Err host.Other), has, λ same. absurd (cc))
+      subst (IsCaused o e) (sym (failed (λ same. absurd (cc)))) (inl (Locked folder (Err host.Other), has, λ same. absurd (cc)))
 
   pub unlocked_by : (folder : List ℕ) (told : FilesFault) (fault : HostFault) (old : List Request) → o.state ≡ Some folder
       → e ≡ Locked folder (Err fault) ∷ old → (fault ≡ host.InUse → told ≡ InUse)
@@ -150,3 +156,59 @@ read_as a b bytes e same has = subst (λ (path : List ℕ). Has (Read path (Ok b
 -- what is so where there is a fault is so of this one
 pub of_error : {T F : Type 0} (result : Result T F) (fault : F) (P : F → Type 0) → result ≡ Err fault → IfErr result P → P fault
 of_error {T} {F} result fault P is h = let Q : Result T F → Type 0 = λ r. IfErr r P in subst Q is h
+
+-- only a file that isn't there is told as another run's
+missing_is : (fault : HostFault) → or_memory (of_missing fault) fault ≡ OtherState → fault ≡ host.NotThere
+missing_is host.NotThere is = refl
+missing_is host.NoMemory is = absurd (cc)
+missing_is host.IsThere is = absurd (cc)
+missing_is host.InUse is = absurd (cc)
+missing_is host.NotEmpty is = absurd (cc)
+missing_is host.NoFolder is = absurd (cc)
+missing_is host.Other is = absurd (cc)
+
+pub not_there : (fault : HostFault) (refusal of_it : FilesFault) → refusal ≡ of_missing fault
+    → of_it ≡ or_memory refusal fault → of_it ≡ OtherState → fault ≡ host.NotThere
+not_there fault refusal of_it kind is other =
+    missing_is fault (ap (λ (f : FilesFault). or_memory f fault) (sym kind) ∙ (sym is ∙ other))
+
+-- the same request in other words
+pub unread_as : (a b : List ℕ) (e : List Request) (fault told : HostFault) → a ≡ b → fault ≡ told → Has (Read a (Err fault)) e
+    → Has (Read b (Err told)) e
+unread_as a b e fault told same kind has =
+    let P : List ℕ → Type 0 = λ path. Has (Read path (Err fault)) e in
+    let Q : HostFault → Type 0 = λ f. Has (Read b (Err f)) e in
+    subst Q kind (subst P same has)
+
+-- the name that is tried behind the first one
+pub tried_later : (stem ending name : List ℕ) (nth : ℕ) → nth ≢ 0
+    → name ≡ stem ++ codes "." ++ ending ++ 46 ∷ decimal nth → name ≡ tried_name stem ending nth
+tried_later stem ending name zero later is = absurd (later refl)
+tried_later stem ending name (suc nth) later is = is
+
+pub tried_first : (stem ending name : List ℕ) (nth : ℕ) → nth ≡ 0 → name ≡ stem ++ codes "." ++ ending → name ≡ tried_name stem ending nth
+tried_first stem ending name nth first is =
+    let P : ℕ → Type 0 = λ n. name ≡ tried_name stem ending n in subst P (sym first) is
+
+-- one more name was tried
+pub taken_more : (P : ℕ → List Request → Type 0) (nth : ℕ) (old new : List Request) → ((k : ℕ) → P k old → P k new)
+    → ((k : ℕ) → k < nth → P k old) → P nth new → (k : ℕ) → k < nth + 1 → P k new
+taken_more P nth old new more before now k below = elim (eqb_tells k nth) [
+  | inl same ↦ (let Q : ℕ → Type 0 = λ n. P n new in subst Q (sym same.1) now)
+  | inr other ↦ more k (before k (let apart = other.1 in omega (arith, below, apart)))
+]
+
+-- the same request in other words
+pub folder_taken : (a b : List ℕ) (fault : HostFault) (e : List Request) → a ≡ b → fault ≡ host.IsThere → Has (MadeFolder a (Err fault)) e
+    → Has (MadeFolder b (Err host.IsThere)) e
+folder_taken a b fault e same there has =
+    let P : List ℕ → Type 0 = λ path. Has (MadeFolder path (Err fault)) e in
+    let Q : HostFault → Type 0 = λ f. Has (MadeFolder b (Err f)) e in
+    subst Q there (subst P same has)
+
+pub file_taken : (a b : List ℕ) (fault : HostFault) (e : List Request) → a ≡ b → fault ≡ host.IsThere → Has (MadeFile a (Err fault)) e
+    → Has (MadeFile b (Err host.IsThere)) e
+file_taken a b fault e same there has =
+    let P : List ℕ → Type 0 = λ path. Has (MadeFile path (Err fault)) e in
+    let Q : HostFault → Type 0 = λ f. Has (MadeFile b (Err f)) e in
+    subst Q there (subst P same has)

@@ -2,12 +2,13 @@
 use Rattle.std.proofs.Common.{Vec, ◌≡◌, inl, inr, ℕ, zero, suc, ◌+◌, ◌<◌, ◌≤◌, Bool, true, false, map, get_or, take, add-one, length-append, List, [], ◌∷◌, ◌++◌, length, slice_get, Option, Some, None, Ok, Err, refl, ap, sym, subst, arith}
 use Rattle.std.proofs.lemmas.Option.{slice_get_read}
 use Rattle.std.specs.Option.{option_map}
-use Rattle.std.specs.Prelude.{IfOk, IfSome, Result, string_bytes}
+use Rattle.std.specs.Prelude.{IfNone, IfOk, IfSome, Result, string_bytes}
 use Rattle.std.specs.declared.alloc.Global.{Global}
 use Rattle.std.specs.declared.string.String.{String}
 use Rattle.host.specs.Requests.{Locked, MadeFile, Opened, Placed, Read, Renamed, Unlocked, Used, Wrote}
 use Rattle.host.specs.Requests.{Request, Has, HasUnder, Later, Each, IsHeld, IsFree}
-use Rattle.run_files.specs.Rules.{rule, GoesOn, Given, HasSameTexts, IfAsked, IsApart, IsElsewhere, IsOutside, IsReady, WasReadIf, WereRead}
+use Rattle.run_files.specs.Leftovers.{AreGone, no_path}
+use Rattle.run_files.specs.Rules.{rule, GoesOn, GoesWith, Given, HasSameTexts, IfAsked, IsApart, IsElsewhere, IsOutside, IsReady, WasReadIf, WereRead}
 use Rattle.host.specs.declared.fault.HostFault.{HostFault}
 use Rattle.host.specs.declared.line_file.LineFile.{Ghosts as FileWords}
 use Rattle.output_file.specs.Output.{asked_of}
@@ -23,17 +24,58 @@ use Rattle.run_files.specs.Wanted.{Wanted}
 module _ (accepts : Given → Type 0) (o : Wanted) where
   -- nothing was asked
   pub goes_still : (e : List Request) → GoesOn accepts o e e
-  goes_still e = record { rules = λ h. h; later = λ r h. h; held = λ f h. h; under = λ f r h. h; free = λ h. h }
+  goes_still e = record { rules = λ h. h; later = λ r h. h; held = λ f h. h; under = λ f r h. h; free = λ h. h; left = λ path h. inl h }
 
-  -- one call after another
-  pub goes_then : (a b c : List Request) → GoesOn accepts o a b → GoesOn accepts o b c → GoesOn accepts o a c
-  goes_then a b c first second = record {
+  -- one call after another: of what either made some may be left
+  pub with_then : (P Q R : List ℕ → Type 0) (a b c : List Request) → ((path : List ℕ) → P path → R path)
+      → ((path : List ℕ) → Q path → R path) → GoesWith P accepts o a b → GoesWith Q accepts o b c → GoesWith R accepts o a c
+  with_then P Q R a b c of_first of_second first second = record {
     rules = λ h. second.rules (first.rules h);
     later = λ r h. second.later r (first.later r h);
     held = λ f h. second.held f (first.held f h);
     under = λ f r h. second.under f r (first.under f r h);
     free = λ h. second.free (first.free h);
+    left = λ path h. elim (second.left path h) [
+      | inl before ↦ elim (first.left path before) [ inl old ↦ inl old | inr made ↦ inr (of_first path made) ]
+      | inr made ↦ inr (of_second path made)
+    ];
   }
+
+  pub goes_then : (a b c : List Request) → GoesOn accepts o a b → GoesOn accepts o b c → GoesOn accepts o a c
+  goes_then a b c first second = with_then no_path no_path no_path a b c (λ path none. none) (λ path none. none) first second
+
+  -- what a later call made may be left
+  pub goes_with : (made : List ℕ → Type 0) (a b c : List Request) → GoesOn accepts o a b → GoesWith made accepts o b c
+      → GoesWith made accepts o a c
+  goes_with made a b c first second = with_then no_path made made a b c (λ path none. absurd none) (λ path is. is) first second
+
+  -- what an earlier call made may be left
+  pub with_goes : (made : List ℕ → Type 0) (a b c : List Request) → GoesWith made accepts o a b → GoesOn accepts o b c
+      → GoesWith made accepts o a c
+  with_goes made a b c first second = with_then made no_path made a b c (λ path is. is) (λ path none. absurd none) first second
+
+  -- what may be left of what was made, in other words
+  pub with_more : (P Q : List ℕ → Type 0) (a b : List Request) → ((path : List ℕ) → P path → Q path) → GoesWith P accepts o a b
+      → GoesWith Q accepts o a b
+  with_more P Q a b more goes = with_then P no_path Q a b b more (λ path none. absurd none) goes (goes_still b)
+
+  pub goes_more : (made : List ℕ → Type 0) (a b : List Request) → GoesOn accepts o a b → GoesWith made accepts o a b
+  goes_more made a b goes = with_more no_path made a b (λ path none. absurd none) goes
+
+  -- nothing is left of what was made
+  pub none_left : (made : List ℕ → Type 0) (a b : List Request) → GoesWith made accepts o a b → AreGone made b → GoesOn accepts o a b
+  none_left made a b goes gone = record {
+    rules = goes.rules;
+    later = goes.later;
+    held = goes.held;
+    under = goes.under;
+    free = goes.free;
+    left = λ path h. elim (goes.left path h) [ inl old ↦ inl old | inr is ↦ inr (gone path is h) ];
+  }
+
+  -- what is gone stays so
+  pub gone_later : (made : List ℕ → Type 0) (a b : List Request) → GoesOn accepts o a b → AreGone made a → AreGone made b
+  gone_later made a b goes gone = λ path is h. elim (goes.left path h) [ inl old ↦ gone path is old | inr none ↦ none ]
 
   script_later : (path bytes : Option (List ℕ)) (old new : List Request) → Later old new → WasReadIf path bytes old
       → WasReadIf path bytes new
@@ -80,10 +122,11 @@ module _ (accepts : Given → Type 0) (o : Wanted) where
     apart = asked_later o.history (IsApart o) old new (apart_later old new later) ready.apart;
   }
 
-  pub ready_goes : (old new : List Request) → GoesOn accepts o old new → IsReady accepts o old → IsReady accepts o new
+  pub ready_goes : {made : List ℕ → Type 0} (old new : List Request) → GoesWith made accepts o old new → IsReady accepts o old
+      → IsReady accepts o new
   ready_goes old new goes ready = ready_later old new goes.later ready
 
-  pub has_goes : (r : Request) (old new : List Request) → GoesOn accepts o old new → Has r old → Has r new
+  pub has_goes : {made : List ℕ → Type 0} (r : Request) (old new : List Request) → GoesWith made accepts o old new → Has r old → Has r new
   has_goes r old new goes h = goes.later r h
 
   pub same_goes : (folder : List ℕ) (old new : List Request) → GoesOn accepts o old new → HasSameTexts o folder old
@@ -97,7 +140,7 @@ module _ (accepts : Given → Type 0) (o : Wanted) where
     same_inputs = goes.under folder _ same.same_inputs;
   }
 
-some_is : {A : Type 0} (x y : A) → Some x ≡ Some y → x ≡ y
+pub some_is : {A : Type 0} (x y : A) → Some x ≡ Some y → x ≡ y
 some_is x y same = cc
 
 module _ (accepts : Given → Type 0) (o : Wanted) where
@@ -314,3 +357,7 @@ module _ (accepts : Given → Type 0) (o : Wanted) where
       → Each (rule accepts o) old → Each (rule accepts o) new
   rules_unlocked folder other old new is same held each =
       let P : List ℕ → Type 0 = λ f. IsHeld f old in rules_by accepts o (Unlocked other) old new is (subst P (sym same) held) each
+
+-- what is so where there is none is so here
+pub of_none : {A : Type 0} (option : Option A) (P : Type 0) → option ≡ None → IfNone option P → P
+of_none {A} option P none is = let Q : Option A → Type 0 = λ o. IfNone o P in subst Q none is

@@ -1,5 +1,6 @@
 -- Why the files of a run are refused, by what stands in the host's log.
-use Rattle.std.specs.Prelude.{◌≡◌, ◌≢◌, ◌⊎◌, ℕ, Bool, true, List, ◌++◌, Some, Ok, Err, codes}
+use Rattle.std.specs.Fmt.{decimal}
+use Rattle.std.specs.Prelude.{◌≡◌, ◌≢◌, ◌⊎◌, ◌≤◌, ℕ, zero, suc, Bool, true, List, ◌∷◌, ◌++◌, Some, Ok, Err, codes}
 use Rattle.host.specs.Requests.{Request, Read, Looked, Placed, MadeFile, MadeFolder, OpenedDevice, Wrote, Synced, Renamed, RemovedFile, RemovedFolder}
 use Rattle.host.specs.Requests.{Locked, Unlocked, Opened, Cut, Used, Said, Told, Has}
 use Rattle.host.specs.declared.fault.HostFault.{HostFault}
@@ -8,6 +9,7 @@ use Rattle.host.specs.declared.host.Standing.TheVariants.{Folder}
 use Rattle.output_file.specs.Lines.{HasBadLine}
 use Rattle.run_files.specs.Places.{is_within}
 use Rattle.run_files.specs.Wanted.{Wanted}
+use Rattle.run_files.specs.declared.happened.TheConstants.{LAST_NAME}
 use Rattle.run_files.specs.declared.fault.FilesFault.{FilesFault}
 use Rattle.run_files.specs.declared.fault.FilesFault.TheVariants.{NoMemory, InUse, OtherState, Failed, Unwritten, Astray}
 
@@ -32,7 +34,7 @@ IsUndone o (Placed path (Err fault)) = o.state ≡ Some path
 IsUndone o (Placed path (Ok place)) = ⊥
 IsUndone o (MadeFile path (Err fault)) = Unit {0}
 IsUndone o (MadeFile path (Ok done)) = ⊥
-IsUndone o (MadeFolder path (Err fault)) = Unit {0}
+IsUndone o (MadeFolder path (Err fault)) = fault ≢ host.IsThere
 IsUndone o (MadeFolder path (Ok done)) = ⊥
 IsUndone o (OpenedDevice path answer) = ⊥
 IsUndone o (Wrote path bytes (Err fault)) = Unit {0}
@@ -60,7 +62,7 @@ IsUnwritten name (Placed path (Err fault)) = Unit {0}
 IsUnwritten name (Placed path (Ok place)) = ⊥
 IsUnwritten name (Looked path (Err fault)) = path ≡ name
 IsUnwritten name (Looked path (Ok standing)) = ⊥
-IsUnwritten name (MadeFile path (Err fault)) = Unit {0}
+IsUnwritten name (MadeFile path (Err fault)) = fault ≢ host.IsThere
 IsUnwritten name (MadeFile path (Ok done)) = ⊥
 IsUnwritten name (OpenedDevice path (Err fault)) = path ≡ name
 IsUnwritten name (OpenedDevice path (Ok done)) = ⊥
@@ -80,6 +82,21 @@ IsUnwritten name (Cut file len answer) = ⊥
 IsUnwritten name (Used file asked) = ⊥
 IsUnwritten name (Said bytes answer) = ⊥
 IsUnwritten name (Told bytes answer) = ⊥
+
+-- the name that is tried for a file or a folder that is made: `stem.ending` first, and then with a number
+abbrev pub tried_name : List ℕ → List ℕ → ℕ → List ℕ
+tried_name stem ending zero = stem ++ codes "." ++ ending
+tried_name stem ending (suc nth) = stem ++ codes "." ++ ending ++ 46 ∷ decimal (suc nth)
+
+-- under each name that is tried for a folder something stands
+abbrev pub AreFoldersTaken : List Request → Type 0
+AreFoldersTaken e = (stem : List ℕ)
+    × ((nth : ℕ) → nth ≤ LAST_NAME → Has (MadeFolder (tried_name stem (codes "making") nth) (Err host.IsThere)) e)
+
+-- under each name that is tried for the file into which what happens is written something stands
+abbrev pub AreFilesTaken : List Request → Type 0
+AreFilesTaken e = (stem : List ℕ)
+    × ((nth : ℕ) → nth ≤ LAST_NAME → Has (MadeFile (tried_name stem (codes "new") nth) (Err host.IsThere)) e)
 
 -- such a request stands in the log
 abbrev pub HasSuch : (Request → Type 0) → List Request → Type 0
@@ -131,6 +148,7 @@ pub data IsUnwritable (o : Wanted) (name : List ℕ) (e : List Request) : Type 0
       → is_within at place ≡ true → IsUnwritable o name e
   is_folder : Has (Looked name (Ok Folder)) e → IsUnwritable o name e
   undone : HasSuch (IsUnwritten name) e → IsUnwritable o name e
+  all_taken : AreFilesTaken e → IsUnwritable o name e
 
 -- What stands in the log where a run is refused for its files. For want of memory nothing can be said. That a file came back under another
 -- name than it was opened by is a fault of the program.
@@ -138,6 +156,6 @@ abbrev pub IsCaused : Wanted → List Request → FilesFault → Type 0
 IsCaused o e NoMemory = Unit {0}
 IsCaused o e InUse = (folder : List ℕ) × (o.state ≡ Some folder) × IsBusy folder e
 IsCaused o e OtherState = (folder : List ℕ) × (o.state ≡ Some folder) × IsOther o folder e
-IsCaused o e Failed = HasSuch (IsUndone o) e
+IsCaused o e Failed = HasSuch (IsUndone o) e ⊎ AreFoldersTaken e
 IsCaused o e Unwritten = (name : List ℕ) × (o.history ≡ Some name) × IsUnwritable o name e
 IsCaused o e Astray = Unit {0}

@@ -1,5 +1,6 @@
 pub mod Wanted
 pub mod Places
+pub mod Leftovers
 pub mod Rules
 pub mod Keeping
 pub mod Faults

@@ -3,6 +3,7 @@ use Rattle.std.specs.Prelude.{◌≡◌, ◌≢◌, ◌⊎◌, ℕ, false, List,
 use Rattle.host.specs.Requests.{Request, Read, Looked, Placed, MadeFile, MadeFolder, OpenedDevice, Wrote, Synced, Renamed, RemovedFile, RemovedFolder}
 use Rattle.host.specs.Requests.{Locked, Unlocked, Opened, Cut, Used, Said, Told, Has, HasUnder, Later, Each, IsHeld, IsFree}
 use Rattle.host.specs.declared.host.Standing.TheVariants.{Device}
+use Rattle.run_files.specs.Leftovers.{IsLeft, no_path}
 use Rattle.run_files.specs.Places.{is_within}
 use Rattle.run_files.specs.Wanted.{Wanted}
 
@@ -94,10 +95,15 @@ rule accepts o (Used name asked) e = (folder bytes : List ℕ) × Has (Opened fo
 rule accepts o (Said bytes answer) e = Unit {0}
 rule accepts o (Told bytes answer) e = Unit {0}
 
--- What a call asks keeps the rules, and it leaves the lock as it was.
-pub record GoesOn (accepts : Given → Type 0) (o : Wanted) (old new : List Request) : Type 0 where
+-- What a call asks keeps the rules, and it leaves the lock as it was. Of what it made only this may be left.
+pub record GoesWith (made : List ℕ → Type 0) (accepts : Given → Type 0) (o : Wanted) (old new : List Request) : Type 0 where
   pub rules : Each (rule accepts o) old → Each (rule accepts o) new
   pub later : Later old new
   pub held : (folder : List ℕ) → IsHeld folder old → IsHeld folder new
   pub under : (folder : List ℕ) (r : Request) → HasUnder folder r old → HasUnder folder r new
   pub free : IsFree old → IsFree new
+  pub left : (path : List ℕ) → IsLeft path new → IsLeft path old ⊎ made path
+
+-- it leaves nothing that it made
+abbrev pub GoesOn : (Given → Type 0) → Wanted → List Request → List Request → Type 0
+GoesOn accepts o old new = GoesWith no_path accepts o old new

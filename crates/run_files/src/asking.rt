@@ -2,9 +2,10 @@
 ghost use Rattle.std.specs.Prelude.{◌≡◌, ◌⊎◌, ℕ, List, IfOk, IfErr, Ok, Err, OnOk, Some, [], string_bytes};
 ghost use Rattle.host.specs.Requests.{Has, HasUnder, IsHeld, Read, Looked, Placed, MadeFile, MadeFolder, OpenedDevice, Wrote, Synced, Renamed};
 ghost use Rattle.host.specs.Requests.{Opened, Cut, Used, Said, Told};
+ghost use Rattle.run_files.specs.Leftovers.{AreGone, IsIn, IsNamed};
 ghost use Rattle.run_files.specs.Making.{IsNotMade};
 ghost use Rattle.run_files.specs.Removing.{IsFileRemoved, IsFolderRemoved};
-ghost use Rattle.run_files.specs.Rules.{GoesOn, HasSameTexts, IsReady};
+ghost use Rattle.run_files.specs.Rules.{GoesOn, GoesWith, HasSameTexts, IsReady};
 ghost use Rattle.run_files.specs.Wanted.{wanted_of};
 
 use crate::names::{Judge, Names};
@@ -59,7 +60,8 @@ pub fn make<H: Host, J: Judge>(
     path: &String,
 ) -> Result<H::File, HostFault>
     requires { IsReady J.accepts (wanted_of names.now) (H.asked host.old) }
-    ensures goes { GoesOn J.accepts (wanted_of names.now) (H.asked host.old) (H.asked host.new) }
+    ensures goes { GoesWith (IsNamed (Some (string_bytes path.now))) J.accepts (wanted_of names.now) (H.asked host.old) (H.asked host.new) }
+    ensures unmade { IfErr result (λ fault. GoesOn J.accepts (wanted_of names.now) (H.asked host.old) (H.asked host.new)) }
     ensures made { IfOk result (λ file. Has (MadeFile (string_bytes path.now) (Ok tt)) (H.asked host.new)) }
     ensures path { IfOk result (λ file. H.path_of file ≡ string_bytes path.now) }
     ensures fault { IfErr result (λ fault. Has (MadeFile (string_bytes path.now) (Err fault)) (H.asked host.new)) }
@@ -92,7 +94,8 @@ pub fn make_file<H: Host, J: Judge>(
     bytes: &Vec<u8>,
 ) -> Result<(), HostFault>
     requires { IsReady J.accepts (wanted_of names.now) (H.asked host.old) }
-    ensures goes { GoesOn J.accepts (wanted_of names.now) (H.asked host.old) (H.asked host.new) }
+    ensures goes { GoesWith (IsNamed (Some (string_bytes path.now))) J.accepts (wanted_of names.now) (H.asked host.old) (H.asked host.new) }
+    ensures unmade { IfErr result (λ fault. GoesOn J.accepts (wanted_of names.now) (H.asked host.old) (H.asked host.new)) }
     ensures made { OnOk result (Has (MadeFile (string_bytes path.now) (Ok tt)) (H.asked host.new)) }
     ensures wrote { OnOk result (Has (Wrote (string_bytes path.now) bytes.now.items (Ok tt)) (H.asked host.new)) }
     ensures fault { IfErr result (λ fault. IsNotMade (string_bytes path.now) bytes.now.items fault (H.asked host.new)) }
@@ -114,7 +117,8 @@ pub fn make_folder<H: Host, J: Judge>(
     path: &String,
 ) -> Result<(), HostFault>
     requires { IsReady J.accepts (wanted_of names.now) (H.asked host.old) }
-    ensures goes { GoesOn J.accepts (wanted_of names.now) (H.asked host.old) (H.asked host.new) }
+    ensures goes { GoesWith (IsNamed (Some (string_bytes path.now))) J.accepts (wanted_of names.now) (H.asked host.old) (H.asked host.new) }
+    ensures unmade { IfErr result (λ fault. GoesOn J.accepts (wanted_of names.now) (H.asked host.old) (H.asked host.new)) }
     ensures made { OnOk result (Has (MadeFolder (string_bytes path.now) (Ok tt)) (H.asked host.new)) }
     ensures fault { IfErr result (λ fault. Has (MadeFolder (string_bytes path.now) (Err fault)) (H.asked host.new)) }
 {
@@ -143,6 +147,7 @@ pub fn rename_folder<H: Host, J: Judge>(
     requires wanted { (wanted_of names.now).state ≡ Some (string_bytes to.now) }
     ensures goes { GoesOn J.accepts (wanted_of names.now) (H.asked host.old) (H.asked host.new) }
     ensures renamed { OnOk result (Has (Renamed (string_bytes from.now) (string_bytes to.now) (Ok tt)) (H.asked host.new)) }
+    ensures gone { OnOk result (AreGone (IsIn (string_bytes from.now)) (H.asked host.new)) }
     ensures fault { IfErr result (λ fault. Has (Renamed (string_bytes from.now) (string_bytes to.now) (Err fault)) (H.asked host.new)) }
 {
     host.rename(from, to)
@@ -160,6 +165,7 @@ pub fn rename_file<H: Host, J: Judge>(
     requires wanted { (wanted_of names.now).history ≡ Some (string_bytes to.now) }
     ensures goes { GoesOn J.accepts (wanted_of names.now) (H.asked host.old) (H.asked host.new) }
     ensures renamed { OnOk result (Has (Renamed (string_bytes from.now) (string_bytes to.now) (Ok tt)) (H.asked host.new)) }
+    ensures gone { OnOk result (AreGone (IsNamed (Some (string_bytes from.now))) (H.asked host.new)) }
     ensures fault { IfErr result (λ fault. Has (Renamed (string_bytes from.now) (string_bytes to.now) (Err fault)) (H.asked host.new)) }
 {
     host.rename(from, to)
@@ -170,6 +176,7 @@ pub fn remove_file<H: Host, J: Judge>(host: &mut H, names: &Names, path: &String
     requires { Has (MadeFile (string_bytes path.now) (Ok tt)) (H.asked host.old) }
     ensures goes { GoesOn J.accepts (wanted_of names.now) (H.asked host.old) (H.asked host.new) }
     ensures removed { IsFileRemoved (string_bytes path.now) (H.asked host.new) }
+    ensures gone { AreGone (IsNamed (Some (string_bytes path.now))) (H.asked host.new) }
 {
     let _ = host.remove_file(path);
 }
@@ -179,6 +186,7 @@ pub fn remove_folder<H: Host, J: Judge>(host: &mut H, names: &Names, path: &Stri
     requires { Has (MadeFolder (string_bytes path.now) (Ok tt)) (H.asked host.old) }
     ensures goes { GoesOn J.accepts (wanted_of names.now) (H.asked host.old) (H.asked host.new) }
     ensures removed { IsFolderRemoved (string_bytes path.now) (H.asked host.new) }
+    ensures gone { AreGone (IsNamed (Some (string_bytes path.now))) (H.asked host.new) }
 {
     let _ = host.remove_folder(path);
 }

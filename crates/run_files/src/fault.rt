@@ -1,5 +1,6 @@
 // Why the files of a run were refused.
-ghost use Rattle.std.specs.Prelude.{◌≡◌};
+ghost use Rattle.std.specs.Prelude.{◌≡◌, ◌≢◌, IsTrue, false};
+ghost use Rattle.host.specs.declared.fault.HostFault.TheVariants as host_fault;
 ghost use Rattle.run_files.specs.Faults.{of_missing, or_memory};
 
 use host::HostFault;
@@ -77,5 +78,16 @@ impl FilesFault {
             HostFault::NotThere => FilesFault::OtherState,
             _ => FilesFault::Failed,
         }
+    }
+}
+
+// Whether nothing was made since something stands there.
+pub(crate) fn is_there(fault: HostFault) -> bool
+    ensures there { IsTrue result → fault ≡ host_fault.IsThere }
+    ensures other { result ≡ false → fault ≢ host_fault.IsThere }
+{
+    match fault {
+        HostFault::IsThere => true,
+        _ => false,
     }
 }

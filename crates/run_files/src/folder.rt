@@ -1,24 +1,25 @@
 // The folder in which what left outlasts the run: the texts of the network and of the inputs, a file of lines for each output, and a file
 // whose lock says that a run is at work.
-ghost use Rattle.std.specs.Prelude.{◌≡◌, ◌≢◌, ◌<◌, ◌≤◌, ◌++◌, [], ◌∷◌, ℕ, List, IfOk, IfErr, IfSome, IfNone, OnOk, OnErr, IsTrue, Ok, Err, Some, false, drop, length, map, slice_get, string_bytes};
+ghost use Rattle.std.specs.Prelude.{◌≡◌, ◌≢◌, ◌⊎◌, ◌<◌, ◌≤◌, ◌++◌, [], ◌∷◌, ℕ, List, IfOk, IfErr, IfSome, IfNone, OnOk, OnErr, IsTrue, Ok, Err, Some, false, codes, drop, length, map, slice_get, string_bytes};
 ghost use Rattle.host.specs.Requests.{Each, Has, HasUnder, IsFree, IsHeld, Later, MadeFolder, Opened, Read, Renamed, Used};
 ghost use Rattle.output_file.specs.Lines.{HoldsLines};
 ghost use Rattle.output_file.specs.Output.{asked_of};
 ghost use Rattle.run_files.specs.Opening.{AreMade, AreHeldAs, AreOpened, AreUsed, IsCutTo, IsNewFolder, opened_names, path_in, paths_in};
+ghost use Rattle.run_files.specs.Leftovers.{AreGone, IsFirst, IsIn, IsNamed, LeavesNothing};
 ghost use Rattle.run_files.specs.Removing.{AreRemoved, IsCleared, IsFolderRemoved};
-ghost use Rattle.run_files.specs.Rules.{GoesOn, HasSameTexts, IsReady, rule};
-ghost use Rattle.run_files.specs.Causes.{HasSuch, IsCaused, IsTaken, IsTextOf, IsTakenBy, IsUndone, IsUnreadable};
+ghost use Rattle.run_files.specs.Rules.{GoesOn, GoesWith, HasSameTexts, IsReady, rule};
+ghost use Rattle.run_files.specs.Causes.{IsCaused, IsTaken, IsTextOf, IsTakenBy, IsUnreadable, tried_name};
 ghost use Rattle.run_files.specs.Faults.{or_memory};
 ghost use Rattle.host.specs.declared.fault.HostFault.TheVariants as host_fault;
 ghost use Rattle.run_files.specs.Syncing.{AreSyncedIf};
 ghost use Rattle.run_files.specs.Wanted.{wanted_of};
-ghost use Rattle.run_files.specs.declared.fault.FilesFault.TheVariants.{Astray};
+ghost use Rattle.run_files.specs.declared.fault.FilesFault.TheVariants.{Astray, OtherState};
 
 use crate::asking::{
     cut, look, make_file, make_folder, open_lines, read, remove_file, remove_folder, rename_folder,
     sync, take_back,
 };
-use crate::fault::{FilesFault, Refused};
+use crate::fault::{FilesFault, Refused, is_there};
 use crate::happened::{LAST_NAME, fresh_name};
 use crate::held_file::{HeldFile, OpenedName};
 use crate::names::{Judge, Names};
@@ -91,6 +92,10 @@ fn compare<H: Host, J: Judge>(
     ensures goes { GoesOn J.accepts (wanted_of names.now) (H.asked host.old) (H.asked host.new) }
     ensures same { OnOk result (HasUnder (string_bytes folder.now)
         (Read (string_bytes folder.now ++ tail.now) (Ok text.now.items)) (H.asked host.new)) }
+    // A folder is told to be another run's only where this file of it holds another text, or isn't there.
+    ensures other { IfErr result (λ refused. refused.fault ≡ OtherState
+        → ((bytes : List ℕ) × Has (Read (string_bytes folder.now ++ tail.now) (Ok bytes)) (H.asked host.new) × (bytes ≢ text.now.items))
+        ⊎ Has (Read (string_bytes folder.now ++ tail.now) (Err host_fault.NotThere)) (H.asked host.new)) }
     ensures cause { IfErr result (λ refused. IsCaused (wanted_of names.now) (H.asked host.new) refused.fault) }
 {
     let Ok(path) = in_folder(alloc, folder, tail) else {
@@ -136,20 +141,25 @@ fn make_nth<H: Host, J: Judge>(
     host: &mut H,
     alloc: Global,
     names: &Names,
-    folder: &String,
+    stem: &str,
     nth: u64,
 ) -> Result<Option<String>, Refused>
     requires { IsReady J.accepts (wanted_of names.now) (H.asked host.old) }
-    ensures goes { GoesOn J.accepts (wanted_of names.now) (H.asked host.old) (H.asked host.new) }
+    ensures goes { IfOk result (λ made. IfSome made (λ making. GoesWith (IsNamed (Some (string_bytes making))) J.accepts (wanted_of names.now) (H.asked host.old) (H.asked host.new))) }
+    ensures unmade { IfOk result (λ made. IfNone made (GoesOn J.accepts (wanted_of names.now) (H.asked host.old) (H.asked host.new))) }
+    ensures failed { IfErr result (λ refused. GoesOn J.accepts (wanted_of names.now) (H.asked host.old) (H.asked host.new)) }
     ensures made { IfOk result (λ made. IfSome made (λ making. Has (MadeFolder (string_bytes making) (Ok tt)) (H.asked host.new))) }
-    ensures taken { IfOk result (λ made. IfNone made (HasSuch (IsUndone (wanted_of names.now)) (H.asked host.new))) }
+    ensures taken { IfOk result (λ made. IfNone made (Has (MadeFolder (tried_name stem.now (codes "making") nth) (Err host_fault.IsThere)) (H.asked host.new))) }
     ensures cause { IfErr result (λ refused. IsCaused (wanted_of names.now) (H.asked host.new) refused.fault) }
 {
-    let making = fresh_name(alloc, folder.as_str(), "making", nth)?;
+    let making = fresh_name(alloc, stem, "making", nth)?;
     match make_folder::<H, J>(host, names, &making) {
         Ok(()) => Ok(Some(making)),
-        Err(HostFault::IsThere) => Ok(None),
-        Err(fault) => Err(refused_by(host, alloc, FilesFault::Failed, fault, &making)),
+        Err(fault) => if is_there(fault) {
+            Ok(None)
+        } else {
+            Err(refused_by(host, alloc, FilesFault::Failed, fault, &making))
+        },
     }
 }
 
@@ -161,16 +171,18 @@ fn make_beside<H: Host, J: Judge>(
     folder: &String,
 ) -> Result<String, Refused>
     requires { IsReady J.accepts (wanted_of names.now) (H.asked host.old) }
-    ensures goes { GoesOn J.accepts (wanted_of names.now) (H.asked host.old) (H.asked host.new) }
+    ensures goes { IfOk result (λ making. GoesWith (IsNamed (Some (string_bytes making))) J.accepts (wanted_of names.now) (H.asked host.old) (H.asked host.new)) }
+    ensures failed { IfErr result (λ refused. GoesOn J.accepts (wanted_of names.now) (H.asked host.old) (H.asked host.new)) }
     ensures made { IfOk result (λ making. Has (MadeFolder (string_bytes making) (Ok tt)) (H.asked host.new)) }
     ensures cause { IfErr result (λ refused. IsCaused (wanted_of names.now) (H.asked host.new) refused.fault) }
 {
+    let stem = folder.as_str().trim_end_matches('/');
     for nth in 0..LAST_NAME {
-        if let Some(making) = make_nth::<H, J>(host, alloc, names, folder, nth)? {
+        if let Some(making) = make_nth::<H, J>(host, alloc, names, stem, nth)? {
             return Ok(making);
         }
     }
-    match make_nth::<H, J>(host, alloc, names, folder, LAST_NAME)? {
+    match make_nth::<H, J>(host, alloc, names, stem, LAST_NAME)? {
         Some(making) => Ok(making),
         None => Err(refused(
             FilesFault::Failed,
@@ -220,7 +232,7 @@ fn fill<H: Host, J: Judge>(
     texts: FolderTexts<'_>,
 ) -> (usize, Option<Refused>)
     requires { IsReady J.accepts (wanted_of names.now) (H.asked host.old) }
-    ensures goes { GoesOn J.accepts (wanted_of names.now) (H.asked host.old) (H.asked host.new) }
+    ensures goes { GoesWith (IsFirst result.0 paths.now) J.accepts (wanted_of names.now) (H.asked host.old) (H.asked host.new) }
     ensures made { AreMade result.0 paths.now (H.asked host.new) }
     ensures all { IfNone result.1 (length paths.now ≤ result.0) }
     ensures cause { IfSome result.1 (λ refused. IsCaused (wanted_of names.now) (H.asked host.new) refused.fault) }
@@ -251,6 +263,8 @@ fn clear<H: Host, J: Judge>(
     requires folder { Has (MadeFolder (string_bytes making.now) (Ok tt)) (H.asked host.old) }
     requires files { AreMade made paths.now (H.asked host.old) }
     ensures goes { GoesOn J.accepts (wanted_of names.now) (H.asked host.old) (H.asked host.new) }
+    ensures gone_files { AreGone (IsFirst made paths.now) (H.asked host.new) }
+    ensures gone { AreGone (IsNamed (Some (string_bytes making.now))) (H.asked host.new) }
     ensures files { AreRemoved made paths.now (H.asked host.new) }
     ensures folder { IsFolderRemoved (string_bytes making.now) (H.asked host.new) }
 {
@@ -341,6 +355,7 @@ fn give_name<H: Host, J: Judge>(
     ensures goes { GoesOn J.accepts (wanted_of names.now) (H.asked host.old) (H.asked host.new) }
     ensures renamed { IfOk result (λ named. IsTrue named
         → Has (Renamed (string_bytes making.now) (string_bytes folder.now) (Ok tt)) (H.asked host.new)) }
+    ensures gone { IfOk result (λ named. IsTrue named → AreGone (IsIn (string_bytes making.now)) (H.asked host.new)) }
     ensures taken { IfOk result (λ named. named ≡ false → IsTakenBy (string_bytes making.now) (string_bytes folder.now) (H.asked host.new)) }
     ensures synced { IfOk result (λ named. AreSyncedIf names.now.sync (map string_bytes paths.now ++ string_bytes making.now ∷ []) (H.asked host.new)) }
     ensures cause { IfErr result (λ refused. IsCaused (wanted_of names.now) (H.asked host.new) refused.fault) }
@@ -370,7 +385,8 @@ fn fill_and_name<H: Host, J: Judge>(
     requires ready { IsReady J.accepts (wanted_of names.now) (H.asked host.old) }
     requires made { Has (MadeFolder (string_bytes making.now) (Ok tt)) (H.asked host.old) }
     requires wanted { (wanted_of names.now).state ≡ Some (string_bytes folder.now) }
-    ensures goes { GoesOn J.accepts (wanted_of names.now) (H.asked host.old) (H.asked host.new) }
+    ensures goes { GoesWith (IsFirst result.0 paths.now) J.accepts (wanted_of names.now) (H.asked host.old) (H.asked host.new) }
+    ensures gone { IfOk result.1 (λ named. IsTrue named → AreGone (IsIn (string_bytes making.now)) (H.asked host.new)) }
     ensures made { AreMade result.0 paths.now (H.asked host.new) }
     ensures renamed { IfOk result.1 (λ named. IsTrue named
         → Has (Renamed (string_bytes making.now) (string_bytes folder.now) (Ok tt)) (H.asked host.new)) }
@@ -662,6 +678,8 @@ pub fn open_folder<H: Host, J: Judge>(
     requires inputs { Has (Read (wanted_of names.now).inputs (Ok texts.inputs.now.items)) (H.asked host.old) }
     ensures rules { Each (rule J.accepts (wanted_of names.now)) (H.asked host.old) → Each (rule J.accepts (wanted_of names.now)) (H.asked host.new) }
     ensures later { Later (H.asked host.old) (H.asked host.new) }
+    // Nothing is left that it made and didn't use.
+    ensures cleared { LeavesNothing (H.asked host.old) (H.asked host.new) }
     ensures held { IfOk result (λ all. IsHeld (string_bytes folder.now) (H.asked host.new)) }
     ensures lock { IfOk result (λ all. H.folder_of all.lock ≡ string_bytes folder.now) }
     ensures opened { IfOk result (λ all. AreOpened names.now.sync (string_bytes folder.now) all.opened.items (H.asked host.new)) }
@@ -700,6 +718,7 @@ pub fn let_go<H: Host, J: Judge>(host: &mut H, names: &Names, folder: &String, l
     requires held { IsHeld (string_bytes folder.now) (H.asked host.old) }
     ensures rules { Each (rule J.accepts (wanted_of names.now)) (H.asked host.old) → Each (rule J.accepts (wanted_of names.now)) (H.asked host.new) }
     ensures later { Later (H.asked host.old) (H.asked host.new) }
+    ensures cleared { LeavesNothing (H.asked host.old) (H.asked host.new) }
     ensures free { IsFree (H.asked host.new) }
 {
     let _ = names;

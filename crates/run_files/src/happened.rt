@@ -1,17 +1,20 @@
 // The file into which what happens is written: beside the one of its name, which it becomes once it is whole.
-ghost use Rattle.std.specs.Prelude.{◌≡◌, ℕ, List, IfErr, IfOk, IfSome, IfNone, OnOk, Some, Ok, Err, string_bytes};
+ghost use Rattle.std.specs.Prelude.{◌≡◌, ◌++◌, ◌∷◌, ℕ, List, IfErr, IfOk, IfSome, IfNone, OnOk, Some, Ok, Err, codes, string_bytes};
+ghost use Rattle.std.specs.Fmt.{decimal};
 ghost use Rattle.std.specs.Option.{option_map};
 ghost use Rattle.host.specs.Requests.{Has, Looked, MadeFile, Renamed};
+ghost use Rattle.host.specs.declared.fault.HostFault.TheVariants as host_fault;
 ghost use Rattle.host.specs.declared.host.Standing.TheVariants.{Device};
 ghost use Rattle.run_files.specs.History.{IsOpenFor};
+ghost use Rattle.run_files.specs.Leftovers.{AreGone, IsNamed};
 ghost use Rattle.run_files.specs.Keeping.{IsWrittenTo};
-ghost use Rattle.run_files.specs.Causes.{HasSuch, IsCaused, IsUnwritten};
+ghost use Rattle.run_files.specs.Causes.{IsCaused, tried_name};
 ghost use Rattle.run_files.specs.Removing.{IsFileRemoved};
-ghost use Rattle.run_files.specs.Rules.{GoesOn, IsReady};
+ghost use Rattle.run_files.specs.Rules.{GoesOn, GoesWith, IsReady};
 ghost use Rattle.run_files.specs.Wanted.{wanted_of};
 
 use crate::asking::{look, make, remove_file, rename_file, write};
-use crate::fault::{FilesFault, Refused};
+use crate::fault::{FilesFault, Refused, is_there};
 use crate::names::{Judge, Names};
 use crate::words::{refused, refused_by};
 use host::{Host, HostFault, Standing};
@@ -28,18 +31,35 @@ pub struct HistoryFile<F: Drop> {
     pub made: Option<String>,
 }
 
+// The name that is tried first.
+fn first_name(alloc: Global, stem: &str, ending: &str) -> Result<String, AllocError>
+    ensures { IfOk result (λ name. string_bytes name ≡ stem.now ++ codes "." ++ ending.now) }
+{
+    format!(in alloc; "{stem}.{ending}")
+}
+
+// A name with a number.
+fn numbered_name(alloc: Global, stem: &str, ending: &str, nth: u64) -> Result<String, AllocError>
+    ensures { IfOk result (λ name. string_bytes name ≡ stem.now ++ codes "." ++ ending.now ++ 46 ∷ decimal nth) }
+{
+    let mut name = first_name(alloc, stem, ending)?;
+    write!(name, ".{nth}")?;
+    Ok(name)
+}
+
 // The name that is tried at the nth time.
 pub(crate) fn fresh_name(
     alloc: Global,
-    path: &str,
+    stem: &str,
     ending: &str,
     nth: u64,
-) -> Result<String, AllocError> {
-    let path = path.trim_end_matches('/');
+) -> Result<String, AllocError>
+    ensures { IfOk result (λ name. string_bytes name ≡ tried_name stem.now ending.now nth) }
+{
     if nth == 0 {
-        return format!(in alloc; "{path}.{ending}");
+        return first_name(alloc, stem, ending);
     }
-    format!(in alloc; "{path}.{ending}.{nth}")
+    numbered_name(alloc, stem, ending, nth)
 }
 
 // A file of the nth name beside the one of this name. None where something stands there.
@@ -48,24 +68,31 @@ fn make_nth<H: Host, J: Judge>(
     alloc: Global,
     names: &Names,
     path: &String,
+    stem: &str,
     nth: u64,
 ) -> Result<Option<HistoryFile<H::File>>, Refused>
     requires ready { IsReady J.accepts (wanted_of names.now) (H.asked host.old) }
     requires wanted { (wanted_of names.now).history ≡ Some (string_bytes path.now) }
-    ensures goes { GoesOn J.accepts (wanted_of names.now) (H.asked host.old) (H.asked host.new) }
+    ensures made { IfOk result (λ made. IfSome made (λ history. GoesWith (IsNamed (option_map string_bytes history.made)) J.accepts (wanted_of names.now) (H.asked host.old) (H.asked host.new))) }
+    ensures unmade { IfOk result (λ made. IfNone made (GoesOn J.accepts (wanted_of names.now) (H.asked host.old) (H.asked host.new))) }
+    ensures failed { IfErr result (λ refused. GoesOn J.accepts (wanted_of names.now) (H.asked host.old) (H.asked host.new)) }
     ensures open { IfOk result (λ made. IfSome made (λ history. IsOpenFor (string_bytes path.now) (option_map string_bytes history.made)
         (H.path_of history.file) (H.asked host.new))) }
-    ensures taken { IfOk result (λ made. IfNone made (HasSuch (IsUnwritten (string_bytes path.now)) (H.asked host.new))) }
+    ensures taken { IfOk result (λ made. IfNone made (Has (MadeFile (tried_name stem.now (codes "new") nth) (Err host_fault.IsThere)) (H.asked host.new))) }
     ensures cause { IfErr result (λ refused. IsCaused (wanted_of names.now) (H.asked host.new) refused.fault) }
 {
-    let made = fresh_name(alloc, path.as_str(), "new", nth)?;
+    let _ = path;
+    let made = fresh_name(alloc, stem, "new", nth)?;
     match make::<H, J>(host, names, &made) {
         Ok(file) => Ok(Some(HistoryFile {
             file,
             made: Some(made),
         })),
-        Err(HostFault::IsThere) => Ok(None),
-        Err(fault) => Err(refused_by(host, alloc, FilesFault::Unwritten, fault, &made)),
+        Err(fault) => if is_there(fault) {
+            Ok(None)
+        } else {
+            Err(refused_by(host, alloc, FilesFault::Unwritten, fault, &made))
+        },
     }
 }
 
@@ -78,18 +105,20 @@ fn make_beside<H: Host, J: Judge>(
 ) -> Result<HistoryFile<H::File>, Refused>
     requires ready { IsReady J.accepts (wanted_of names.now) (H.asked host.old) }
     requires wanted { (wanted_of names.now).history ≡ Some (string_bytes path.now) }
-    ensures goes { GoesOn J.accepts (wanted_of names.now) (H.asked host.old) (H.asked host.new) }
+    ensures goes { IfOk result (λ history. GoesWith (IsNamed (option_map string_bytes history.made)) J.accepts (wanted_of names.now) (H.asked host.old) (H.asked host.new)) }
+    ensures failed { IfErr result (λ refused. GoesOn J.accepts (wanted_of names.now) (H.asked host.old) (H.asked host.new)) }
     ensures open { IfOk result (λ history. IsOpenFor (string_bytes path.now) (option_map string_bytes history.made)
         (H.path_of history.file) (H.asked host.new)) }
     ensures cause { IfErr result (λ refused. IsCaused (wanted_of names.now) (H.asked host.new) refused.fault) }
 {
+    let stem = path.as_str().trim_end_matches('/');
     for nth in 0..LAST_NAME {
-        match make_nth::<H, J>(host, alloc, names, path, nth)? {
+        match make_nth::<H, J>(host, alloc, names, path, stem, nth)? {
             Some(history) => return Ok(history),
             None => {}
         }
     }
-    match make_nth::<H, J>(host, alloc, names, path, LAST_NAME)? {
+    match make_nth::<H, J>(host, alloc, names, path, stem, LAST_NAME)? {
         Some(history) => Ok(history),
         None => Err(refused(
             FilesFault::Unwritten,
@@ -128,7 +157,8 @@ pub fn open_history<H: Host, J: Judge>(
 ) -> Result<HistoryFile<H::File>, Refused>
     requires ready { IsReady J.accepts (wanted_of names.now) (H.asked host.old) }
     requires wanted { (wanted_of names.now).history ≡ Some (string_bytes path.now) }
-    ensures goes { GoesOn J.accepts (wanted_of names.now) (H.asked host.old) (H.asked host.new) }
+    ensures goes { IfOk result (λ history. GoesWith (IsNamed (option_map string_bytes history.made)) J.accepts (wanted_of names.now) (H.asked host.old) (H.asked host.new)) }
+    ensures failed { IfErr result (λ refused. GoesOn J.accepts (wanted_of names.now) (H.asked host.old) (H.asked host.new)) }
     ensures open { IfOk result (λ history. IsOpenFor (string_bytes path.now) (option_map string_bytes history.made)
         (H.path_of history.file) (H.asked host.new)) }
     ensures cause { IfErr result (λ refused. IsCaused (wanted_of names.now) (H.asked host.new) refused.fault) }
@@ -156,6 +186,7 @@ fn rename<H: Host, J: Judge>(
     requires made { IfSome made.now (λ name. Has (MadeFile (string_bytes name) (Ok tt)) (H.asked host.old)) }
     ensures goes { GoesOn J.accepts (wanted_of names.now) (H.asked host.old) (H.asked host.new) }
     ensures renamed { OnOk result (IfSome made.now (λ name. Has (Renamed (string_bytes name) (string_bytes path.now) (Ok tt)) (H.asked host.new))) }
+    ensures gone { OnOk result (AreGone (IsNamed (option_map string_bytes made.now)) (H.asked host.new)) }
     ensures fault { IfErr result (λ fault. (from : List ℕ) × Has (Renamed from (string_bytes path.now) (Err fault)) (H.asked host.new)) }
 {
     match made {
@@ -168,6 +199,7 @@ fn rename<H: Host, J: Judge>(
 pub fn drop_history<H: Host, J: Judge>(host: &mut H, names: &Names, history: HistoryFile<H::File>)
     requires { IfSome history.made (λ name. Has (MadeFile (string_bytes name) (Ok tt)) (H.asked host.old)) }
     ensures goes { GoesOn J.accepts (wanted_of names.now) (H.asked host.old) (H.asked host.new) }
+    ensures gone { AreGone (IsNamed (option_map string_bytes history.made)) (H.asked host.new) }
     ensures removed { IfSome history.made (λ name. IsFileRemoved (string_bytes name) (H.asked host.new)) }
 {
     let HistoryFile { file, made } = history;
@@ -191,6 +223,7 @@ pub fn finish_history<H: Host, J: Judge>(
     requires open { IsOpenFor (string_bytes path.now) (option_map string_bytes history.made) (H.path_of history.file) (H.asked host.old) }
     ensures goes { GoesOn J.accepts (wanted_of names.now) (H.asked host.old) (H.asked host.new) }
     ensures written { OnOk result (IsWrittenTo (string_bytes path.now) bytes.now.items (H.asked host.new)) }
+    ensures gone { AreGone (IsNamed (option_map string_bytes history.made)) (H.asked host.new) }
     ensures cause { IfErr result (λ refused. IsCaused (wanted_of names.now) (H.asked host.new) refused.fault) }
 {
     if let Err(fault) = write::<H, J>(host, names, &mut history.file, bytes) {

@@ -32,7 +32,7 @@ pub record IsCountedIn (entry : Entry) (before now : Line) : Type 0 where
   pub not_yets : not_yets_in now ≡ not_yets_in before
   pub no_mores : no_mores_in now ≡ no_mores_in before
 
--- what an entry says was put behind all that happened, and was counted
+-- what an entry says was put behind all that happened before, and was counted
 pub record IsPut (entry : Entry) (before now : List Line) : Type 0 where
   pub happened : happenings now ≡ happenings before ++ made_of entry ∷ []
   pub counts : (stops : ℕ) → numbers_in now stops ≡ counted AnEvent (numbers_in before stops)

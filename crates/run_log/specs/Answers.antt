@@ -92,13 +92,16 @@ pub record IsStillIn (fits : List (RecordView → Bool)) (script : List Scripted
   pub run : IsReplay fits script opening before passed old
   pub still : stands_still old.world ≡ true
 
--- So it is with what a node is told, of an event of its own or of its own silence; and with what the driver is.
+-- What a node's call is told is so in a world to which a history of this run leads: a reply is that of an event which
+-- is the node's to make, a silence is the node's own, and more room was given where the world stands still.
 abbrev pub TellsTurn : List (RecordView → Bool) → List ScriptedEvent → WorldView → ℕ → TurnAnswer → Type 0
 TellsTurn fits script opening node (turn.Reply reply) = ∥ IsReplyIn fits script opening (Node node) (reply_view reply) ∥₁
 TellsTurn fits script opening node turn.Nothing = ∥ IsSilentIn fits script opening (Nothing node) ∥₁
 TellsTurn fits script opening node turn.Widened = ∥ IsStillIn fits script opening ∥₁
 TellsTurn fits script opening node turn.Stopped = Unit {0}
 
+-- What the driver's call is told is so in a world to which a history of this run leads: a reply is that of the
+-- script's next line, which is due; else that line isn't due, or there is none.
 abbrev pub TellsFault : List (RecordView → Bool) → List ScriptedEvent → WorldView → FaultAnswer → Type 0
 TellsFault fits script opening (fault.Reply reply) = ∥ IsReplyIn fits script opening Driver (reply_view reply) ∥₁
 TellsFault fits script opening fault.NotYet = ∥ IsSilentIn fits script opening NotYet ∥₁

@@ -45,7 +45,7 @@ no_mores_in (Silent NotYet count) = 0
 no_mores_in (Silent NoMore count) = count
 no_mores_in Widened = 0
 
--- of these lines, and of so many answers `Stopped`
+-- the numbers of a run with these lines and so many answers `Stopped`
 abbrev pub numbers_in : List Line → ℕ → Numbers
 numbers_in lines stops =
     numbers (sum_by events_in lines) (sum_by nothings_in lines) (sum_by not_yets_in lines) (sum_by no_mores_in lines)

@@ -7,5 +7,6 @@ pub mod Counts
 pub mod Added
 pub mod Happened
 pub mod Answers
+pub mod Turns
 pub mod ArmedWorlds
 pub mod RunLogs

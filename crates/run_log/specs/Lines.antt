@@ -34,7 +34,7 @@ happenings_of (line.Made entry times rises) = made_times rises times entry.maker
 happenings_of (line.Silent reason count) = Silent reason ∷ []
 happenings_of line.Widened = Widened ∷ []
 
--- what happened, line by line
+-- what happened in a run, of the lines in which it is kept, in order
 abbrev pub happenings : List Line → List Happening
 happenings lines = flat_map happenings_of lines
 

@@ -14,7 +14,7 @@ pub record Names : Type 0 where
 abbrev pub no_names : Names
 no_names = record { entries = 0; nothings = 0; not_yets = 0; no_mores = 0; stops = 0 }
 
--- the events, and the answers of each kind without one
+-- how many events a run had, and how many answers of each kind without one
 pub record Numbers : Type 0 where
   pub entries : ℕ
   pub nothings : ℕ

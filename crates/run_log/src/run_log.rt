@@ -1,7 +1,7 @@
 // The log of a run, with the world to which it leads.
-ghost use Rattle.std.specs.Prelude.{◌≡◌, ◌||◌, ◌<◌, [], true, false, length, IfErr, IfOk, IsTrue, OnErr, OnOk};
+ghost use Rattle.std.specs.Prelude.{◌≡◌, ◌||◌, ◌+◌, ◌<◌, [], true, false, length, IfErr, IfOk, IsTrue, OnErr, OnOk};
 ghost use Rattle.protocol.specs.World.Common.{event_node, Install, are_quiet, released_of, stands_still, IsGrantedAt};
-ghost use Rattle.replay.specs.Armed.{OfWorld, armed_at_first};
+ghost use Rattle.replay.specs.Armed.{IsArmedStep, OfWorld, armed_at_first, armed_widened};
 ghost use Rattle.replay.specs.Plain.{run_view};
 ghost use Rattle.replay.specs.Replay.{IsEventOf, IsIdle, IsSilence, LeadsTo, has_idled};
 ghost use Rattle.run_log.specs.Happened.{HasHappened, HasRun};
@@ -10,6 +10,7 @@ ghost use Rattle.run_log.specs.ArmedWorlds.{armed_view};
 ghost use Rattle.run_log.specs.Answers.{fault_kind, turn_kind, IsGrantedIn, IsReplyIn, IsSilentIn, IsStillIn, IsFaultWritten, IsTurnWritten, TellsFault, TellsTurn};
 ghost use Rattle.run_log.specs.Counts.{kind_of, numbers_in, IsCounted};
 ghost use Rattle.run_log.specs.Added.{IsAdded};
+ghost use Rattle.run_log.specs.Turns.{IsFault, IsTurn, passed_then};
 ghost use Rattle.run_log.specs.Lines.{IsWidened, happenings};
 ghost use Rattle.run_log.specs.declared.answer.FaultAnswer.TheVariants as faults;
 ghost use Rattle.run_log.specs.declared.answer.HubFault.TheVariants.{PastNumber};
@@ -164,6 +165,10 @@ impl<C: SlotCell, O: Outlet, ThisRun: Run> RunLog<C, O, ThisRun> {
         ensures unchanged { OnErr result (IsSameLog self.old self.new) }
         ensures full { IfErr result (λ held. held.fault ≡ PastNumber → IsFull self.old) }
         ensures handed_back { IfErr result (λ held. held.event ≡ event) }
+        ensures step { IfOk result (λ reply. IsArmedStep ThisRun.rooms (OfWorld (event_view event)) (armed_view self.old.armed)
+            (reply_view reply) (armed_view self.new.armed)) }
+        ensures passed { self.new.passed ≡ self.old.passed }
+        ensures running { self.new.stopped ≡ self.old.stopped }
     {
         if self.totals.made() >= MAX_COUNT {
             return Err(HeldBack {
@@ -214,6 +219,10 @@ impl<C: SlotCell, O: Outlet, ThisRun: Run> RunLog<C, O, ThisRun> {
         ensures refused { OnErr result (seat_numbers count.new ≡ seat_numbers count.old) }
         ensures unchanged { OnErr result (IsSameLog self.old self.new) }
         ensures full { IfErr result (λ fault. fault ≡ PastNumber → IsFull self.old) }
+        ensures step { IfOk result (λ reply. IsArmedStep ThisRun.rooms (run_view event) (armed_view self.old.armed)
+            (reply_view reply) (armed_view self.new.armed)) }
+        ensures passed { OnOk result (self.new.passed ≡ self.old.passed + 1) }
+        ensures running { self.new.stopped ≡ self.old.stopped }
     {
         if self.totals.made() >= MAX_COUNT {
             return Err(HubFault::PastNumber);
@@ -248,6 +257,9 @@ impl<C: SlotCell, O: Outlet, ThisRun: Run> RunLog<C, O, ThisRun> {
         ensures refused { OnErr result (seat_numbers count.new ≡ seat_numbers count.old) }
         ensures unchanged { OnErr result (IsSameLog self.old self.new) }
         ensures full { IfErr result (λ fault. fault ≡ PastNumber → IsFull self.old) }
+        ensures wider { OnOk result (armed_view self.new.armed ≡ armed_widened (armed_view self.old.armed)) }
+        ensures passed { self.new.passed ≡ self.old.passed }
+        ensures running { self.new.stopped ≡ self.old.stopped }
     {
         if self.totals.made() >= MAX_COUNT {
             return Err(HubFault::PastNumber);
@@ -280,6 +292,9 @@ impl<C: SlotCell, O: Outlet, ThisRun: Run> RunLog<C, O, ThisRun> {
         ensures refused { OnErr result (seat_numbers count.new ≡ seat_numbers count.old) }
         ensures unchanged { OnErr result (IsSameLog self.old self.new) }
         ensures full { IfErr result (λ fault. fault ≡ PastNumber → IsFull self.old) }
+        ensures world { armed_view self.new.armed ≡ armed_view self.old.armed }
+        ensures passed { self.new.passed ≡ self.old.passed }
+        ensures running { self.new.stopped ≡ self.old.stopped }
     {
         let RunLog {
             lines,
@@ -303,6 +318,9 @@ impl<C: SlotCell, O: Outlet, ThisRun: Run> RunLog<C, O, ThisRun> {
         ensures refused { OnErr result (seat_numbers count.new ≡ seat_numbers count.old) }
         ensures unchanged { OnErr result (IsSameLog self.old self.new) }
         ensures full { IfErr result (λ fault. fault ≡ PastNumber → IsFull self.old) }
+        ensures world { armed_view self.new.armed ≡ armed_view self.old.armed }
+        ensures passed { self.new.passed ≡ self.old.passed }
+        ensures running { self.new.stopped ≡ self.old.stopped }
     {
         if self.stops >= MAX_COUNT {
             return Err(HubFault::PastNumber);
@@ -351,6 +369,11 @@ impl<C: SlotCell, O: Outlet, ThisRun: Run> RunLog<C, O, ThisRun> {
         ensures unchanged { OnErr result (IsSameLog self.old self.new) }
         // 44 only where a count stands at 2^63 - 1.
         ensures full { IfErr result (λ fault. fault ≡ PastNumber → IsFull self.old) }
+        // What it does to the world, exactly.
+        ensures turned { IfOk result (λ answer. IsTurn ThisRun.rooms ThisRun.script self.old.passed node answer
+            (armed_view self.old.armed) (armed_view self.new.armed)) }
+        ensures passed { self.new.passed ≡ self.old.passed }
+        ensures running { self.new.stopped ≡ self.old.stopped }
     {
         if self.stopped {
             self.be_stopped(count)?;
@@ -396,6 +419,11 @@ impl<C: SlotCell, O: Outlet, ThisRun: Run> RunLog<C, O, ThisRun> {
         ensures unchanged { OnErr result (IsSameLog self.old self.new) }
         ensures full { IfErr result (λ held. held.fault ≡ PastNumber → IsFull self.old) }
         ensures handed_back { IfErr result (λ held. held.event ≡ event.Install done) }
+        // What it does to the world, exactly.
+        ensures installed { IfOk result (λ reply. IsArmedStep ThisRun.rooms (OfWorld (Install (done_view done)))
+            (armed_view self.old.armed) (reply_view reply) (armed_view self.new.armed)) }
+        ensures passed { self.new.passed ≡ self.old.passed }
+        ensures running { self.new.stopped ≡ self.old.stopped }
     {
         self.make(alloc, node, Event::Install(done), count)
     }
@@ -418,6 +446,11 @@ impl<C: SlotCell, O: Outlet, ThisRun: Run> RunLog<C, O, ThisRun> {
         ensures refused { OnErr result (seat_numbers count.new ≡ seat_numbers count.old) }
         ensures unchanged { OnErr result (IsSameLog self.old self.new) }
         ensures full { IfErr result (λ fault. fault ≡ PastNumber → IsFull self.old) }
+        // What it does to the world, exactly.
+        ensures played { IfOk result (λ answer. IsFault ThisRun.rooms ThisRun.script self.old.passed answer
+            (armed_view self.old.armed) (armed_view self.new.armed)) }
+        ensures passed { IfOk result (λ answer. self.new.passed ≡ passed_then answer self.old.passed) }
+        ensures running { self.new.stopped ≡ self.old.stopped }
     {
         if self.stopped {
             self.be_stopped(count)?;

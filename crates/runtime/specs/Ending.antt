@@ -9,8 +9,9 @@ use Rattle.runtime.specs.declared.driving.Bounds.{Bounds}
 use Rattle.runtime.specs.declared.ending.RunEnd.{RunEnd}
 use Rattle.runtime.specs.declared.ending.RunEnd.TheVariants.{Complete, Rounds, Items, Refused, Stopped}
 
--- It is so of the world to which it came: nothing is left to do; as many rounds are over as are allowed; each output of these channels
--- has as many items as are asked for. (Where a call was refused, or the hub was stopped, nothing is said of it.)
+-- Why a run ended is so of the world to which it came: nothing is left to do; as many rounds are over as are allowed;
+-- each output of these channels has as many items as are asked for. (Where a call was refused, or the hub was
+-- stopped, nothing is said of it.)
 abbrev pub IsOver : List Channel → Bounds → WorldView → RunEnd → Type 0
 IsOver channels bounds world Complete = are_quiet world ≡ true
 IsOver channels bounds world Rounds = bounds.rounds ≤ world.round

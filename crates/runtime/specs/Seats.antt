@@ -4,7 +4,7 @@ use Rattle.std.specs.List.{range_with_len}
 use Rattle.run_log.specs.Numbers.{Numbers, numbers}
 use Rattle.runtime.specs.declared.seat.NodeSeat.{NodeSeat}
 
--- added up
+-- the numbers of these seats, added up
 abbrev pub numbers_of_seats : {ThisRun : Type 0} → List (NodeSeat ThisRun) → Numbers
 numbers_of_seats {ThisRun} seats =
     numbers (sum_by (λ (seat : NodeSeat ThisRun). seat.count.entries.amount) seats)

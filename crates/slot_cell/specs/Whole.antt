@@ -4,7 +4,8 @@ use Rattle.std.specs.Prelude.{◌≡◌, ℕ, zero, suc, List, Option, Some}
 use Rattle.sector_disk.specs.Clock.{Only, LeavesOnly}
 use Rattle.gate_cell.specs.ValueCall.{ValueCall, Looks, Puts, Crashes}
 
--- The value is called the header here. Each part is none where a length stands there that doesn't fit.
+-- What a crash leaves of a cell with slots, at one moment: its value, called the header here, and the two slots. Each
+-- part is none where a length stands there that doesn't fit.
 pub record Whole : Type 0 where
   pub header : Option (List ℕ)
   pub first : Option (List ℕ)

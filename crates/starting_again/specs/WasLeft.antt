@@ -31,8 +31,9 @@ pub record IsLeftBy (net : Network) (inputs : List (List ℤ)) (records : List R
   pub records_are : records_of world.stations ≡ records
   pub outputs_are : outputs_left world ≡ outputs
 
--- Some such world left these records, by node, and these outputs, by channel. It may be a world at the end of an event,
--- or one that never was: what an event leaves where its device fails behind the put.
+-- Some world of this network on these inputs, of which all is true that is true whatever events came before, left
+-- these records, by node, and these outputs, by channel. It may be a world at the end of an event, or one that never
+-- was: what an event leaves where its device fails behind the put.
 abbrev pub WasLeft : Network → List (List ℤ) → List RecordView → List OutputView → Type 0
 WasLeft net inputs records outputs = ∥ ((world : WorldView) × IsLeftBy net inputs records outputs world) ∥₁
 

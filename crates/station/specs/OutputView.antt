@@ -6,6 +6,7 @@ use Rattle.station.specs.declared.output.Output.{Output}
 abbrev pub output_view : {O : Type 0} → (O → List ℤ) → Output O → OutputView
 output_view taken output = record { channel = output.channel; taken = taken output.outlet }
 
+-- these outputs without pointers, each with what its outlet has taken
 abbrev pub outputs_view : {O : Type 0} → (O → List ℤ) → List (Output O) → List OutputView
 outputs_view taken outputs = map (output_view taken) outputs
 

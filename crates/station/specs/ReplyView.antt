@@ -13,6 +13,7 @@ use Rattle.node_memory.specs.JobView.{shared_view}
 abbrev pub Reply : Type 0
 Reply = AnyReply (Arc Job Global) Leaving
 
+-- a `Reply` without pointers
 abbrev pub reply_view : Reply → ReplyView
 reply_view answer = reply_by shared_view (λ item. item) answer
 

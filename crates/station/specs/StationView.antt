@@ -21,7 +21,7 @@ outlet_view taken failures output =
 abbrev pub outlet_views : {O : Type 0} → (O → List ℤ) → (O → ℕ) → List (Output O) → List OutletView
 outlet_views taken failures outputs = map (outlet_view taken failures) outputs
 
--- `taken` and `failures` are the outlets' words
+-- a `Station` without pointers and without the contents of its cell; `taken` and `failures` are the outlets' words
 abbrev pub station_view : {C O : Type 0} {cell : CellWords C} {slots : SlotWords C} → (O → List ℤ) → (O → ℕ)
     → Station C O slots cell → StationView
 station_view {C} {O} {cell} {slots} taken failures station = record {

@@ -10,7 +10,8 @@ use Rattle.window_link.specs.declared.receiving.Ack.{Ack}
 
 -- ---- the sender
 
--- how many positions may be under way, and what was acknowledged last: in which epoch, and up to where
+-- the window at the sending node of a channel: how many positions may be under way, and what was acknowledged last,
+-- in which epoch and up to where
 pub record Sender : Type 0 where
   pub size : ℕ
   pub epoch : ℕ
@@ -26,7 +27,8 @@ is_due sender base end position =
     nat_le (max sender.acknowledged base) position
     && (nat_lt position (max sender.acknowledged base + sender.size) && nat_lt position end)
 
--- an acknowledgement came: an older epoch says nothing, a newer one counts as it is, the same one only raises
+-- a sender's window after an acknowledgement: one of an older epoch says nothing, one of a newer epoch counts as it
+-- is, and one of the same epoch only raises
 abbrev pub sender_after : Sender → ℕ → ℕ → Sender
 sender_after sender epoch next =
     if nat_lt epoch sender.epoch then sender
@@ -39,7 +41,8 @@ sender_reset sender = record { size = sender.size; epoch = 0; acknowledged = 0 }
 
 -- ---- the receiver
 
--- which position is taken next, in which epoch, and what is held: a place for each of so many positions from the next one on
+-- the window at the receiving node of a channel: which position is taken next, in which epoch, and what is held, a
+-- place for each of so many positions from the next one on
 pub record Receiver : Type 0 where
   pub epoch : ℕ
   pub next : ℕ
@@ -94,6 +97,8 @@ pub record Received : Type 0 where
   pub window : Receiver
   pub answer : Arrival
 
+-- what comes of an item at a position: it is taken where it comes next, with what was held behind it; held where it
+-- comes within the window; and else dropped
 abbrev pub received : Receiver → ℕ → ℤ → Received
 received window position item =
     record {

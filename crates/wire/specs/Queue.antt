@@ -15,6 +15,7 @@ pub record QueueState : Type 0 where
 abbrev pub flight : List ℕ → ℕ → Flight
 flight packet due = record { packet = packet; due = due }
 
+-- a packet in flight may be delivered in this round
 abbrev pub is_due : ℕ → Flight → Bool
 is_due round f = nat_le f.due round
 

@@ -13,7 +13,8 @@ pub record QueueTraffic : Type 0 where
   pub flights : List Flight
   pub counts : List ℕ
 
--- a queue for each node, and the rules in the order in which they were armed
+-- what is in flight: a queue of packets for each node, and what is to become of packets still to be sent, in the
+-- order in which that was armed
 pub record Traffic : Type 0 where
   pub queues : List QueueTraffic
   pub rules : List Rule
@@ -44,15 +45,15 @@ abbrev pub with_flights : Traffic → ℕ → List Flight → Traffic
 with_flights traffic node flights =
     with_traffic traffic node (record { flights = flights; counts = (traffic_at traffic node).counts })
 
--- the packet at a place is taken or lost
+-- what is in flight without the packet at this place, which was taken or lost
 abbrev pub traffic_without : Traffic → ℕ → ℕ → Traffic
 traffic_without traffic to place = with_flights traffic to (remove (flights_to traffic to) place)
 
--- it is due so many rounds later
+-- what is in flight where the packet at this place is due so many rounds later
 abbrev pub traffic_delayed : Traffic → ℕ → ℕ → ℕ → Traffic
 traffic_delayed traffic to place rounds = with_flights traffic to (with_delay (flights_to traffic to) place rounds)
 
--- a copy of it goes last
+-- what is in flight with a copy of the packet at this place behind all others for its node
 abbrev pub traffic_repeated : Traffic → ℕ → ℕ → Traffic
 traffic_repeated traffic to place = with_flights traffic to (with_copy (flights_to traffic to) place)
 
@@ -76,7 +77,7 @@ abbrev pub traffic_sent : ℕ → ℕ → List ℕ → ℕ → Traffic → Traff
 traffic_sent from to packet round traffic =
     with_traffic traffic to (queue_sent traffic.rules from to packet round (traffic_at traffic to))
 
--- one packet after the other
+-- what is in flight with these packets sent, one after the other
 abbrev pub all_sent : ℕ → List Sending → Traffic → Traffic
 all_sent round [] traffic = traffic
 all_sent round (sending ∷ sendings) traffic =

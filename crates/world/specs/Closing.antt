@@ -20,6 +20,6 @@ abbrev pub disks_of : {D O : Type 0} {disk : DiskWords D} {cell : CellWords (Spl
     → List (Station (SplitCell D disk) O slots cell) → List D
 disks_of {D} {O} {disk} {cell} {slots} stations = map (λ (station : Station (SplitCell D disk) O slots cell). disk_of station) stations
 
--- their outputs, station by station
+-- the outputs of these stations, station by station
 abbrev pub all_outputs : {C O : Type 0} {cell : CellWords C} {slots : SlotWords C} → List (Station C O slots cell) → List (Output O)
 all_outputs {C} {O} {cell} {slots} stations = flat_map (λ (station : Station C O slots cell). station.outputs.items) stations

@@ -11,11 +11,11 @@ use Rattle.station.specs.OutputView.{outputs_view}
 use Rattle.station.specs.declared.output.Output.{Output}
 use Rattle.starting_again.specs.WasLeft.{WasLeft}
 
--- the record that the disk's content spells; a blank one where it spells none
+-- the record that a disk's content spells; a blank one where it spells none
 abbrev pub record_on : {D : Type 0} → (D → ℕ) → (D → List ℕ) → D → RecordView
 record_on sectors content disk = record_spelled (whole_on (sectors disk) (content disk))
 
--- those of these disks, in their order
+-- the records that the contents of these disks spell, in their order
 abbrev pub records_on : {D : Type 0} → (D → ℕ) → (D → List ℕ) → List D → List RecordView
 records_on sectors content disks = map (record_on sectors content) disks
 

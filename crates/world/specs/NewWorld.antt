@@ -46,7 +46,7 @@ pub record IsNew {D O : Type 0} {disk : DiskWords D} {cell : CellWords (SplitCel
 
 -- ---- no world was made; `sectors` and `failures` are the disks' words
 
--- None was made of this network on these disks, with these outputs.
+-- No world was made of this network on these disks, with these outputs.
 pub record IsNotNew {D O : Type 0} (sectors failures : D → ℕ) (net : Network) (disks : List D) (outputs : List (Output O))
     (refused : OpeningRefused D O) : Type 0 where
   -- Memory is missing; or a disk has no room for its record (22); or one has, and its device failed (20).
@@ -56,7 +56,7 @@ pub record IsNotNew {D O : Type 0} (sectors failures : D → ℕ) (net : Network
   pub handed_back : AreHandedBack sectors failures disks refused.disks.items refused.fault
   pub same_outputs : refused.outputs.items ≡ outputs
 
--- None was made where these versions were given for the disks.
+-- No world was made where these versions were given for the disks.
 pub record IsNotNewFrom {D O : Type 0} (sectors failures : D → ℕ) (net : Network) (versions : List ℕ) (disks : List D)
     (outputs : List (Output O)) (refused : OpeningRefused D O) : Type 0 where
   -- 31 where there isn't a version for each disk, before anything is done with one; and no other reasons than the above.

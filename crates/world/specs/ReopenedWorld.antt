@@ -50,8 +50,8 @@ pub record IsReopened {D O : Type 0} {disk : DiskWords D} {cell : CellWords (Spl
   pub armed : armed_on world.stations.items ≡ map (λ (d : D). disk.armed d) disks
   pub counted : calls_on world.stations.items ≡ map (λ (d : D). 0) disks
 
--- None was opened over what lies on these disks, with these outputs. `sectors`, `content`, `may_leave`, `armed` and `failures`
--- are the disks' words, `taken` is the outlets'.
+-- No world was opened over what lies on these disks, with these outputs. `sectors`, `content`, `may_leave`, `armed`
+-- and `failures` are the disks' words, `taken` is the outlets'.
 pub record IsNotReopened {D O : Type 0} (sectors : D → ℕ) (content : D → List ℕ) (may_leave : D → List ℕ → Type 0)
     (armed : D → List ArmedFault) (failures : D → ℕ) (taken : O → List ℤ) (net : Network) (inputs : List (List ℤ))
     (disks : List D) (outputs : List (Output O)) (refused : OpeningRefused D O) : Type 0 where

@@ -45,7 +45,8 @@ stations_down net number (kept ∷ records) (before ∷ failures) outlets =
     station_down number kept before (outlets_on net number outlets)
     ∷ stations_down net (suc number) records failures outlets
 
--- the world of these stations: nothing is in flight, it is in round 0, and a channel has the room that holds unless it is set
+-- the world that is opened of these stations: nothing is in flight, it is in round 0, and a channel has the room that
+-- holds unless it is set
 abbrev pub world_again : Network → List (List ℤ) → List RecordView → List ℕ → List OutletView → WorldView
 world_again net inputs records failures outlets =
     record {

@@ -14,6 +14,7 @@ use Rattle.station.specs.declared.station.Station.{Station}
 use Rattle.world.specs.WorldView.{capacities, rooms, world_view, IsGrown}
 use Rattle.world.specs.declared.world.World.{World}
 
+-- a `World` without pointers and without the contents of its cells
 abbrev pub world_of : {C O : Type 0} {cell : CellWords C} {slots : SlotWords C} {outlet : OutletWords O}
     → World C O slots cell outlet → WorldView
 world_of {C} {O} {cell} {slots} {outlet} world =

@@ -31,7 +31,7 @@ world_view taken failures net inputs stations traffic round room =
       room = room;
     }
 
--- what each station's cell has room for
+-- for each station, which records its cell has room for
 abbrev pub rooms : {C O : Type 0} {cell : CellWords C} {slots : SlotWords C} → List (Station C O slots cell)
     → List (RecordView → Bool)
 rooms {C} {O} {cell} {slots} stations =
@@ -57,7 +57,8 @@ HasOutlets {C} {O} outputs station =
     map (λ (output : Output O). output.outlet) station.outputs.items
     ≡ map (λ (output : Output O). output.outlet) outputs
 
--- the node of the station of this place is recovered as was armed
+-- the node of the station at this place may be recovered after the rounds that were armed with the call that failed,
+-- as its cell tells it
 abbrev pub RestartsAsArmedAt : {C O : Type 0} {cell : CellWords C} {slots : SlotWords C} → ℕ → ℕ
     → List (Station C O slots cell)
     → List (Station C O slots cell) → Type 0
@@ -65,7 +66,8 @@ RestartsAsArmedAt {C} {O} {cell} {slots} round place olds news =
     (old new : Station C O slots cell) → slice_get olds place ≡ Some old → slice_get news place ≡ Some new
     → RestartsAsArmed round old new
 
--- what an event leaves of the device of the station of this place
+-- what an event leaves of the device of the station at this place: no fault is armed but by an `Arm` that isn't
+-- refused, none is disarmed, and no call that was counted is forgotten
 abbrev pub LeavesDeviceAt : {C O : Type 0} {cell : CellWords C} {slots : SlotWords C} → EventView → Option ReplyView → ℕ
     → List (Station C O slots cell) → List (Station C O slots cell) → Type 0
 LeavesDeviceAt {C} {O} {cell} {slots} event answer place olds news =
@@ -79,7 +81,8 @@ pub record HoldsAsBefore {C O : Type 0} {cell : CellWords C} {slots : SlotWords 
     pub same_whole : slots.whole (cell_in new.node.store) ≡ slots.whole (cell_in old.node.store)
     pub any_moment : LeavesAsBefore old.node.store new.node.store
 
--- the same of the station of this place
+-- The cell of the station at this place holds the same header and slots as before, and a crash at any moment between
+-- leaves what it might have left before.
 abbrev pub HoldsAsBeforeAt : {C O : Type 0} {cell : CellWords C} {slots : SlotWords C} → ℕ → List (Station C O slots cell)
     → List (Station C O slots cell) → Type 0
 HoldsAsBeforeAt {C} {O} {cell} {slots} place olds news =

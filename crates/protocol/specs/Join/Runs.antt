@@ -46,8 +46,8 @@ pub record IsInFlight (traffic : Traffic) (told : Packet) : Type 0 where
   pub there : slice_get (flights_to traffic to) place ≡ Some flight
   pub says : bytes_seen flight.packet ≡ Some told
 
--- Steps of the machine lead from its opening world to these stations, where just that is under way which is in flight
--- here.
+-- Steps of the abstract machine lead from its opening world to these stations, where just that is under way which is
+-- in flight here.
 pub record HasRun (net : Network) (stations : List StationView) (traffic : Traffic) : Type 0 where
   pub sent : List Packet
   pub reached : Reachable (net_seen net) (world_seen stations sent)

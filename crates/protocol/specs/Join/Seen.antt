@@ -33,6 +33,7 @@ abbrev pub nodes_before : List ℕ → ℕ → ℕ
 nodes_before [] p = 0
 nodes_before (q ∷ nodes) p = if q == p then 0 else suc (nodes_before nodes p)
 
+-- what an initiator collects, as the abstract machine sees it
 abbrev pub live_seen : LiveView → Live
 live_seen live =
     record {
@@ -85,6 +86,7 @@ body_seen from to (says.Ended number) = Some (Ended from to number)
 body_seen from to (says.Settled number) = Some (Settled from to number)
 body_seen from to (says.Undone channel epoch sent) = None
 
+-- a packet as the abstract machine sees it, none where that knows no such packet
 abbrev pub packet_seen : Datagram → Option Packet
 packet_seen packet = body_seen packet.from packet.to packet.body
 
@@ -102,7 +104,7 @@ all_seen (packet ∷ packets) = in_front (packet_seen packet) (all_seen packets)
 
 -- ---- a world
 
--- these stations, where all this has ever been sent
+-- these stations as a world of the abstract machine, where all this has ever been sent
 abbrev pub world_seen : List StationView → List Packet → World
 world_seen stations sent =
     record {

@@ -17,10 +17,11 @@ address (Some node) = node
 abbrev pub port_node : Network → Port → ℕ
 port_node net port = address (node_at net port)
 
--- the nodes from which the items of a channel come, and to which they go
+-- the node from which the items of a channel come, as the address of a packet
 abbrev pub producer_node : Network → ℕ → ℕ
 producer_node net c = address (producer_of net (slice_get net.channels c))
 
+-- the node to which the items of a channel go, as the address of a packet
 abbrev pub consumer_node : Network → ℕ → ℕ
 consumer_node net c = address (consumer_of net (slice_get net.channels c))
 
@@ -55,6 +56,6 @@ names_run net from to (Ended number) = are_nodes net from to
 names_run net from to (Settled number) = are_nodes net from to
 names_run net from to (Undone channel epoch sent) = runs_between net from to channel
 
--- a packet names two nodes of the network, and channels that run so
+-- a packet names two nodes of the network, and channels that run between them as it says
 abbrev pub names_right : Network → Packet → Bool
 names_right net packet = names_run net packet.from packet.to packet.body

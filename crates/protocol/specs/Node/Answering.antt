@@ -89,7 +89,7 @@ abbrev pub took_packet : Network → ℕ → ℕ → ℕ → ℕ → ℕ → Rec
 took_packet net home x n c m kept =
     record { from = home; to = x; body = Took n c m (held_needs net home kept.permanent kept.tentative) }
 
--- what a node says that has this record then
+-- what a node with this record says to whoever asked it to take part, by its answer
 abbrev pub answer_packets : Network → ℕ → ℕ → ℕ → ℕ → ℕ → RecordView → AskAnswer → List Packet
 answer_packets net home x n c m kept Silent = []
 answer_packets net home x n c m kept CoveredBefore = record { from = home; to = x; body = Covered n c m } ∷ []
@@ -109,5 +109,6 @@ answering net home x n c m answer node =
       refused = record { from = home; to = x; body = Refused n c TooLarge } ∷ [];
     })
 
+-- what becomes of a node that is asked to take part in instance n of initiator x, for m items of channel c
 abbrev pub ask_prospect : Network → ℕ → ℕ → ℕ → ℕ → ℕ → NodeView → Prospect
 ask_prospect net home x n c m node = answering net home x n c m (answer_to_ask x n c m node.kept node.mode) node

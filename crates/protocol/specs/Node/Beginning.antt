@@ -64,7 +64,8 @@ live_asks net home (Some live) = open_questions net home live.number 0 live.ques
 
 -- ---- the event
 
--- it runs, holds no tentative image, and fewer decisions of its own are unsettled than a record has room for
+-- a node may begin a checkpoint: it runs, holds no tentative image, and fewer decisions of its own are unsettled than
+-- a record has room for
 abbrev pub may_start : NodeView → Bool
 may_start node =
     is_running node.mode && (is_none node.kept.tentative && nat_lt (length node.kept.decisions) MAX_DECISIONS)
@@ -72,11 +73,11 @@ may_start node =
 abbrev pub beginning : Network → ℕ → RecordView → RunningView → RunningView
 beginning net home kept running = collecting (Some (live_begun net home kept running.current)) running
 
--- the node with a tentative image of its own, for which it collects answers
+-- a node that has begun a checkpoint: it holds a tentative image of its own, for which it collects answers
 abbrev pub begun : Network → ℕ → NodeView → NodeView
 begun net home node = with_kept (with_own_now home node) (on_running (beginning net home node.kept) node)
 
--- it puts the tentative image, and asks
+-- what a `Start` comes to: the node puts its current image as a tentative one, and asks for what that needs
 abbrev pub start_prospect : Network → ℕ → NodeView → Prospect
 start_prospect net home node =
     if_due (may_start node)

@@ -85,7 +85,7 @@ job_up_to net inputs share node =
     if may_grant node then job_of net inputs share node
     (next_process net inputs share node.current node.inboxes node.last) else None
 
--- and where the world gives a channel so much room
+-- the job that may be granted next at a node that runs, if one may, where the world gives a channel so much room
 abbrev pub next_job : Network → List (List ℤ) → ℕ → RunningNode → Option JobView
 next_job net inputs room node = job_up_to net inputs (retained_share room node.current) node
 
@@ -110,7 +110,7 @@ granted (Some job) running = record running { out = Some job; last = Some job.pr
 abbrev pub with_grant : Option JobView → NodeView → NodeView
 with_grant job node = on_running (granted job) node
 
--- a job is granted where there is one to grant
+-- what a `Grant` comes to: the next job is granted, where there is one
 abbrev pub grant_prospect : Option JobView → NodeView → Prospect
 grant_prospect None node = Undue
 grant_prospect (Some job) node = becoming (with_grant (Some job) node)

@@ -67,7 +67,7 @@ awaits n c (Some live) = (live.number == n) && is_open_at (slice_get live.questi
 abbrev pub with_covered : ℕ → LiveView → LiveView
 with_covered c live = record live { questions = with_answer By_covered c live.questions }
 
--- nothing changes where none is missing
+-- what an initiator collects, once it heard that a question is covered; nothing changes where no answer is missing
 abbrev pub covered_live : ℕ → ℕ → Option LiveView → Option LiveView
 covered_live n c live = if awaits n c live then option_map (with_covered c) live else live
 
@@ -132,6 +132,8 @@ pub data TookAnswer : Type 0 where
   Joins : TookAnswer
   GivesUp : TookAnswer
 
+-- what an initiator makes of the word of a node that took part: it counts it in, gives the checkpoint up where the
+-- node's needs can't be met, or ignores what isn't of the checkpoint for which it collects answers
 abbrev pub answer_to_took : Network → ℕ → ℕ → ℕ → List Need → RecordView → Option LiveView → TookAnswer
 answer_to_took net home n c needs kept None = Ignores
 answer_to_took net home n c needs kept (Some live) =
@@ -150,6 +152,7 @@ joined_asks net home c needs (Some live) =
 abbrev pub given_up : NodeView → NodeView
 given_up node = with_kept (without_tentative node.kept) (on_running (collecting None) node)
 
+-- what becomes of an initiator that gives up the checkpoint for which it collects answers
 abbrev pub give_up_prospect : NodeView → Prospect
 give_up_prospect node = putting false (given_up node)
 
@@ -165,7 +168,8 @@ took_by net home p c needs Joins node =
     })
 took_by net home p c needs GivesUp node = give_up_prospect node
 
--- node p says that it took part, where so many items of channel c had been asked for
+-- what becomes of an initiator to which node p says that it took part, where so many items of channel c had been
+-- asked for
 abbrev pub took_prospect : Network → ℕ → ℕ → ℕ → ℕ → List Need → NodeView → Prospect
 took_prospect net home p n c needs node =
     took_by net home p c needs (answer_to_took net home n c needs node.kept (live_in node.mode)) node

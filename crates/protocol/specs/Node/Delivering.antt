@@ -39,12 +39,13 @@ with_arrival arrival.Dropped window item inbox = inbox
 abbrev pub after_arrival : Received → ℤ → Inbox → Inbox
 after_arrival received item inbox = with_arrival received.answer received.window item inbox
 
--- the item of a position comes to the window where there is a place for one, and else is dropped
+-- an inbox to which the item of a position came: its window receives it where there is a place for an item, and else
+-- it is dropped
 abbrev pub taking : ℕ → ℤ → Inbox → Inbox
 taking position item inbox =
     if has_place inbox.log then after_arrival (received inbox.window position item) item inbox else inbox
 
--- what was acknowledged is noted
+-- an outbox that has noted what was acknowledged
 abbrev pub acknowledged : ℕ → ℕ → Outbox → Outbox
 acknowledged epoch next outbox =
     record {
@@ -92,11 +93,12 @@ abbrev pub if_right : Network → ℕ → Option Packet → Option Packet
 if_right net home None = None
 if_right net home (Some packet) = if (packet.to == home) && names_right net packet then Some packet else None
 
--- such a packet that these bytes spell, if they spell one
+-- the packet for this node, with right names, that these bytes spell, if they spell one
 abbrev pub packet_for : Network → ℕ → List ℕ → Option Packet
 packet_for net home bytes = if_right net home (whole_at bytes)
 
--- how they are taken: not at all by a node that is down; they are dropped where they spell no packet for it
+-- how bytes that come to a node are taken: not at all by a node that is down; dropped where they spell no packet for
+-- it; and else heard
 abbrev pub delivery_of : Bool → Option Packet → Delivery
 delivery_of true packet = NotDue
 delivery_of false None = Dropped

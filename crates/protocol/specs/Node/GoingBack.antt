@@ -73,6 +73,8 @@ answer_with channel epoch sent own None Down = PassesOver
 answer_with channel epoch sent own None InDoubt = PassesOver
 answer_with channel epoch sent own None (Runs running) = answer_at epoch sent own (inbox_of running.inboxes channel)
 
+-- what a node does that is told that the sender of a channel restored an image: nothing, it notes the epoch, or it
+-- goes back to its permanent image
 abbrev pub answer_to_undone : ℕ → ℕ → ℕ → RecordView → ModeView → UndoneAnswer
 answer_to_undone channel epoch sent kept mode = answer_with channel epoch sent kept.epoch kept.tentative mode
 
@@ -97,7 +99,7 @@ set_back_from image own channel epoch running = record {
 abbrev pub set_back_to : RecordView → ℕ → ℕ → RunningView → RunningView
 set_back_to kept channel epoch running = set_back_from kept.permanent kept.epoch channel epoch running
 
--- the node in its next epoch; no job is out any more
+-- a node that went back to its permanent image, in its next epoch, with no job out any more
 abbrev pub gone_back : ℕ → ℕ → NodeView → NodeView
 gone_back channel epoch node = record {
   kept = with_epoch node.kept;
@@ -112,6 +114,8 @@ undone_by channel epoch PassesOver node = becoming node
 undone_by channel epoch Notes node = becoming (on_running (noting_undone channel epoch) node)
 undone_by channel epoch GoesBack node = putting false (gone_back channel epoch node)
 
+-- what becomes of a node that is told that the sender of a channel restored an image, and how many items that image
+-- had put
 abbrev pub undone_prospect : ℕ → ℕ → ℕ → NodeView → Prospect
 undone_prospect channel epoch sent node =
     undone_by channel epoch (answer_to_undone channel epoch sent node.kept node.mode) node

@@ -42,7 +42,8 @@ abbrev pub next_items : List (List ℤ) → ImageView → List Inbox → ℕ →
 next_items inputs image inboxes channel producer =
     items_by inputs channel producer (received_of image channel) (source_of image inboxes channel)
 
--- what a process has at hand of each channel, the first one of this number: of those from which it gets
+-- the items that a process has at hand of each channel from this number on: at most 64 of one from which it gets, and
+-- none of any other
 abbrev pub items_from : List (List ℤ) → ImageView → List Inbox → ℕ → ℕ → List Channel → List (List ℤ)
 items_from inputs image inboxes process number [] = []
 items_from inputs image inboxes process number (channel ∷ channels) =
@@ -58,7 +59,8 @@ room_in share (Some log) = min MAX_JOB_ITEMS (min (share - length log.items) (MA
 abbrev pub room_of : ℕ → ImageView → ℕ → ℕ
 room_of share image channel = room_in share (log_of image channel)
 
--- the room that a process has on each channel, the first one of this number: on those on which it puts
+-- the room that a process has on each channel from this number on: at most 64 places on one on which it puts, and
+-- none on any other
 abbrev pub room_from : ℕ → ImageView → ℕ → ℕ → List Channel → List ℕ
 room_from share image process number [] = []
 room_from share image process number (channel ∷ channels) =

@@ -19,9 +19,9 @@ use Rattle.protocol.specs.Node.Trimming.{cut_at}
 abbrev pub remembering : (RunningView → RunningView) → NodeView → Prospect
 remembering change node = becoming (on_running change node)
 
--- A node that is up hears this from a node. Items and acknowledgements change its ends of channels, and what the
--- receiver of a channel keeps for good cuts the log; what its sender restored may set the node back; all else is about
--- checkpoints.
+-- What becomes of a node that is up and hears this from a node. Items and acknowledgements change its ends of
+-- channels, and what the receiver of a channel keeps for good cuts the log; what its sender restored may set the node
+-- back; all else is about checkpoints.
 abbrev pub hear_prospect : Network → ℕ → ℕ → Body → NodeView → Prospect
 hear_prospect net home from (Data channel position item) node = remembering (hearing (Data channel position item)) node
 hear_prospect net home from (Ack channel epoch next) node = remembering (hearing (Ack channel epoch next)) node
@@ -41,5 +41,6 @@ abbrev pub told_prospect : Network → ℕ → Option Packet → NodeView → Pr
 told_prospect net home None node = becoming node
 told_prospect net home (Some packet) node = hear_prospect net home packet.from packet.body node
 
+-- what a `Deliver` comes to: a node that is up hears the packet, if there is one; a node that is down takes none
 abbrev pub deliver_prospect : Network → ℕ → Option Packet → NodeView → Prospect
 deliver_prospect net home packet node = if_due (not (is_down node.mode)) (told_prospect net home packet node)

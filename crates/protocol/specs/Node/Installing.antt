@@ -104,7 +104,7 @@ IsTaken channels job standing taken sent old true new =
     (old.out ≡ Some job) × (new ≡ turned channels job.process standing taken sent old)
 IsTaken channels job standing taken sent old false new = ¬ (old.out ≡ Some job) × (new ≡ old)
 
--- what came back is of the job that is out at a node that runs
+-- what comes back is of the job that is out at a node that runs
 abbrev pub IsOut : JobView → ModeView → Type 0
 IsOut job Down = ⊥
 IsOut job InDoubt = ⊥
@@ -116,7 +116,7 @@ TakesTurn channels process taken sent Down = Unit {0}
 TakesTurn channels process taken sent InDoubt = Unit {0}
 TakesTurn channels process taken sent (Runs running) = ImageTakes channels process taken sent running.current
 
--- how what comes back is taken in, or left
+-- a turn that comes back is taken in exactly where its job is the one that is out, and else changes nothing
 abbrev pub IsInstall : List Channel → JobView → Standing → List ℕ → List (List ℤ) → NodeView → Bool → NodeView → Type 0
 IsInstall channels job standing taken sent old true new =
     IsOut job old.mode × (new ≡ on_running (turned channels job.process standing taken sent) old)

@@ -2,6 +2,7 @@
 use Rattle.std.specs.Prelude.{ℕ, ℤ, List, Option}
 use Rattle.ckpt_codec.specs.Common.{Code, Standing}
 
+-- a job as data without pointers, with the code of its process
 pub record JobView : Type 0 where
   pub process : ℕ
   pub code : Option Code

@@ -14,11 +14,12 @@ abbrev pub node_at : Network → Port → Option ℕ
 node_at net Outside = None
 node_at net (Process p) = option_map (λ (code : Code). code.node) (slice_get net.codes p)
 
--- the nodes at a channel's two ends
+-- the node of the process that puts on a channel; none where the items come from outside
 abbrev pub producer_of : Network → Option Channel → Option ℕ
 producer_of net None = None
 producer_of net (Some channel) = node_at net channel.producer
 
+-- the node of the process that gets from a channel; none where the items go outside
 abbrev pub consumer_of : Network → Option Channel → Option ℕ
 consumer_of net None = None
 consumer_of net (Some channel) = node_at net channel.consumer
@@ -76,16 +77,18 @@ role_by false gets = 0
 abbrev pub role_here : Network → ℕ → Channel → ℕ
 role_here net node channel = role_by (port_on net node channel.producer) (port_on net node channel.consumer)
 
--- the numbers of the node's processes, and of the channels of which it has an end
+-- the numbers of a node's processes
 abbrev pub processes_on : Network → ℕ → List ℕ
 processes_on net node = numbers_where (has_process net node) 0 (length net.codes)
 
+-- the numbers of the channels of which a node has an end
 abbrev pub ends_on : Network → ℕ → List ℕ
 ends_on net node = numbers_where (has_end net node) 0 (length net.channels)
 
--- the numbers of the channels that come from other nodes, and of those that go there
+-- the numbers of the channels that come to a node from other nodes
 abbrev pub incoming_on : Network → ℕ → List ℕ
 incoming_on net node = numbers_where (is_incoming net node) 0 (length net.channels)
 
+-- the numbers of the channels that go from a node to other nodes
 abbrev pub outgoing_on : Network → ℕ → List ℕ
 outgoing_on net node = numbers_where (is_outgoing net node) 0 (length net.channels)

@@ -7,8 +7,8 @@ pub record QuestionView : Type 0 where
   pub count : ℕ
   pub answer : Answer
 
--- The number of the instance; at the place of each channel what was asked of it; and the nodes that took part, in the
--- order in which they first said so.
+-- What an initiator collects for its checkpoint: the number of the instance; at the place of each channel what was
+-- asked of it; and the nodes that took part, in the order in which they first said so.
 pub record LiveView : Type 0 where
   pub number : ℕ
   pub questions : List (Option QuestionView)

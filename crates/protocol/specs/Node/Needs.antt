@@ -16,7 +16,8 @@ is_needed net home permanent image c =
 abbrev pub need_on : ImageView → ℕ → Need
 need_on image c = record { channel = c; count = received_of image c }
 
--- its needs, channels ascending
+-- the needs of an image, by ascending channel: of each channel from another node of which it received more than the
+-- permanent image did, how many
 abbrev pub needs_of : Network → ℕ → ImageView → ImageView → List Need
 needs_of net home permanent image =
     map (need_on image) (numbers_where (is_needed net home permanent image) 0 (length net.channels))

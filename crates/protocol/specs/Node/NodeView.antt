@@ -17,15 +17,15 @@ pub record RunningView : Type 0 where
   pub outboxes : List Outbox
   pub live : Option LiveView
 
--- A node is down, and has no more than its record; or it holds another's tentative image and waits for the verdict; or
--- it runs.
+-- A node's mode: it is down, and has no more than its record; or it is in doubt, as it holds another's tentative
+-- image and waits for the verdict; or it runs.
 pub data ModeView : Type 0 where
   Down : ModeView
   InDoubt : ModeView
   Runs : (running : RunningView) → ModeView
 
--- What a node keeps over a crash is its record, its version, the round from which it may be recovered, and how long
--- each fault that is armed on its disk keeps it down, in the order of arming.
+-- A node: its mode, and what it keeps over a crash. That is its record, its version, the round from which it may be
+-- recovered, and how long each fault that is armed on its disk keeps it down, in the order of arming.
 pub record NodeView : Type 0 where
   pub kept : RecordView
   pub version : ℕ

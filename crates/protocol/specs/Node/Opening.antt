@@ -38,7 +38,8 @@ abbrev pub opening_image : Network → ℕ → ImageView
 opening_image net home =
     record { processes = opening_processes home 0 net.codes; ends = opening_ends net home 0 net.channels }
 
--- the record of the node of this number, of so many nodes
+-- the record with which a node begins, the one of this number of so many nodes: no process has begun, counts are 0,
+-- and logs are empty
 abbrev pub opening_record : Network → ℕ → ℕ → RecordView
 opening_record net nodes number =
     record {
@@ -72,7 +73,8 @@ opening_inboxes net home = map new_inbox (incoming_on net home)
 abbrev pub opening_outboxes : Network → ℕ → List Outbox
 opening_outboxes net home = map new_outbox (outgoing_on net home)
 
--- a node of this number that runs from its record's permanent image, and never went down
+-- a node of this number that runs from its record's permanent image, with empty inboxes and nothing acknowledged, and
+-- never went down
 abbrev pub running_from : Network → ℕ → RecordView → NodeView
 running_from net home kept = record {
   kept = kept;

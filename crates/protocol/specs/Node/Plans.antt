@@ -44,7 +44,7 @@ putting grows node = Planned (record { node = node; puts = true; grows = grows; 
 abbrev pub telling : List Packet → NodeView → Prospect
 telling packets node = Planned (record { node = node; puts = false; grows = false; packets = packets; refused = [] })
 
--- where it can happen
+-- what an event comes to that can happen only where it is due
 abbrev pub if_due : Bool → Prospect → Prospect
 if_due due prospect = if due then prospect else Undue
 
@@ -59,8 +59,8 @@ unless_spent looks less prospect = if less then prospect else Exhausted looks
 abbrev pub HasFailedAt : ℕ → RecordView → NodeView → NodeView → Type 0
 HasFailedAt restart next old new = (new ≡ crashed restart old) ⊎ (new ≡ crashed restart (with_kept next old))
 
--- A plan is made; or its record, which grows, is too large, and nothing is done; or the device fails, where there is a
--- record to put.
+-- An event with a plan comes out in one of three ways: it is made; its record, which grows, is too large, and nothing
+-- is done; or the device fails, where there is a record to put.
 abbrev pub IsCarriedOut : ℕ → Plan → NodeView → Outcome → NodeView → Type 0
 IsCarriedOut restart plan old outcome.NotDue new = ⊥
 IsCarriedOut restart plan old outcome.Made new = new ≡ plan.node
@@ -68,8 +68,8 @@ IsCarriedOut restart plan old (outcome.Refused TooLarge) new = IsTrue plan.grows
 IsCarriedOut restart plan old (outcome.Refused Spent) new = ⊥
 IsCarriedOut restart plan old outcome.Failed new = IsTrue plan.puts × HasFailedAt restart plan.node.kept old new
 
--- A number would pass the greatest: that is refused, and nothing is done; or the device fails before, where it is
--- looked at.
+-- An event by which a number would pass the greatest is refused, and nothing is done; or the device fails before
+-- that, where it is looked at.
 abbrev pub IsHeldUp : ℕ → Bool → NodeView → Outcome → NodeView → Type 0
 IsHeldUp restart looks old outcome.NotDue new = ⊥
 IsHeldUp restart looks old outcome.Made new = ⊥
@@ -77,6 +77,8 @@ IsHeldUp restart looks old (outcome.Refused TooLarge) new = ⊥
 IsHeldUp restart looks old (outcome.Refused Spent) new = new ≡ old
 IsHeldUp restart looks old outcome.Failed new = IsTrue looks × (new ≡ crashed restart old)
 
+-- an event comes out by its prospect: nothing happens where it can't; it is held up where a number would pass the
+-- greatest; else its plan is carried out
 abbrev pub IsMade : ℕ → Prospect → NodeView → Outcome → NodeView → Type 0
 IsMade restart Undue old came new = (came ≡ outcome.NotDue) × (new ≡ old)
 IsMade restart (Exhausted looks) old came new = IsHeldUp restart looks old came new
@@ -91,14 +93,14 @@ next_record Undue kept = kept
 next_record (Exhausted looks) kept = kept
 next_record (Planned plan) kept = plan_record plan kept
 
--- the cell has room for the record that it puts, if it puts one
+-- a cell has room for the record that an event puts, if it puts one
 abbrev pub room_for : (RecordView → Bool) → Prospect → Bool
 room_for fits Undue = true
 room_for fits (Exhausted looks) = true
 room_for fits (Planned plan) = if plan.puts then fits plan.node.kept else true
 
--- What the cell has to do with that, whose device failed so often before and after: the record has room unless it was
--- refused since it has none, and the device failed exactly where the node went down.
+-- What a cell did for an event, whose device had failed so often before it and after: there was room for the record
+-- unless it was refused for want of it, and the device failed exactly where the node went down.
 abbrev pub IsPut : Bool → ℕ → ℕ → Outcome → Type 0
 IsPut room before after outcome.NotDue = after ≡ before
 IsPut room before after outcome.Made = IsTrue room × (after ≡ before)

@@ -10,7 +10,7 @@ use Rattle.protocol.specs.declared.limits.TheConstants.{WINDOW}
 use Rattle.protocol.specs.declared.links.Inbox.{Inbox}
 use Rattle.protocol.specs.declared.links.Outbox.{Outbox}
 
--- a node that is up crashes, and may be recovered from this round on
+-- what a `Crash` comes to: a node that is up goes down, and may be recovered from this round on
 abbrev pub crash_prospect : ℕ → NodeView → Prospect
 crash_prospect restart node = if_due (not (is_down node.mode)) (becoming (crashed restart node))
 
@@ -67,7 +67,7 @@ abbrev pub restored : Network → ℕ → NodeView → NodeView
 restored net home node =
     with_mode (restored_mode net home (with_epoch node.kept)) (with_kept (with_epoch node.kept) node)
 
--- a node that is down comes back, if there is a next epoch
+-- what a `Recover` comes to: a node that is down comes back in its next epoch, if there is one
 abbrev pub recover_prospect : Network → ℕ → NodeView → Prospect
 recover_prospect net home node =
     if_due (is_down node.mode)

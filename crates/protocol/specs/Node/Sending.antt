@@ -37,11 +37,12 @@ data_packets home to channel position (item ∷ items) =
     record { from = home; to = to; body = Data channel position item }
     ∷ data_packets home to channel (suc position) items
 
--- the position from which on items are due: what lies before it was acknowledged, or isn't in the log
+-- the position of a channel from which on items are due to be sent: what lies before it was acknowledged, or isn't in
+-- the log
 abbrev pub first_due : Outbox → LogState → ℕ
 first_due outbox log = max outbox.window.acknowledged log.base
 
--- the items that are due: as many as the window has
+-- the items of a channel that are due to be sent: as many as the window has places
 abbrev pub items_due : Outbox → LogState → List ℤ
 items_due outbox log = take outbox.window.size (items_since log (first_due outbox log))
 

@@ -22,11 +22,11 @@ has_log saved = is_logging saved.end
 abbrev pub log_count : ImageView → ℕ
 log_count image = count_by has_log image.ends
 
--- the most items of each of its logs
+-- the most items that each log of an image may have, so that a record with two images fits
 abbrev pub log_share : ImageView → ℕ
 log_share image = MAX_RETAINED_ITEMS / log_count image
 
--- the room that a channel may be given
+-- a room that a channel may be given: from `MIN_ROOM` to `MAX_RETAINED_ITEMS` items
 abbrev pub IsRoom : ℕ → Type 0
 IsRoom room = (MIN_ROOM ≤ room) × (room ≤ MAX_RETAINED_ITEMS)
 
@@ -35,7 +35,7 @@ IsRoom room = (MIN_ROOM ≤ room) × (room ≤ MAX_RETAINED_ITEMS)
 abbrev pub retained_share : ℕ → ImageView → ℕ
 retained_share room image = min room (log_share image)
 
--- a log has at most so many items, and its end is a count
+-- a log has no more items than its share, and its end is a number that a count may have
 pub record IsWithinShare (share : ℕ) (log : LogState) : Type 0 where
   pub count : length log.items ≤ share
   pub last : log_end log ≤ MAX_COUNT

@@ -53,9 +53,10 @@ abbrev pub undone_packets : Network → ℕ → ℕ → List Outbox → List Pac
 undone_packets net home epoch outboxes =
     if epoch == 0 then [] else map (undone_packet net home epoch) outboxes
 
--- A node that runs says of each channel from another node what comes next there and what it keeps for good; then of
--- each channel to another node what it restored; then what it still asks, what it decided, and what it waits for; and
--- then it sends items, unless it holds an image. One in doubt says what it keeps, what it decided and what it waits for.
+-- What a node sends in its turn. One that runs says of each channel from another node what comes next there and what
+-- it keeps for good; then of each channel to another node what it restored; then what it still asks, what it decided,
+-- and what it waits for; and then it sends items, unless it holds an image. One in doubt says what it keeps, what it
+-- decided and what it waits for.
 abbrev pub turn_packets : Network → ℕ → RecordView → ModeView → List Packet
 turn_packets net home kept Down = []
 turn_packets net home kept InDoubt =
@@ -66,7 +67,7 @@ turn_packets net home kept (Runs running) =
     ++ (live_asks net home running.live ++ (verdicts_told home kept
     ++ (if is_none kept.tentative then flat_map (outbox_packets net home running.current) running.outboxes else []))))
 
--- a node that is up sends that
+-- what a `Send` comes to: a node that is up sends the packets of its turn
 abbrev pub send_prospect : Network → ℕ → NodeView → Prospect
 send_prospect net home node =
     if_due (not (is_down node.mode)) (telling (turn_packets net home node.kept node.mode) node)

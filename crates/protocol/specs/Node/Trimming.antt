@@ -33,6 +33,6 @@ abbrev pub logged_at : Option LogState → ℕ → List ℤ
 logged_at None position = []
 logged_at (Some log) position = items_at log position
 
--- an outlet took the item that came next for it
+-- an outlet took the item that comes next for it in this log
 abbrev pub TookNext : Option LogState → List ℤ → List ℤ → Type 0
 TookNext log old new = new ≡ old ++ logged_at log (length old)

@@ -50,7 +50,7 @@ abbrev pub commit_packets : ℕ → ℕ → Option LiveView → List Packet
 commit_packets home nodes None = []
 commit_packets home nodes (Some live) = map (commit_to home live.number) (participants_of nodes live.takers)
 
--- whom it names is told
+-- what a `Decide` comes to: the image becomes permanent, the decision names who took part, and these are told
 abbrev pub decide_prospect : ℕ → NodeView → Prospect
 decide_prospect home node =
     if_due (may_decide home node.kept (live_in node.mode))
@@ -78,7 +78,8 @@ abbrev pub settled_packets : ℕ → ℕ → ℕ → RecordView → List Packet
 settled_packets home x n kept =
     if nat_le n (highest_seen x kept) then record { from = home; to = x; body = Settled n } ∷ [] else []
 
--- The verdict that it is committed makes the image permanent where it is held, and is confirmed.
+-- What becomes of a node that hears that a checkpoint is committed: where it holds the image this becomes permanent,
+-- and the verdict is confirmed.
 abbrev pub commit_prospect : Network → ℕ → ℕ → ℕ → NodeView → Prospect
 commit_prospect net home x n node =
     if holds x n node.kept.tentative
@@ -91,7 +92,8 @@ commit_prospect net home x n node =
     })
     else telling (settled_packets home x n node.kept) node
 
--- the verdict that it is over drops it
+-- what becomes of a node that hears that a checkpoint is over: it drops the tentative image of that checkpoint, if it
+-- holds it
 abbrev pub ended_prospect : Network → ℕ → ℕ → ℕ → NodeView → Prospect
 ended_prospect net home x n node =
     if holds x n node.kept.tentative
@@ -99,7 +101,7 @@ ended_prospect net home x n node =
 
 -- ---- what the node that began it hears then
 
--- node p has done what it was told
+-- what becomes of an initiator that hears that node p has done what a decision told it
 abbrev pub settled_prospect : ℕ → ℕ → NodeView → Prospect
 settled_prospect p n node =
     if names node.kept.decisions n p then putting false (with_kept (with_confirmed n p node.kept) node)
@@ -113,5 +115,6 @@ verdict_packets home p n kept live =
     else (if is_live n live || not (nat_le n (highest_seen home kept)) then []
     else record { from = home; to = p; body = Ended n } ∷ [])
 
+-- what becomes of a node that is asked by node p for the verdict on its checkpoint n: it says what it knows
 abbrev pub query_prospect : ℕ → ℕ → ℕ → NodeView → Prospect
 query_prospect home p n node = telling (verdict_packets home p n node.kept (live_in node.mode)) node

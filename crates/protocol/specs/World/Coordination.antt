@@ -57,7 +57,8 @@ abbrev pub SaysWhatIsOver : World → List ℕ → Type 0
 SaysWhatIsOver world bytes =
     (packet : Datagram) (n : ℕ) → IsPacketText packet bytes → packet.body ≡ says.Ended n → Over world packet.from n
 
--- Of the stations before an event, with what was in flight then, and of those after it, with what is in flight now.
+-- What is promised of checkpoints of several nodes, of the stations before an event, with what was in flight then,
+-- and of those after it, with what is in flight now.
 pub record IsCoordinated (network : Network) (before : List StationView) (traffic : Traffic) (after : List StationView)
     (flown : Traffic) : Type 0 where
   -- Steps of the abstract machine lead from the one world to the other.

@@ -13,7 +13,7 @@ pub record IsCovered (left : Whole) (output : OutputView) : Type 0 where
 abbrev pub AreCovered : Whole → List OutputView → Type 0
 AreCovered left outputs = (j : ℕ) (output : OutputView) → slice_get outputs j ≡ Some output → IsCovered left output
 
--- whatever a crash at any moment since `old` leaves
+-- whatever a crash at any moment since `old` leaves of a cell has put each item that left by these outputs
 abbrev pub AreCoveredSince : {C : Type 0} → (C → ℕ) → (C → ℕ → Whole → Type 0) → C → C → List OutputView
     → Type 0
 AreCoveredSince moment left_since old new outputs =

@@ -27,7 +27,7 @@ abbrev pub sendings_after : Setting → EventView → Outcome → ReplyView → 
 sendings_after setting event came answer station =
     if has_happened answer then sendings_then setting event came station else []
 
--- in a world
+-- what an event sends in a world, by its answer
 abbrev pub sent_in : EventView → WorldView → Outcome → ReplyView → List Sending
 sent_in event world came answer =
     sendings_after (setting_of world) event came answer (slice_get world.stations (event_node event))
@@ -44,7 +44,8 @@ NothingIsMadeUp =
     → AllInFlight test setting.traffic → AllSent test (sendings_after setting event came answer station)
     → AllInFlight test (traffic_after setting event came answer station)
 
--- so in each step of a world
+-- Whatever test of receiver and bytes all packets in flight pass, and all that an event sends, all packets in flight
+-- pass it after that event too: so nothing is in flight that wasn't sent.
 abbrev pub EachWasSent : Type 0
 EachWasSent =
     (test : ℕ → List ℕ → Bool) (fits : List (RecordView → Bool)) (event : EventView) (old : WorldView)

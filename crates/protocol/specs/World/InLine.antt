@@ -14,7 +14,8 @@ use Rattle.protocol.specs.World.StationView.{StationView}
 abbrev pub nodes_seen : List StationView → World
 nodes_seen stations = world_seen stations []
 
--- Of the nodes before an event, and of the records that a crash at a moment of it leaves.
+-- What is promised of checkpoints of several nodes, of the nodes before an event and of the records that a crash at a
+-- moment of it leaves.
 pub record IsCoordinatedInside (net : Net) (before : World) (records : ℕ → Record) : Type 0 where
   -- An instance is decided only while all whom the decision names hold it.
   pub commits_while_held : (x n p : ℕ) → (before.records x).decided n ≡ false → (records x).decided n ≡ true

@@ -27,8 +27,8 @@ pub record RunsSoundly (net : Network) (inputs : List (List ℤ)) (node : Runnin
   pub order : AreInOrder node.kept node.current
   pub sound : IsSound net inputs node outputs
 
--- A station of a network that runs on these inputs: its node can start again from its record, and is sound while it
--- runs.
+-- What is true of a station whatever events came before, of a network that runs on these inputs: its node can start
+-- again from its record, and is sound while it runs.
 pub record StationInvariant (net : Network) (inputs : List (List ℤ)) (station : StationView) : Type 0 where
   pub kept : RecordIsSound net inputs station.node.kept (outputs_of station.outlets)
   pub runs : (node : RunningNode) → running_of station.node ≡ Some node
@@ -50,8 +50,9 @@ abbrev pub AreJoined : Network → List StationView → Type 0
 AreJoined net stations =
     (i : ℕ) (station : StationView) → slice_get stations i ≡ Some station → IsJoined net station
 
--- A world: its network is valid, the inputs fit it, there is one station a node, by their numbers, and each one is
--- sound; so is what is in flight between them; and steps of the abstract machine of recovery lines led to it.
+-- What is true of a world whatever events came before: its network is valid, the inputs fit it, there is one station
+-- a node, by their numbers, and each one is sound; so is what is in flight between them; and steps of the abstract
+-- machine of recovery lines led to it.
 pub record WorldInvariant (world : WorldView) : Type 0 where
   pub valid : IsValid world.net
   pub fits : Fits world.net world.inputs

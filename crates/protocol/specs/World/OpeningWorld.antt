@@ -42,8 +42,8 @@ stations_from net nodes number (failures ∷ rest) outlets =
 abbrev pub opening_stations : Network → List ℕ → List OutletView → List StationView
 opening_stations net failures outlets = stations_from net (node_count net) 0 failures outlets
 
--- the world of those stations, with the outlets of the network's outputs as they were given, nothing in flight, and the
--- room of a channel that holds unless it is set
+-- The world before its first event: these stations, with the outlets of the network's outputs as they were given;
+-- nothing in flight; and the room of a channel that holds unless it is set.
 abbrev pub opening_world : Network → List (List ℤ) → List ℕ → List OutletView → WorldView
 opening_world net inputs failures outlets =
     record {

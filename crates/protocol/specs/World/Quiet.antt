@@ -46,6 +46,8 @@ can_rest net inputs stations image (Gets channel) =
 can_rest net inputs stations image (Puts channel) = false
 can_rest net inputs stations image NoNext = true
 
+-- a process is at rest: it has finished, or waits for an item of a channel of which as much was received as was put
+-- by now
 abbrev pub is_at_rest : Network → List (List ℤ) → List StationView → ImageView → SavedProcessView → Bool
 is_at_rest net inputs stations image saved =
     can_rest net inputs stations image (next_at (slice_get net.codes saved.number) saved.standing)
@@ -91,7 +93,7 @@ abbrev pub is_quiet_at : Network → List (List ℤ) → List StationView → Op
 is_quiet_at net inputs stations None outputs = false
 is_quiet_at net inputs stations (Some node) outputs = is_quiet net inputs stations node outputs
 
--- and at no station of a world
+-- nothing is left to do at any station of a world
 abbrev pub are_quiet : WorldView → Bool
 are_quiet world =
     list_all
@@ -107,7 +109,7 @@ is_quiet_of world (Some station) =
 abbrev pub is_node_quiet : WorldView → ℕ → Bool
 is_node_quiet world number = is_quiet_of world (slice_get world.stations number)
 
--- each output has left to its end in the n-th approximation
+-- by each of these outputs the whole history of its channel in the n-th approximation has left
 abbrev pub AreAll : Network → List (List ℤ) → List OutputView → ℕ → Type 0
 AreAll net inputs outputs n =
     (j : ℕ) (output : OutputView) → slice_get outputs j ≡ Some output

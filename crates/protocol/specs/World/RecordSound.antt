@@ -42,9 +42,10 @@ pub record RecordHasCome (net : Network) (inputs : List (List ℤ)) (kept : Reco
       → slice_get net.channels output.channel ≡ Some channel → channel.producer ≡ Process p
       → IsPrefix output.taken (sent_on output.channel (acts_of net (approximation net inputs n) permanent_acts p))
 
--- All of it: there is an outlet for each output of the record's node, in order, the permanent image covers what has
--- left, the tentative one isn't behind it, the epoch is a count, the record is within the bounds in which it fits
--- `MAX_RECORD_BYTES`, and what is said above.
+-- A node can start again from this record. There is an outlet for each output of the record's node, in order. Its
+-- images are laid out and stand on one approximation, and the tentative one isn't behind the permanent one, which
+-- covers what has left. The epoch is a count, and the record is within the bounds in which it fits
+-- `MAX_RECORD_BYTES`.
 pub record RecordIsSound (net : Network) (inputs : List (List ℤ)) (kept : RecordView)
     (outputs : List OutputView) : Type 0 where
   pub listed : map (λ (output : OutputView). output.channel) outputs ≡ outputs_on net kept.node

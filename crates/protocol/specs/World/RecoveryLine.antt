@@ -32,7 +32,7 @@ next_for setting event station =
 
 -- ---- a world as the abstract machine sees it
 
--- the nodes at the two ends of each channel
+-- a network as the abstract machine sees it: the nodes at the two ends of each channel
 abbrev pub net_seen : Network → Net
 net_seen net =
     record {
@@ -45,11 +45,12 @@ abbrev pub record_or_new : Option RecordView → Record
 record_or_new None = new_record
 record_or_new (Some kept) = record_seen kept
 
--- the record of each node, by its number; a new one where there is no such node
+-- the record of each node as the abstract machine sees it, by the node's number; a new one where there is no such
+-- node
 abbrev pub records_seen : List RecordView → ℕ → Record
 records_seen records node = record_or_new (slice_get records node)
 
--- how many items have left by each channel
+-- how many items have left by each channel, as the abstract machine sees it
 abbrev pub outlets_seen : List StationView → ℕ → ℕ
 outlets_seen stations c = length (released_of c stations)
 

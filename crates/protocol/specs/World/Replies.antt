@@ -17,7 +17,7 @@ use Rattle.protocol.specs.declared.reply.Reply.TheVariants as reply
 
 -- ---- answers to events
 
--- what is answered to a deed that is answered so where it is made, and so where its record is too large
+-- the answer to a deed by how it came out: `made` where it was made, and `otherwise` where its record is too large
 abbrev pub answer_by : ReplyView → ReplyView → Outcome → ReplyView
 answer_by made otherwise outcome.NotDue = reply.NotDue
 answer_by made otherwise outcome.Made = made
@@ -59,11 +59,11 @@ abbrev pub has_happened : ReplyView → Bool
 has_happened reply.NotDue = false
 has_happened answer = true
 
--- a record that was to be put is longer than its cell has room for
+-- it is answered that the record to be put is longer than the cell has room for
 abbrev pub IsTooLarge : ReplyView → Type 0
 IsTooLarge answer = answer ≡ reply.Refused TooLarge
 
--- a packet came that spells none for the node
+-- it is answered that a packet came which spells none for the node
 abbrev pub IsDropped : ReplyView → Type 0
 IsDropped answer = answer ≡ reply.Dropped
 
@@ -71,7 +71,7 @@ IsDropped answer = answer ≡ reply.Dropped
 abbrev pub IsGrantedAt : ℕ → ReplyView → Type 0
 IsGrantedAt node answer = (job : JobView) → answer ≡ reply.Granted job → node_in job.code ≡ node
 
--- no record was put, and none may have been
+-- by this answer no record was put, and none may have been
 abbrev pub AnswerLeaves : Option ReplyView → Type 0
 AnswerLeaves (Some reply.Delivered) = ⊥
 AnswerLeaves (Some reply.Started) = ⊥
@@ -79,7 +79,7 @@ AnswerLeaves (Some reply.Decided) = ⊥
 AnswerLeaves (Some reply.Down) = ⊥
 AnswerLeaves answer = Unit {0}
 
--- No cell was touched by an event, as this answer tells. A crash settles what the cell holds, a recovery looks at the
+-- No cell was touched by a deed, as this answer tells. A crash settles what the cell holds, a recovery looks at the
 -- device before it can be refused, and what is prepared is prepared in the cell, so these leave it alone only where
 -- they can't happen.
 abbrev pub DeedLeaves : Deed → Option ReplyView → Type 0
@@ -88,6 +88,7 @@ DeedLeaves event.Recover answer = answer ≡ Some reply.NotDue
 DeedLeaves (event.Arm fault rounds) answer = answer ≡ Some reply.NotDue
 DeedLeaves deed answer = AnswerLeaves answer
 
+-- no cell was touched by an event, as its answer tells
 abbrev pub LeavesCells : EventView → Option ReplyView → Type 0
 LeavesCells (ByNode k deed) answer = DeedLeaves deed answer
 LeavesCells (Install done) answer = Unit {0}
@@ -105,6 +106,7 @@ ActTakesMemory act_is.Repeat = Unit {0}
 ActTakesMemory (act_is.ArmPacket from nth change) = Unit {0}
 ActTakesMemory act = ⊥
 
+-- an event that takes memory, so that it may be refused for want of it
 abbrev pub TakesMemory : EventView → Type 0
 TakesMemory (ByNode k deed) = DeedTakesMemory deed
 TakesMemory (Install done) = Unit {0}

@@ -163,7 +163,7 @@ arm_plan call rounds station = plainly (becoming (with_armed call rounds station
 abbrev pub idle_plan : ℕ → StationView → StationPlan
 idle_plan round station = noting (count_idle (turns_of round station.turns)) (becoming station.node) reply.Idled
 
--- the plan of a deed of node k
+-- the plan of a deed of node k: the one place where it is said what each deed makes of its station
 abbrev pub plan_of : Setting → ℕ → Deed → StationView → StationPlan
 plan_of setting k (event.Deliver place) station =
     deliver_plan setting.net place (due_bytes setting.round (flight_at setting k place)) station
@@ -183,7 +183,7 @@ abbrev pub moved_to : NodeView → ℕ → RoundTurns → StationView → Statio
 moved_to node failures turns station =
     record { number = station.number; node = node; failures = failures; outlets = station.outlets; turns = turns }
 
--- what is remembered afterwards: all of it stays where nothing happened
+-- what is remembered of a node's round after a deed came out so: all of it stays where nothing happened
 abbrev pub turns_by : RoundTurns → RoundTurns → Outcome → RoundTurns
 turns_by noted turns outcome.NotDue = turns
 turns_by noted turns outcome.Made = noted
@@ -204,7 +204,7 @@ pub record IsPlanned (fits : RecordView → Bool) (round : ℕ) (plan : StationP
 
 -- ---- turns that come back, and items that leave
 
--- what came back is a turn of its job's own code, and is taken in where it is of the job that is out
+-- a turn that comes back is one of its job's own code, and is taken in where its job is the one that is out
 pub record IsInstalled (channels : List Channel) (done : DoneView) (old : StationView) (answer : ReplyView)
     (new : StationView) : Type 0 where
   pub turn : ∥ IsTurnOfJob done.job done.after done.taken done.sent ∥₁
@@ -229,7 +229,8 @@ first_waiting kept round place [] = None
 first_waiting kept round place (outlet ∷ outlets) =
     if is_waiting kept round outlet then Some place else first_waiting kept round (place + 1) outlets
 
--- where the next item of a station would leave, if its node runs
+-- which outlet of a station is next, by its place: the first one that lacks an item which the permanent image covers
+-- and hasn't failed in this round, if the node runs
 abbrev pub next_release : ℕ → StationView → Option ℕ
 next_release round station =
     if is_running station.node.mode then first_waiting station.node.kept round 0 station.outlets else None
@@ -262,6 +263,7 @@ pub record IsReleaseAt (round place : ℕ) (old : StationView) (answer : ReplyVi
   pub handed : IsHanded round (current_log outlet.channel old.node.mode) outlet answer later
   pub same : new ≡ released_to outlet place later old
 
+-- an item leaves a station by the outlet that is next; where there is none, nothing happens
 abbrev pub IsRelease : ℕ → Option ℕ → StationView → ReplyView → StationView → Type 0
 IsRelease round None old answer new = (answer ≡ reply.NotDue) × (new ≡ old)
 IsRelease round (Some place) old answer new = IsReleaseAt round place old answer new
@@ -273,7 +275,7 @@ abbrev pub can_act : NetworkAct → Option Flight → Bool
 can_act (act_is.ArmPacket from nth change) flight = true
 can_act act flight = is_some flight
 
--- an event of this station, or of the network at it; a deed comes out in this way
+-- an event of this station, or of the network at it; where it is a deed, `came` is how that comes out
 abbrev pub IsStationStep : Setting → (RecordView → Bool) → EventView → Outcome → StationView → ReplyView → StationView
     → Type 0
 IsStationStep setting fits (ByNode k deed) came old answer new =
@@ -317,7 +319,7 @@ abbrev pub are_done_with : ℕ → List StationView → Bool
 are_done_with round [] = true
 are_done_with round (station ∷ stations) = is_done_with round station && are_done_with round stations
 
--- the round after this answer: after an idle node it advances if it need wait for nobody
+-- the round after this answer: behind a turn that was let pass it advances, if it need wait for no node
 abbrev pub round_after : ReplyView → ℕ → List StationView → ℕ
 round_after reply.Idled round stations =
     if are_done_with round stations then next_number round else round
@@ -345,7 +347,7 @@ traffic_acted (act_is.Delay rounds) traffic k place = traffic_delayed traffic k 
 traffic_acted (act_is.ArmPacket from nth change) traffic k place =
     traffic_armed traffic (record { from = from; to = k; nth = nth; change = change })
 
--- what an event that happens sends
+-- what an event sends that happens
 abbrev pub sendings_then : Setting → EventView → Outcome → Option StationView → List Sending
 sendings_then setting (ByNode k deed) came None = []
 sendings_then setting (ByNode k deed) came (Some station) = plan_sendings (plan_of setting k deed station) came
@@ -353,7 +355,7 @@ sendings_then setting (Install done) came station = []
 sendings_then setting (Release k) came station = []
 sendings_then setting (ByNetwork k place act) came station = []
 
--- what it takes away of what is in flight, or makes of it
+-- what an event leaves of what was in flight: all but the packet that came, or what an act of the network makes of it
 abbrev pub traffic_then : Setting → EventView → Option StationView → Traffic
 traffic_then setting (ByNode k deed) None = setting.traffic
 traffic_then setting (ByNode k deed) (Some station) =
@@ -362,13 +364,16 @@ traffic_then setting (Install done) station = setting.traffic
 traffic_then setting (Release k) station = setting.traffic
 traffic_then setting (ByNetwork k place act) station = traffic_acted act setting.traffic k place
 
--- so all of it: without the packet that came, and with what was sent
+-- what is in flight after an event: without the packet that came or as the network made it, and with what was sent
+-- behind it
 abbrev pub traffic_after : Setting → EventView → Outcome → ReplyView → Option StationView → Traffic
 traffic_after setting event came answer station =
     if has_happened answer then all_sent setting.round (sendings_then setting event came station)
     (traffic_then setting event station) else setting.traffic
 
 -- ---- one event of a world
+
+-- One event of a world: what is answered, and the world afterwards.
 pub record IsStep (fits : List (RecordView → Bool)) (event : EventView) (old : WorldView) (answer : ReplyView)
     (new : WorldView) : Type 0 where
   pub net : new.net ≡ old.net

@@ -52,8 +52,8 @@ abbrev pub keeps_all : RunningNode → Bool
 keeps_all node =
     is_none node.kept.tentative && (length node.kept.decisions == 0 && (is_none node.out && not (has_more (Some node))))
 
--- And nothing of it is on its way: each outlet has all that was put, and between the node and the others nothing more
--- comes or is let go of.
+-- Nothing of a node is on its way: it has nothing to keep or to confirm, each outlet has all that was put, and
+-- between the node and the others nothing more comes or is let go of.
 abbrev pub is_settled : Network → List StationView → RunningNode → List OutputView → Bool
 is_settled net stations node outputs =
     keeps_all node && (have_all_left node.current outputs && (list_all (has_come_from net stations) node.inboxes &&
@@ -69,7 +69,7 @@ is_still net inputs room stations station =
     is_settled_at net stations (running_of station.node) (outputs_of station.outlets) && not
     (is_some (node_job net inputs room station.node))
 
--- it could grant one where channels had as much room as a record has
+-- a station's node could grant a job where channels had as much room as a record has
 abbrev pub wants_room : Network → List (List ℤ) → StationView → Bool
 wants_room net inputs station = is_some (node_job net inputs MAX_RETAINED_ITEMS station.node)
 
@@ -85,9 +85,10 @@ stands_still world =
 abbrev pub wider : ℕ → ℕ
 wider room = min (room * 2) MAX_RETAINED_ITEMS
 
+-- a world in which a channel has twice the room, and no more than a record has
 abbrev pub widened : WorldView → WorldView
 widened world = with_room (wider world.room) world
 
--- a world that gets more room where it stands still for want of it
+-- a world that gets more room for its channels where it stands still for want of it, and else stays as it is
 abbrev pub given_room : WorldView → WorldView
 given_room world = if stands_still world then widened world else world

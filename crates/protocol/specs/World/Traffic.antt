@@ -23,7 +23,7 @@ BodyIsSound net inputs body = Unit {0}
 abbrev pub PacketIsSound : Network → List (List ℤ) → Packet → Type 0
 PacketIsSound net inputs packet = BodyIsSound net inputs packet.body
 
--- the bytes spell a packet for this node, which names what there is and is sound
+-- the bytes spell a packet for this node, which names what there is, and of which each item belongs to its channel
 pub record SpellsSound (net : Network) (inputs : List (List ℤ)) (to : ℕ) (bytes : List ℕ) : Type 0 where
   pub packet : Packet
   pub text : IsPacketText packet bytes
@@ -41,6 +41,6 @@ FlightIsSound net inputs to flight = BytesAreSound net inputs to flight.packet
 abbrev pub SendingIsSound : Network → List (List ℤ) → Sending → Type 0
 SendingIsSound net inputs sending = BytesAreSound net inputs sending.to sending.packet
 
--- each packet in flight to each node is sound
+-- what is in flight to each node spells a packet for it, with right names and items that belong to their channels
 abbrev pub TrafficIsSound : Network → List (List ℤ) → Traffic → Type 0
 TrafficIsSound net inputs traffic = (to : ℕ) → All (FlightIsSound net inputs to) (flights_to traffic to)

@@ -8,11 +8,11 @@ abbrev pub no_turns : ℕ → RoundTurns
 no_turns round =
     record { round = round; granted = 0; started = false; sent = false; sent_holding = false; idled = false }
 
--- what is remembered of this round: nothing, where it is of another one
+-- what is remembered of a node in this round: nothing, where what is remembered is of another one
 abbrev pub turns_of : ℕ → RoundTurns → RoundTurns
 turns_of round turns = if turns.round == round then turns else no_turns round
 
--- 64 jobs at most are counted
+-- what is remembered of a node's round, with one more job granted; 64 jobs at most are counted
 abbrev pub count_grant : RoundTurns → RoundTurns
 count_grant turns =
     record {
@@ -26,6 +26,7 @@ count_grant turns =
       idled = turns.idled;
     }
 
+-- what is remembered of a node's round, with a checkpoint begun
 abbrev pub count_start : RoundTurns → RoundTurns
 count_start turns =
     record {
@@ -38,6 +39,7 @@ count_start turns =
       idled = turns.idled;
     }
 
+-- what is remembered of a node's round, with its packets sent, and whether it held an image then
 abbrev pub count_send : Bool → RoundTurns → RoundTurns
 count_send holding turns =
     record {
@@ -50,6 +52,7 @@ count_send holding turns =
       idled = turns.idled;
     }
 
+-- what is remembered of a node's round, with its turn let pass
 abbrev pub count_idle : RoundTurns → RoundTurns
 count_idle turns =
     record {

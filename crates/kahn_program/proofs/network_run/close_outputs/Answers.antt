@@ -1,7 +1,7 @@
 use Rattle.std.proofs.Common.{refl, subst, ℤ, List}
 use Rattle.std.specs.Prelude.{OnOk}
 use Rattle.world.specs.WholeView.{world_of}
-use Rattle.kahn_program.proofs.Kept.{closed_streams}
+use Rattle.cobaltmidge.proofs.Kept.{closed_streams}
 use Rattle.kahn_program.proofs.network_run.close_outputs.Goals as goal
 
 pub returns-clause-kept : goal.returns-clause-kept

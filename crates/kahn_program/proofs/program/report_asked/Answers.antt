@@ -37,3 +37,12 @@ returns-in_err-bytes-clause-cause g c =
     let p = err_from_is_err_and c.from_residual-in_err-bytes.result c.from_residual-in_err-bytes.ensures.1 in
     rw p.1 (by_approximation _ _ _ _ c.in_ok-all.all.net _ _ _ _ c.in_ok-all.ensures.read.net c.in_ok-all.ensures.net
     c.in_ok-all.ensures.read.inputs c.in_ok-all.ensures.inputs c.in_err-bytes.ensures.err p.2)
+
+pub returns-in_err-all-clause-keeps : goal.returns-in_err-all-clause-keeps
+returns-in_err-all-clause-keeps g c = keeps_goes _ _ _ c.read_all.ensures.goes
+
+pub returns-in_err-bytes-clause-keeps : goal.returns-in_err-bytes-clause-keeps
+returns-in_err-bytes-clause-keeps g c = keeps_goes _ _ _ c.read_all.ensures.goes
+
+pub returns-clause-keeps : goal.returns-clause-keeps
+returns-clause-keeps g c = keeps_goes _ _ _ c.read_all.ensures.goes

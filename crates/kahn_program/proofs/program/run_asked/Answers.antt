@@ -91,3 +91,6 @@ returns-clause-cause g c =
     if_err (λ (stop : Stop). IsStopped none o now stop.failure) (λ (stop : Stop). IsStopped (HasFileFault o now) o now stop.failure)
     c.run_over.result (λ stop h. stopped_later none (HasFileFault o now) o now now stop.failure (λ r is. is) (λ number is. absurd is) h)
     c.run_over.ensures.cause
+
+pub returns-in_err-tell_apart-clause-keeps : goal.returns-in_err-tell_apart-clause-keeps
+returns-in_err-tell_apart-clause-keeps g c = keeps_goes _ _ _ c.tell_apart.ensures.goes

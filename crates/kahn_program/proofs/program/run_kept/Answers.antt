@@ -1,8 +1,10 @@
 use Rattle.std.proofs.Common.{string_bytes, ap, ◌∙◌, List}
 use Rattle.run_files.specs.Opening.{opened_names}
 use Rattle.run_files.specs.declared.held_file.OpenedName.{OpenedName}
-use Rattle.kahn_program.proofs.Said.{kept_as, report_maps, written_later}
+use Rattle.cobaltmidge.proofs.InFolder.{kept_as}
+use Rattle.kahn_program.proofs.Said.{report_maps, written_later}
 use Rattle.run_files.proofs.Going.{ready_later}
+use Rattle.run_files.proofs.Left.{left_by_goes}
 use Rattle.std.proofs.Common.{subst, ◌++◌, ◌∷◌, [], ℕ}
 use Rattle.std.proofs.lemmas.Result.{err_from_is_err_and}
 use Rattle.run_files.specs.Opening.{paths_in}
@@ -24,6 +26,8 @@ returns-in-Ok-clause-keeps g c = record {
   rules = λ each. c.let_go.ensures.rules (c.run_locked.ensures.goes.rules (c.open_folder.ensures.rules each));
   later = λ r h. c.let_go.ensures.later r (c.run_locked.ensures.goes.later r (c.open_folder.ensures.later r h));
   free = λ free. c.let_go.ensures.free;
+  cleared = λ path left. c.open_folder.ensures.cleared path
+      (left_by_goes _ _ _ _ c.run_locked.ensures.goes path (c.let_go.ensures.cleared path left));
 }
 
 pub returns-in-Ok-clause-report : goal.returns-in-Ok-clause-report
@@ -47,6 +51,8 @@ returns-clause-keeps g c = record {
   rules = λ each. c.let_go-in-Err.ensures.rules (c.run_locked.ensures.goes.rules (c.open_folder.ensures.rules each));
   later = λ r h. c.let_go-in-Err.ensures.later r (c.run_locked.ensures.goes.later r (c.open_folder.ensures.later r h));
   free = λ free. c.let_go-in-Err.ensures.free;
+  cleared = λ path left. c.open_folder.ensures.cleared path
+      (left_by_goes _ _ _ _ c.run_locked.ensures.goes path (c.let_go-in-Err.ensures.cleared path left));
 }
 
 pub returns-in_err-outputs-clause-cause : goal.returns-in_err-outputs-clause-cause

@@ -15,7 +15,8 @@ use Rattle.kahn_program.specs.declared.program.Report.{Report}
 use Rattle.kahn_program.specs.declared.program.Stop.{Stop}
 use Rattle.kahn_program.proofs.Causes.{if_err, stopped_by_files, stopped_later}
 use Rattle.kahn_program.proofs.FileFaults.{fault_in_log}
-use Rattle.kahn_program.proofs.Said.{if_ok, kept_in, report_maps, written_later}
+use Rattle.cobaltmidge.proofs.InFolder.{kept_in}
+use Rattle.kahn_program.proofs.Said.{if_ok, report_maps, written_later}
 use Rattle.kahn_program.proofs.program.run_locked.Goals as goal
 
 pub give_back-requires-after_bounds : goal.give_back-requires-after_bounds

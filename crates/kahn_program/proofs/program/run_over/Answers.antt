@@ -1,4 +1,4 @@
-use Rattle.std.proofs.Common.{rules, ◌∙◌, ap, map, subst}
+use Rattle.std.proofs.Common.{◌∙◌, ap, map, subst}
 use Rattle.std.proofs.lemmas.Result.{err_from_is_err_and}
 use Rattle.kahn_program.proofs.Causes.{kept_maps, stopped_by_run, stopped_later, stopped_none}
 use Rattle.cobaltmidge.specs.Scripts.{scripted_of}
@@ -6,17 +6,19 @@ use Rattle.run_files.specs.Wanted.{wanted_of}
 use Rattle.kahn_program.specs.Program.{IsWrittenIfAsked}
 use Rattle.kahn_program.specs.Runs.{IsReport}
 use Rattle.kahn_program.proofs.Said.{report_maps, written_from}
-use Rattle.run_files.proofs.Going.{goes_then, ready_goes}
+use Rattle.run_files.proofs.Going.{none_left, ready_goes, with_goes}
 use Rattle.kahn_program.proofs.program.run_over.Goals as goal
 
 pub finish_if_asked-requires-clause-ready : goal.finish_if_asked-requires-clause-ready
-finish_if_asked-requires-clause-ready g c κs within = ready_goes _ _ _ _ c.open_if_asked.ensures.goes c.requires.ready
+finish_if_asked-requires-clause-ready g c κs within = ready_goes _ _ _ _ c.in_ok-history.ensures.goes c.requires.ready
 
 pub returns-in_err-finish_if_asked-in-Ok-clause-goes : goal.returns-in_err-finish_if_asked-in-Ok-clause-goes
-returns-in_err-finish_if_asked-in-Ok-clause-goes g c = search (rules, goes_then)
+returns-in_err-finish_if_asked-in-Ok-clause-goes g c =
+    none_left _ _ _ _ _ (with_goes _ _ _ _ _ _ c.in_ok-history.ensures.goes c.finish_if_asked.ensures.goes) c.finish_if_asked.ensures.gone
 
 pub returns-in-Ok-clause-goes : goal.returns-in-Ok-clause-goes
-returns-in-Ok-clause-goes g c = search (rules, goes_then)
+returns-in-Ok-clause-goes g c =
+    none_left _ _ _ _ _ (with_goes _ _ _ _ _ _ c.in_ok-history.ensures.goes c.finish_if_asked.ensures.goes) c.finish_if_asked.ensures.gone
 
 pub returns-in-Ok-clause-report : goal.returns-in-Ok-clause-report
 returns-in-Ok-clause-report g c =
@@ -29,7 +31,8 @@ returns-in-Ok-clause-report g c =
     c.in-Ok.ensures.ok)
 
 pub returns-clause-goes : goal.returns-clause-goes
-returns-clause-goes g c = search (rules, goes_then)
+returns-clause-goes g c =
+    none_left _ _ _ _ _ (with_goes _ _ _ _ _ _ c.in_ok-history.ensures.goes c.drop_if_asked.ensures.goes) c.drop_if_asked.ensures.gone
 
 pub returns-in_err-events-clause-cause : goal.returns-in_err-events-clause-cause
 returns-in_err-events-clause-cause g c =

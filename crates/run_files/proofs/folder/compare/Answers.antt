@@ -1,8 +1,8 @@
 use Rattle.run_files.proofs.Going.{under_as}
-use Rattle.run_files.proofs.Caused.{caused_as, missing_by, read_as}
+use Rattle.run_files.proofs.Caused.{caused_as, missing_by, not_there, read_as, unread_as}
 use Rattle.run_files.specs.Causes.{other_text}
 use Rattle.run_files.specs.declared.fault.FilesFault.TheVariants.{OtherState}
-use Rattle.std.proofs.Common.{string_bytes}
+use Rattle.std.proofs.Common.{inl, inr, string_bytes}
 use Rattle.run_files.proofs.folder.compare.Goals as goal
 
 pub returns-then-is_same-clause-same : goal.returns-then-is_same-clause-same
@@ -21,3 +21,12 @@ pub returns-clause-cause : goal.returns-clause-cause
 returns-clause-cause g c =
     missing_by _ _ (string_bytes c.args.folder.now) c.args.tail.now _ _ _ _ _ c.refused_by.ensures c.of_missing-refusal.ensures c.requires.wanted
     c.requires.text.1 c.in-Ok.ensures c.in-Err.ensures.fault
+
+pub returns-in-Ok-read-clause-other : goal.returns-in-Ok-read-clause-other
+returns-in-Ok-read-clause-other g c told =
+    inl (_, read_as _ _ _ _ c.in-Ok.ensures c.in-Ok-read.ensures.read, c.is_same.ensures.other c.if-is_same.false)
+
+pub returns-clause-other : goal.returns-clause-other
+returns-clause-other g c told =
+    let missing = not_there _ _ _ c.of_missing-refusal.ensures c.refused_by.ensures told in
+    inr (unread_as _ _ _ _ _ c.in-Ok.ensures missing c.in-Err.ensures.fault)

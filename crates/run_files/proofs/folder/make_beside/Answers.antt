@@ -1,26 +1,58 @@
-use Rattle.run_files.proofs.Going.{goes_then, ready_goes}
+use Rattle.std.proofs.Common.{rules, inr, ℕ, ◌<◌, ◌≤◌, ◌+◌, Err, arith, codes}
+use Rattle.host.specs.Requests.{Has, MadeFolder}
+use Rattle.host.specs.declared.fault.HostFault.TheVariants as host
+use Rattle.run_files.specs.Causes.{tried_name}
+use Rattle.run_files.specs.Rules.{GoesOn}
+use Rattle.run_files.specs.Wanted.{wanted_of}
+use Rattle.run_files.specs.declared.fault.FilesFault.TheVariants.{Failed}
+use Rattle.run_files.specs.declared.happened.TheConstants.{LAST_NAME}
+use Rattle.run_files.proofs.Caused.{caused_as, taken_more}
+use Rattle.run_files.proofs.Going.{goes_still, goes_then, goes_with, of_none, ready_goes}
+use Rattle.run_files.proofs.Left.{in_fault}
 use Rattle.run_files.proofs.folder.make_beside.Goals as goal
 
 pub make_nth-requires-after_bounds : goal.make_nth-requires-after_bounds
-make_nth-requires-after_bounds g c κs within = ready_goes _ _ _ _ c.loop-nth.invariant c.requires
+make_nth-requires-after_bounds g c κs within = ready_goes _ _ _ _ c.loop-nth.invariant.goes c.requires
 
 pub loop-nth-preserved : goal.loop-nth-preserved
-loop-nth-preserved g c = goes_then _ _ _ _ _ c.loop-nth.invariant c.make_nth.ensures.goes
+loop-nth-preserved g c =
+    let unmade = of_none _ (GoesOn g.J.Judge.accepts (wanted_of c.args.names.now) (g.H.Host.asked c.loop-nth.host)
+    (g.H.Host.asked c.make_nth.new.host)) c.in_default.is c.in_ok-making.ensures.unmade in record {
+      goes = goes_then _ _ _ _ _ c.loop-nth.invariant.goes unmade;
+      taken = taken_more (λ k e. Has (MadeFolder (tried_name c.trim_end_matches-stem.result.now (codes "making") k) (Err host.IsThere)) e)
+          c.loop-nth.nth _ _ (λ k h. unmade.later _ h) c.loop-nth.invariant.taken (of_none _ _ c.in_default.is c.in_ok-making.ensures.taken);
+    }
 
-pub returns-in_err-making-clause-goes : goal.returns-in_err-making-clause-goes
-returns-in_err-making-clause-goes g c = goes_then _ _ _ _ _ c.loop-nth.invariant c.make_nth.ensures.goes
+pub loop-nth-init : goal.loop-nth-init
+loop-nth-init g c = record { goes = goes_still _ _ _; taken = λ k below. absurd (omega (arith, below)) }
+
+pub returns-in_err-making-clause-failed : goal.returns-in_err-making-clause-failed
+returns-in_err-making-clause-failed g c =
+    in_fault _ _ (λ refused. goes_then _ _ _ _ _ c.loop-nth.invariant.goes c.in_err-making.ensures.failed)
 
 pub returns-in-Some-clause-goes : goal.returns-in-Some-clause-goes
-returns-in-Some-clause-goes g c = goes_then _ _ _ _ _ c.loop-nth.invariant c.make_nth.ensures.goes
+returns-in-Some-clause-goes g c = goes_with _ _ _ _ _ _ c.loop-nth.invariant.goes (search rules)
 
 pub make_nth-requires-2-after_bounds : goal.make_nth-requires-2-after_bounds
-make_nth-requires-2-after_bounds g c κs within = ready_goes _ _ _ _ c.loop-nth.invariant c.requires
+make_nth-requires-2-after_bounds g c κs within = ready_goes _ _ _ _ c.loop-nth.invariant.goes c.requires
 
-pub returns-in_err-making-2-clause-goes : goal.returns-in_err-making-2-clause-goes
-returns-in_err-making-2-clause-goes g c = goes_then _ _ _ _ _ c.loop-nth.invariant c.make_nth-2.ensures.goes
+pub returns-in_err-making-2-clause-failed : goal.returns-in_err-making-2-clause-failed
+returns-in_err-making-2-clause-failed g c =
+    in_fault _ _ (λ refused. goes_then _ _ _ _ _ c.loop-nth.invariant.goes c.in_err-making-2.ensures.failed)
 
 pub returns-in-Some-2-clause-goes : goal.returns-in-Some-2-clause-goes
-returns-in-Some-2-clause-goes g c = goes_then _ _ _ _ _ c.loop-nth.invariant c.make_nth-2.ensures.goes
+returns-in-Some-2-clause-goes g c = goes_with _ _ _ _ _ _ c.loop-nth.invariant.goes (search rules)
 
-pub returns-in-None-clause-goes : goal.returns-in-None-clause-goes
-returns-in-None-clause-goes g c = goes_then _ _ _ _ _ c.loop-nth.invariant c.make_nth-2.ensures.goes
+pub returns-in-None-clause-failed : goal.returns-in-None-clause-failed
+returns-in-None-clause-failed g c = goes_then _ _ _ _ _ c.loop-nth.invariant.goes (search rules)
+
+pub returns-in-None-clause-cause : goal.returns-in-None-clause-cause
+returns-in-None-clause-cause g c =
+    let unmade = of_none _ (GoesOn g.J.Judge.accepts (wanted_of c.args.names.now) (g.H.Host.asked c.loop-nth.host)
+    (g.H.Host.asked c.make_nth-2.new.host)) c.in-None.is c.in_ok-making-2.ensures.unmade in
+    let all : (k : ℕ) → k ≤ LAST_NAME → Has (MadeFolder (tried_name c.trim_end_matches-stem.result.now (codes "making") k) (Err host.IsThere))
+    (g.H.Host.asked c.make_nth-2.new.host) = λ k within.
+    taken_more (λ k e. Has (MadeFolder (tried_name c.trim_end_matches-stem.result.now (codes "making") k) (Err host.IsThere)) e)
+    LAST_NAME _ _ (λ n h. unmade.later _ h) (λ n below. c.loop-nth.invariant.taken n (omega (arith, below, c.loop-nth-test.false)))
+    (of_none _ _ c.in-None.is c.in_ok-making-2.ensures.taken) k (omega (arith, within)) in
+    caused_as _ _ _ Failed c.refused.ensures (inr (c.trim_end_matches-stem.result.now, all))

@@ -1,5 +1,9 @@
-use Rattle.run_files.proofs.Caused.{failed_by}
+use Rattle.run_files.proofs.Caused.{failed_by, folder_taken}
 use Rattle.run_files.proofs.folder.make_nth.Goals as goal
 
+pub returns-then-is_there-clause-taken : goal.returns-then-is_there-clause-taken
+returns-then-is_there-clause-taken g c =
+    folder_taken _ _ _ _ c.in_ok-making.ensures (c.is_there.ensures.there c.if-is_there.true) c.in-Err.ensures.fault
+
 pub returns-clause-cause : goal.returns-clause-cause
-returns-clause-cause g c = failed_by _ _ _ _ _ c.refused_by.ensures c.in-Err.ensures.fault tt
+returns-clause-cause g c = failed_by _ _ _ _ _ c.refused_by.ensures c.in-Err.ensures.fault (c.is_there.ensures.other c.if-is_there.false)

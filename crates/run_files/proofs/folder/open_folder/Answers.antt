@@ -1,12 +1,17 @@
 use Rattle.run_files.proofs.Going.{free_still, held_now, later_by, ready_goes, ready_later, rules_by, rules_unlocked}
 use Rattle.run_files.proofs.Caused.{caused_later, unlocked_by}
-use Rattle.std.proofs.Common.{string_bytes}
+use Rattle.std.proofs.Common.{refl, string_bytes}
+use Rattle.run_files.proofs.Left.{left_by_goes, left_by_one}
 use Rattle.run_files.proofs.folder.open_folder.Goals as goal
+
+pub returns-in_err-make_if_missing-clause-cleared : goal.returns-in_err-make_if_missing-clause-cleared
+returns-in_err-make_if_missing-clause-cleared g c path left = left_by_goes _ _ _ _ c.make_if_missing.ensures.goes path left
 
 pub returns-in-Err : goal.returns-in-Err
 returns-in-Err g c = record {
   rules = λ each. rules_by _ _ _ _ _ c.in-Err.ensures.asked ((ready_goes _ _ _ _ c.make_if_missing.ensures.goes c.requires.ready), c.make_if_missing.ensures.goes.free c.requires.free, c.requires.wanted) (c.make_if_missing.ensures.goes.rules each);
   later = λ r h. later_by _ _ _ c.in-Err.ensures.asked r (c.make_if_missing.ensures.goes.later r h);
+  cleared = λ path left. left_by_goes _ _ _ _ c.make_if_missing.ensures.goes path (left_by_one _ _ _ c.in-Err.ensures.asked refl path left);
   held = tt;
   lock = tt;
   opened = tt;
@@ -34,6 +39,11 @@ pub returns-in-Ok-open_locked-clause-later : goal.returns-in-Ok-open_locked-clau
 returns-in-Ok-open_locked-clause-later g c r h =
     c.open_locked.ensures.goes.later r (later_by _ _ _ c.in-Ok.ensures.asked r (c.make_if_missing.ensures.goes.later r h))
 
+pub returns-in-Ok-open_locked-clause-cleared : goal.returns-in-Ok-open_locked-clause-cleared
+returns-in-Ok-open_locked-clause-cleared g c path left =
+    left_by_goes _ _ _ _ c.make_if_missing.ensures.goes path
+    (left_by_one _ _ _ c.in-Ok.ensures.asked refl path (left_by_goes _ _ _ _ c.open_locked.ensures.goes path left))
+
 pub returns-in-Ok-open_locked-clause-held : goal.returns-in-Ok-open_locked-clause-held
 returns-in-Ok-open_locked-clause-held g c = c.open_locked.ensures.goes.held _ (held_now _ _ _ c.in-Ok.ensures.asked)
 
@@ -47,6 +57,12 @@ pub returns-in-Err-open_locked-clause-later : goal.returns-in-Err-open_locked-cl
 returns-in-Err-open_locked-clause-later g c r h =
     later_by _ _ _ c.unlock.ensures r
     (c.open_locked.ensures.goes.later r (later_by _ _ _ c.in-Ok.ensures.asked r (c.make_if_missing.ensures.goes.later r h)))
+
+pub returns-in-Err-open_locked-clause-cleared : goal.returns-in-Err-open_locked-clause-cleared
+returns-in-Err-open_locked-clause-cleared g c path left =
+    left_by_goes _ _ _ _ c.make_if_missing.ensures.goes path
+    (left_by_one _ _ _ c.in-Ok.ensures.asked refl path
+    (left_by_goes _ _ _ _ c.open_locked.ensures.goes path (left_by_one _ _ _ c.unlock.ensures refl path left)))
 
 pub returns-in-Err-open_locked-clause-cause : goal.returns-in-Err-open_locked-clause-cause
 returns-in-Err-open_locked-clause-cause g c = caused_later _ _ _ (later_by _ _ _ c.unlock.ensures) _ c.in-Err-open_locked.ensures.cause

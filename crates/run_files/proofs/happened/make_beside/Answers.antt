@@ -1,26 +1,58 @@
-use Rattle.run_files.proofs.Going.{goes_then, ready_goes}
+use Rattle.std.proofs.Common.{rules, inr, ℕ, ◌<◌, ◌≤◌, ◌+◌, Err, arith, codes}
+use Rattle.host.specs.Requests.{Has, MadeFile}
+use Rattle.host.specs.declared.fault.HostFault.TheVariants as host
+use Rattle.run_files.specs.Causes.{tried_name, all_taken}
+use Rattle.run_files.specs.Rules.{GoesOn}
+use Rattle.run_files.specs.Wanted.{wanted_of}
+use Rattle.run_files.specs.declared.fault.FilesFault.TheVariants.{Unwritten}
+use Rattle.run_files.specs.declared.happened.TheConstants.{LAST_NAME}
+use Rattle.run_files.proofs.Caused.{caused_as, taken_more}
+use Rattle.run_files.proofs.Going.{goes_still, goes_then, goes_with, of_none, ready_goes}
+use Rattle.run_files.proofs.Left.{in_fault}
 use Rattle.run_files.proofs.happened.make_beside.Goals as goal
 
 pub make_nth-requires-clause-ready : goal.make_nth-requires-clause-ready
-make_nth-requires-clause-ready g c κs within = ready_goes _ _ _ _ c.loop-nth.invariant c.requires.ready
+make_nth-requires-clause-ready g c κs within = ready_goes _ _ _ _ c.loop-nth.invariant.goes c.requires.ready
 
 pub loop-nth-preserved : goal.loop-nth-preserved
-loop-nth-preserved g c = goes_then _ _ _ _ _ c.loop-nth.invariant c.make_nth.ensures.goes
+loop-nth-preserved g c =
+    let unmade = of_none _ (GoesOn g.J.Judge.accepts (wanted_of c.args.names.now) (g.H.Host.asked c.loop-nth.host)
+    (g.H.Host.asked c.make_nth.new.host)) c.in-None.is c.in_ok-history.ensures.unmade in record {
+      goes = goes_then _ _ _ _ _ c.loop-nth.invariant.goes unmade;
+      taken = taken_more (λ k e. Has (MadeFile (tried_name c.trim_end_matches-stem.result.now (codes "new") k) (Err host.IsThere)) e)
+          c.loop-nth.nth _ _ (λ k h. unmade.later _ h) c.loop-nth.invariant.taken (of_none _ _ c.in-None.is c.in_ok-history.ensures.taken);
+    }
 
-pub returns-in_err-history-clause-goes : goal.returns-in_err-history-clause-goes
-returns-in_err-history-clause-goes g c = goes_then _ _ _ _ _ c.loop-nth.invariant c.make_nth.ensures.goes
+pub loop-nth-init : goal.loop-nth-init
+loop-nth-init g c = record { goes = goes_still _ _ _; taken = λ k below. absurd (omega (arith, below)) }
+
+pub returns-in_err-history-clause-failed : goal.returns-in_err-history-clause-failed
+returns-in_err-history-clause-failed g c =
+    in_fault _ _ (λ refused. goes_then _ _ _ _ _ c.loop-nth.invariant.goes c.in_err-history.ensures.failed)
 
 pub returns-in-Some-clause-goes : goal.returns-in-Some-clause-goes
-returns-in-Some-clause-goes g c = goes_then _ _ _ _ _ c.loop-nth.invariant c.make_nth.ensures.goes
+returns-in-Some-clause-goes g c = goes_with _ _ _ _ _ _ c.loop-nth.invariant.goes (search rules)
 
 pub make_nth-requires-2-clause-ready : goal.make_nth-requires-2-clause-ready
-make_nth-requires-2-clause-ready g c κs within = ready_goes _ _ _ _ c.loop-nth.invariant c.requires.ready
+make_nth-requires-2-clause-ready g c κs within = ready_goes _ _ _ _ c.loop-nth.invariant.goes c.requires.ready
 
-pub returns-in_err-history-2-clause-goes : goal.returns-in_err-history-2-clause-goes
-returns-in_err-history-2-clause-goes g c = goes_then _ _ _ _ _ c.loop-nth.invariant c.make_nth-2.ensures.goes
+pub returns-in_err-history-2-clause-failed : goal.returns-in_err-history-2-clause-failed
+returns-in_err-history-2-clause-failed g c =
+    in_fault _ _ (λ refused. goes_then _ _ _ _ _ c.loop-nth.invariant.goes c.in_err-history-2.ensures.failed)
 
 pub returns-in-Some-2-clause-goes : goal.returns-in-Some-2-clause-goes
-returns-in-Some-2-clause-goes g c = goes_then _ _ _ _ _ c.loop-nth.invariant c.make_nth-2.ensures.goes
+returns-in-Some-2-clause-goes g c = goes_with _ _ _ _ _ _ c.loop-nth.invariant.goes (search rules)
 
-pub returns-in-None-2-clause-goes : goal.returns-in-None-2-clause-goes
-returns-in-None-2-clause-goes g c = goes_then _ _ _ _ _ c.loop-nth.invariant c.make_nth-2.ensures.goes
+pub returns-in-None-2-clause-failed : goal.returns-in-None-2-clause-failed
+returns-in-None-2-clause-failed g c = goes_then _ _ _ _ _ c.loop-nth.invariant.goes (search rules)
+
+pub returns-in-None-2-clause-cause : goal.returns-in-None-2-clause-cause
+returns-in-None-2-clause-cause g c =
+    let unmade = of_none _ (GoesOn g.J.Judge.accepts (wanted_of c.args.names.now) (g.H.Host.asked c.loop-nth.host)
+    (g.H.Host.asked c.make_nth-2.new.host)) c.in-None-2.is c.in_ok-history-2.ensures.unmade in
+    let all : (k : ℕ) → k ≤ LAST_NAME → Has (MadeFile (tried_name c.trim_end_matches-stem.result.now (codes "new") k) (Err host.IsThere))
+    (g.H.Host.asked c.make_nth-2.new.host) = λ k within.
+    taken_more (λ k e. Has (MadeFile (tried_name c.trim_end_matches-stem.result.now (codes "new") k) (Err host.IsThere)) e)
+    LAST_NAME _ _ (λ n h. unmade.later _ h) (λ n below. c.loop-nth.invariant.taken n (omega (arith, below, c.loop-nth-test.false)))
+    (of_none _ _ c.in-None-2.is c.in_ok-history-2.ensures.taken) k (omega (arith, within)) in
+    caused_as _ _ _ Unwritten c.refused.ensures (_, c.requires.wanted, all_taken (c.trim_end_matches-stem.result.now, all))

@@ -1,5 +1,6 @@
 use Rattle.std.proofs.Common.{rules}
-use Rattle.run_files.proofs.Going.{goes_then, ready_goes}
+use Rattle.run_files.proofs.Going.{goes_more, goes_then, goes_with, in_any, ready_goes}
+use Rattle.run_files.proofs.Left.{err_as, in_fault, ok_as}
 use Rattle.run_files.proofs.Caused.{caused_as, unwritten_by}
 use Rattle.std.proofs.Common.{refl, Ok, string_bytes}
 use Rattle.host.specs.Requests.{Has, Looked}
@@ -15,10 +16,18 @@ pub make_beside-requires-clause-ready : goal.make_beside-requires-clause-ready
 make_beside-requires-clause-ready g c κs within = ready_goes _ _ _ _ c.look.ensures.goes c.requires.ready
 
 pub returns-in-Ok-Device-clause-goes : goal.returns-in-Ok-Device-clause-goes
-returns-in-Ok-Device-clause-goes g c = search (rules, goes_then)
+returns-in-Ok-Device-clause-goes g c =
+    in_any _ _ (λ history. goes_more _ _ _ _ _ (goes_then _ _ _ _ _ c.look.ensures.goes c.open_device.ensures.goes))
+
+pub returns-in-Ok-Device-clause-failed : goal.returns-in-Ok-Device-clause-failed
+returns-in-Ok-Device-clause-failed g c = in_fault _ _ (λ refused. goes_then _ _ _ _ _ c.look.ensures.goes c.open_device.ensures.goes)
 
 pub returns-in-Ok-File-clause-goes : goal.returns-in-Ok-File-clause-goes
-returns-in-Ok-File-clause-goes g c = search (rules, goes_then)
+returns-in-Ok-File-clause-goes g c =
+    ok_as _ _ _ (λ history goes. goes_with _ _ _ _ _ _ c.look.ensures.goes goes) c.make_beside.ensures.goes
+
+pub returns-in-Ok-File-clause-failed : goal.returns-in-Ok-File-clause-failed
+returns-in-Ok-File-clause-failed g c = err_as _ _ _ (λ refused goes. goes_then _ _ _ _ _ c.look.ensures.goes goes) c.make_beside.ensures.failed
 
 pub returns-in-Ok-Folder-clause-cause : goal.returns-in-Ok-Folder-clause-cause
 returns-in-Ok-Folder-clause-cause g c =

@@ -31,3 +31,23 @@ play-requires-clause-own g c =
     (slice_get_read log.script.items c.len.result log.passed line (c.len.ensures ∙ log.script.ok.0) (omega (arith, c.if-passed-len.false))
     c.index-line.ensures) in
     due_line g.ThisRun.Run.script log.passed log.armed.world.round line _ there (search rules) refl
+
+pub returns-then-line-round-clause-played : goal.returns-then-line-round-clause-played
+returns-then-line-round-clause-played g c =
+    let log = c.args.self.now in
+    let line = c.index-line.result.now in
+    let there : slice_get g.ThisRun.Run.script log.passed ≡ Some line =
+    subst (λ (script : List ScriptedEvent). slice_get script log.passed ≡ Some line) log.same_script
+    (slice_get_read log.script.items c.len.result log.passed line (c.len.ensures ∙ log.script.ok.0) (omega (arith, c.if-passed-len.false))
+    c.index-line.ensures) in
+    (∣ (line, there, (search rules)) ∣₁, c.be_silent-then-line-round.ensures.world)
+
+pub returns-in-Ok-clause-played : goal.returns-in-Ok-clause-played
+returns-in-Ok-clause-played g c =
+    let log = c.args.self.now in
+    let line = c.index-line.result.now in
+    let there : slice_get g.ThisRun.Run.script log.passed ≡ Some line =
+    subst (λ (script : List ScriptedEvent). slice_get script log.passed ≡ Some line) log.same_script
+    (slice_get_read log.script.items c.len.result log.passed line (c.len.ensures ∙ log.script.ok.0) (omega (arith, c.if-passed-len.false))
+    c.index-line.ensures) in
+    (line, there, (search rules), c.in-Ok.ensures.step)

@@ -1,0 +1,55 @@
+use Rattle.std.proofs.Common.{string_bytes, ℤ, List}
+use Rattle.std.proofs.Math.Logic.{∥∥₁_map}
+use Rattle.std.proofs.lemmas.Result.{IfErr-weaker, IfOk-weaker, err_from_is_err_and}
+use Rattle.protocol.specs.Node.Common.{network_of}
+use Rattle.run_files.specs.Opening.{opened_names}
+use Rattle.run_files.specs.Wanted.{wanted_of}
+use Rattle.run_files.specs.declared.fault.FilesFault.TheVariants.{Astray}
+use Rattle.run_files.proofs.Caused.{caused_as}
+use Rattle.run_files.proofs.Going.{opened_goes}
+use Rattle.cobaltmidge.specs.Failing.{is_counted}
+use Rattle.cobaltmidge.specs.KeptOutlets.{AreInFiles, IsRunStop}
+use Rattle.cobaltmidge.specs.KeptRuns.{IsKeptRun}
+use Rattle.cobaltmidge.specs.KeptStreams.{AreKeptIn, IsStateCause}
+use Rattle.cobaltmidge.specs.Names.{script_of}
+use Rattle.cobaltmidge.specs.declared.kept_run.KeptRun.{KeptRun}
+use Rattle.cobaltmidge.specs.declared.state_error.StateError.{StateError}
+use Rattle.cobaltmidge.proofs.InFolder.{kept_in, kept_run_maps, stop_in_log}
+use Rattle.cobaltmidge.proofs.state.run_locked.Goals as goal
+
+pub returns-in_err-give_back-clause-cause : goal.returns-in_err-give_back-clause-cause
+returns-in_err-give_back-clause-cause g c =
+    let p = err_from_is_err_and c.from_residual.result c.from_residual.ensures.1 in
+    rw (p.1, p.2) (caused_as _ _ _ Astray c.in_err-give_back.ensures.cause tt)
+
+pub returns-clause-run : goal.returns-clause-run
+returns-clause-run g c =
+    let run = c.args.run in
+    let net = network_of run.network.now.net.value.program in
+    let script = script_of run.script in
+    let sync = c.args.names.now.sync in
+    let folder = string_bytes c.args.folder.now in
+    let outlets = c.run_over-kept.new.outlets.items in
+    let now = g.H.Host.asked c.give_back.new.host in
+    let filed : List (List ℤ) → Type 0 = λ streams. AreInFiles outlets streams in
+    let kept : List (List ℤ) → Type 0 = λ streams. AreKeptIn sync folder (opened_names c.args.opened.now) now streams in
+    IfOk-weaker c.run_over-kept.result
+    (λ (it : KeptRun). ∥ IsKeptRun run.settings net run.inputs script filed it ∥₁)
+    (λ (it : KeptRun). ∥ IsKeptRun run.settings net run.inputs script kept it ∥₁)
+    (λ it is. ∥∥₁_map is (kept_run_maps run.settings net run.inputs script filed kept it
+    (λ streams are. kept_in sync folder c.args.opened.now outlets now (opened_goes _ _ _ _ _ _ _ c.give_back.ensures.goes c.requires)
+    c.in_ok-give_back.ensures.used streams are)))
+    c.run_over-kept.ensures.run
+
+pub returns-clause-cause : goal.returns-clause-cause
+returns-clause-cause g c =
+    let counted = is_counted c.args.run.settings in
+    let o = wanted_of c.args.names.now in
+    let outlets = c.run_over-kept.new.outlets.items in
+    let now = g.H.Host.asked c.give_back.new.host in
+    IfErr-weaker c.run_over-kept.result
+    (λ (error : StateError). IsRunStop counted outlets error.fault)
+    (λ (error : StateError). IsStateCause counted o now error.fault)
+    (λ error stop. stop_in_log counted o (string_bytes c.args.folder.now) now c.args.opened.now outlets error.fault
+    (opened_goes _ _ _ _ _ _ _ c.give_back.ensures.goes c.requires) c.in_ok-give_back.ensures.used stop)
+    c.run_over-kept.ensures.cause

@@ -1,0 +1,25 @@
+-- What a run came to of which what left is kept.
+use Rattle.std.specs.Prelude.{◌≡◌, ℤ, List, length}
+use Rattle.protocol.specs.Node.Common.{Network}
+use Rattle.protocol.specs.World.Common.{WorldView, are_quiet}
+use Rattle.replay.specs.declared.kept.ScriptedEvent.{ScriptedEvent}
+use Rattle.run_log.specs.Lines.{happenings}
+use Rattle.runtime.specs.Ending.{IsOver}
+use Rattle.cobaltmidge.specs.Reasons.{IsReasonOf}
+use Rattle.cobaltmidge.specs.Released.{AreReleased, lists_of}
+use Rattle.cobaltmidge.specs.Runs.{IsEnd, IsRun, bounds_of, released_streams}
+use Rattle.cobaltmidge.specs.declared.kept_run.KeptRun.{KeptRun}
+use Rattle.cobaltmidge.specs.declared.settings.Settings.{Settings}
+
+-- The world at the run's end, of which all is told. What has left are prefixes of the outputs' histories in one approximation, and where the
+-- run is complete whole, in the least solution. It is kept, as `kept` says.
+pub record IsKeptRun (settings : Settings) (net : Network) (inputs : List (List ℤ)) (script : List ScriptedEvent)
+    (kept : List (List ℤ) → Type 0) (run : KeptRun) : Type 0 where
+  pub now : WorldView
+  pub is_run : IsRun net inputs (released_streams net now.stations) (are_quiet now)
+  pub is_end : IsEnd settings net inputs script (happenings run.history.lines.items) now
+  pub over : IsOver net.channels (bounds_of settings) now run.end
+  pub reason : IsReasonOf now run.end settings run.reason
+  pub complete : run.complete ≡ are_quiet now
+  pub released : AreReleased (length net.channels) now (lists_of run.lists.items)
+  pub has_kept : kept (released_streams net now.stations)

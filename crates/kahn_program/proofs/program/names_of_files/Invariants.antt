@@ -1,9 +1,0 @@
-use Rattle.std.proofs.Common.{◌≡◌, ◌++◌, drop, map, string_bytes}
-use Rattle.kahn_program.specs.Program.{file_names}
-use Rattle.kahn_program.proofs.program.names_of_files.Given as goal
-
--- what was listed, and then what is to come
-abbrev pub invariant-loop-number : goal.invariant-loop-number
-invariant-loop-number l =
-    map string_bytes l.files.items ++ file_names (drop l.number l.channels) (drop l.number l.names)
-    ≡ file_names l.channels l.names
