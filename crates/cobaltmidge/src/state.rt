@@ -1,7 +1,7 @@
 //! A run of which what left outlasts the program: it is kept in the files of a folder, and a later run goes on with them.
 
 ghost use Rattle.std.specs.Prelude.{◌≡◌, [], IfErr, IfOk, OnOk, Ok, Some, string_bytes};
-ghost use Rattle.host.specs.Requests.{Each, Has, IsFree, Later, Read};
+ghost use Rattle.host.specs.Requests.{Each, Has, IsFree, IsHeld, Later, Read};
 ghost use Rattle.protocol.specs.Node.Common.{network_of};
 ghost use Rattle.run_files.specs.Leftovers.{LeavesNothing};
 ghost use Rattle.run_files.specs.Opening.{AreOpened, opened_names};
@@ -116,7 +116,8 @@ fn run_locked<'a, H: Host, R: Threads + Wait + Sync>(
     files: Vec<HeldFile<H::Lines>>,
     opened: &[OpenedName],
 ) -> Result<KeptRun<'a>, StateError>
-    requires { AreOpened names.now.sync (string_bytes folder.now) opened.now (H.asked host.old) }
+    requires held { IsHeld (string_bytes folder.now) (H.asked host.old) }
+    requires opened { AreOpened names.now.sync (string_bytes folder.now) opened.now (H.asked host.old) }
     ensures goes { GoesOn IsAccepted (wanted_of names.now) (H.asked host.old) (H.asked host.new) }
     ensures run { IfOk result (λ kept. ∥ IsKeptRun run.entry.settings (network_of run.entry.network.now.net.value.program)
         run.entry.inputs (script_of run.entry.script)

@@ -91,7 +91,8 @@ rule accepts o (Opened folder name waits answer) e =
     IsReady accepts o e × IsHeld folder e × HasSameTexts o folder e × (waits ≡ o.sync)
 rule accepts o (Cut name len answer) e =
     IsReady accepts o e × ((folder bytes : List ℕ) × IsHeld folder e × Has (Opened folder name o.sync (Ok bytes)) e)
-rule accepts o (Used name asked) e = (folder bytes : List ℕ) × Has (Opened folder name o.sync (Ok bytes)) e
+-- while the lock is still held
+rule accepts o (Used name asked) e = (folder bytes : List ℕ) × IsHeld folder e × Has (Opened folder name o.sync (Ok bytes)) e
 rule accepts o (Said bytes answer) e = Unit {0}
 rule accepts o (Told bytes answer) e = Unit {0}
 

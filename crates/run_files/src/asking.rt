@@ -250,6 +250,7 @@ pub fn take_back<H: Host, J: Judge>(
     bytes: &Snapshot<Vec<u8>>,
     lines: H::Lines,
 )
+    requires held { IsHeld (string_bytes folder.now) (H.asked host.old) }
     requires opened { Has (Opened (string_bytes folder.now) (string_bytes name.now) names.now.sync (Ok bytes.now.value.items))
         (H.asked host.old) }
     requires name { H.Lines.name_of lines ≡ string_bytes name.now }

@@ -735,7 +735,8 @@ fn give_one<H: Host, J: Judge>(
     opened: &OpenedName,
     outlet: ResumedOutlet<H::Lines>,
 ) -> Result<(), Refused>
-    requires { Has (Opened (string_bytes folder.now) (string_bytes opened.now.name) names.now.sync (Ok opened.now.bytes.value.items))
+    requires held { IsHeld (string_bytes folder.now) (H.asked host.old) }
+    requires opened { Has (Opened (string_bytes folder.now) (string_bytes opened.now.name) names.now.sync (Ok opened.now.bytes.value.items))
         (H.asked host.old) }
     ensures goes { GoesOn J.accepts (wanted_of names.now) (H.asked host.old) (H.asked host.new) }
     ensures used { OnOk result (Has (Used (string_bytes opened.now.name) (asked_of outlet)) (H.asked host.new)) }
@@ -769,7 +770,9 @@ pub fn give_back<H: Host, J: Judge>(
     opened: &[OpenedName],
     outlets: Vec<ResumedOutlet<H::Lines>>,
 ) -> Result<(), Refused>
-    requires { AreOpened names.now.sync (string_bytes folder.now) opened.now (H.asked host.old) }
+    // The lock is let go of only behind them.
+    requires held { IsHeld (string_bytes folder.now) (H.asked host.old) }
+    requires opened { AreOpened names.now.sync (string_bytes folder.now) opened.now (H.asked host.old) }
     ensures goes { GoesOn J.accepts (wanted_of names.now) (H.asked host.old) (H.asked host.new) }
     ensures used { OnOk result (AreUsed opened.now outlets.items (H.asked host.new)) }
     ensures cause { IfErr result (λ refused. refused.fault ≡ Astray) }

@@ -1,9 +1,10 @@
 -- A history that goes on.
-use Rattle.std.proofs.Common.{◌≡◌, ◌∙◌, ◌⊎◌, ◌++◌, ◌∷◌, [], ℕ, ◌+◌, ◌≤◌, Bool, true, false, List, drop, take, slice_get, Option, Some, None, refl, sym, ap, subst}
+use Rattle.std.proofs.Common.{◌≡◌, ◌∙◌, ◌⊎◌, ◌++◌, ◌∷◌, [], ℕ, ◌+◌, ◌<◌, ◌≤◌, Bool, true, false, List, drop, get_or, length, take, slice_get, Option, Some, None, refl, sym, ap, subst}
 use Rattle.std.proofs.Common.{arith, inl, inr}
 use Rattle.std.proofs.Math.Logic.{∥∥₁_map, ∥∥₁_map₂}
 use Rattle.std.specs.Prelude.{is_some, IfSome, IsTrue}
 use Rattle.std.proofs.lemmas.List.{take-append-drop}
+use Rattle.std.proofs.lemmas.Option.{slice_get_read}
 use Rattle.std.proofs.lemmas.List.Concat.{flat_map-append}
 use Rattle.std.proofs.lemmas.List.Sums.{sum_by-append}
 use Rattle.protocol.specs.Node.Common.{RecordView}
@@ -195,3 +196,10 @@ pub due_line : (script : List ScriptedEvent) (passed round : ℕ) (line : Script
     → IsScripted (slice_get script passed) round event
 due_line script passed round line event is due same =
     subst (λ (found : Option ScriptedEvent). IsScripted found round event) (sym is) (due, same)
+
+-- a line that was read of the script
+pub line_read : (items script : List ScriptedEvent) (count passed : ℕ) (line : ScriptedEvent) → items ≡ script → count ≡ length items
+    → passed < count → line ≡ get_or items passed line → slice_get script passed ≡ Some line
+line_read items script count passed line same counted within read =
+    let P : List ScriptedEvent → Type 0 = λ all. slice_get all passed ≡ Some line in
+    subst P same (slice_get_read items count passed line counted within read)

@@ -37,7 +37,7 @@ returns-clause-run g c =
     (λ (it : KeptRun). ∥ IsKeptRun run.settings net run.inputs script filed it ∥₁)
     (λ (it : KeptRun). ∥ IsKeptRun run.settings net run.inputs script kept it ∥₁)
     (λ it is. ∥∥₁_map is (kept_run_maps run.settings net run.inputs script filed kept it
-    (λ streams are. kept_in sync folder c.args.opened.now outlets now (opened_goes _ _ _ _ _ _ _ c.give_back.ensures.goes c.requires)
+    (λ streams are. kept_in sync folder c.args.opened.now outlets now (opened_goes _ _ _ _ _ _ _ c.give_back.ensures.goes c.requires.opened)
     c.in_ok-give_back.ensures.used streams are)))
     c.run_over-kept.ensures.run
 
@@ -51,5 +51,5 @@ returns-clause-cause g c =
     (λ (error : StateError). IsRunStop counted outlets error.fault)
     (λ (error : StateError). IsStateCause counted o now error.fault)
     (λ error stop. stop_in_log counted o (string_bytes c.args.folder.now) now c.args.opened.now outlets error.fault
-    (opened_goes _ _ _ _ _ _ _ c.give_back.ensures.goes c.requires) c.in_ok-give_back.ensures.used stop)
+    (opened_goes _ _ _ _ _ _ _ c.give_back.ensures.goes c.requires.opened) c.in_ok-give_back.ensures.used stop)
     c.run_over-kept.ensures.cause

@@ -19,8 +19,11 @@ use Rattle.cobaltmidge.proofs.InFolder.{kept_in}
 use Rattle.kahn_program.proofs.Said.{if_ok, report_maps, written_later}
 use Rattle.kahn_program.proofs.program.run_locked.Goals as goal
 
-pub give_back-requires-after_bounds : goal.give_back-requires-after_bounds
-give_back-requires-after_bounds g c κs within = opened_goes _ _ _ _ _ _ _ c.run_over-report.ensures.goes c.requires.opened
+pub give_back-requires-clause-held : goal.give_back-requires-clause-held
+give_back-requires-clause-held g c κs within = c.run_over-report.ensures.goes.held _ c.requires.held
+
+pub give_back-requires-clause-opened : goal.give_back-requires-clause-opened
+give_back-requires-clause-opened g c κs within = opened_goes _ _ _ _ _ _ _ c.run_over-report.ensures.goes c.requires.opened
 
 pub returns-in_err-give_back-clause-goes : goal.returns-in_err-give_back-clause-goes
 returns-in_err-give_back-clause-goes g c = search (rules, goes_then)

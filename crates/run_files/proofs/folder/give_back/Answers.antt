@@ -4,9 +4,12 @@ use Rattle.run_files.specs.Opening.{AreUsed}
 use Rattle.run_files.proofs.Going.{goes_then, no_items, one_longer, opened_at, opened_goes, used_more}
 use Rattle.run_files.proofs.folder.give_back.Goals as goal
 
-pub give_one-requires-after_bounds : goal.give_one-requires-after_bounds
-give_one-requires-after_bounds g c κs within =
-    opened_at _ _ _ _ _ _ (opened_goes _ _ _ _ _ _ _ c.loop-outlet.invariant.goes c.requires) c.in-Some-nth_of.ensures
+pub give_one-requires-clause-held : goal.give_one-requires-clause-held
+give_one-requires-clause-held g c κs within = c.loop-outlet.invariant.goes.held _ c.requires.held
+
+pub give_one-requires-clause-opened : goal.give_one-requires-clause-opened
+give_one-requires-clause-opened g c κs within =
+    opened_at _ _ _ _ _ _ (opened_goes _ _ _ _ _ _ _ c.loop-outlet.invariant.goes c.requires.opened) c.in-Some-nth_of.ensures
 
 pub returns-in_err-give_one-clause-goes : goal.returns-in_err-give_one-clause-goes
 returns-in_err-give_one-clause-goes g c = goes_then _ _ _ _ _ c.loop-outlet.invariant.goes c.give_one.ensures.goes

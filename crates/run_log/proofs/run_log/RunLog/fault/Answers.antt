@@ -1,7 +1,6 @@
-use Rattle.std.proofs.Common.{rules, ◌≡◌, ◌∙◌, ◌≤◌, List, length, Some, refl, slice_get, ap, subst, arith}
-use Rattle.std.proofs.lemmas.Option.{slice_get_read}
+use Rattle.std.proofs.Common.{rules, ◌≡◌, ◌∙◌, ◌≤◌, List, length, Some, refl, slice_get, ap, arith}
 use Rattle.replay.specs.declared.kept.ScriptedEvent.{ScriptedEvent}
-use Rattle.run_log.proofs.Adding.{due_line}
+use Rattle.run_log.proofs.Adding.{due_line, line_read}
 use Rattle.run_log.proofs.run_log.RunLog.fault.Goals as goal
 
 pub be_silent-requires-clause-own : goal.be_silent-requires-clause-own
@@ -17,9 +16,8 @@ be_silent-requires-then-line-round-clause-own g c =
     let log = c.args.self.now in
     let line = c.index-line.result.now in
     let there : slice_get g.ThisRun.Run.script log.passed ≡ Some line =
-    subst (λ (script : List ScriptedEvent). slice_get script log.passed ≡ Some line) log.same_script
-    (slice_get_read log.script.items c.len.result log.passed line (c.len.ensures ∙ log.script.ok.0) (omega (arith, c.if-passed-len.false))
-    c.index-line.ensures) in
+    line_read log.script.items _ c.len.result _ line log.same_script (c.len.ensures ∙ log.script.ok.0) (omega (arith, c.if-passed-len.false))
+    c.index-line.ensures in
     ∣ (line, there, (search rules)) ∣₁
 
 pub play-requires-clause-own : goal.play-requires-clause-own
@@ -27,9 +25,8 @@ play-requires-clause-own g c =
     let log = c.args.self.now in
     let line = c.index-line.result.now in
     let there : slice_get g.ThisRun.Run.script log.passed ≡ Some line =
-    subst (λ (script : List ScriptedEvent). slice_get script log.passed ≡ Some line) log.same_script
-    (slice_get_read log.script.items c.len.result log.passed line (c.len.ensures ∙ log.script.ok.0) (omega (arith, c.if-passed-len.false))
-    c.index-line.ensures) in
+    line_read log.script.items _ c.len.result _ line log.same_script (c.len.ensures ∙ log.script.ok.0) (omega (arith, c.if-passed-len.false))
+    c.index-line.ensures in
     due_line g.ThisRun.Run.script log.passed log.armed.world.round line _ there (search rules) refl
 
 pub returns-then-line-round-clause-played : goal.returns-then-line-round-clause-played
@@ -37,9 +34,8 @@ returns-then-line-round-clause-played g c =
     let log = c.args.self.now in
     let line = c.index-line.result.now in
     let there : slice_get g.ThisRun.Run.script log.passed ≡ Some line =
-    subst (λ (script : List ScriptedEvent). slice_get script log.passed ≡ Some line) log.same_script
-    (slice_get_read log.script.items c.len.result log.passed line (c.len.ensures ∙ log.script.ok.0) (omega (arith, c.if-passed-len.false))
-    c.index-line.ensures) in
+    line_read log.script.items _ c.len.result _ line log.same_script (c.len.ensures ∙ log.script.ok.0) (omega (arith, c.if-passed-len.false))
+    c.index-line.ensures in
     (∣ (line, there, (search rules)) ∣₁, c.be_silent-then-line-round.ensures.world)
 
 pub returns-in-Ok-clause-played : goal.returns-in-Ok-clause-played
@@ -47,7 +43,6 @@ returns-in-Ok-clause-played g c =
     let log = c.args.self.now in
     let line = c.index-line.result.now in
     let there : slice_get g.ThisRun.Run.script log.passed ≡ Some line =
-    subst (λ (script : List ScriptedEvent). slice_get script log.passed ≡ Some line) log.same_script
-    (slice_get_read log.script.items c.len.result log.passed line (c.len.ensures ∙ log.script.ok.0) (omega (arith, c.if-passed-len.false))
-    c.index-line.ensures) in
+    line_read log.script.items _ c.len.result _ line log.same_script (c.len.ensures ∙ log.script.ok.0) (omega (arith, c.if-passed-len.false))
+    c.index-line.ensures in
     (line, there, (search rules), c.in-Ok.ensures.step)
