@@ -5,3 +5,4 @@ pub mod NodeOf
 pub mod Then
 pub mod Planned
 pub mod Said
+pub mod Heard

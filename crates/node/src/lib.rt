@@ -23,4 +23,4 @@ pub use opening::opening_record;
 pub use plan::{Plan, Prospect, Said};
 pub use protocol::{ArmedRestart, Delivery, MAX_JOB_ITEMS, Outcome, Refusal};
 pub use restart::round_later;
-pub use state::{NodeState, next_after};
+pub use state::{NodeState, is_of_channel, next_after};

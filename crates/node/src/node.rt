@@ -1,11 +1,12 @@
 //! A node, and its events.
-ghost use Rattle.std.specs.Prelude.{◌≡◌, ◌<◌, ◌++◌, [], ◌∷◌, false, true, not, length, IfErr, IfOk, IsErrOf, IsSome, IsTrue, None, OnErr, OnOk, is_some, option_map};
+ghost use Rattle.std.specs.Prelude.{◌≡◌, ◌<◌, ◌++◌, ℕ, [], ◌∷◌, false, true, not, length, IfErr, IfOk, IsErrOf, IsSome, IsTrue, None, OnErr, OnOk, is_some, option_map};
 ghost use Rattle.protocol.specs.Node.Common.{standing_of, network_of, MAX_RETAINED_ITEMS, cell_in, known_in};
 ghost use Rattle.protocol.specs.Node.Common.{record_in, with_armed, node_job, with_grant, names_right};
 ghost use Rattle.protocol.specs.Node.Common.{start_prospect, packet_for, hear_prospect, turn_packets};
 ghost use Rattle.protocol.specs.Node.Common.{decide_prospect, IsPacket, node_count, IsInstall, IsOut, TakesTurn};
 ghost use Rattle.protocol.specs.Node.Common.{crashed, is_down, recover_prospect, IsLikeNow, HasNext, current_log};
-ghost use Rattle.protocol.specs.Node.Common.{trimmed_node};
+ghost use Rattle.protocol.specs.Node.Common.{trimmed_node, becoming, Network};
+ghost use Rattle.node.specs.Heard.{is_of_channel};
 ghost use Rattle.ckpt_codec.specs.SizeLaws.{IsRecordWithin};
 ghost use Rattle.node.specs.Planned.{CanBeMade, prospect_view};
 ghost use Rattle.node.specs.Said.{MayBeDecided};
@@ -197,6 +198,20 @@ impl<C: SlotCell> Node<C> {
             }
             Err(_) => Err(AllocError),
         }
+    }
+
+    /// Hears a packet that says something of one channel alone (`is_of_channel`), if it runs: what it has in memory changes. Refuses
+    /// for want of memory alone.
+    pub fn hear_of_channel(&mut self, packet: &Packet) -> Result<(), AllocError>
+        requires channel { is_of_channel packet.now.body ≡ true }
+        requires allowed { IsPacket packet.now }
+        // It is all that the packet comes to: nothing is put, and nothing is said.
+        ensures heard { (net : Network) (home from : ℕ) → OnOk result
+            (hear_prospect net home from packet.now.body (view_of self.old) ≡ becoming (view_of self.new)) }
+        ensures err { OnErr result (view_of self.new ≡ view_of self.old) }
+        ensures same { (self.new.store ≡ self.old.store) × (self.new.number ≡ self.old.number) }
+    {
+        self.state.hear_of_channel(packet)
     }
 
     /// What the node says in its turn: of each channel from another node how far it has come, what it still asks, what it

@@ -1,17 +1,32 @@
 //! What a node has beside its record.
-ghost use Rattle.std.specs.Prelude.{◌≡◌, OnErr, OnOk, option_copied};
+ghost use Rattle.std.specs.Prelude.{◌≡◌, ℕ, true, OnErr, OnOk, option_copied};
 ghost use Rattle.protocol.specs.Node.Common.{RecordView, restart_after, hearing, live_in, may_start, on_running};
-ghost use Rattle.protocol.specs.Node.Common.{crashed, is_down, is_running, next_number};
+ghost use Rattle.protocol.specs.Node.Common.{crashed, is_down, is_running, next_number, cut_at, IsPacket, Network};
+ghost use Rattle.protocol.specs.Node.Common.{becoming, hear_prospect};
+ghost use Rattle.node.specs.Heard.{is_of_channel};
 ghost use Rattle.node.specs.Said.{current_in, inboxes_in};
 
 use crate::mode::Mode;
 use crate::restart::{round_later, rounds_at};
-use datagram::Body;
+use datagram::{Body, Packet};
 use decide_core::Initiator;
 use kahn_net::MAX_COUNT;
 use protocol::{ArmedRestart, Inbox};
 use record::{Image, MAX_DECISIONS, Record};
 use std::alloc::AllocError;
+
+/// Whether a packet says something of one channel alone: an item, an acknowledgement, or what its receiver keeps for good. No
+/// record is put for such a packet, and nothing is said to it.
+pub fn is_of_channel(body: &Body) -> bool
+    ensures { result ≡ is_of_channel body.now }
+{
+    match body {
+        Body::Data { .. } => true,
+        Body::Ack { .. } => true,
+        Body::Kept { .. } => true,
+        _ => false,
+    }
+}
 
 /// The next number, round or version. It stops at the greatest.
 pub fn next_after(number: u64) -> u64
@@ -96,10 +111,44 @@ impl NodeState {
             ≡ on_running (hearing body.now) (node_view kept self.old)) }
         ensures err { (kept : RecordView) → OnErr result
             (node_view kept self.new ≡ node_view kept self.old) }
+        ensures mode { is_down (mode_view self.new.mode) ≡ is_down (mode_view self.old.mode) }
     {
         match &mut self.mode {
             Mode::Running(running) => running.hear(body),
             Mode::Down | Mode::InDoubt => Ok(()),
+        }
+    }
+
+    // The receiver of a channel keeps so many items for good: the log lets go of them, if it runs.
+    fn cut(&mut self, channel: u8, count: u64)
+        ensures cut { (kept : RecordView) → node_view kept self.new
+            ≡ on_running (cut_at channel count) (node_view kept self.old) }
+        ensures mode { is_down (mode_view self.new.mode) ≡ is_down (mode_view self.old.mode) }
+    {
+        if let Mode::Running(running) = &mut self.mode {
+            running.cut(channel, count);
+        }
+    }
+
+    // Hears a packet that says something of one channel alone, if it runs.
+    pub(crate) fn hear_of_channel(&mut self, packet: &Packet) -> Result<(), AllocError>
+        requires channel { is_of_channel packet.now.body ≡ true }
+        requires allowed { IsPacket packet.now }
+        ensures ok { (kept : RecordView) (net : Network) (home from : ℕ) → OnOk result
+            (hear_prospect net home from packet.now.body (node_view kept self.old)
+            ≡ becoming (node_view kept self.new)) }
+        ensures err { (kept : RecordView) → OnErr result
+            (node_view kept self.new ≡ node_view kept self.old) }
+        ensures mode { is_down (mode_view self.new.mode) ≡ is_down (mode_view self.old.mode) }
+    {
+        match &packet.body {
+            Body::Data { .. } => self.hear(&packet.body),
+            Body::Ack { .. } => self.hear(&packet.body),
+            Body::Kept { channel, count } => {
+                self.cut(*channel as u8, *count);
+                Ok(())
+            }
+            _ => Ok(()),
         }
     }
 

@@ -15,7 +15,8 @@ one_record kept other left is too = sym (spelled_is kept left is) ∙ spelled_is
 
 module _ {C : Type 0} (words : CellWords C) (slots : SlotWords C) where
   -- what a crash leaves spells the record of its store, and no other
-  pub own_alone : (store : Store C slots words) → Only (slots.whole (cell_in store)) (slots.may_leave_whole (cell_in store))
+  pub own_alone : (store : Store C slots words)
+      → Only (slots.whole (cell_in store)) (slots.may_leave_whole (cell_in store))
       → (left : Whole) → slots.may_leave_whole (cell_in store) left
       → (spelled : RecordView) → Spells spelled left → spelled ≡ record_in store
   own_alone store settled left might spelled is =
@@ -55,12 +56,26 @@ module _ {C : Type 0} (words : CellWords C) (slots : SlotWords C) where
   }
 
   -- what a crash leaves of a cell that nobody called
-  pub untouched : ((c : C) (left : Whole) → slots.left_since_whole c (words.moment c) left → slots.may_leave_whole c left)
+  pub untouched : ((c : C) (left : Whole) → slots.left_since_whole c (words.moment c) left
+      → slots.may_leave_whole c left)
       → (store : Store C slots words)
       → Only (slots.whole (cell_in store)) (slots.may_leave_whole (cell_in store)) → (next : RecordView)
       → LeaveEitherSince words.moment slots.left_since_whole (cell_in store) (cell_in store) (record_in store) next
   untouched only_now store settled next left since =
       own_left store next settled left (only_now (cell_in store) left since)
+
+  -- also where its store is told to be the same
+  pub left_alone : ((c : C) (left : Whole) → slots.left_since_whole c (words.moment c) left
+      → slots.may_leave_whole c left)
+      → (old new : Store C slots words) → new ≡ old
+      → Only (slots.whole (cell_in old)) (slots.may_leave_whole (cell_in old)) → (next : RecordView)
+      → LeaveEitherSince words.moment slots.left_since_whole (cell_in old) (cell_in new) (record_in old) next
+  left_alone only_now old new same settled next =
+      subst
+      (λ (s : Store C slots words). LeaveEitherSince words.moment slots.left_since_whole (cell_in old) (cell_in s)
+      (record_in old)
+      next)
+      (sym same) (untouched only_now old settled next)
 
   module _ (old new : Store C slots words)
       (settled : Only (slots.whole (cell_in old)) (slots.may_leave_whole (cell_in old))) where
@@ -82,5 +97,6 @@ module _ {C : Type 0} (words : CellWords C) (slots : SlotWords C) where
 
     -- and where nothing was put
     pub through_crash : LeavesAsBefore old new
-        → LeaveEitherSince words.moment slots.left_since_whole (cell_in old) (cell_in new) (record_in old) (record_in old)
+        → LeaveEitherSince words.moment slots.left_since_whole (cell_in old) (cell_in new) (record_in old)
+        (record_in old)
     through_crash run left since = own_left old (record_in old) settled left (run.each left since)

@@ -96,7 +96,8 @@ mode_stays (Runs running) = refl
 none_granted : (node : NodeView) → with_grant None node ≡ node
 none_granted node = ap (λ (mode : ModeView). with_mode mode node) (mode_stays node.mode)
 
-pub grants : (fits : RecordView → Bool) (round : ℕ) (job : Option JobView) (given : Option (Arc Job Global)) (old : StationView)
+pub grants : (fits : RecordView → Bool) (round : ℕ) (job : Option JobView) (given : Option (Arc Job Global))
+    (old : StationView)
     (number failures : ℕ) (node : NodeView) (turns : RoundTurns) (answer : ReplyView)
     → option_map shared_view given ≡ job → answer ≡ grant_reply (option_map shared_view given)
     → node ≡ with_grant job old.node → number ≡ old.number → failures ≡ old.failures
@@ -161,7 +162,8 @@ turns_kept turns outcome.Failed = refl
 -- ---- what is in flight behind a deed
 
 -- of which no packet came
-pub own_traffic : (round : ℕ) (prospect : Prospect) (came : Outcome) (made declined answer : ReplyView) (before after : Traffic)
+pub own_traffic : (round : ℕ) (prospect : Prospect) (came : Outcome) (made declined answer : ReplyView)
+    (before after : Traffic)
     → answer ≡ answer_by made declined came → has_happened made ≡ true → has_happened declined ≡ true
     → packets_by prospect outcome.NotDue ≡ []
     → after ≡ all_sent round (map sending_of (packets_by prospect came)) before
@@ -172,7 +174,8 @@ own_traffic round prospect came made declined answer before after is happened re
   where
     by : (o : Outcome)
         → all_sent round (map sending_of (packets_by prospect o)) before
-        ≡ cond (has_happened (answer_by made declined o)) (all_sent round (map sending_of (packets_by prospect o)) before)
+        ≡ cond (has_happened (answer_by made declined o))
+        (all_sent round (map sending_of (packets_by prospect o)) before)
         before
     by outcome.NotDue = ap (λ (ps : List Packet). all_sent round (map sending_of ps) before) none
     by outcome.Made =
@@ -185,7 +188,8 @@ own_traffic round prospect came made declined answer before after is happened re
     by outcome.Failed = refl
 
 -- and one that is heard
-heard_traffic : (round : ℕ) (prospect : Prospect) (came : Outcome) (answer : ReplyView) (to place : ℕ) (before after : Traffic)
+heard_traffic : (round : ℕ) (prospect : Prospect) (came : Outcome) (answer : ReplyView) (to place : ℕ)
+    (before after : Traffic)
     → answer ≡ answer_by reply.Delivered reply.Delivered came → packets_by prospect outcome.NotDue ≡ []
     → after ≡ all_sent round (map sending_of (packets_by prospect came)) (taken_by came before to place)
     → after ≡ cond (has_happened answer)
@@ -203,6 +207,30 @@ heard_traffic round prospect came answer to place before after is none sent =
     by (outcome.Refused TooLarge) = refl
     by (outcome.Refused Spent) = refl
     by outcome.Failed = refl
+
+-- A packet is heard by which nothing is put and nothing is said, so that it comes to the node afterwards alone.
+pub heard_silently : (fits : RecordView → Bool) (round : ℕ) (prospect : Prospect) (old new : StationView)
+    (answer : ReplyView)
+    (to place : ℕ) (before after : Traffic) → prospect ≡ becoming new.node → answer ≡ reply.Delivered
+    → All IsPacket (packets_by prospect outcome.Made) → new.failures ≡ old.failures
+    → new ≡ moved_to new.node new.failures old.turns old → after ≡ traffic_without before to place
+    → ComesHeard fits round prospect old answer new to place before after
+heard_silently fits round prospect old new answer to place before after becomes answers allowed failures same left =
+    record {
+      call = 0;
+      came = outcome.Made;
+      step = subst (λ (p : Prospect). IsMade (restart_after old.node.armed 0 round) p old.node outcome.Made new.node)
+          (sym becomes) refl;
+      put = subst (λ (p : Prospect). IsPut (room_for fits p) old.failures new.failures outcome.Made) (sym becomes)
+          (refl, failures);
+      answers = answers;
+      allowed = allowed;
+      same = same;
+      traffic = left
+          ∙ ap (λ (p : Prospect). all_sent round (map sending_of (packets_by p outcome.Made))
+          (traffic_without before to place))
+          (sym becomes);
+    }
 
 -- an event that isn't due sends nothing
 pub undue_silent : (prospect : Prospect) → packets_by prospect outcome.NotDue ≡ []

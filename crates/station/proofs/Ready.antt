@@ -2,11 +2,10 @@
 use Rattle.std.proofs.Common.{◌≡◌, ℕ, ◌<◌, List, [], Option, Some, None, map, refl, sym, ap, subst, ◌∙◌, All, length}
 use Rattle.std.specs.List.{AllZip}
 use Rattle.protocol.specs.Node.Common.{IsPacket, Packet, Prospect, Undue, Exhausted, Planned, packets_by, IsWritable}
-use Rattle.wire.specs.Queue.{QueueState}
-use Rattle.wire.specs.Staging.{HasNoLessRoom, IsStaged}
+use Rattle.wire.specs.Staging.{BatchState, HasNoLessRoom, IsReady}
 use Rattle.protocol.specs.World.Common.{Traffic, all_sent, flights_to, traffic_of, Flight, Sending, sending_of}
 use Rattle.wire.specs.Wire.{WireState, in_flight}
-use Rattle.wire.proofs.Ready.{still_room}
+use Rattle.wire.proofs.Ready.{still_roomy}
 use Rattle.wire.proofs.Seen.{seen_at}
 use Rattle.wire.specs.Traffic.{QueueTraffic}
 use Rattle.protocol.specs.declared.outcome.Outcome.{Outcome}
@@ -19,15 +18,15 @@ pub all_writable : (packets : List Packet) → All IsPacket packets → All IsWr
 all_writable packets all k d within fits = all k d within
 
 -- what is ready stays so, where the same is in flight and there is no less room
-pub still_ready : (old new : WireState) (round : ℕ) (sendings : List Sending) (batch : Option (List QueueState))
+pub still_ready : (old new : WireState) (round : ℕ) (sendings : List Sending) (batch : Option BatchState)
     → traffic_of new ≡ traffic_of old → AllZip HasNoLessRoom old.queues new.queues
     → IsReadyFor old round sendings batch → IsReadyFor new round sendings batch
 still_ready old new round sendings None same more ready =
-    record { nodes = ready.nodes; staged = ready.staged; room = tt }
+    record { nodes = ready.nodes; ready = ready.ready; room = tt }
 still_ready old new round sendings (Some batch) same more ready = record {
   nodes = ready.nodes;
-  staged = subst (λ (t : Traffic). IsStaged t round sendings batch) (sym same) ready.staged;
-  room = still_room old.queues new.queues batch more ready.room;
+  ready = subst (λ (t : Traffic). IsReady t round sendings batch) (sym same) ready.ready;
+  room = still_roomy old.queues new.queues batch more ready.room;
 }
 
 -- the packets in flight to a node, by the traffic

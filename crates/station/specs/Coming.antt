@@ -1,10 +1,9 @@
 -- How an event at a station came out, with what is in flight before it and behind it.
 use Rattle.std.specs.Prelude.{◌≡◌, ℕ, Bool, if◌then◌else◌, List, [], map, Option, Some, None, All}
-use Rattle.std.specs.List.{AllZip}
 use Rattle.protocol.specs.Node.Common.{IsPacket, RecordView, restart_after, Prospect, IsMade, IsPut, packets_by}
 use Rattle.protocol.specs.Node.Common.{room_for}
 use Rattle.wire.specs.Queue.{QueueState}
-use Rattle.wire.specs.Staging.{HasRoom, IsStaged}
+use Rattle.wire.specs.Staging.{BatchState, HasRoomFor, IsReady}
 use Rattle.protocol.specs.World.Common.{Traffic, all_sent, traffic_of, traffic_without, Sending, EventView, answer_by}
 use Rattle.protocol.specs.World.Common.{has_happened, ReplyView, StationView, IsPlanned, IsStationStep, Setting}
 use Rattle.protocol.specs.World.Common.{StationPlan, traffic_after, moved_to, sending_of, traffic_left}
@@ -19,20 +18,20 @@ use Rattle.protocol.specs.declared.outcome.Refusal.TheVariants.{TooLarge, Spent}
 -- ---- what is ready to be sent
 
 -- these were made ready to be sent; no batch is made of none
-abbrev pub IsStagedIn : Traffic → ℕ → List Sending → Option (List QueueState) → Type 0
-IsStagedIn traffic round sendings None = sendings ≡ []
-IsStagedIn traffic round sendings (Some batch) = IsStaged traffic round sendings batch
+abbrev pub IsReadyIn : Traffic → ℕ → List Sending → Option BatchState → Type 0
+IsReadyIn traffic round sendings None = sendings ≡ []
+IsReadyIn traffic round sendings (Some batch) = IsReady traffic round sendings batch
 
 -- there is memory for a batch, if there is one
-abbrev pub HasRoomIn : List QueueState → Option (List QueueState) → Type 0
+abbrev pub HasRoomIn : List QueueState → Option BatchState → Type 0
 HasRoomIn queues None = Unit {0}
-HasRoomIn queues (Some batch) = AllZip HasRoom queues batch
+HasRoomIn queues (Some batch) = HasRoomFor queues batch
 
 -- these are ready to be sent in a round, and there is room for them
 pub record IsReadyFor (wire : WireState) (round : ℕ) (sendings : List Sending)
-    (batch : Option (List QueueState)) : Type 0 where
+    (batch : Option BatchState) : Type 0 where
   pub nodes : All AreNodes sendings
-  pub staged : IsStagedIn (traffic_of wire) round sendings batch
+  pub ready : IsReadyIn (traffic_of wire) round sendings batch
   pub room : HasRoomIn wire.queues batch
 
 -- what is sent where an event came out so: this where it is made, and that where its record is too large

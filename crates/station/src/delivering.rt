@@ -25,6 +25,7 @@ use crate::lent::Lent;
 use crate::network::{due_packet, take_by};
 use crate::station::Station;
 use datagram::Packet;
+use node::is_of_channel;
 use outlet::Outlet;
 use slot_cell::SlotCell;
 use std::alloc::AllocError;
@@ -32,7 +33,7 @@ use wire::Wire;
 
 impl<C: SlotCell, O: Outlet> Station<C, O> {
     // Its node, which is up, hears a packet for it, of this place of those in flight. The packet is then gone, and what is said to
-    // it is sent.
+    // it is sent. One that says something of one channel alone is heard without a plan, since nothing is put for it or said to it.
     fn hear(
         &mut self,
         lent: &Lent,
@@ -76,6 +77,11 @@ impl<C: SlotCell, O: Outlet> Station<C, O> {
         ensures unchanged { AnswerLeaves (answer_view result)
             → IsCellUnchanged self.old self.new }
     {
+        if is_of_channel(&packet.body) {
+            self.node.hear_of_channel(packet)?;
+            wire.lose(to, place);
+            return Ok(Reply::Delivered);
+        }
         let prospect = self.node.plan_packet(lent.alloc, lent.net, packet)?;
         let ready = self.ready_for(lent, wire, &prospect)?;
         let outcome = self.node.carry_out(lent.alloc, prospect, lent.round)?;

@@ -16,7 +16,7 @@ pub enum Event {
 
 impl Event {
     ghost use Rattle.protocol.specs.World.Common.{ByNetwork, ByNode, Release, event_node};
-    ghost use Rattle.station.specs.EventView.{event_view};
+    ghost use Rattle.station.specs.EventView.{event_view, is_idle};
 
     /// A node does this, or this is done to it.
     pub fn by_node(node: u8, deed: Deed) -> Event
@@ -37,6 +37,21 @@ impl Event {
         ensures { event_view result ≡ ByNetwork node place act }
     {
         Event::Plain(PlainEvent::ByNetwork { node, place, act })
+    }
+
+    /// Whether it is a node's letting its turn pass.
+    pub fn is_idle(&self) -> bool
+        ensures { result ≡ is_idle (event_view self.now) }
+    {
+        match self {
+            Event::Plain(
+                PlainEvent::ByNode {
+                    deed: Deed::Idle,
+                    ..
+                },
+            ) => true,
+            _ => false,
+        }
     }
 
     /// Its node.

@@ -7,7 +7,7 @@ ghost use Rattle.protocol.specs.Node.Sending.{FitsItem};
 ghost use Rattle.protocol.specs.World.Common.{act_reply, has_happened, can_act, due_bytes, sending_of, traffic_acted};
 ghost use Rattle.protocol.specs.World.Common.{is_due, all_sent, flights_to, traffic_of, traffic_without, NODES};
 ghost use Rattle.protocol.specs.World.Replies.{ActTakesMemory};
-ghost use Rattle.station.specs.Coming.{HasRoomIn, IsReadyFor, IsStagedIn, sent_then, taken_by};
+ghost use Rattle.station.specs.Coming.{HasRoomIn, IsReadyFor, IsReadyIn, sent_then, taken_by};
 ghost use Rattle.station.specs.ReplyView.{reply_view};
 ghost use Rattle.wire.specs.Staging.{HasNoLessRoom};
 ghost use Rattle.wire.specs.Traffic.{AreNodes, traffic_armed, traffic_delayed, traffic_repeated};
@@ -253,7 +253,7 @@ pub(crate) fn prepare(
 fn send(wire: &mut Wire, batch: Option<Batch>)
     requires { HasRoomIn wire.old.queues batch }
     ensures { (round : ℕ) (packets : List SendingValue) → All AreNodes packets
-        → IsStagedIn (traffic_of wire.old) round packets batch
+        → IsReadyIn (traffic_of wire.old) round packets batch
         → traffic_of wire.new ≡ all_sent round packets (traffic_of wire.old) }
 {
     if let Some(batch) = batch {
@@ -267,7 +267,7 @@ fn lose_and_send(wire: &mut Wire, to: u8, place: usize, batch: Option<Batch>)
     requires there { place < length (in_flight wire.old to) }
     requires room { HasRoomIn wire.old.queues batch }
     ensures { (round : ℕ) (packets : List SendingValue) → All AreNodes packets
-        → IsStagedIn (traffic_of wire.old) round packets batch
+        → IsReadyIn (traffic_of wire.old) round packets batch
         → traffic_of wire.new
         ≡ all_sent round packets (traffic_without (traffic_of wire.old) to place) }
 {
@@ -282,8 +282,8 @@ pub(crate) fn send_by(wire: &mut Wire, ready: Ready, outcome: Outcome)
     requires made { HasRoomIn wire.old.queues ready.made }
     requires declined { HasRoomIn wire.old.queues ready.declined }
     ensures { (round : ℕ) (made declined : List SendingValue) → All AreNodes made
-        → All AreNodes declined → IsStagedIn (traffic_of wire.old) round made ready.made
-        → IsStagedIn (traffic_of wire.old) round declined ready.declined
+        → All AreNodes declined → IsReadyIn (traffic_of wire.old) round made ready.made
+        → IsReadyIn (traffic_of wire.old) round declined ready.declined
         → traffic_of wire.new ≡ all_sent round (sent_then outcome made declined) (traffic_of wire.old) }
 {
     match outcome {
@@ -300,8 +300,8 @@ pub(crate) fn take_by(wire: &mut Wire, to: u8, place: usize, ready: Ready, outco
     requires made { HasRoomIn wire.old.queues ready.made }
     requires declined { HasRoomIn wire.old.queues ready.declined }
     ensures { (round : ℕ) (made declined : List SendingValue) → All AreNodes made
-        → All AreNodes declined → IsStagedIn (traffic_of wire.old) round made ready.made
-        → IsStagedIn (traffic_of wire.old) round declined ready.declined
+        → All AreNodes declined → IsReadyIn (traffic_of wire.old) round made ready.made
+        → IsReadyIn (traffic_of wire.old) round declined ready.declined
         → traffic_of wire.new ≡ all_sent round (sent_then outcome made declined)
         (taken_by outcome (traffic_of wire.old) to place) }
 {

@@ -1,9 +1,10 @@
 -- What was made ready to be sent, and the room for it.
 use Rattle.std.proofs.Common.{◌≡◌, ℕ, zero, suc, ◌<◌, ◌≤◌, List, [], ◌∷◌, length, map, refl, sym, ap, ◌∙◌, arith}
-use Rattle.std.proofs.Common.{unwrap_or, slice_get, All, get_or}
+use Rattle.std.proofs.Common.{unwrap_or, slice_get, All, get_or, ⊎_elim, inl, inr}
 use Rattle.std.specs.Prelude.{remove, slice_set}
 use Rattle.std.specs.List.{AllZip}
 use Rattle.std.proofs.lemmas.List.{get_or_default, length-map, map-set}
+use Rattle.std.proofs.lemmas.List.Elements.{All-weaker}
 use Rattle.std.proofs.lemmas.Option.{unwrap_or-slice_get}
 use Rattle.wire.specs.declared.queue.TheConstants.{NODES}
 use Rattle.wire.specs.declared.sending.Sending.{Sending}
@@ -11,7 +12,9 @@ use Rattle.wire.specs.Queue.{QueueState, without}
 use Rattle.wire.specs.Wire.{WireState, queue_at}
 use Rattle.wire.specs.Traffic.{QueueTraffic, Traffic, AreNodes, all_sent}
 use Rattle.wire.specs.Traffic.{traffic_at, traffic_without}
-use Rattle.wire.specs.Staging.{behind, unsent, HasRoom, HasNoLessRoom, IsStaged, ruled}
+use Rattle.wire.specs.RoomFor.{FindsRoom, room_in}
+use Rattle.wire.specs.Staging.{behind, unsent, BatchState, HasPlaces, HasRoom, HasRoomFor, HasNoLessRoom, IsReady}
+use Rattle.wire.specs.Staging.{IsStaged, ruled}
 use Rattle.wire.proofs.Staged.{all_sent_behind, nothing_behind}
 
 -- each queue with itself
@@ -38,6 +41,31 @@ more_then (o ∷ olds) [] news one two = absurd one
 more_then (o ∷ olds) (m ∷ mids) [] one two = absurd two
 more_then (o ∷ olds) (m ∷ mids) (n ∷ news) one two =
     let a = one.0 in let b = two.0 in (omega (arith, a, b), more_then olds mids news one.1 two.1)
+
+-- the room of each
+more_in : (olds news : List QueueState) → AllZip HasNoLessRoom olds news → (node : ℕ)
+    → room_in olds node ≤ room_in news node
+more_in [] [] more node = omega arith
+more_in [] (n ∷ news) more node = absurd more
+more_in (o ∷ olds) [] more node = absurd more
+more_in (o ∷ olds) (n ∷ news) more zero = more.0
+more_in (o ∷ olds) (n ∷ news) more (suc node) = more_in olds news more.1 node
+
+still_places : (olds news staged : List QueueState) → AllZip HasNoLessRoom olds news → HasPlaces olds staged
+    → HasPlaces news staged
+still_places olds news [] more room = room
+still_places olds news (s ∷ staged) more room = still_room olds news (s ∷ staged) more room
+
+-- and so there is room for a batch still
+pub still_roomy : (olds news : List QueueState) (batch : BatchState) → AllZip HasNoLessRoom olds news
+    → HasRoomFor olds batch → HasRoomFor news batch
+still_roomy olds news batch more room = record {
+  nodes = room.nodes;
+  straight = All-weaker (FindsRoom olds (length batch.straight)) (FindsRoom news (length batch.straight))
+      (λ sending has. (let there = more_in olds news more sending.to in omega (arith, there, has))) batch.straight
+      room.straight;
+  behind = still_places olds news batch.queues more room.behind;
+}
 
 -- one queue has more
 pub set_room : (queues : List QueueState) (node : ℕ) (d later : QueueState) → node < length queues
@@ -87,12 +115,19 @@ still_staged traffic to place round sendings staged ready =
     (sym (unsent_set traffic.queues to
     (record { flights = remove (traffic_at traffic to).flights place; counts = (traffic_at traffic to).counts }) refl))
 
+-- and so is a batch ready
+pub still_ready : (traffic : Traffic) (to place round : ℕ) (sendings : List Sending) (batch : BatchState)
+    → IsReady traffic round sendings batch → IsReady (traffic_without traffic to place) round sendings batch
+still_ready traffic to place round sendings batch ready =
+    ⊎_elim (λ straight. inl straight)
+    (λ queued. inr (queued.0, queued.1, still_staged traffic to place round sendings batch.queues queued.2)) ready
+
 -- and there is no less room
-pub gone_room : (wire : WireState) (to place : ℕ) (batch : List QueueState) → to < length wire.queues
-    → AllZip HasRoom wire.queues batch
-    → AllZip HasRoom (slice_set wire.queues to (without (queue_at wire to) place)) batch
+pub gone_room : (wire : WireState) (to place : ℕ) (batch : BatchState) → to < length wire.queues
+    → HasRoomFor wire.queues batch
+    → HasRoomFor (slice_set wire.queues to (without (queue_at wire to) place)) batch
 gone_room wire to place batch within room =
-    still_room wire.queues (slice_set wire.queues to (without (queue_at wire to) place)) batch
+    still_roomy wire.queues (slice_set wire.queues to (without (queue_at wire to) place)) batch
     (set_room wire.queues to (queue_at wire to) (without (queue_at wire to) place) within
     (let same = ap (λ (q : QueueState). q.room)
     (sym (unwrap_or-slice_get wire.queues to nobody

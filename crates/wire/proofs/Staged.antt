@@ -3,7 +3,7 @@ use Rattle.std.proofs.Common.{◌≡◌, ℕ, zero, suc, ◌+◌, ◌<◌, ◌�
 use Rattle.std.proofs.Common.{unwrap_or, slice_get, refl, sym, ap, subst, ◌∙◌, append_assoc, arith, All}
 use Rattle.std.specs.Prelude.{slice_set}
 use Rattle.std.specs.List.{AllZip}
-use Rattle.std.proofs.lemmas.List.{append-nil, get_or_default, get_or-map, length-set, length-map, map-append, map-set}
+use Rattle.std.proofs.lemmas.List.{append-nil, get_or_default, get_or-map, length-set, map-append, map-set}
 use Rattle.std.proofs.lemmas.List.{set-get_or, take-append-drop, take_more, take_more_set}
 use Rattle.std.proofs.lemmas.List.Elements.{All-head, All-tail, AllZip-push}
 use Rattle.std.proofs.lemmas.Option.{unwrap_or-slice_get}
@@ -101,24 +101,6 @@ nothing_behind (q ∷ queues) =
     ap (λ (flights : List Flight). let made : QueueTraffic = record { flights = flights; counts = q.counts } in
     made ∷ all_joined queues (map unsent queues)) (append-nil q.flights)
     ∙ ap (λ (qs : List QueueTraffic). q ∷ qs) (nothing_behind queues)
-
--- what was staged is what is sent, behind what there was
-pub staged_sent : (queues fresh made : List QueueState) (rules : List Rule) (round : ℕ) (sendings : List Sending)
-    → length queues ≡ NODES → All AreNodes sendings
-    → queues_traffic fresh ≡ map unsent (queues_traffic queues)
-    → ruled rules made ≡ all_sent round sendings (ruled rules fresh)
-    → behind (queues_traffic queues) (ruled rules made) ≡ all_sent round sendings (ruled rules queues)
-staged_sent queues fresh made rules round sendings nodes all begins sent =
-    let old : List QueueTraffic = queues_traffic queues in
-    let more : Traffic = record { queues = map unsent old; rules = rules } in
-    let count : length old ≡ length queues = length-map queues queue_traffic in
-    let enough : NODES ≤ length old = omega (arith, count, nodes) in
-    let start : ruled rules fresh ≡ more =
-    ap (λ (qs : List QueueTraffic). let t : Traffic = record { queues = qs; rules = rules } in t) begins in
-    ap (behind old) (sent ∙ ap (all_sent round sendings) start)
-    ∙ (all_sent_behind old round sendings more (length-map old unsent) enough all
-    ∙ ap (λ (qs : List QueueTraffic). let t : Traffic = record { queues = qs; rules = rules } in
-    all_sent round sendings t) (nothing_behind old))
 
 -- one queue has more memory, and is else the same
 pub reserved_next : (queues : List QueueState) (place : ℕ) (d later : QueueState) (room : ℕ)

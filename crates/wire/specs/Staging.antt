@@ -1,9 +1,12 @@
 -- Packets that are to go last, before they do.
-use Rattle.std.specs.Prelude.{◌≡◌, ◌≤◌, ℕ, List, [], ◌∷◌, ◌++◌, length, map}
+use Rattle.std.specs.Prelude.{◌≡◌, ◌⊎◌, ◌≤◌, ℕ, List, [], ◌∷◌, ◌++◌, length, map, All}
+use Rattle.std.specs.List.{AllZip}
+use Rattle.wire.specs.declared.queue.TheConstants.{NODES}
 use Rattle.wire.specs.declared.rule.Rule.{Rule}
 use Rattle.wire.specs.declared.sending.Sending.{Sending}
 use Rattle.wire.specs.Queue.{QueueState}
-use Rattle.wire.specs.Traffic.{QueueTraffic, Traffic, all_sent, queues_traffic}
+use Rattle.wire.specs.RoomFor.{FindsRoom}
+use Rattle.wire.specs.Traffic.{AreNodes, QueueTraffic, Traffic, all_sent, queues_traffic}
 
 -- these go last in a queue, which counts as they do
 abbrev pub joined : QueueTraffic → QueueTraffic → QueueTraffic
@@ -40,3 +43,34 @@ IsStaged traffic round sendings staged =
 -- a queue has no less memory than before
 abbrev pub HasNoLessRoom : QueueState → QueueState → Type 0
 HasNoLessRoom old new = old.room ≤ new.room
+
+-- ---- a batch
+
+-- Packets that are ready to be sent in a round: as they are, where no rule is armed, or a queue for each node with what
+-- is to go last there.
+pub record BatchState : Type 0 where
+  pub straight : List Sending
+  pub round : ℕ
+  pub queues : List QueueState
+
+-- These are ready to be sent in a round: as they are, where no rule is armed, or staged in queues.
+abbrev pub IsReady : Traffic → ℕ → List Sending → BatchState → Type 0
+IsReady traffic round sendings batch =
+    ((traffic.rules ≡ []) × (batch.straight ≡ sendings) × (batch.round ≡ round) × (batch.queues ≡ []))
+    ⊎ ((batch.straight ≡ []) × (length batch.queues ≡ NODES) × IsStaged traffic round sendings batch.queues)
+
+-- there is memory for what is to go last in each queue, if anything is
+abbrev pub HasPlaces : List QueueState → List QueueState → Type 0
+HasPlaces queues [] = Unit {0}
+HasPlaces queues (first ∷ more) = AllZip HasRoom queues (first ∷ more)
+
+-- a batch can be sent without memory: its packets are from nodes to nodes, and there is room for each
+pub record HasRoomFor (queues : List QueueState) (batch : BatchState) : Type 0 where
+  pub nodes : All AreNodes batch.straight
+  pub straight : All (FindsRoom queues (length batch.straight)) batch.straight
+  pub behind : HasPlaces queues batch.queues
+
+-- a batch is of packets from nodes to nodes, or of a queue for each node
+abbrev pub IsBatch : BatchState → Type 0
+IsBatch batch =
+    (All AreNodes batch.straight × (batch.queues ≡ [])) ⊎ ((batch.straight ≡ []) × (length batch.queues ≡ NODES))

@@ -1,10 +1,10 @@
 // Packets that are made ready in queues of their own, and then put last all at once.
 //
 // All memory is taken before the first queue changes: a refusal leaves each as it was.
-ghost use Rattle.std.specs.Prelude.{◌≡◌, ◌≤◌, ◌<◌, All, length, map, IfOk, OnOk, OnErr};
+ghost use Rattle.std.specs.Prelude.{◌≡◌, ◌≤◌, ◌<◌, All, length, map, IfOk, OnOk};
 ghost use Rattle.std.specs.List.{AllZip};
 ghost use Rattle.wire.specs.Traffic.{AreNodes, queues_traffic, traffic_sent, all_sent};
-ghost use Rattle.wire.specs.Staging.{all_joined, behind, unsent, HasNoLessRoom, HasRoom, IsStaged, ruled};
+ghost use Rattle.wire.specs.Staging.{all_joined, unsent, HasNoLessRoom, HasRoom, IsStaged, ruled};
 
 use crate::queue::{NODES, Queue};
 use crate::rule::Rule;
@@ -62,19 +62,25 @@ fn stage_all(
     Ok(())
 }
 
-/// Packets that are ready to be sent: for each node what is to go last there.
+/// Packets that are ready to be sent in a round. Where no rule is armed they are kept as they are, and else there is a queue for
+/// each node with what is to go last there.
 #[derive(Drop)]
 pub struct Batch {
+    pub(crate) straight: Vec<Sending>,
+    pub(crate) round: u64,
     pub(crate) queues: Vec<Queue>,
 }
 
 impl Model for Batch {
-    ghost use Rattle.std.specs.Prelude.{List};
-    ghost use Rattle.wire.specs.Queue.{QueueState};
+    ghost use Rattle.wire.specs.Staging.{BatchState};
 
-    ghost Value = { List QueueState };
+    ghost Value = { BatchState };
 
-    ghost view = { λ staged. staged.queues.items };
+    ghost view = { λ batch. record {
+      straight = batch.straight.items;
+      round = batch.round;
+      queues = batch.queues.items;
+    } };
 }
 
 // What is to go last in each of these queues, where these packets are sent.
@@ -88,9 +94,6 @@ pub(crate) fn staged(
     requires nodes { All AreNodes packets.items }
     requires there { length queues.now ≡ NODES }
     ensures count { IfOk result (λ staged. length staged.items ≡ NODES) }
-    ensures sent { IfOk result (λ staged. behind (queues_traffic queues.now)
-        (ruled rules.now staged.items)
-        ≡ all_sent round packets.items (ruled rules.now queues.now)) }
     ensures ready { IfOk result (λ staged. IsStaged (ruled rules.now queues.now) round packets.items
         staged.items) }
 {
@@ -125,17 +128,4 @@ pub(crate) fn join_all(queues: &mut [Queue], staged: Vec<Queue>)
         queues[place].join(more);
         place += 1;
     }
-}
-
-// Puts what is to go last in each queue there, or refuses for want of memory.
-pub(crate) fn post_all(queues: &mut [Queue], staged: Vec<Queue>) -> Result<(), AllocError>
-    requires { length queues.old ≡ length staged.items }
-    ensures len { length queues.new ≡ length queues.old }
-    ensures ok { OnOk result (queues_traffic queues.new
-        ≡ all_joined (queues_traffic queues.old) (queues_traffic staged.items)) }
-    ensures err { OnErr result (queues_traffic queues.new ≡ queues_traffic queues.old) }
-{
-    reserve_all(queues, &staged)?;
-    join_all(queues, staged);
-    Ok(())
 }

@@ -1,17 +1,18 @@
 // All that is in flight.
 ghost use Rattle.std.specs.Prelude.{◌≡◌, ◌<◌, ◌++◌, [], ◌∷◌, ℕ, List, All, replicate, length, slice_get, option_map, IfOk, OnOk, OnErr};
 ghost use Rattle.std.specs.List.{AllZip, position_from};
-ghost use Rattle.wire.specs.Staging.{behind, ruled, HasNoLessRoom, HasRoom, IsStaged};
+ghost use Rattle.wire.specs.RoomFor.{FindsRoom};
+ghost use Rattle.wire.specs.Staging.{behind, ruled, HasNoLessRoom, HasRoom, HasRoomFor, IsBatch, IsReady};
 ghost use Rattle.wire.specs.declared.sending.Sending.{Sending as SendingValue};
 ghost use Rattle.wire.specs.Queue.{is_due, without, with_delay, with_copy};
 ghost use Rattle.wire.specs.Wire.{queue_at, in_flight, room_for, with_queue, with_room, is_due_at};
 ghost use Rattle.wire.specs.Traffic.{AreNodes, empty_queue, queues_traffic, traffic_of, opening_traffic, traffic_without, traffic_delayed, traffic_repeated, traffic_armed, all_sent};
 
-use crate::direct::send_directly;
+use crate::direct::{make_room_for, put_all};
 use crate::queue::{NODES, Queue};
 use crate::rule::Rule;
 use crate::sending::Sending;
-use crate::staging::{Batch, join_all, post_all, reserve_all, staged};
+use crate::staging::{Batch, join_all, reserve_all, staged};
 use std::alloc::{AllocError, Global};
 use std::marker::Model;
 
@@ -160,15 +161,14 @@ impl Wire {
             ≡ all_sent round packets.items (traffic_of self.old)) }
         ensures err { OnErr result (traffic_of self.new ≡ traffic_of self.old) }
     {
-        if self.rules.is_empty() {
-            return send_directly(&mut self.queues, packets, round);
-        }
-        let more = staged(alloc, &self.queues, &self.rules, packets, round)?;
-        post_all(&mut self.queues, more)
+        let batch = self.stage(alloc, packets, round)?;
+        self.make_room(&batch)?;
+        self.send_batch(batch);
+        Ok(())
     }
 
     /// Makes these packets ready to be sent one after the other in a round, as the rules have it. Changes nothing, and refuses
-    /// for want of memory alone.
+    /// for want of memory alone. Where no rule is armed it takes none.
     pub fn stage(
         &self,
         alloc: Global,
@@ -177,10 +177,19 @@ impl Wire {
     ) -> Result<Batch, AllocError>
         requires { All AreNodes packets.items }
         ensures ready { IfOk result
-            (λ batch. IsStaged (traffic_of self.now) round packets.items batch) }
-        ensures count { IfOk result (λ batch. length batch ≡ NODES) }
+            (λ batch. IsReady (traffic_of self.now) round packets.items batch) }
+        ensures batch { IfOk result (λ batch. IsBatch batch) }
     {
+        if self.rules.is_empty() {
+            return Ok(Batch {
+                straight: packets,
+                round,
+                queues: Vec::new(alloc),
+            });
+        }
         Ok(Batch {
+            straight: Vec::new(alloc),
+            round,
             queues: staged(alloc, &self.queues, &self.rules, packets, round)?,
         })
     }
@@ -188,41 +197,57 @@ impl Wire {
     /// Makes room for what is ready to be sent, so that sending it needs no memory. The same is in flight as before, and room
     /// that there was is there.
     pub fn make_room(&mut self, batch: &Batch) -> Result<(), AllocError>
-        requires { length batch.now ≡ NODES }
+        requires { IsBatch batch.now }
         ensures traffic { traffic_of self.new ≡ traffic_of self.old }
-        ensures room { OnOk result (AllZip HasRoom self.new.queues batch.now) }
+        ensures room { OnOk result (HasRoomFor self.new.queues batch.now) }
         ensures more { AllZip HasNoLessRoom self.old.queues self.new.queues }
     {
+        if batch.queues.is_empty() {
+            return make_room_for(&mut self.queues, &batch.straight);
+        }
         reserve_all(&mut self.queues, &batch.queues)
     }
 
-    // Puts what is ready last in each queue.
-    fn join_batch(&mut self, batch: Batch)
-        requires { AllZip HasRoom self.old.queues batch }
+    // Puts these packets last one after the other, where there is room and no rule is armed.
+    fn put_straight(&mut self, packets: Vec<Sending>, round: u64)
+        requires nodes { All AreNodes packets.items }
+        requires room { All (FindsRoom self.old.queues (length packets.items)) packets.items }
+        ensures { self.old.rules ≡ [] → traffic_of self.new ≡ all_sent round packets.items (traffic_of self.old) }
+    {
+        put_all(&mut self.queues, packets, round);
+    }
+
+    // Puts what is to go last in each queue there, where there is room.
+    fn join_queues(&mut self, more: Vec<Queue>)
+        requires { AllZip HasRoom self.old.queues more.items }
         ensures joined { traffic_of self.new ≡ behind (queues_traffic self.old.queues)
-            (ruled self.old.rules batch) }
+            (ruled self.old.rules more.items) }
         ensures count { length self.old.queues ≡ NODES }
     {
-        join_all(&mut self.queues, batch.queues);
+        join_all(&mut self.queues, more);
     }
 
     /// Sends what is ready, where there is room.
     pub fn send_batch(&mut self, batch: Batch)
-        requires { AllZip HasRoom self.old.queues batch }
+        requires { HasRoomFor self.old.queues batch }
         ensures { (round : ℕ) (packets : List SendingValue) → All AreNodes packets
-            → IsStaged (traffic_of self.old) round packets batch
+            → IsReady (traffic_of self.old) round packets batch
             → traffic_of self.new ≡ all_sent round packets (traffic_of self.old) }
     {
-        self.join_batch(batch);
+        if batch.queues.is_empty() {
+            self.put_straight(batch.straight, batch.round);
+        } else {
+            self.join_queues(batch.queues);
+        }
     }
 
     /// The packet at a place is gone, and what is ready is sent, where there is room.
     pub fn lose_and_send(&mut self, to: u8, place: usize, batch: Batch)
         requires node { to < NODES }
         requires there { place < length (in_flight self.old to) }
-        requires room { AllZip HasRoom self.old.queues batch }
+        requires room { HasRoomFor self.old.queues batch }
         ensures { (round : ℕ) (packets : List SendingValue) → All AreNodes packets
-            → IsStaged (traffic_of self.old) round packets batch
+            → IsReady (traffic_of self.old) round packets batch
             → traffic_of self.new
             ≡ all_sent round packets (traffic_without (traffic_of self.old) to place) }
     {

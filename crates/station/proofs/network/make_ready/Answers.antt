@@ -1,6 +1,6 @@
 use Rattle.std.proofs.Common.{List, sym, subst}
 use Rattle.std.specs.Prelude.{All}
-use Rattle.wire.specs.Staging.{IsStaged}
+use Rattle.wire.specs.Staging.{IsReady}
 use Rattle.protocol.specs.World.Common.{Traffic, traffic_of, Sending}
 use Rattle.wire.specs.Traffic.{AreNodes}
 use Rattle.wire.proofs.Ready.{same_room}
@@ -23,8 +23,8 @@ returns-clause-ready c =
     record {
       nodes = subst (All AreNodes) spelled
           (are_nodes packets c.in_ok-sendings.sendings.items spelled c.in_ok-sendings.ensures.allowed);
-      staged = subst (λ (list : List Sending). IsStaged (traffic_of c.make_room.new.self) c.args.round list batch) spelled
-          (subst (λ (t : Traffic). IsStaged t c.args.round c.in_ok-sendings.sendings.items batch)
+      ready = subst (λ (list : List Sending). IsReady (traffic_of c.make_room.new.self) c.args.round list batch) spelled
+          (subst (λ (t : Traffic). IsReady t c.args.round c.in_ok-sendings.sendings.items batch)
           (sym c.make_room.ensures.traffic) c.in_ok-batch.ensures.ready);
       room = c.in_ok-make_room.ensures.room;
     }

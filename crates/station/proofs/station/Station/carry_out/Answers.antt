@@ -11,7 +11,9 @@ send_by-requires g c =
 pub returns-clause-traffic : goal.returns-clause-traffic
 returns-clause-traffic g c =
     let ready = c.in_ok-ready.ensures in
-    deed_sent c.args.lent.now.round (prospect_view (view_of c.args.self.now.node) c.args.prospect) c.in_ok-outcome.outcome
+    deed_sent c.args.lent.now.round (prospect_view (view_of c.args.self.now.node) c.args.prospect)
+    c.in_ok-outcome.outcome
     (traffic_of c.ready_for.new.wire) (traffic_of c.args.wire.now) (traffic_of c.send_by.new.wire)
     c.ready_for.ensures.same
-    (c.send_by.ensures c.args.lent.now.round _ _ ready.made.nodes ready.declined.nodes ready.made.staged ready.declined.staged)
+    (c.send_by.ensures c.args.lent.now.round _ _ ready.made.nodes ready.declined.nodes ready.made.ready
+    ready.declined.ready)

@@ -2,17 +2,18 @@ use Rattle.std.proofs.Common.{Ok, Result, ap, map, refl, subst, sym, ◌∙◌}
 use Rattle.std.specs.Prelude.{All}
 use Rattle.std.specs.declared.alloc.AllocError.{AllocError}
 use Rattle.protocol.specs.Node.Common.{network_of, cell_in, IsPacket, hear_prospect, Prospect, next_record}
-use Rattle.protocol.specs.Node.Common.{packets_by, Net, node_count}
+use Rattle.protocol.specs.Node.Common.{packets_by, Net, Store, node_count}
 use Rattle.node.specs.NodeOf.{view_of}
 use Rattle.node.specs.Planned.{prospect_view}
 use Rattle.node.specs.Putting.{IsPutEvent}
 use Rattle.node.specs.StoredView.{LeavesNext}
 use Rattle.protocol.specs.World.Common.{sending_of, all_sent, traffic_of}
 use Rattle.protocol.specs.declared.outcome.Outcome.{Outcome}
+use Rattle.protocol.specs.declared.outcome.Outcome.TheVariants as outcome
 use Rattle.station.specs.Coming.{taken_by}
 use Rattle.station.specs.StationView.{station_view}
-use Rattle.station.proofs.Cells.{through, untouched}
-use Rattle.station.proofs.Planned.{seen_moved}
+use Rattle.station.proofs.Cells.{left_alone, through, untouched}
+use Rattle.station.proofs.Planned.{heard_silently, seen_moved}
 use Rattle.station.proofs.Ready.{heard_sent, still_there}
 use Rattle.station.specs.Lending.{net_lent}
 use Rattle.protocol.specs.Node.Delivering.{IsHeard}
@@ -50,6 +51,37 @@ take_by-requires g c = record {
   made = c.in_ok-ready.ensures.made.room;
   declined = c.in_ok-ready.ensures.declined.room;
 }
+
+-- one that says something of one channel
+
+pub hear_of_channel-requires-clause-allowed : goal.hear_of_channel-requires-clause-allowed
+hear_of_channel-requires-clause-allowed g c = c.requires.right.allowed
+
+pub returns-in_err-hear_of_channel-clause-leaves : goal.returns-in_err-hear_of_channel-clause-leaves
+returns-in_err-hear_of_channel-clause-leaves g c =
+    let was = c.args.self.now in
+    left_alone g.C.StableCell g.C.SlotCell g.met.C.SlotCell.only_now_whole was.node.store
+    c.hear_of_channel.new.self.store
+    c.hear_of_channel.ensures.same.0 was.node.kept.settled _
+
+pub returns-then-is_of_channel-clause-leaves : goal.returns-then-is_of_channel-clause-leaves
+returns-then-is_of_channel-clause-leaves g c =
+    let was = c.args.self.now in
+    left_alone g.C.StableCell g.C.SlotCell g.met.C.SlotCell.only_now_whole was.node.store
+    c.hear_of_channel.new.self.store
+    c.hear_of_channel.ensures.same.0 was.node.kept.settled _
+
+pub returns-then-is_of_channel-clause-come : goal.returns-then-is_of_channel-clause-come
+returns-then-is_of_channel-clause-come g c =
+    let was = c.args.self.now in
+    let seen = station_view {cell = g.C.StableCell} {slots = g.C.SlotCell} g.O.Outlet.taken g.O.Outlet.failures was in
+    heard_silently _ c.args.lent.now.round _ seen _ _ c.args.to c.args.place (traffic_of c.args.wire.now)
+    (traffic_of c.lose.new.self)
+    (c.in_ok-hear_of_channel.ensures.heard (net_lent c.args.lent.now) was.node.number c.args.packet.now.from) refl
+    (c.requires.allowed outcome.Made)
+    (ap (λ (s : Store g.row.C.Denot g.C.SlotCell g.C.StableCell). g.C.StableCell.failure_count (cell_in s))
+    c.hear_of_channel.ensures.same.0) (seen_moved seen _ _ _ _ _ c.hear_of_channel.ensures.same.1 refl)
+    c.lose.ensures.traffic
 
 pub returns-in_err-prospect-clause-leaves : goal.returns-in_err-prospect-clause-leaves
 returns-in_err-prospect-clause-leaves g c =
@@ -97,9 +129,12 @@ returns-clause-come g c =
     c.deref.ensures in
     let ready = c.in_ok-ready.ensures in
     let planned = prospect_view (view_of was.node) c.in_ok-prospect.prospect in
-    let prospect = hear_prospect (net_lent c.args.lent.now) was.node.number packet.from packet.body (view_of was.node) in
-    let event : IsPutEvent prospect c.args.lent.now.round (view_of was.node) (view_of now) was.node.store now.store answer =
-    subst (λ (p : Prospect). IsPutEvent p c.args.lent.now.round (view_of was.node) (view_of now) was.node.store now.store answer)
+    let prospect =
+    hear_prospect (net_lent c.args.lent.now) was.node.number packet.from packet.body (view_of was.node) in
+    let event : IsPutEvent prospect c.args.lent.now.round (view_of was.node) (view_of now) was.node.store now.store
+    answer =
+    subst (λ (p : Prospect). IsPutEvent p c.args.lent.now.round (view_of was.node) (view_of now) was.node.store
+    now.store answer)
     told c.in_ok-outcome.ensures.event in
     record {
       call = cell.failed_call (cell_in now.store);
@@ -111,7 +146,8 @@ returns-clause-come g c =
       same = seen_moved seen _ _ _ _ _ c.carry_out.ensures.same_number refl;
       traffic = heard_sent c.args.lent.now.round planned came c.args.to c.args.place (traffic_of c.ready_for.new.wire)
           (traffic_of c.args.wire.now) (traffic_of c.take_by.new.wire) c.ready_for.ensures.same
-          (c.take_by.ensures c.args.lent.now.round _ _ ready.made.nodes ready.declined.nodes ready.made.staged ready.declined.staged)
+          (c.take_by.ensures c.args.lent.now.round _ _ ready.made.nodes ready.declined.nodes ready.made.ready
+          ready.declined.ready)
           ∙ ap (λ (p : Prospect). all_sent c.args.lent.now.round (map sending_of (packets_by p came))
           (taken_by came (traffic_of c.args.wire.now) c.args.to c.args.place)) told;
     }
