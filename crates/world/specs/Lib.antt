@@ -9,3 +9,4 @@ pub mod Reopening
 pub mod ReopenedWorld
 pub mod Closing
 pub mod Stillness
+pub mod Applied

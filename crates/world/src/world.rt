@@ -1,10 +1,11 @@
 //! A world, and its events.
-ghost use Rattle.std.specs.Prelude.{◌≡◌, length, map, IfOk, IfErr, OnErr};
+ghost use Rattle.std.specs.Prelude.{◌≡◌, None, Some, is_none, length, map, IfErr, IfOk, IfSome, IsNone, OnErr};
 ghost use Rattle.std.specs.List.{AllZip};
 ghost use Rattle.protocol.specs.Node.Common.{Fits, network_of, node_count};
 ghost use Rattle.protocol.specs.World.Common.{event_node, AreApproximated, AreSound, IsNumbered, WorldInvariant};
 ghost use Rattle.protocol.specs.World.Common.{TrafficIsSound, traffic_of, IsGrantedAt, round_after, IsStep};
-ghost use Rattle.station.specs.EventView.{event_view};
+ghost use Rattle.protocol.specs.World.Choice.{choice};
+ghost use Rattle.station.specs.EventView.{event_view, is_idle};
 ghost use Rattle.protocol.specs.World.Coordination.{AreCoordinated};
 ghost use Rattle.protocol.specs.World.Invariant.{AreJoined};
 ghost use Rattle.protocol.specs.World.Pairs.{AreSameElsewhere};
@@ -124,6 +125,7 @@ fn round_after<C: SlotCell, O: Outlet>(reply: &Reply, round: u64, stations: &[St
 }
 
 impl<C: SlotCell, O: Outlet> World<C, O> {
+    ghost use Rattle.world.specs.Applied.{IsApplied};
     ghost use Rattle.world.specs.WholeView.{HaveGrown, capacities_in, inputs_in, net_in, rooms_in, stations_in, world_of};
 
     /// The round, from 0.
@@ -139,6 +141,28 @@ impl<C: SlotCell, O: Outlet> World<C, O> {
         ensures { result ≡ are_done_with (world_of self.now).round (world_of self.now).stations }
     {
         are_done_with(&self.stations, self.round)
+    }
+
+    /// One event, as by `apply`; but it stays with the caller. Refuses for want of memory alone (1), and then nothing is changed.
+    pub fn make(&mut self, alloc: Global, event: &Event) -> Result<Reply, AllocError>
+        // All that `apply` promises: each of its clauses is a field of this.
+        ensures { IsApplied (event_view event.now) self.old self.new (answer_view result) }
+    {
+        let number = usize::from(event.node());
+        let lent = Lent {
+            alloc,
+            net: &self.net,
+            inputs: &self.inputs,
+            round: self.round,
+            room: self.room,
+        };
+        match act_at(&lent, &mut self.stations, &mut self.wire, number, event) {
+            Ok(reply) => {
+                self.round = round_after(&reply, self.round, &self.stations);
+                Ok(reply)
+            }
+            Err(_) => Err(AllocError),
+        }
     }
 
     /// One event. An event that can't happen now, or whose node isn't of this world, is answered by `NotDue`. Refuses
@@ -204,20 +228,31 @@ impl<C: SlotCell, O: Outlet> World<C, O> {
         ensures memory { OnErr result (TakesMemory (event_view event)) }
         ensures handed_back { IfErr result (λ refused. refused.event ≡ event) }
     {
-        let number = usize::from(event.node());
-        let lent = Lent {
-            alloc,
-            net: &self.net,
-            inputs: &self.inputs,
-            round: self.round,
-            room: self.room,
-        };
-        match act_at(&lent, &mut self.stations, &mut self.wire, number, &event) {
-            Ok(reply) => {
-                self.round = round_after(&reply, self.round, &self.stations);
-                Ok(reply)
-            }
+        match self.make(alloc, &event) {
+            Ok(reply) => Ok(reply),
             Err(_) => Err(Refused { event }),
+        }
+    }
+
+    /// Makes the event that is next for a node, which `pick` would answer, unless that is to let its turn pass: then it answers
+    /// `None`, and nothing is changed. Refuses for want of memory alone (1), and then nothing is changed either.
+    pub fn step(&mut self, alloc: Global, node: u8) -> Result<Option<Reply>, AllocError>
+        // None is made exactly where the node's turn would pass.
+        ensures passes { IfOk result (λ made. is_none made ≡ is_idle (choice (world_of self.old) node)) }
+        ensures passed { IfOk result (λ made. IsNone made → self.new ≡ self.old) }
+        // What is made keeps all that `apply` promises, of the event that is next: each clause of `apply` is a field of this.
+        ensures made { IfOk result (λ made. IfSome made (λ reply. IsApplied (choice (world_of self.old) node)
+            self.old self.new (Some (reply_view reply)))) }
+        // And so does one that is refused.
+        ensures refused { OnErr result (IsApplied (choice (world_of self.old) node) self.old self.new None) }
+    {
+        let event = self.pick(node);
+        if event.is_idle() {
+            return Ok(None);
+        }
+        match self.make(alloc, &event) {
+            Ok(reply) => Ok(Some(reply)),
+            Err(_) => Err(AllocError),
         }
     }
 }

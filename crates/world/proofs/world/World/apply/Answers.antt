@@ -1,232 +1,92 @@
-use Rattle.std.proofs.Common.{List, [], map, refl, ap, sym, subst, ◌∙◌}
-use Rattle.protocol.specs.Node.Common.{network_of, fits_in, cell_in}
-use Rattle.station.specs.EventView.{event_view}
-use Rattle.protocol.specs.World.Common.{AreApproximated, StationView, round_after, Traffic, traffic_of, event_node}
-use Rattle.protocol.specs.World.Coordination.{AreCoordinated}
-use Rattle.protocol_laws.specs.World.CoordinationLaws.{coordinated_still, events_are_coordinated}
-use Rattle.protocol_laws.specs.World.PrefixLaws.{released_prefix}
-use Rattle.station.specs.ReplyView.{reply_view}
-use Rattle.protocol_laws.specs.World.DropLaws.{never_dropped}
-use Rattle.protocol_laws.specs.World.HomeLaws.{granted_at_home}
-use Rattle.protocol_laws.specs.World.RoomLaws.{never_too_large, rooms_of}
-use Rattle.protocol.specs.declared.reply.Reply.TheVariants.{NotDue}
-use Rattle.protocol.specs.declared.outcome.Outcome.TheVariants as outcome
-use Rattle.protocol.specs.World.Steps.{setting_in}
-use Rattle.protocol_laws.specs.World.StepKeeps.{step_keeps}
-use Rattle.world.specs.WholeView.{world_of}
-use Rattle.world.specs.WorldView.{rooms, world_view}
-use Rattle.station.specs.StationView.{station_view}
-use Rattle.station.specs.declared.station.Station.{Station}
-use Rattle.world.proofs.Held.{held_at}
-use Rattle.world.proofs.Lines.{keeps_line, one_line}
-use Rattle.world.proofs.Views.{setting_is, world_steps}
 use Rattle.world.proofs.world.World.apply.Goals as goal
 
--- it is a step of the world
-pub returns-in-Ok-clause-step : goal.returns-in-Ok-clause-step
-returns-in-Ok-clause-step g c =
-    let was = c.args.self.now in
-    let view = station_view {cell = g.C.StableCell} {slots = g.C.SlotCell} g.O.Outlet.taken g.O.Outlet.failures in
-    world_steps (rooms was.stations.items) (event_view c.args.event) (world_of was) (reply_view c.in-Ok.reply)
-    (setting_in (network_of was.net.value.program) was.inputs.value (traffic_of was.wire)
-    was.round was.room) c.from-number.result c.round_after-self.result
-    (map view c.act_at.new.stations.items) (traffic_of c.act_at.new.wire)
-    (setting_is view (network_of was.net.value.program) was.inputs.value (traffic_of was.wire)
-    was.stations.items was.round was.room) (c.from-number.ensures ∙ c.node.ensures) c.in-Ok.ensures.come
-    (c.round_after-self.ensures
-    ∙ ap (λ (l : List (Station g.row.C.Denot g.row.O.Denot g.C.SlotCell g.C.StableCell)). round_after
-    (reply_view c.in-Ok.reply) was.round (map view l)) c.deref.ensures.value)
+-- each clause is a field of what `make` promises
+pub returns-in-Ok-clause-grown : goal.returns-in-Ok-clause-grown
+returns-in-Ok-clause-grown g c = c.in-Ok.ensures.grown
 
--- the one law keeps what the type says
-pub invariant_of-self : goal.invariant_of-self
-invariant_of-self g c =
-    let was = c.args.self.now in
-    let view = station_view {cell = g.C.StableCell} {slots = g.C.SlotCell} g.O.Outlet.taken g.O.Outlet.failures in
-    record {
-      sound = step_keeps (rooms was.stations.items) (event_view c.args.event) (world_of was) (reply_view c.in-Ok.reply)
-          (world_view {cell = g.C.StableCell} {slots = g.C.SlotCell} g.O.Outlet.taken g.O.Outlet.failures was.net
-          was.inputs
-          c.act_at.new.stations.items (traffic_of c.act_at.new.wire) c.round_after-self.result was.room) was.sound
-          (world_steps (rooms was.stations.items) (event_view c.args.event) (world_of was) (reply_view c.in-Ok.reply)
-          (setting_in (network_of was.net.value.program) was.inputs.value (traffic_of was.wire)
-          was.round was.room) c.from-number.result c.round_after-self.result
-          (map view c.act_at.new.stations.items) (traffic_of c.act_at.new.wire)
-          (setting_is view (network_of was.net.value.program) was.inputs.value (traffic_of was.wire)
-          was.stations.items was.round was.room) (c.from-number.ensures ∙ c.node.ensures) c.in-Ok.ensures.come
-          (c.round_after-self.ensures
-          ∙ ap (λ (l : List (Station g.row.C.Denot g.row.O.Denot g.C.SlotCell g.C.StableCell)). round_after
-          (reply_view c.in-Ok.reply) was.round (map view l)) c.deref.ensures.value));
-    }
-
-pub returns-in-Ok-clause-prefix : goal.returns-in-Ok-clause-prefix
-returns-in-Ok-clause-prefix g c =
-    let was = c.args.self.now in
-    let view = station_view {cell = g.C.StableCell} {slots = g.C.SlotCell} g.O.Outlet.taken g.O.Outlet.failures in
-    released_prefix
-    (world_view {cell = g.C.StableCell} {slots = g.C.SlotCell} g.O.Outlet.taken g.O.Outlet.failures was.net was.inputs
-    c.act_at.new.stations.items (traffic_of c.act_at.new.wire) c.round_after-self.result was.room)
-    (step_keeps (rooms was.stations.items) (event_view c.args.event) (world_of was) (reply_view c.in-Ok.reply)
-    (world_view {cell = g.C.StableCell} {slots = g.C.SlotCell} g.O.Outlet.taken g.O.Outlet.failures was.net was.inputs
-    c.act_at.new.stations.items (traffic_of c.act_at.new.wire) c.round_after-self.result was.room) was.sound
-    (world_steps (rooms was.stations.items) (event_view c.args.event) (world_of was) (reply_view c.in-Ok.reply)
-    (setting_in (network_of was.net.value.program) was.inputs.value (traffic_of was.wire)
-    was.round was.room) c.from-number.result c.round_after-self.result
-    (map view c.act_at.new.stations.items) (traffic_of c.act_at.new.wire)
-    (setting_is view (network_of was.net.value.program) was.inputs.value (traffic_of was.wire)
-    was.stations.items was.round was.room) (c.from-number.ensures ∙ c.node.ensures) c.in-Ok.ensures.come
-    (c.round_after-self.ensures
-    ∙ ap (λ (l : List (Station g.row.C.Denot g.row.O.Denot g.C.SlotCell g.C.StableCell)). round_after
-    (reply_view c.in-Ok.reply) was.round (map view l)) c.deref.ensures.value)))
-
-pub returns-in-Err-clause-prefix : goal.returns-in-Err-clause-prefix
-returns-in-Err-clause-prefix g c =
-    let was = c.args.self.now in
-    subst (λ (stations : List StationView). AreApproximated
-    (record {
-      net = network_of was.net.value.program;
-      inputs = was.inputs.value;
-      stations = stations;
-      traffic =
-          traffic_of c.act_at.new.wire;
-      round = was.round;
-      room = was.room;
-    })) (sym c.in-Err.ensures.refused.0)
-    (released_prefix (world_of was) was.sound)
-
--- the line is kept, whether the event was made or refused
 pub returns-in-Ok-clause-line : goal.returns-in-Ok-clause-line
-returns-in-Ok-clause-line g c =
-    let was = c.args.self.now in
-    let view = station_view {cell = g.C.StableCell} {slots = g.C.SlotCell} g.O.Outlet.taken g.O.Outlet.failures in
-    keeps_line {cell = g.C.StableCell} {slots = g.C.SlotCell} g.O.Outlet.taken g.O.Outlet.failures
-    (setting_in (network_of was.net.value.program) was.inputs.value (traffic_of was.wire)
-    was.round was.room) (event_view c.args.event)
-    (network_of was.net.value.program) was.inputs.value was.stations.items c.act_at.new.stations.items was.round
-    was.room
-    (traffic_of was.wire) (rooms was.stations.items) c.in-Ok.ensures.come.came (reply_view c.in-Ok.reply)
-    c.from-number.result was.sound
-    (setting_is view (network_of was.net.value.program) was.inputs.value (traffic_of was.wire)
-    was.stations.items was.round was.room) (c.from-number.ensures ∙ c.node.ensures) c.in-Ok.ensures.come.act
-    c.act_at.ensures.line
-
-pub returns-in-Err-clause-line : goal.returns-in-Err-clause-line
-returns-in-Err-clause-line g c =
-    let was = c.args.self.now in
-    let view = station_view {cell = g.C.StableCell} {slots = g.C.SlotCell} g.O.Outlet.taken g.O.Outlet.failures in
-    keeps_line {cell = g.C.StableCell} {slots = g.C.SlotCell} g.O.Outlet.taken g.O.Outlet.failures
-    (setting_in (network_of was.net.value.program) was.inputs.value (traffic_of was.wire)
-    was.round was.room) (event_view c.args.event)
-    (network_of was.net.value.program) was.inputs.value was.stations.items c.act_at.new.stations.items was.round
-    was.room
-    (traffic_of was.wire) [] outcome.NotDue NotDue c.from-number.result was.sound
-    (setting_is view (network_of was.net.value.program) was.inputs.value (traffic_of was.wire)
-    was.stations.items was.round was.room) (c.from-number.ensures ∙ c.node.ensures) (refl, c.in-Err.ensures.refused.0)
-    c.act_at.ensures.line
-
--- checkpoints are coordinated
-pub returns-in-Ok-clause-coordinated : goal.returns-in-Ok-clause-coordinated
-returns-in-Ok-clause-coordinated g c =
-    let was = c.args.self.now in
-    let view = station_view {cell = g.C.StableCell} {slots = g.C.SlotCell} g.O.Outlet.taken g.O.Outlet.failures in
-    events_are_coordinated (rooms was.stations.items) (event_view c.args.event) (world_of was)
-    (reply_view c.in-Ok.reply)
-    (world_view {cell = g.C.StableCell} {slots = g.C.SlotCell} g.O.Outlet.taken g.O.Outlet.failures was.net was.inputs
-    c.act_at.new.stations.items (traffic_of c.act_at.new.wire) c.round_after-self.result was.room) was.sound
-    (world_steps (rooms was.stations.items) (event_view c.args.event) (world_of was) (reply_view c.in-Ok.reply)
-    (setting_in (network_of was.net.value.program) was.inputs.value (traffic_of was.wire)
-    was.round was.room) c.from-number.result c.round_after-self.result
-    (map view c.act_at.new.stations.items) (traffic_of c.act_at.new.wire)
-    (setting_is view (network_of was.net.value.program) was.inputs.value (traffic_of was.wire)
-    was.stations.items was.round was.room) (c.from-number.ensures ∙ c.node.ensures) c.in-Ok.ensures.come
-    (c.round_after-self.ensures
-    ∙ ap (λ (l : List (Station g.row.C.Denot g.row.O.Denot g.C.SlotCell g.C.StableCell)). round_after
-    (reply_view c.in-Ok.reply) was.round (map view l)) c.deref.ensures.value))
-
-pub returns-in-Err-clause-coordinated : goal.returns-in-Err-clause-coordinated
-returns-in-Err-clause-coordinated g c =
-    let was = c.args.self.now in
-    subst (λ (stations : List StationView). AreCoordinated (world_of was)
-    (record {
-      net = network_of was.net.value.program;
-      inputs = was.inputs.value;
-      stations = stations;
-      traffic = traffic_of c.act_at.new.wire;
-      round = was.round;
-      room = was.room;
-    })) (sym c.in-Err.ensures.refused.0)
-    (subst (λ (traffic : Traffic). AreCoordinated (world_of was)
-    (record {
-      net = network_of was.net.value.program;
-      inputs = was.inputs.value;
-      stations = (world_of was).stations;
-      traffic = traffic;
-      round = was.round;
-      room = was.room;
-    })) (sym c.in-Err.ensures.same_traffic) (coordinated_still (world_of was) was.sound))
+returns-in-Ok-clause-line g c = c.in-Ok.ensures.line
 
 pub returns-in-Ok-clause-settled : goal.returns-in-Ok-clause-settled
-returns-in-Ok-clause-settled g c =
-    one_line {cell = g.C.StableCell} {slots = g.C.SlotCell} g.O.Outlet.taken g.O.Outlet.failures
-    c.act_at.new.stations.items
+returns-in-Ok-clause-settled g c = c.in-Ok.ensures.settled
 
-pub returns-in-Err-clause-settled : goal.returns-in-Err-clause-settled
-returns-in-Err-clause-settled g c =
-    one_line {cell = g.C.StableCell} {slots = g.C.SlotCell} g.O.Outlet.taken g.O.Outlet.failures
-    c.act_at.new.stations.items
+pub returns-in-Ok-clause-coordinated : goal.returns-in-Ok-clause-coordinated
+returns-in-Ok-clause-coordinated g c = c.in-Ok.ensures.coordinated
 
--- the rooms are what the capacities say
+pub returns-in-Ok-clause-prefix : goal.returns-in-Ok-clause-prefix
+returns-in-Ok-clause-prefix g c = c.in-Ok.ensures.prefix
+
+pub returns-in-Ok-clause-same : goal.returns-in-Ok-clause-same
+returns-in-Ok-clause-same g c = c.in-Ok.ensures.same
+
+pub returns-in-Ok-clause-step : goal.returns-in-Ok-clause-step
+returns-in-Ok-clause-step g c = c.in-Ok.ensures.step
+
+pub returns-in-Ok-clause-same_capacities : goal.returns-in-Ok-clause-same_capacities
+returns-in-Ok-clause-same_capacities g c = c.in-Ok.ensures.same_capacities
+
 pub returns-in-Ok-clause-same_rooms : goal.returns-in-Ok-clause-same_rooms
-returns-in-Ok-clause-same_rooms g c =
-    let capacity =
-    λ (station : Station g.row.C.Denot g.row.O.Denot g.C.SlotCell g.C.StableCell). g.C.SlotCell.slot_capacity
-    (cell_in station.node.store) in
-    rooms_of capacity c.act_at.new.stations.items
-    ∙ (ap (map fits_in) c.in-Ok.ensures.same_capacities ∙ sym (rooms_of capacity c.args.self.now.stations.items))
-
-pub returns-in-Err-clause-same_rooms : goal.returns-in-Err-clause-same_rooms
-returns-in-Err-clause-same_rooms g c =
-    let capacity =
-    λ (station : Station g.row.C.Denot g.row.O.Denot g.C.SlotCell g.C.StableCell). g.C.SlotCell.slot_capacity
-    (cell_in station.node.store) in
-    rooms_of capacity c.act_at.new.stations.items
-    ∙ (ap (map fits_in) c.in-Err.ensures.same_capacities ∙ sym (rooms_of capacity c.args.self.now.stations.items))
+returns-in-Ok-clause-same_rooms g c = c.in-Ok.ensures.same_rooms
 
 pub returns-in-Ok-clause-roomy : goal.returns-in-Ok-clause-roomy
-returns-in-Ok-clause-roomy g c = λ room.
-    let was = c.args.self.now in
-    let view = station_view {cell = g.C.StableCell} {slots = g.C.SlotCell} g.O.Outlet.taken g.O.Outlet.failures in
-    never_too_large (world_of was)
-    (setting_in (network_of was.net.value.program) was.inputs.value (traffic_of was.wire)
-    was.round was.room)
-    (λ (station : Station g.row.C.Denot g.row.O.Denot g.C.SlotCell g.C.StableCell). g.C.SlotCell.slot_capacity
-    (cell_in station.node.store)) was.stations.items c.from-number.result _ (event_view c.args.event)
-    c.in-Ok.ensures.come.came (reply_view c.in-Ok.reply) (map view c.act_at.new.stations.items)
-    was.sound
-    (setting_is view (network_of was.net.value.program) was.inputs.value (traffic_of was.wire)
-    was.stations.items was.round was.room) (c.from-number.ensures ∙ c.node.ensures) room c.in-Ok.ensures.come.act
+returns-in-Ok-clause-roomy g c = c.in-Ok.ensures.roomy
 
 pub returns-in-Ok-clause-heard : goal.returns-in-Ok-clause-heard
-returns-in-Ok-clause-heard g c =
-    let was = c.args.self.now in
-    let view = station_view {cell = g.C.StableCell} {slots = g.C.SlotCell} g.O.Outlet.taken g.O.Outlet.failures in
-    never_dropped (world_of was)
-    (setting_in (network_of was.net.value.program) was.inputs.value (traffic_of was.wire)
-    was.round was.room) (rooms was.stations.items) c.from-number.result
-    (event_view c.args.event) c.in-Ok.ensures.come.came
-    (reply_view c.in-Ok.reply) (map view c.act_at.new.stations.items) was.sound
-    (setting_is view (network_of was.net.value.program) was.inputs.value (traffic_of was.wire)
-    was.stations.items was.round was.room) (c.from-number.ensures ∙ c.node.ensures) c.in-Ok.ensures.come.act
+returns-in-Ok-clause-heard g c = c.in-Ok.ensures.heard
 
--- a job that is granted is of a process of the event's node
 pub returns-in-Ok-clause-home : goal.returns-in-Ok-clause-home
-returns-in-Ok-clause-home g c =
-    granted_at_home (rooms c.args.self.now.stations.items) (event_view c.args.event) (world_of c.args.self.now)
-    (reply_view c.in-Ok.reply) _ c.args.self.now.sound (returns-in-Ok-clause-step g c)
+returns-in-Ok-clause-home g c = c.in-Ok.ensures.home
+
+pub returns-in-Ok-clause-unchanged : goal.returns-in-Ok-clause-unchanged
+returns-in-Ok-clause-unchanged g c = c.in-Ok.ensures.unchanged
+
+pub returns-in-Ok-clause-armed : goal.returns-in-Ok-clause-armed
+returns-in-Ok-clause-armed g c = c.in-Ok.ensures.armed
+
+pub returns-in-Ok-clause-device : goal.returns-in-Ok-clause-device
+returns-in-Ok-clause-device g c = c.in-Ok.ensures.device
+
+pub returns-in-Ok-clause-others : goal.returns-in-Ok-clause-others
+returns-in-Ok-clause-others g c = c.in-Ok.ensures.others
+
+pub returns-in-Err-clause-grown : goal.returns-in-Err-clause-grown
+returns-in-Err-clause-grown g c = c.in-Err.ensures.grown
+
+pub returns-in-Err-clause-line : goal.returns-in-Err-clause-line
+returns-in-Err-clause-line g c = c.in-Err.ensures.line
+
+pub returns-in-Err-clause-settled : goal.returns-in-Err-clause-settled
+returns-in-Err-clause-settled g c = c.in-Err.ensures.settled
+
+pub returns-in-Err-clause-coordinated : goal.returns-in-Err-clause-coordinated
+returns-in-Err-clause-coordinated g c = c.in-Err.ensures.coordinated
+
+pub returns-in-Err-clause-prefix : goal.returns-in-Err-clause-prefix
+returns-in-Err-clause-prefix g c = c.in-Err.ensures.prefix
+
+pub returns-in-Err-clause-same : goal.returns-in-Err-clause-same
+returns-in-Err-clause-same g c = c.in-Err.ensures.same
+
+pub returns-in-Err-clause-same_capacities : goal.returns-in-Err-clause-same_capacities
+returns-in-Err-clause-same_capacities g c = c.in-Err.ensures.same_capacities
+
+pub returns-in-Err-clause-same_rooms : goal.returns-in-Err-clause-same_rooms
+returns-in-Err-clause-same_rooms g c = c.in-Err.ensures.same_rooms
+
+pub returns-in-Err-clause-unchanged : goal.returns-in-Err-clause-unchanged
+returns-in-Err-clause-unchanged g c = c.in-Err.ensures.unchanged
+
+pub returns-in-Err-clause-device : goal.returns-in-Err-clause-device
+returns-in-Err-clause-device g c = c.in-Err.ensures.device
+
+pub returns-in-Err-clause-others : goal.returns-in-Err-clause-others
+returns-in-Err-clause-others g c = c.in-Err.ensures.others
+
+pub returns-in-Err-clause-refused : goal.returns-in-Err-clause-refused
+returns-in-Err-clause-refused g c = c.in-Err.ensures.refused
 
 pub returns-in-Err-clause-held : goal.returns-in-Err-clause-held
-returns-in-Err-clause-held g c =
-    let was = c.args.self.now in
-    held_at {cell = g.C.StableCell} {slots = g.C.SlotCell} g.met.C.SlotCell.includes_now_whole
-    g.met.C.SlotCell.only_now_whole g.met.C.SlotCell.whole_may_stay (event_view c.args.event)
-    (event_node (event_view c.args.event)) was.stations.items c.act_at.new.stations.items c.in-Err.ensures.refused.1
-    c.in-Err.ensures.held c.in-Err.ensures.unchanged
+returns-in-Err-clause-held g c = c.in-Err.ensures.held
+
+pub returns-in-Err-clause-memory : goal.returns-in-Err-clause-memory
+returns-in-Err-clause-memory g c = c.in-Err.ensures.memory
