@@ -1,9 +1,10 @@
 // A world with crashes that are armed for the ends of deliveries.
-ghost use Rattle.std.specs.Prelude.{◌≡◌, replicate, IfErr, IfOk, OnErr};
+ghost use Rattle.std.specs.Prelude.{◌≡◌, is_none, replicate, IfErr, IfOk, IfSome, IsNone, OnErr};
+ghost use Rattle.protocol.specs.World.Choice.{choice};
 ghost use Rattle.protocol.specs.World.Common.{event_node, IsGrantedAt, has_happened};
 ghost use Rattle.replay.specs.Armed.{ArmCrash, EndsWith, IsArmedStep, OfWorld, armed_at_first, crash_after, deliveries_after, delivered_to, first_crash, has_come, is_for, one_more};
 ghost use Rattle.replay.specs.Plain.{run_view};
-ghost use Rattle.station.specs.EventView.{event_view};
+ghost use Rattle.station.specs.EventView.{event_view, is_idle};
 ghost use Rattle.station.specs.ReplyView.{reply_view};
 ghost use Rattle.world.specs.WholeView.{capacities_in, inputs_in, net_in, nodes_in, rooms_in, world_of};
 ghost use Rattle.world.specs.WorldView.{capacities, rooms};
@@ -182,6 +183,34 @@ impl<C: SlotCell, O: Outlet> ArmedWorld<C, O> {
         }
     }
 
+    // One event of the world; where it is a delivery for whose end a crash is armed, the node crashes then, and that is
+    // answered. Refuses for want of memory alone, and then nothing is changed.
+    fn make(&mut self, alloc: Global, event: &Event) -> Result<Reply, AllocError>
+        ensures step { IfOk result (λ reply. IsArmedStep (rooms_in self.old.world)
+            (OfWorld (event_view event.now)) (armed_view self.old) (reply_view reply)
+            (armed_view self.new)) }
+        ensures home { IfOk result
+            (λ reply. IsGrantedAt (event_node (event_view event.now)) (reply_view reply)) }
+        ensures same_rooms { rooms_in self.new.world
+            ≡ rooms_in self.old.world }
+        ensures same_capacities { capacities_in self.new.world
+            ≡ capacities_in self.old.world }
+        ensures same { (net_in self.new.world ≡ net_in self.old.world)
+            × (inputs_in self.new.world ≡ inputs_in self.old.world) }
+        ensures refused { OnErr result (armed_view self.new ≡ armed_view self.old) }
+    {
+        let ArmedWorld {
+            world,
+            deliveries,
+            crashes,
+        } = self;
+        let came_to = delivered_to(event);
+        let said = world.make(alloc, event)?;
+        count(deliveries, came_to, &said);
+        let crash = crash_after(deliveries, crashes, came_to, &said);
+        Ok(end(alloc, world, crash, said))
+    }
+
     /// One event of the world; where it is a delivery for whose end a crash is armed, the node crashes then, and that is
     /// answered. Refuses for want of memory alone (1), with the event, and then nothing is changed.
     pub fn apply(&mut self, alloc: Global, event: Event) -> Result<Reply, Refused>
@@ -200,16 +229,42 @@ impl<C: SlotCell, O: Outlet> ArmedWorld<C, O> {
         ensures refused { OnErr result (armed_view self.new ≡ armed_view self.old) }
         ensures handed_back { IfErr result (λ refused. refused.event ≡ event) }
     {
-        let ArmedWorld {
-            world,
-            deliveries,
-            crashes,
-        } = self;
-        let came_to = delivered_to(&event);
-        let said = world.apply(alloc, event)?;
-        count(deliveries, came_to, &said);
-        let crash = crash_after(deliveries, crashes, came_to, &said);
-        Ok(end(alloc, world, crash, said))
+        match self.make(alloc, &event) {
+            Ok(reply) => Ok(reply),
+            Err(_) => Err(Refused { event }),
+        }
+    }
+
+    /// Makes the event that is next for a node, which the world's `pick` would answer, unless that is to let its turn pass: then it
+    /// answers `None`, and nothing is changed. Where it is a delivery for whose end a crash is armed, the node crashes then, and
+    /// that is answered. Refuses for want of memory alone (1), and then nothing is changed either.
+    pub fn step(&mut self, alloc: Global, node: u8) -> Result<Option<Reply>, AllocError>
+        // None is made exactly where the node's turn would pass.
+        ensures passes { IfOk result
+            (λ made. is_none made ≡ is_idle (choice (world_of self.old.world) node)) }
+        ensures passed { IfOk result (λ made. IsNone made → self.new ≡ self.old) }
+        // What is made is the event that is next.
+        ensures step { IfOk result (λ made. IfSome made (λ reply. IsArmedStep (rooms_in self.old.world)
+            (OfWorld (choice (world_of self.old.world) node)) (armed_view self.old)
+            (reply_view reply) (armed_view self.new))) }
+        // A job that is granted is of a process of the event's node.
+        ensures home { IfOk result (λ made. IfSome made
+            (λ reply. IsGrantedAt (event_node (choice (world_of self.old.world) node))
+            (reply_view reply))) }
+        ensures same_rooms { rooms_in self.new.world
+            ≡ rooms_in self.old.world }
+        ensures same_capacities { capacities_in self.new.world
+            ≡ capacities_in self.old.world }
+        ensures same { (net_in self.new.world ≡ net_in self.old.world)
+            × (inputs_in self.new.world ≡ inputs_in self.old.world) }
+        ensures refused { OnErr result (armed_view self.new ≡ armed_view self.old) }
+    {
+        let event = self.world.pick(node);
+        if event.is_idle() {
+            return Ok(None);
+        }
+        let reply = self.make(alloc, &event)?;
+        Ok(Some(reply))
     }
 
     /// Arms a crash for the end of a delivery. Where that is over, it has no effect. Refuses for want of memory alone.
