@@ -1,7 +1,5 @@
 pub mod Turns
 pub mod Streams
-mod Passing
-mod Next
 pub mod Named
 mod Filed
 mod Lists

@@ -37,18 +37,14 @@ use Rattle.station.specs.ReplyView.{Reply}
 use Rattle.protocol.specs.declared.reply.Reply.TheVariants.{Granted}
 use Rattle.station.specs.declared.output.Output.{Output}
 use Rattle.station.specs.declared.station.Station.{Station}
-use Rattle.cobaltmidge.specs.Turning.{turn_node, CameTo, first_world, Follows, HavePassed, IsDriven, IsWholeTurn}
-use Rattle.cobaltmidge.specs.Turning.{HasNoFailures, IsRunRoom, IsRunStep, Progress, line_before, nearest_room}
-use Rattle.cobaltmidge.specs.Turning.{next_event, progress, run_rooms, unused_outlet}
+use Rattle.runtime.specs.Ending.{is_over, was_refused}
+use Rattle.runtime.specs.Turning.{EndsByTurns, IsRunByTurns}
+use Rattle.runtime.specs.declared.ending.RunEnd.{RunEnd}
+use Rattle.runtime.specs.declared.ending.RunEnd.TheVariants.{Complete, Rounds, Items, Refused, Stopped}
+use Rattle.cobaltmidge.specs.FirstWorld.{first_world, HasNoFailures, IsRunRoom, nearest_room, run_rooms, unused_outlet}
 use Rattle.cobaltmidge.specs.Failing.{HasFailedAtOnce, IsRunFault, store_fault}
-use Rattle.cobaltmidge.specs.Runs.{IsEndBy, IsHistory, IsReplayed}
+use Rattle.cobaltmidge.specs.Runs.{IsEnd, bounds_of}
 use Rattle.cobaltmidge.specs.declared.settings.Settings.{Settings}
-
--- where no job was granted nothing follows
-pub nothing_follows : (answer : Reply) (now : ArmedView) → ((job : Arc Job Global) → answer ≡ Granted job → ⊥)
-    → Follows (reply_view answer) now now
-nothing_follows (Granted job) now other = absurd (other job refl)
-nothing_follows answer now other = refl
 
 -- one more of which it holds
 pub each_more : {X : Type 0} (P : X → Type 0) (xs : List X) (x : X) → AllByRecursion P xs → P x
@@ -73,7 +69,7 @@ none_more count (y ∷ xs) x (suc many) none one =
 -- the room of each station's cell
 
 module _ {C O : Type 0} {cell : CellWords C} {slots : SlotWords C} where
-  rooms_are : (taken : O → List ℤ) (failures : O → ℕ) (stations : List (Station C O slots cell))
+  pub rooms_are : (taken : O → List ℤ) (failures : O → ℕ) (stations : List (Station C O slots cell))
       → AllByRecursion IsRunRoom (capacities stations)
       → rooms stations ≡ run_rooms (map (station_view taken failures) stations)
   rooms_are taken failures [] room = refl
@@ -81,15 +77,6 @@ module _ {C O : Type 0} {cell : CellWords C} {slots : SlotWords C} where
       ap (λ (n : ℕ). fits_in n ∷ rooms stations) room.0
       ∙ ap (λ (rest : List (RecordView → Bool)). fits_in (slot_room_on SECTORS) ∷ rest)
       (rooms_are taken failures stations room.1)
-
-  pub in_room : (taken : O → List ℤ) (failures : O → ℕ) (stations : List (Station C O slots cell)) (event : ArmedEvent)
-      (old new : ArmedView)
-      (answer : ReplyView) → AllByRecursion IsRunRoom (capacities stations)
-      → old.world.stations ≡ map (station_view taken failures) stations
-      → IsArmedStep (rooms stations) event old answer new → IsRunStep event old answer new
-  in_room taken failures stations event old new answer room same step =
-      subst (λ (fits : List (RecordView → Bool)). IsArmedStep fits event old answer new)
-      (rooms_are taken failures stations room ∙ ap run_rooms (sym same)) step
 
 -- what the disks of a run have room for
 pub rooms_given : {D : Type 0} (sectors : D → ℕ) (disks : List D) (rooms : List ℕ)
@@ -140,45 +127,6 @@ run_refused {D} threads sectors net number (d ∷ disks) fault valid all (inl re
     at NotHeld why failed = absurd why
     at Unsettled why failed = absurd why
     at Spent why failed = absurd why
-
--- one line more
-pub more_lines : (script : List ScriptedEvent) (lines : ℕ) (first before now : Progress) (event : Option RunEvent)
-    → HavePassed script lines first before → event ≡ next_event script before → IsSome event
-    → IsDriven event before now → HavePassed script (lines + 1) first now
-more_lines script lines first before now None came is some driven = absurd (cc)
-more_lines script lines first before now (Some event) came is some driven =
-    let next : suc lines ≡ lines + 1 = omega arith in
-    subst (λ (n : ℕ). HavePassed script n first now) next (before, came, (event, sym is, driven))
-
--- the same, where the lines are counted by what is passed
-pub more_passed : (script : List ScriptedEvent) (first : Progress) (old new : ArmedView) (passed now : ℕ)
-    (event : Option RunEvent) → HavePassed script passed first (progress old passed)
-    → event ≡ next_event script (progress old passed) → IsSome event
-    → IsDriven event (progress old passed) (progress new now) → HavePassed script now first (progress new now)
-more_passed script first old new passed now None came is some driven = absurd (cc)
-more_passed script first old new passed now (Some event) came is some driven =
-    subst (λ (n : ℕ). HavePassed script n first (progress new now)) (sym driven.2)
-    (more_lines script passed first (progress old passed) (progress new now) (Some event) came is some driven)
-
--- one turn more
-pub more_turns : (over : WorldView → Bool) (nodes : ℕ) (script : List ScriptedEvent) (turns : ℕ)
-    (first before now : Progress) (after : ArmedView)
-    → CameTo over nodes script turns first before → over before.armed.world ≡ false
-    → IsWholeTurn (turn_node nodes turns) before.armed after
-    → IsDriven (line_before script (turn_node nodes (turns + 1)) (progress after before.passed))
-    (progress after before.passed) now
-    → CameTo over nodes script (turns + 1) first now
-more_turns over nodes script turns first before now after came goes_on turn driven =
-    let next : suc turns ≡ turns + 1 = omega arith in
-    subst (λ (n : ℕ). CameTo over nodes script n first now) next (
-      before,
-      after,
-      came,
-      goes_on,
-      turn,
-      subst (λ (n : ℕ). IsDriven (line_before script (turn_node nodes n) (progress after before.passed))
-          (progress after before.passed) now) (sym next) driven,
-    )
 
 -- The first world
 
@@ -232,59 +180,55 @@ module _ {O : Type 0} (taken : O → List ℤ) (failures : O → ℕ) where
       (unused_outlets outputs unused none
       ∙ ap (λ (channels : List ℕ). map opening_outlet (map unused_outlet channels)) listed)))))
 
--- The last one, of a run by threads
-pub replayed_world : {C O : Type 0} {cell : CellWords C} {slots : SlotWords C} (taken : O → List ℤ) (failures : O → ℕ)
+-- a run by turns that wasn't refused went on until it was over
+until_over : (over : WorldView → Bool) (nodes : ℕ) (fits : List (RecordView → Bool)) (script : List ScriptedEvent) (first now : WorldView)
+    (end : RunEnd) → was_refused end ≡ false → EndsByTurns over nodes fits script first now end
+    → IsRunByTurns over nodes fits script first now
+until_over over nodes fits script first now Complete unrefused ends = ends
+until_over over nodes fits script first now Rounds unrefused ends = ends
+until_over over nodes fits script first now Items unrefused ends = ends
+until_over over nodes fits script first now (Refused fault) unrefused ends = absurd (cc)
+until_over over nodes fits script first now Stopped unrefused ends = absurd ends
+
+-- How a run comes to its end, of the network's own first world
+pub ended_so : {C O : Type 0} {cell : CellWords C} {slots : SlotWords C} (taken : O → List ℤ) (failures : O → ℕ)
     (stations : List (Station C O slots cell)) (settings : Settings) (net : Network) (inputs : List (List ℤ))
-    (script : List ScriptedEvent) (first now : WorldView) → AllByRecursion IsRunRoom (capacities stations)
-    → first.stations ≡ map (station_view taken failures) stations → first ≡ first_world net inputs settings.room
-    → HasRun (rooms stations) script first now → IsReplayed settings net inputs script now
-replayed_world taken failures stations settings net inputs script first now room same opened run =
-    subst (λ (w : WorldView). HasRun (run_rooms w.stations) script w now) opened
-    (subst (λ (fits : List (RecordView → Bool)). HasRun fits script first now)
-    (rooms_are taken failures stations room ∙ ap run_rooms (sym same)) run)
-
--- The same of one of which the history is kept
-pub kept_world : {C O : Type 0} {cell : CellWords C} {slots : SlotWords C} (taken : O → List ℤ) (failures : O → ℕ)
-    (stations : List (Station C O slots cell)) (settings : Settings) (net : Network) (inputs : List (List ℤ))
-    (script : List ScriptedEvent) (happened : List Happening) (first now : WorldView)
-    → AllByRecursion IsRunRoom (capacities stations)
-    → first.stations ≡ map (station_view taken failures) stations → first ≡ first_world net inputs settings.room
-    → LeadsTo (rooms stations) script first happened now → IsHistory settings net inputs script happened now
-kept_world taken failures stations settings net inputs script happened first now room same opened leads =
-    subst (λ (w : WorldView). LeadsTo (run_rooms w.stations) script w happened now) opened
-    (subst (λ (fits : List (RecordView → Bool)). LeadsTo fits script first happened now)
-    (rooms_are taken failures stations room ∙ ap run_rooms (sym same)) leads)
-
--- the end of a run by threads
-pub by_threads_ends : {T E : Type 0} (view : T → WorldView) (told : T → List Happening) (history threads : Bool)
-    (settings : Settings) (net : Network) (inputs : List (List ℤ)) (script : List ScriptedEvent) (result : Result T E)
-    → threads ≡ true → IfOk result (λ now. IsReplayed settings net inputs script (view now))
-    → (history ≡ true → IfOk result (λ now. IsHistory settings net inputs script (told now) (view now)))
-    → IfOk result (λ now. IsEndBy history threads settings net inputs script (told now) (view now))
-by_threads_ends view told history threads settings net inputs script (Err e) asked replayed kept = tt
-by_threads_ends view told true threads settings net inputs script (Ok now) asked replayed kept = kept refl
-by_threads_ends view told false threads settings net inputs script (Ok now) asked replayed kept =
-    subst (λ (t : Bool). IsEndBy false t settings net inputs script (told now) (view now)) (sym asked) replayed
-
--- that of a run of which the history is kept
-pub by_kept_ends : {T E : Type 0} (view : T → WorldView) (told : T → List Happening) (history threads : Bool)
-    (settings : Settings) (net : Network) (inputs : List (List ℤ)) (script : List ScriptedEvent) (result : Result T E)
-    → history ≡ true → IfOk result (λ now. IsHistory settings net inputs script (told now) (view now))
-    → IfOk result (λ now. IsEndBy history threads settings net inputs script (told now) (view now))
-by_kept_ends view told history threads settings net inputs script (Err e) asked kept = tt
-by_kept_ends view told true threads settings net inputs script (Ok now) asked kept = kept
-by_kept_ends view told false threads settings net inputs script (Ok now) asked kept = absurd (cc)
+    (script : List ScriptedEvent) (happened : List Happening) (first now : WorldView) (end : RunEnd) (nodes : ℕ)
+    → AllByRecursion IsRunRoom (capacities stations) → first.stations ≡ map (station_view taken failures) stations
+    → first ≡ first_world net inputs settings.room → nodes ≡ node_count net → was_refused end ≡ false
+    → HasRun (rooms stations) script first now
+    → (settings.history ≡ true → LeadsTo (rooms stations) script first happened now)
+    → (settings.threads ≡ false → EndsByTurns (is_over first.net.channels (bounds_of settings)) nodes (rooms stations) script first now end)
+    → IsEnd settings net inputs script happened now
+ended_so taken failures stations settings net inputs script happened first now end nodes room same opened many unrefused run leads turns = record {
+  run = subst (λ (w : WorldView). HasRun (run_rooms w.stations) script w now) opened
+      (subst (λ (fits : List (RecordView → Bool)). HasRun fits script first now) fitting run);
+  history = λ yes. subst (λ (w : WorldView). LeadsTo (run_rooms w.stations) script w happened now) opened
+      (subst (λ (fits : List (RecordView → Bool)). LeadsTo fits script first happened now) fitting (leads yes));
+  turns = λ by_turns. subst (λ (w : WorldView). IsRunByTurns (is_over w.net.channels (bounds_of settings)) (node_count net)
+      (run_rooms w.stations) script w now) opened
+      (subst (λ (n : ℕ). IsRunByTurns (is_over first.net.channels (bounds_of settings)) n (run_rooms first.stations) script first now) many
+      (subst (λ (fits : List (RecordView → Bool)). IsRunByTurns (is_over first.net.channels (bounds_of settings)) nodes fits script first now)
+      fitting (until_over _ nodes (rooms stations) script first now end unrefused (turns by_turns))));
+}
+  where
+    fitting : rooms stations ≡ run_rooms first.stations
+    fitting = rooms_are taken failures stations room ∙ ap run_rooms (sym same)
 
 pub if_ok_then : {T E : Type 0} (P Q : T → Type 0) (result : Result T E) → ((value : T) → P value → Q value)
     → IfOk result P → IfOk result Q
 if_ok_then P Q (Err e) go holds = tt
 if_ok_then P Q (Ok value) go holds = go value holds
 
-pub by_threads_stays : {T E : Type 0} (view : T → WorldView) (fits : List (RecordView → Bool))
-    (script : List ScriptedEvent) (first : WorldView) (result : Result T E)
-    → IfOk result (λ now. HasRun fits script first (view now))
-    → IfOk result (λ now. ∥ ((view now).net ≡ first.net) × ((view now).inputs ≡ first.inputs) ∥₁)
-by_threads_stays view fits script first (Err e) leads = tt
-by_threads_stays view fits script first (Ok now) leads =
+-- what holds of an end that was told, where no call was refused
+pub of_end : {T E : Type 0} (P Q : T → Type 0) (result : Result T E) (ended : T) → IfOk result (λ now. now ≡ ended) → IfOk result P
+    → (P ended → Q ended) → IfOk result Q
+of_end P Q (Err e) ended same told go = tt
+of_end P Q (Ok now) ended same told go = subst Q (sym same) (go (subst P same told))
+
+-- the network and its inputs stay
+pub run_stays : (fits : List (RecordView → Bool)) (script : List ScriptedEvent) (first now : WorldView) → HasRun fits script first now
+    → ∥ (now.net ≡ first.net) × (now.inputs ≡ first.inputs) ∥₁
+run_stays fits script first now leads =
     ∥∥₁_elim leads ∥∥₁_prop
-    (λ run. ∥∥₁_map (replays_stay fits script first run.0 (view now) run.1) (λ s. (s.0, s.1)))
+    (λ run. ∥∥₁_map (replays_stay fits script first run.0 now run.1) (λ s. (s.0, s.1)))

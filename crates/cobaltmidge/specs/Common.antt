@@ -10,4 +10,4 @@ pub use Rattle.station.specs.declared.output.Output.{Output}
 pub use Rattle.world.specs.Left.{AreLeft, HoldsRecord, record_on, records_on}
 pub use Rattle.world.specs.OpeningWorld.{IsMade, IsUnused}
 pub use Rattle.world.specs.WholeView.{world_of}
-pub use Rattle.cobaltmidge.specs.Turning.{HasNoFailures}
+pub use Rattle.cobaltmidge.specs.FirstWorld.{HasNoFailures}

@@ -1,5 +1,5 @@
 -- Why a run of a network comes to no end.
-use Rattle.std.specs.Prelude.{◌≡◌, ◌||◌, ℕ, Bool, true, List}
+use Rattle.std.specs.Prelude.{◌≡◌, ℕ, Bool, true, List}
 use Rattle.std.specs.List.{AllByRecursion}
 use Rattle.protocol.specs.Node.Common.{sectors_of, SECTORS, StoreFault}
 use Rattle.sector_disk.specs.MemDisk.{failures_of}
@@ -8,7 +8,6 @@ use Rattle.ckpt_store.specs.declared.fault.StoreFault.TheVariants as store
 use Rattle.run_log.specs.declared.answer.HubFault.{HubFault}
 use Rattle.run_log.specs.declared.answer.HubFault.TheVariants as hub
 use Rattle.world.specs.OpeningWorld.{SomeFailed}
-use Rattle.cobaltmidge.specs.declared.settings.Settings.{Settings}
 use Rattle.cobaltmidge.specs.declared.fault.RunFault.{RunFault}
 use Rattle.cobaltmidge.specs.declared.fault.RunFault.TheVariants.{NoMemory, Device, PastNumber}
 
@@ -45,12 +44,8 @@ pub record HasFailedAtOnce : Type 0 where
   pub sectors : AllByRecursion (λ (disk : MemDisk). sectors_of disk ≡ SECTORS) disks
   pub failed : SomeFailed failures_of disks backs
 
--- whether a run so set counts what happens: where each node has a thread, or the history is kept
-abbrev pub is_counted : Settings → Bool
-is_counted settings = settings.threads || settings.history
-
--- Why a run comes to no end: memory is missing, also for a thread; a disk failed while its world was made; or, where it is counted what
--- happens, a count would pass 2^63 - 1.
+-- Why a run comes to no end: memory is missing, also for a thread; a disk failed while its world was made; or, where events are counted, as in
+-- each run, a count would pass 2^63 - 1.
 abbrev pub IsRunFault : Bool → RunFault → Type 0
 IsRunFault counted NoMemory = Unit {0}
 IsRunFault counted Device = ∥ HasFailedAtOnce ∥₁

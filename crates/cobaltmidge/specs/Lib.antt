@@ -3,8 +3,7 @@ pub mod Failing
 pub mod Texts
 pub mod Errors
 pub mod Names
-pub mod Turning
-pub mod Resting
+pub mod FirstWorld
 pub mod Reasons
 pub mod Runs
 pub mod Scripts

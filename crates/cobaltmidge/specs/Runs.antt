@@ -1,5 +1,6 @@
 -- What a run of a network releases, and how it came to its end.
-use Rattle.std.specs.Prelude.{◌≡◌, ℕ, Bool, true, false, IsTrue, ℤ, List, Some, length, map, slice_get}
+use Rattle.std.specs.Prelude.{◌≡◌, ℕ, nat_le, if◌then◌else◌, Bool, true, false, IsTrue, ℤ, List, Option, Some, None, length, map, slice_get}
+use Rattle.std.specs.List.{list_all}
 use Rattle.protocol.specs.Node.Common.{history_of, IsPrefix, node_count, Network, approximation}
 use Rattle.kahn_net.specs.Common.{IsReached}
 use Rattle.protocol.specs.World.Common.{output_channels, released_of, StationView, WorldView}
@@ -7,7 +8,9 @@ use Rattle.replay.specs.Replay.{Happening, LeadsTo}
 use Rattle.run_log.specs.Happened.{HasRun}
 use Rattle.runtime.specs.declared.driving.Bounds.{Bounds}
 use Rattle.replay.specs.declared.kept.ScriptedEvent.{ScriptedEvent}
-use Rattle.cobaltmidge.specs.Turning.{IsRunByTurns, first_world, is_over, run_rooms}
+use Rattle.runtime.specs.Ending.{is_over}
+use Rattle.runtime.specs.Turning.{IsRunByTurns}
+use Rattle.cobaltmidge.specs.FirstWorld.{first_world, run_rooms}
 use Rattle.cobaltmidge.specs.declared.settings.Settings.{Settings}
 
 -- what the stations' outlets took, for each of a network's outputs in order
@@ -40,30 +43,21 @@ pub record IsRun (net : Network) (inputs streams : List (List ℤ)) (complete : 
 abbrev pub bounds_of : Settings → Bounds
 bounds_of settings = record { rounds = settings.rounds; items = settings.items }
 
--- the world at the end of a run by turns
-abbrev pub IsLast : Settings → Network → List (List ℤ) → List ScriptedEvent → WorldView → Type 0
-IsLast settings net inputs script now =
-    IsRunByTurns (is_over (output_channels 0 net.channels) settings.rounds settings.items) (node_count net) script
-    (first_world net inputs settings.room) now
+-- Where the streams of a run are cut: at so many items, where that was asked for and each has them.
+abbrev pub cut_at : Option ℕ → List (List ℤ) → Option ℕ
+cut_at None released = None
+cut_at (Some items) released =
+    if list_all (λ (stream : List ℤ). nat_le items (length stream)) released then Some items else None
 
--- The world at the end of a run of which this is the history: it leads there from the opening world. Each event of it is one that was next for
--- its node, a turn that came back to its node, or the event of the script's next line.
-abbrev pub IsHistory : Settings → Network → List (List ℤ) → List ScriptedEvent → List Happening → WorldView → Type 0
-IsHistory settings net inputs script happened now =
-    LeadsTo (run_rooms (first_world net inputs settings.room).stations) script (first_world net inputs settings.room) happened
-    now
-
--- The world at the end of a run by threads of which no history is kept: there is one, which leads to it.
-abbrev pub IsReplayed : Settings → Network → List (List ℤ) → List ScriptedEvent → WorldView → Type 0
-IsReplayed settings net inputs script now =
-    HasRun (run_rooms (first_world net inputs settings.room).stations) script (first_world net inputs settings.room) now
-
-abbrev pub IsEndBy : Bool → Bool → Settings → Network → List (List ℤ) → List ScriptedEvent → List Happening → WorldView → Type 0
-IsEndBy true threads settings net inputs script happened now = IsHistory settings net inputs script happened now
-IsEndBy false true settings net inputs script happened now = IsReplayed settings net inputs script now
-IsEndBy false false settings net inputs script happened now = IsLast settings net inputs script now
-
--- how a run comes to its end: as its history says, where it is kept; else by threads where they are asked for, or by turns
-abbrev pub IsEnd : Settings → Network → List (List ℤ) → List ScriptedEvent → List Happening → WorldView → Type 0
-IsEnd settings net inputs script happened now =
-    IsEndBy settings.history settings.threads settings net inputs script happened now
+-- How a run comes to its end. A history leads there from the opening world: each event of it is one that was next for its node, a turn that came
+-- back to its node, or the event of the script's next line. Where the history is kept, it is that one. By turns it is also fixed which event
+-- comes when, the same whether the history is kept or not, and that turns were taken until the run was over.
+pub record IsEnd (settings : Settings) (net : Network) (inputs : List (List ℤ)) (script : List ScriptedEvent) (happened : List Happening)
+    (now : WorldView) : Type 0
+  where
+    pub run : HasRun (run_rooms (first_world net inputs settings.room).stations) script (first_world net inputs settings.room) now
+    pub history : settings.history ≡ true
+        → LeadsTo (run_rooms (first_world net inputs settings.room).stations) script (first_world net inputs settings.room) happened now
+    pub turns : settings.threads ≡ false
+        → IsRunByTurns (is_over net.channels (bounds_of settings)) (node_count net)
+        (run_rooms (first_world net inputs settings.room).stations) script (first_world net inputs settings.room) now

@@ -8,7 +8,7 @@ ghost use Rattle.protocol.specs.Node.Common.{network_of};
 ghost use Rattle.protocol.specs.World.Common.{output_channels};
 ghost use Rattle.world.specs.OpeningWorld.{IsUnused};
 ghost use Rattle.cobaltmidge.specs.KeptOutlets.{AreInFiles, IsAtFault, IsOpenFault, IsPutFault, taken_streams};
-ghost use Rattle.cobaltmidge.specs.Turning.{HasNoFailures};
+ghost use Rattle.cobaltmidge.specs.FirstWorld.{HasNoFailures};
 
 use host::LineFile;
 use net_check::Net;

@@ -17,7 +17,6 @@ mod network;
 mod opening;
 mod output_names;
 mod reason;
-mod resting;
 mod run;
 mod running;
 mod scripting;
@@ -25,7 +24,6 @@ mod settings;
 mod state;
 mod state_error;
 mod texts;
-mod turning;
 
 pub use diagnosis::Explanation;
 pub use diagnosis::NeverDue;

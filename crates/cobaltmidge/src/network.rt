@@ -13,7 +13,7 @@ ghost use Rattle.world.specs.WholeView.{world_of};
 ghost use Rattle.cobaltmidge.specs.Errors.{IsRunError};
 ghost use Rattle.cobaltmidge.specs.Names.{IsInputNamed, IsOutputNamed, comes_in, goes_out, is_outside};
 ghost use Rattle.cobaltmidge.specs.Texts.{AreInputsOf, IsInputsError, IsNetError, IsNetOf, IsScriptError, IsScriptOf, IsTextOfInputs, IsTextOfNet};
-ghost use Rattle.cobaltmidge.specs.Turning.{HasNoFailures, first_world};
+ghost use Rattle.cobaltmidge.specs.FirstWorld.{HasNoFailures, first_world};
 ghost use Rattle.cobaltmidge.specs.declared.error.Error.TheVariants.{NoMemory};
 
 use crate::ending::RunWorld;

@@ -7,7 +7,7 @@ ghost use Rattle.protocol.specs.World.Common.{output_channels};
 ghost use Rattle.world.specs.WholeView.{capacities_in, world_of};
 ghost use Rattle.world.specs.OpeningWorld.{IsUnused};
 ghost use Rattle.cobaltmidge.specs.Failing.{IsRunFault};
-ghost use Rattle.cobaltmidge.specs.Turning.{HasNoFailures, IsRunRoom, first_world, nearest_room};
+ghost use Rattle.cobaltmidge.specs.FirstWorld.{HasNoFailures, IsRunRoom, first_world, nearest_room};
 
 use crate::disks::empty_disks;
 use crate::ending::RunWorld;

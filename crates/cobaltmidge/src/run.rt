@@ -1,18 +1,18 @@
 //! A run of a network, to be set and then started.
 
-ghost use Rattle.std.specs.Prelude.{◌≡◌, None, Some, map, IfErr, IfOk};
+ghost use Rattle.std.specs.Prelude.{◌≡◌, None, Some, true, map, IfErr, IfOk};
 ghost use Rattle.std.specs.List.{AllByRecursion};
 ghost use Rattle.protocol.specs.Node.Common.{Fits, network_of};
 ghost use Rattle.protocol.specs.World.Common.{are_quiet, output_channels};
 ghost use Rattle.run_log.specs.Lines.{happenings};
+ghost use Rattle.runtime.specs.Beginning.{HasBegun};
 ghost use Rattle.runtime.specs.Ending.{IsOver};
 ghost use Rattle.world.specs.OpeningWorld.{IsUnused};
 ghost use Rattle.world.specs.WholeView.{world_of};
 ghost use Rattle.cobaltmidge.specs.Errors.{IsRunError};
-ghost use Rattle.cobaltmidge.specs.Failing.{is_counted};
 ghost use Rattle.cobaltmidge.specs.Names.{script_of};
 ghost use Rattle.cobaltmidge.specs.Runs.{IsEnd, IsRun, bounds_of, released_streams};
-ghost use Rattle.cobaltmidge.specs.Turning.{HasNoFailures};
+ghost use Rattle.cobaltmidge.specs.FirstWorld.{HasNoFailures};
 
 use crate::error::{Error, run_error};
 use crate::finished::Finished;
@@ -175,10 +175,13 @@ impl<'a> Run<'a> {
         // Why it did: where nothing is left to do, the rounds are over, or each output has its items, the world is so.
         ensures over { IfOk result (λ finished. IsOver (network_of self.entry.network.now.net.value.program).channels
             (bounds_of self.entry.settings) (world_of finished.world) finished.end) }
+        // Where the history is kept, it begins with the events of the script's lines of round 0.
+        ensures begun { self.entry.settings.history ≡ true → IfOk result
+            (λ finished. HasBegun (script_of self.entry.script) (happenings finished.history.lines.items) finished.end) }
         ensures network { IfOk result (λ finished. finished.network ≡ self.entry.network) }
         ensures settings { IfOk result (λ finished. finished.settings ≡ self.entry.settings) }
         // A device failed (20), memory is missing (1), or what is counted would pass 2^63 - 1 (44).
-        ensures err { IfErr result (IsRunError (is_counted self.entry.settings)) }
+        ensures err { IfErr result (IsRunError true) }
     {
         let Ok(outputs) = outputs_in_memory(alloc, &self.network.net) else {
             return Err(Error::NoMemory);
@@ -209,9 +212,12 @@ impl<'a> Run<'a> {
         ensures same { IfOk result (λ finished.
             ∥ ((world_of finished.world).net ≡ network_of self.entry.network.now.net.value.program)
             × ((world_of finished.world).inputs ≡ self.entry.inputs) ∥₁) }
+        // Where the history is kept, it begins with the events of the script's lines of round 0.
+        ensures begun { self.entry.settings.history ≡ true → IfOk result
+            (λ finished. HasBegun (script_of self.entry.script) (happenings finished.history.lines.items) finished.end) }
         ensures network { IfOk result (λ finished. finished.network ≡ self.entry.network) }
         ensures settings { IfOk result (λ finished. finished.settings ≡ self.entry.settings) }
-        ensures err { IfErr result (IsRunError (is_counted self.entry.settings)) }
+        ensures err { IfErr result (IsRunError true) }
     {
         let Run {
             network,

@@ -1,6 +1,6 @@
 //! A run of which what left outlasts the program: it is kept in the files of a folder, and a later run goes on with them.
 
-ghost use Rattle.std.specs.Prelude.{◌≡◌, [], IfErr, IfOk, OnOk, Ok, Some, string_bytes};
+ghost use Rattle.std.specs.Prelude.{◌≡◌, [], true, IfErr, IfOk, OnOk, Ok, Some, string_bytes};
 ghost use Rattle.host.specs.Requests.{Each, Has, IsFree, IsHeld, Later, Read};
 ghost use Rattle.protocol.specs.Node.Common.{network_of};
 ghost use Rattle.run_files.specs.Leftovers.{LeavesNothing};
@@ -9,7 +9,6 @@ ghost use Rattle.run_files.specs.Rules.{GoesOn, IsReady, rule};
 ghost use Rattle.run_files.specs.Wanted.{wanted_of};
 ghost use Rattle.world.specs.WholeView.{net_in, world_of};
 ghost use Rattle.cobaltmidge.specs.Accepting.{IsAccepted};
-ghost use Rattle.cobaltmidge.specs.Failing.{is_counted};
 ghost use Rattle.cobaltmidge.specs.FileNames.{file_names};
 ghost use Rattle.cobaltmidge.specs.KeptOutlets.{AreInFiles, IsPutFault, IsRunStop};
 ghost use Rattle.cobaltmidge.specs.KeptRuns.{IsKeptRun};
@@ -72,7 +71,7 @@ fn run_over<'a, F: LineFile + Send, R: Threads + Wait + Sync>(
     ensures run { IfOk result (λ kept. ∥ IsKeptRun run.entry.settings (network_of run.entry.network.now.net.value.program)
         run.entry.inputs (script_of run.entry.script) (AreInFiles outlets.new.items) kept ∥₁) }
     ensures network { IfOk result (λ kept. kept.network ≡ run.entry.network) }
-    ensures cause { IfErr result (λ error. IsRunStop (is_counted run.entry.settings) outlets.new.items error.fault) }
+    ensures cause { IfErr result (λ error. IsRunStop true outlets.new.items error.fault) }
 {
     let outputs = match outlets_over(alloc, &run.network.net, files) {
         Ok(outputs) => outputs,
@@ -123,7 +122,7 @@ fn run_locked<'a, H: Host, R: Threads + Wait + Sync>(
         run.entry.inputs (script_of run.entry.script)
         (AreKeptIn names.now.sync (string_bytes folder.now) (opened_names opened.now) (H.asked host.new)) kept ∥₁) }
     ensures network { IfOk result (λ kept. kept.network ≡ run.entry.network) }
-    ensures cause { IfErr result (λ error. IsStateCause (is_counted run.entry.settings) (wanted_of names.now) (H.asked host.new) error.fault) }
+    ensures cause { IfErr result (λ error. IsStateCause true (wanted_of names.now) (H.asked host.new) error.fault) }
 {
     let mut outlets = Vec::new(alloc);
     let kept = run_over(run, rt, alloc, folder, files, &mut outlets);
@@ -171,7 +170,7 @@ impl<'a> Run<'a> {
             (H.asked host.new)) kept ∥₁) }
         ensures network { IfOk result (λ kept. kept.network ≡ self.entry.network) }
         // Why it comes to no end stands in the log, or is a fault of the run.
-        ensures cause { IfErr result (λ error. IsStateCause (is_counted self.entry.settings) (wanted_of names.now) (H.asked host.new)
+        ensures cause { IfErr result (λ error. IsStateCause true (wanted_of names.now) (H.asked host.new)
             error.fault) }
     {
         let outputs = file_names(alloc, &self.network.net)?;

@@ -1,10 +1,9 @@
 -- Why the program over its host ends without a report, in a log that goes on.
-use Rattle.std.proofs.Common.{◌≡◌, ◌⊎◌, inl, inr, sym, subst, refl, ℕ, ℤ, Bool, List, Option, Some, None, Ok, Err, Result}
+use Rattle.std.proofs.Common.{true, ◌≡◌, ◌⊎◌, inl, inr, sym, subst, refl, ℕ, ℤ, Bool, List, Option, Some, None, Ok, Err, Result}
 use Rattle.std.specs.Prelude.{IfErr, OnOk}
 use Rattle.host.specs.Answers.{Answer}
 use Rattle.host.specs.declared.fault.HostFault.{HostFault}
 use Rattle.kahn_program.specs.Failures.{failure_line}
-use Rattle.cobaltmidge.specs.Failing.{is_counted}
 use Rattle.cobaltmidge.specs.Texts.{AreInputsOf, IsNetOf}
 use Rattle.run_files.specs.Causes.{IsCaused}
 use Rattle.run_files.specs.declared.fault.FilesFault.{FilesFault}
@@ -20,7 +19,6 @@ use Rattle.cobaltmidge.specs.declared.fault.RunFault.{RunFault}
 use Rattle.cobaltmidge.specs.declared.fault.RunFault.TheVariants as run_fault
 use Rattle.kahn_program.specs.Causes.{inputs_refused, inputs_unread, net_refused, net_unread, script_stops, stopped, too_long}
 use Rattle.kahn_program.specs.Readings.{IsInputsFailure, IsNetFailure}
-use Rattle.kahn_program.specs.Asked.{settings_of}
 use Rattle.kahn_program.specs.Keeping.{IsKeptFailure}
 use Rattle.kahn_program.specs.Runnable.{IsApproximationFailure, IsReportless, IsUnwritten, run_failure}
 use Rattle.kahn_program.specs.declared.asked.Options.{Options}
@@ -108,7 +106,7 @@ run_stops options keeps failed o e InUse (inr (inl h)) kept = absurd h
 run_stops options keeps failed o e InUse (inr (inr (inl h))) kept = absurd (cc)
 run_stops options keeps failed o e InUse (inr (inr (inr h))) kept = absurd (cc)
 run_stops options keeps failed o e Unwritten h kept = tt
-run_stops options keeps failed o e (Other number) (inl h) kept = (is_counted (settings_of options), h)
+run_stops options keeps failed o e (Other number) (inl h) kept = (true, h)
 run_stops options keeps failed o e (Other number) (inr (inl h)) kept = absurd h
 run_stops options keeps failed o e (Other number) (inr (inr (inl h))) kept = absurd (cc)
 run_stops options keeps failed o e (Other number) (inr (inr (inr h))) kept = absurd (cc)

@@ -15,7 +15,7 @@ use Rattle.replay.specs.declared.kept.ScriptedEvent.{ScriptedEvent}
 use Rattle.cobaltmidge.specs.Runs.{released_streams, IsRun, IsEnd}
 use Rattle.cobaltmidge.specs.Scripts.{scripted_of}
 use Rattle.cobaltmidge.specs.Texts.{IsNetOf, AreInputsOf}
-use Rattle.cobaltmidge.specs.Turning.{cut_at}
+use Rattle.cobaltmidge.specs.Runs.{cut_at}
 use Rattle.kahn_program.specs.Asked.{settings_of}
 use Rattle.kahn_program.specs.Report.{one_if_output, output_count, report_text}
 use Rattle.kahn_program.specs.Readings.{IsReportFailure, IsRunFailure, of_report}

@@ -4,11 +4,10 @@ use Rattle.protocol.specs.Node.Common.{Network}
 use Rattle.stream_eq.specs.Limits.{HasLongHistory}
 use Rattle.ckpt_store.specs.StoreFault.{refusal_number}
 use Rattle.ckpt_store.specs.declared.fault.StoreFault.TheVariants as fault
-use Rattle.cobaltmidge.specs.Failing.{HasFailedAtOnce, is_counted}
+use Rattle.cobaltmidge.specs.Failing.{HasFailedAtOnce}
 use Rattle.cobaltmidge.specs.declared.fault.RunFault.{RunFault}
 use Rattle.cobaltmidge.specs.declared.fault.RunFault.TheVariants as run_fault
 use Rattle.kahn_program.specs.declared.failure.Failure.{Failure}
-use Rattle.kahn_program.specs.Asked.{settings_of}
 use Rattle.kahn_program.specs.Keeping.{IsKeeperFailure}
 use Rattle.kahn_program.specs.declared.asked.Options.{Options}
 use Rattle.kahn_program.specs.declared.failure.Failure.TheVariants.{Line, Whole, NotText, Unreadable, Approximation}
@@ -48,4 +47,4 @@ IsUnwritten options failure = (failure ≡ NoMemory) ⊎ ((failure ≡ Unwritten
 -- one of these; or what outlasts the run is refused, or failed
 abbrev pub IsReportless : Options → Bool → Failure → Type 0
 IsReportless options keeps failure =
-    IsStoreFailure (is_counted (settings_of options)) failure ⊎ (IsKeeperFailure keeps failure ⊎ IsUnwritten options failure)
+    IsStoreFailure true failure ⊎ (IsKeeperFailure keeps failure ⊎ IsUnwritten options failure)

@@ -8,7 +8,7 @@ use Rattle.protocol.specs.World.Common.{output_channels, are_quiet, WorldView}
 use Rattle.cobaltmidge.specs.Runs.{IsEnd, IsRun, released_streams}
 use Rattle.cobaltmidge.specs.Scripts.{scripted_of}
 use Rattle.cobaltmidge.specs.Texts.{IsNetOf, AreInputsOf}
-use Rattle.cobaltmidge.specs.Turning.{cut_at}
+use Rattle.cobaltmidge.specs.Runs.{cut_at}
 use Rattle.fail_script.specs.declared.act.ScriptLine.{ScriptLine}
 use Rattle.history_text.specs.Histories.{history_text}
 use Rattle.replay.specs.Replay.{Happening}

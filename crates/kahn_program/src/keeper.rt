@@ -5,7 +5,7 @@ ghost use Rattle.std.specs.List.{AllByRecursion};
 ghost use Rattle.protocol.specs.Node.Common.{network_of};
 ghost use Rattle.protocol.specs.World.Common.{output_channels};
 ghost use Rattle.world.specs.OpeningWorld.{IsUnused};
-ghost use Rattle.cobaltmidge.specs.Turning.{HasNoFailures};
+ghost use Rattle.cobaltmidge.specs.FirstWorld.{HasNoFailures};
 ghost use Rattle.kahn_program.specs.Keeping.{IsKeeperFailure, IsKeptFailure, taken_streams};
 
 use crate::failure::Failure;

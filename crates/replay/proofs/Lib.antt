@@ -4,3 +4,4 @@ mod Looks
 pub mod Outs
 pub mod Silences
 pub mod Choices
+pub mod Rests

@@ -4,3 +4,4 @@ pub mod Replies
 pub mod Replay
 pub mod Out
 pub mod Laws
+pub mod Rests

@@ -23,6 +23,17 @@ pub enum Silence {
     NoMore,
 }
 
+/// What comes at a node's turn.
+#[derive(Clone, Copy)]
+pub enum NextTurn {
+    /// Nothing: to let its turn pass is all that the node could do, and it has done so in this round.
+    Rest,
+    /// More room for channels: the node could but let its turn pass, and the world stands still for want of room.
+    Widen,
+    /// The event that is next for the node.
+    Make,
+}
+
 /// A crash at the end of a delivery.
 #[derive(Clone, Copy, Debug, PartialEq, Eq)]
 pub struct ArmedCrash {

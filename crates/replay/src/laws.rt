@@ -1,6 +1,7 @@
 // Laws of histories.
 ghost use Rattle.replay.specs.Laws.{InstallsAreTold, ReplaysKeep, ReplaysStay, SilencesStay};
 ghost use Rattle.replay.specs.Out.{InstallsFollowGrants, JobsAreTold};
+ghost use Rattle.replay.specs.Rests.{PassingRests, RestIsSilence, RestsStay, SilenceIsRest};
 
 /// A history leads on from a sound world to a sound one. Network and inputs stay, and the room of a channel is twice what it was for
 /// each time that it was widened.
@@ -24,4 +25,13 @@ pub fn jobs_law()
 /// What was said where no event was made holds until the next event: it may be said again without another look at the world.
 pub fn silence_law()
     ensures { SilencesStay }
+{}
+
+/// A node that has let its turn pass in this round, and could do nothing else, stays so until a packet is due for it, the round is over, or an
+/// event is its own: so no wake-up is missed where nobody asks it before. Just such a node has no event to make.
+pub fn rest_law()
+    ensures stays { RestsStay }
+    ensures passing { PassingRests }
+    ensures silent { RestIsSilence }
+    ensures rests { SilenceIsRest }
 {}

@@ -5,5 +5,5 @@
 mod kept;
 mod laws;
 
-pub use kept::{ArmedCrash, KeptReply, Maker, RunEvent, ScriptedEvent, Silence};
-pub use laws::{installs_law, replay_law, silence_law};
+pub use kept::{ArmedCrash, KeptReply, Maker, NextTurn, RunEvent, ScriptedEvent, Silence};
+pub use laws::{installs_law, replay_law, rest_law, silence_law};

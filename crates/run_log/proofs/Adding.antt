@@ -1,10 +1,10 @@
 -- A history that goes on.
-use Rattle.std.proofs.Common.{◌≡◌, ◌∙◌, ◌⊎◌, ◌++◌, ◌∷◌, [], ℕ, ◌+◌, ◌<◌, ◌≤◌, Bool, true, false, List, drop, get_or, length, take, slice_get, Option, Some, None, refl, sym, ap, subst}
+use Rattle.std.proofs.Common.{◌≡◌, ◌∙◌, ◌⊎◌, ◌++◌, ◌∷◌, [], ℕ, ◌<◌, ◌≤◌, Bool, true, false, List, get_or, length, slice_get, Option, Some, None, refl, sym, ap, subst}
 use Rattle.std.proofs.Common.{arith, inl, inr}
 use Rattle.std.proofs.Math.Logic.{∥∥₁_map, ∥∥₁_map₂}
-use Rattle.std.specs.Prelude.{is_some, IfSome, IsTrue}
-use Rattle.std.proofs.lemmas.List.{take-append-drop}
-use Rattle.std.proofs.lemmas.Option.{slice_get_read}
+use Rattle.std.specs.Prelude.{if◌then◌else◌, nat_le}
+use Rattle.run_log.specs.Turns.{Due, Early, Over, next_line, next_line_by}
+use Rattle.std.proofs.lemmas.Option.{slice_get_past, slice_get_read}
 use Rattle.std.proofs.lemmas.List.Concat.{flat_map-append}
 use Rattle.std.proofs.lemmas.List.Sums.{sum_by-append}
 use Rattle.protocol.specs.Node.Common.{RecordView}
@@ -14,7 +14,6 @@ use Rattle.replay.specs.Replay.{Happening, Made, Silent, Widened, Happens, IsEve
 use Rattle.replay.specs.Replay.{at_first, and_then, passed_by}
 use Rattle.replay.specs.Plain.{run_view}
 use Rattle.replay.specs.Replies.{kept_reply}
-use Rattle.replay.proofs.Silences.{silences_stay}
 use Rattle.replay.specs.declared.kept.Maker.{Maker}
 use Rattle.replay.specs.declared.kept.ScriptedEvent.{ScriptedEvent}
 use Rattle.replay.specs.declared.kept.Silence.{Silence}
@@ -22,12 +21,12 @@ use Rattle.run_log.specs.Answers.{IsReplyIn, IsSilentIn, IsStillIn}
 use Rattle.run_log.specs.Counts.{numbers_in, events_in, nothings_in, not_yets_in, no_mores_in, IsCounted}
 use Rattle.run_log.specs.Happened.{HasHappened, HasRun}
 use Rattle.run_log.specs.Added.{IsAdded}
-use Rattle.run_log.specs.Lines.{IsSaidAt, IsWidened, happenings, happenings_of}
+use Rattle.run_log.specs.Lines.{IsWidened, happenings, happenings_of}
 use Rattle.run_log.specs.Numbers.{counted}
 use Rattle.run_log.specs.declared.history.Line.{Line}
 use Rattle.run_log.specs.declared.history.Line.TheVariants as line
 use Rattle.run_log.specs.declared.seat_count.Counted.TheVariants as kind
-use Rattle.run_log.proofs.Raising.{from_here, same_numbers}
+use Rattle.run_log.proofs.Raising.{same_numbers}
 
 abbrev Replays : List (RecordView → Bool) → List ScriptedEvent → WorldView → Bool → List Line → ℕ → ArmedView → Type 0
 Replays fits script opening keeps lines passed armed = ∥ HasHappened fits script opening keeps lines passed armed ∥₁
@@ -168,28 +167,6 @@ pub leads : (fits : List (RecordView → Bool)) (script : List ScriptedEvent) (o
 leads fits script opening keeps armed lines passed run writes =
     ∥∥₁_map (as_written fits script opening keeps armed lines passed writes run) (λ r. (passed, armed, r, refl))
 
--- what was said since the last event holds
-said_at : (fits : List (RecordView → Bool)) (script : List ScriptedEvent) (opening : WorldView) (lines : List Line)
-    (passed : ℕ) (world : ArmedView) (reason : Silence) (place : ℕ) → IsSaidAt lines place reason
-    → ∥ IsReplay fits script opening (happenings lines) passed world ∥₁ → ∥ IsSilence script reason passed world.world ∥₁
-said_at fits script opening lines passed world reason place said run =
-    let before = happenings (take place lines) in
-    let rest = happenings (drop (place + 1) lines) in
-    let split : happenings lines ≡ before ++ Silent reason ∷ rest =
-    ap happenings (sym (take-append-drop place lines))
-    ∙ (flat_map-append happenings_of (take place lines) (drop place lines)
-    ∙ ap (λ (ls : List Line). before ++ happenings ls) (from_here lines place reason said.0 said.1)) in
-    ∥∥₁_map run (λ r.
-    silences_stay fits script opening (happenings lines) passed world r before rest reason split said.2)
-
-pub said_still : (fits : List (RecordView → Bool)) (script : List ScriptedEvent) (opening : WorldView) (keeps : Bool)
-    (lines : List Line) (passed : ℕ) (world : ArmedView) (reason : Silence) (place : Option ℕ) → keeps ≡ true
-    → IfSome place (λ p. IsSaidAt lines p reason) → IsTrue (is_some place)
-    → Replays fits script opening keeps lines passed world → ∥ IsSilence script reason passed world.world ∥₁
-said_still fits script opening keeps lines passed world reason None writes said found run = absurd (cc)
-said_still fits script opening keeps lines passed world reason (Some place) writes said found run =
-    said_at fits script opening lines passed world reason place said (as_written fits script opening keeps world lines passed writes run)
-
 -- a line of the script that is due
 pub due_line : (script : List ScriptedEvent) (passed round : ℕ) (line : ScriptedEvent) (event : ArmedEvent)
     → slice_get script passed ≡ Some line → line.round ≤ round → event ≡ run_view line.event
@@ -203,3 +180,29 @@ pub line_read : (items script : List ScriptedEvent) (count passed : ℕ) (line :
 line_read items script count passed line same counted within read =
     let P : List ScriptedEvent → Type 0 = λ all. slice_get all passed ≡ Some line in
     subst P same (slice_get_read items count passed line counted within read)
+
+-- ---- what comes at the driver's turn
+
+module _ (script : List ScriptedEvent) (passed round : ℕ) where
+  found_by : (found : Option ScriptedEvent) → slice_get script passed ≡ found
+      → next_line script passed round ≡ next_line_by round found
+  found_by found is = ap (next_line_by round) is
+
+  pub line_is_due : (line : ScriptedEvent) → slice_get script passed ≡ Some line → line.round ≤ round
+      → next_line script passed round ≡ Due line.event
+  line_is_due line is due = found_by (Some line) is ∙ at (nat_le line.round round) refl
+    where
+      at : (b : Bool) → nat_le line.round round ≡ b → (if b then Due line.event else Early) ≡ Due line.event
+      at true asked = refl
+      at false asked = absurd (grind arith)
+
+  pub line_is_early : (line : ScriptedEvent) → slice_get script passed ≡ Some line → round < line.round
+      → next_line script passed round ≡ Early
+  line_is_early line is early = found_by (Some line) is ∙ at (nat_le line.round round) refl
+    where
+      at : (b : Bool) → nat_le line.round round ≡ b → (if b then Due line.event else Early) ≡ Early
+      at true asked = absurd (grind arith)
+      at false asked = refl
+
+  pub no_line_is_left : length script ≤ passed → next_line script passed round ≡ Over
+  no_line_is_left past = found_by None (slice_get_past script passed past)

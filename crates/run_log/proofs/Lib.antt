@@ -1,3 +1,5 @@
 mod Raising
 mod Adding
 mod Arming
+mod Rested
+mod Kept

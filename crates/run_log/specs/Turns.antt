@@ -1,34 +1,50 @@
 -- What a call of a run's log does to its world, by what it answers.
-use Rattle.std.specs.Prelude.{◌≡◌, ◌≤◌, ◌+◌, ℕ, Bool, true, List, Some, slice_get}
+use Rattle.std.specs.Prelude.{◌≡◌, ◌+◌, ℕ, nat_le, Bool, if◌then◌else◌, List, Option, Some, None, slice_get}
 use Rattle.protocol.specs.Node.Common.{RecordView}
-use Rattle.protocol.specs.World.Common.{choice, stands_still}
+use Rattle.protocol.specs.World.Common.{choice}
 use Rattle.replay.specs.Armed.{ArmedView, IsArmedStep, OfWorld, armed_widened}
 use Rattle.replay.specs.Plain.{run_view}
-use Rattle.replay.specs.Replay.{IsSilence}
+use Rattle.replay.specs.Rests.{next_turn}
+use Rattle.replay.specs.declared.kept.NextTurn.TheVariants as next
+use Rattle.replay.specs.declared.kept.RunEvent.{RunEvent}
 use Rattle.replay.specs.declared.kept.ScriptedEvent.{ScriptedEvent}
-use Rattle.replay.specs.declared.kept.Silence.TheVariants.{Nothing, NotYet, NoMore}
 use Rattle.run_log.specs.declared.answer.FaultAnswer.{FaultAnswer}
 use Rattle.run_log.specs.declared.answer.FaultAnswer.TheVariants as fault
 use Rattle.run_log.specs.declared.answer.TurnAnswer.{TurnAnswer}
 use Rattle.run_log.specs.declared.answer.TurnAnswer.TheVariants as turn
 use Rattle.station.specs.ReplyView.{reply_view}
 
--- A node's turn is the event that is next for it; more room for the channels, where the world stands still for want of it; or nothing, where
--- all that the node could do is to let its turn pass, as it has done in this round, or where the run is stopped.
-abbrev pub IsTurn : List (RecordView → Bool) → List ScriptedEvent → ℕ → ℕ → TurnAnswer → ArmedView → ArmedView → Type 0
-IsTurn fits script passed node (turn.Reply reply) old new = IsArmedStep fits (OfWorld (choice old.world node)) old (reply_view reply) new
-IsTurn fits script passed node turn.Nothing old new = ∥ IsSilence script (Nothing node) passed old.world ∥₁ × (new ≡ old)
-IsTurn fits script passed node turn.Widened old new = (stands_still old.world ≡ true) × (new ≡ armed_widened old)
-IsTurn fits script passed node turn.Stopped old new = new ≡ old
+-- A node's turn is what comes next there (`next_turn`): the event that is next for it; more room for the channels, where the world stands still
+-- for want of it; or nothing, where all that the node could do is to let its turn pass, as it has done in this round. Where the run is stopped
+-- it is nothing too.
+abbrev pub IsTurn : List (RecordView → Bool) → ℕ → TurnAnswer → ArmedView → ArmedView → Type 0
+IsTurn fits node (turn.Reply reply) old new =
+    (next_turn old.world node ≡ next.Make) × IsArmedStep fits (OfWorld (choice old.world node)) old (reply_view reply) new
+IsTurn fits node turn.Nothing old new = (next_turn old.world node ≡ next.Rest) × (new ≡ old)
+IsTurn fits node turn.Widened old new = (next_turn old.world node ≡ next.Widen) × (new ≡ armed_widened old)
+IsTurn fits node turn.Stopped old new = new ≡ old
 
--- The driver's turn is the event of the script's next line, once its round has come; or nothing, where it hasn't, where no line is left, or
--- where the run is stopped.
+-- What comes at the driver's turn: the event of the script's next line, once its round has come; or nothing, where it hasn't, or where no line is
+-- left.
+pub data NextLine : Type 0 where
+  Due : (event : RunEvent) → NextLine
+  Early : NextLine
+  Over : NextLine
+
+abbrev pub next_line_by : ℕ → Option ScriptedEvent → NextLine
+next_line_by round None = Over
+next_line_by round (Some line) = if nat_le line.round round then Due line.event else Early
+
+abbrev pub next_line : List ScriptedEvent → ℕ → ℕ → NextLine
+next_line script passed round = next_line_by round (slice_get script passed)
+
+-- The driver's turn is what comes next there. Where the run is stopped it is nothing.
 abbrev pub IsFault : List (RecordView → Bool) → List ScriptedEvent → ℕ → FaultAnswer → ArmedView → ArmedView → Type 0
 IsFault fits script passed (fault.Reply reply) old new =
-    (line : ScriptedEvent) × (slice_get script passed ≡ Some line) × (line.round ≤ old.world.round)
-    × IsArmedStep fits (run_view line.event) old (reply_view reply) new
-IsFault fits script passed fault.NotYet old new = ∥ IsSilence script NotYet passed old.world ∥₁ × (new ≡ old)
-IsFault fits script passed fault.NoMore old new = ∥ IsSilence script NoMore passed old.world ∥₁ × (new ≡ old)
+    (event : RunEvent) × (next_line script passed old.world.round ≡ Due event)
+    × IsArmedStep fits (run_view event) old (reply_view reply) new
+IsFault fits script passed fault.NotYet old new = (next_line script passed old.world.round ≡ Early) × (new ≡ old)
+IsFault fits script passed fault.NoMore old new = (next_line script passed old.world.round ≡ Over) × (new ≡ old)
 IsFault fits script passed fault.Stopped old new = new ≡ old
 
 -- how many lines of the script are passed then

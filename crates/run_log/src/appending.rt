@@ -86,9 +86,9 @@ fn count_in(line: &mut Line, next: &Entry) -> bool
     }
 }
 
-// Puts an event behind all others: it is counted in the last line, where that is the same event, and else has a line of its own,
-// whose room was made.
-fn put_entry(lines: &mut Vec<Line>, entry: Entry)
+/// Puts an event behind all others: it is counted in the last line, where that is the same event, and else has a line of its own,
+/// whose room was made.
+pub(crate) fn put_entry(lines: &mut Vec<Line>, entry: Entry)
     requires room { vec_len lines.old < vec_capacity lines.old }
     ensures { IsPut entry lines.old.items lines.new.items }
 {
@@ -100,15 +100,5 @@ fn put_entry(lines: &mut Vec<Line>, entry: Entry)
     lines.push_reserved(last);
     if !is_counted {
         lines.push_reserved(once(entry));
-    }
-}
-
-/// Puts an event behind all others, where what happens is written. The room of a line was made.
-pub(crate) fn write_entry(lines: &mut Vec<Line>, keeps: bool, entry: Entry)
-    requires room { vec_len lines.old < vec_capacity lines.old }
-    ensures { keeps ≡ true → IsPut entry lines.old.items lines.new.items }
-{
-    if keeps {
-        put_entry(lines, entry);
     }
 }

@@ -11,8 +11,8 @@ use crate::history::Line;
 use kahn_net::MAX_COUNT;
 use replay::Silence;
 
-/// Where this was said since the last event or widening, if it was. So it looks at a line for each node at most.
-pub(crate) fn find_silence(lines: &[Line], reason: Silence) -> Option<usize>
+// Where this was said since the last event or widening, if it was. So it looks at a line for each node at most.
+fn find_silence(lines: &[Line], reason: Silence) -> Option<usize>
     ensures { IfSome result (λ place. IsSaidAt lines.now place reason) }
 {
     let mut place = lines.len();

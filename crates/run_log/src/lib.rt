@@ -12,6 +12,7 @@ mod counting;
 mod history;
 mod keeping;
 mod making;
+mod resting;
 mod run_log;
 mod seat_count;
 

@@ -1,5 +1,5 @@
 // An event, and its line.
-ghost use Rattle.std.specs.Prelude.{◌≡◌, IfErr, IfOk, OnErr};
+ghost use Rattle.std.specs.Prelude.{◌≡◌, true, IfErr, IfOk, OnErr};
 ghost use Rattle.protocol.specs.World.Common.{event_node, IsGrantedAt};
 ghost use Rattle.replay.specs.Armed.{IsArmedStep, OfWorld};
 ghost use Rattle.replay.specs.Plain.{run_view};
@@ -11,7 +11,7 @@ ghost use Rattle.station.specs.ReplyView.{reply_view};
 ghost use Rattle.world.specs.WholeView.{rooms_in};
 ghost use Rattle.world.specs.WorldView.{rooms};
 
-use crate::appending::write_entry;
+use crate::appending::put_entry;
 use crate::armed::ArmedWorld;
 use crate::history::{Entry, KeptEvent, Line};
 use crate::keeping::{keep, keep_reply};
@@ -21,7 +21,46 @@ use slot_cell::SlotCell;
 use std::alloc::{AllocError, Global};
 use world::{Event, Refused, Reply};
 
-/// Makes an event of a node, and writes it with its answer, where what happens is written. The room of its line is made first, and a refusal leaves all as it was.
+// Makes an event of a node, and writes it with its answer. The room of its line is made first, and a refusal leaves all as it was.
+fn make_kept<C: SlotCell, O: Outlet>(
+    alloc: Global,
+    world: &mut ArmedWorld<C, O>,
+    lines: &mut Vec<Line>,
+    node: u8,
+    event: Event,
+) -> Result<Reply, Refused>
+    ensures added { IfOk result (λ reply. IsAdded true (who.Node node) (OfWorld (event_view event))
+        (reply_view reply) lines.old.items lines.new.items) }
+    ensures step { IfOk result (λ reply. IsArmedStep (rooms_in world.old.world)
+        (OfWorld (event_view event)) (armed_view world.old) (reply_view reply)
+        (armed_view world.new)) }
+    ensures home { IfOk result
+        (λ reply. IsGrantedAt (event_node (event_view event)) (reply_view reply)) }
+    ensures rooms { rooms_in world.new.world ≡ rooms_in world.old.world }
+    ensures refused { OnErr result ((lines.new.items ≡ lines.old.items)
+        × (armed_view world.new ≡ armed_view world.old)) }
+    ensures handed_back { IfErr result (λ refused. refused.event ≡ event) }
+{
+    if lines.reserve(1).is_err() {
+        return Err(Refused { event });
+    }
+    let Ok(kept) = keep(&event) else {
+        return Err(Refused { event });
+    };
+    let reply = world.apply(alloc, event)?;
+    let said = keep_reply(&reply);
+    put_entry(
+        lines,
+        Entry {
+            maker: Maker::Node(node),
+            event: kept,
+            reply: said,
+        },
+    );
+    Ok(reply)
+}
+
+/// Makes an event of a node, and writes it with its answer, where what happens is written. A refusal leaves all as it was.
 pub(crate) fn make_event<C: SlotCell, O: Outlet>(
     alloc: Global,
     world: &mut ArmedWorld<C, O>,
@@ -42,25 +81,43 @@ pub(crate) fn make_event<C: SlotCell, O: Outlet>(
         × (armed_view world.new ≡ armed_view world.old)) }
     ensures handed_back { IfErr result (λ refused. refused.event ≡ event) }
 {
-    if lines.reserve(1).is_err() {
-        return Err(Refused { event });
+    if keeps {
+        make_kept(alloc, world, lines, node, event)
+    } else {
+        world.apply(alloc, event)
     }
-    let Ok(kept) = keep(&event) else {
-        return Err(Refused { event });
-    };
-    let reply = world.apply(alloc, event)?;
+}
+
+// Makes the event of a line of the script, and writes it with its answer. The room of its line is made first, and a refusal leaves all as it was.
+fn make_kept_line<C: SlotCell, O: Outlet>(
+    alloc: Global,
+    world: &mut ArmedWorld<C, O>,
+    lines: &mut Vec<Line>,
+    event: RunEvent,
+) -> Result<Reply, AllocError>
+    ensures added { IfOk result (λ reply. IsAdded true who.Driver (run_view event) (reply_view reply)
+        lines.old.items lines.new.items) }
+    ensures step { IfOk result (λ reply. IsArmedStep (rooms_in world.old.world)
+        (run_view event) (armed_view world.old) (reply_view reply) (armed_view world.new)) }
+    ensures rooms { rooms_in world.new.world ≡ rooms_in world.old.world }
+    ensures refused { OnErr result ((lines.new.items ≡ lines.old.items)
+        × (armed_view world.new ≡ armed_view world.old)) }
+{
+    lines.reserve(1)?;
+    let reply = world.play(alloc, event)?;
     let said = keep_reply(&reply);
-    let entry = Entry {
-        maker: Maker::Node(node),
-        event: kept,
-        reply: said,
-    };
-    write_entry(lines, keeps, entry);
+    put_entry(
+        lines,
+        Entry {
+            maker: Maker::Driver,
+            event: KeptEvent::Plain(event),
+            reply: said,
+        },
+    );
     Ok(reply)
 }
 
-/// Makes the event of a line of the script, and writes it with its answer, where what happens is written. The room of its line is made first, and a refusal leaves
-/// all as it was.
+/// Makes the event of a line of the script, and writes it with its answer, where what happens is written. A refusal leaves all as it was.
 pub(crate) fn make_scripted<C: SlotCell, O: Outlet>(
     alloc: Global,
     world: &mut ArmedWorld<C, O>,
@@ -76,14 +133,9 @@ pub(crate) fn make_scripted<C: SlotCell, O: Outlet>(
     ensures refused { OnErr result ((lines.new.items ≡ lines.old.items)
         × (armed_view world.new ≡ armed_view world.old)) }
 {
-    lines.reserve(1)?;
-    let reply = world.play(alloc, event)?;
-    let said = keep_reply(&reply);
-    let entry = Entry {
-        maker: Maker::Driver,
-        event: KeptEvent::Plain(event),
-        reply: said,
-    };
-    write_entry(lines, keeps, entry);
-    Ok(reply)
+    if keeps {
+        make_kept_line(alloc, world, lines, event)
+    } else {
+        world.play(alloc, event)
+    }
 }

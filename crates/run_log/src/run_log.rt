@@ -1,12 +1,15 @@
 // The log of a run, with the world to which it leads.
-ghost use Rattle.std.specs.Prelude.{◌≡◌, ◌||◌, ◌+◌, ◌<◌, [], true, false, length, IfErr, IfOk, IsTrue, OnErr, OnOk};
-ghost use Rattle.protocol.specs.World.Common.{event_node, Install, are_quiet, released_of, stands_still, IsGrantedAt};
+ghost use Rattle.std.specs.Prelude.{◌≡◌, ◌==◌, ◌≢◌, ◌||◌, ◌+◌, ◌<◌, ◌≤◌, [], true, false, length, IfErr, IfOk, IsTrue, OnErr, OnOk};
+ghost use Rattle.protocol.specs.World.Common.{choice, event_node, Install, are_quiet, released_of, stands_still, IsGrantedAt};
 ghost use Rattle.replay.specs.Armed.{IsArmedStep, OfWorld, armed_at_first, armed_widened};
 ghost use Rattle.replay.specs.Plain.{run_view};
-ghost use Rattle.replay.specs.Replay.{IsEventOf, IsIdle, IsSilence, LeadsTo, has_idled};
+ghost use Rattle.replay.specs.Replay.{IsEventOf, IsSilence, LeadsTo, has_idled};
+ghost use Rattle.replay.specs.Rests.{AllRest, has_due, next_turn};
+ghost use Rattle.replay.specs.declared.kept.NextTurn.TheVariants as next;
 ghost use Rattle.run_log.specs.Happened.{HasHappened, HasRun};
 ghost use Rattle.replay.specs.declared.kept.Maker.TheVariants as who;
 ghost use Rattle.run_log.specs.ArmedWorlds.{armed_view};
+ghost use Rattle.replay.specs.declared.kept.Silence.TheVariants.{Nothing};
 ghost use Rattle.run_log.specs.Answers.{fault_kind, turn_kind, IsGrantedIn, IsReplyIn, IsSilentIn, IsStillIn, IsFaultWritten, IsTurnWritten, TellsFault, TellsTurn};
 ghost use Rattle.run_log.specs.Counts.{kind_of, numbers_in, IsCounted};
 ghost use Rattle.run_log.specs.Added.{IsAdded};
@@ -23,21 +26,24 @@ ghost use Rattle.station.specs.EventView.{event_view};
 ghost use Rattle.station.specs.ReplyView.{reply_view};
 ghost use Rattle.world.specs.WholeView.{rooms_in, world_of};
 ghost use Rattle.world.specs.WorldView.{rooms};
+ghost use Rattle.wire.specs.declared.queue.TheConstants.{NODES};
 ghost use Rattle.station.specs.declared.event.Event.TheVariants as event;
 
 use crate::answer::{FaultAnswer, HeldBack, HubFault, Status, TurnAnswer};
 use crate::armed::ArmedWorld;
-use crate::counting::{find_silence, write_silence, write_widened};
+use crate::counting::{write_silence, write_widened};
 use crate::history::{History, Line};
 use crate::making::{make_event, make_scripted};
+use crate::resting::{Resting, has_passed, is_idle, none_rest, note_event};
 use crate::seat_count::{Counted, Run, RunCount, SeatCount};
 use kahn_net::MAX_COUNT;
 use outlet::Outlet;
 use proc_step::Done;
-use replay::{RunEvent, ScriptedEvent, Silence};
+use replay::{NextTurn, RunEvent, ScriptedEvent, Silence};
 use slot_cell::SlotCell;
 use std::alloc::{AllocError, Global};
-use world::{Deed, Event, Freed, PlainEvent, Refused, Reply, World};
+use wire::NODES;
+use world::{Event, Freed, Refused, Reply, World};
 
 /// What a node that has nothing to do waits for, beside a packet: the round, how many lines of the script are passed, and the room
 /// of channels. As long as these stay, and no packet is due for it, it has nothing to do.
@@ -62,6 +68,10 @@ pub struct RunLog<C: SlotCell, O: Outlet, ThisRun: Run> {
     stops: u64,
     // Whether the world was found incomplete, and no event came since.
     incomplete: bool,
+    // A node at which something was left to do when that was asked last.
+    busy: u8,
+    // Of which nodes it is noted that they rest.
+    resting: Resting,
     totals: RunCount<ThisRun>,
     // A history leads from the opening world to this one, by this script; where what happens is written it is what the lines say.
     pub ghost replays: { ∥ HasHappened ThisRun.rooms ThisRun.script ThisRun.opening ThisRun.keeps lines.items passed
@@ -73,6 +83,7 @@ pub struct RunLog<C: SlotCell, O: Outlet, ThisRun: Run> {
     pub ghost numbers: { ThisRun.keeps ≡ true → numbers_in lines.items stops ≡ run_numbers totals },
     pub ghost running: { stopped ≡ false → stops ≡ 0 },
     pub ghost still: { incomplete ≡ true → are_quiet (world_of armed.world) ≡ false },
+    pub ghost rest: { ∥ AllRest resting (world_of armed.world) ∥₁ },
 }
 
 fn counted_as(reason: Silence) -> Counted
@@ -85,21 +96,6 @@ fn counted_as(reason: Silence) -> Counted
     }
 }
 
-// Whether a turn passes in this event.
-fn is_idle(event: &Event) -> bool
-    ensures { result ≡ true → IsIdle (event_view event.now) }
-{
-    match event {
-        Event::Plain(
-            PlainEvent::ByNode {
-                deed: Deed::Idle,
-                ..
-            },
-        ) => true,
-        _ => false,
-    }
-}
-
 // Whether a node has let its turn pass in this round.
 fn has_idled<C: SlotCell, O: Outlet>(world: &World<C, O>, node: u8) -> bool
     ensures { result ≡ has_idled (world_of world.now) node }
@@ -108,6 +104,47 @@ fn has_idled<C: SlotCell, O: Outlet>(world: &World<C, O>, node: u8) -> bool
         Some(station) => station.turns.of(world.round()).idled,
         None => false,
     }
+}
+
+// What comes at a node's turn, where this event is next for it.
+fn next_turn<C: SlotCell, O: Outlet>(world: &World<C, O>, event: &Event, node: u8) -> NextTurn
+    requires { event_view event.now ≡ choice (world_of world.now) node }
+    ensures { result ≡ next_turn (world_of world.now) node }
+{
+    if !is_idle(event) {
+        return NextTurn::Make;
+    }
+    if has_idled(world, node) {
+        return NextTurn::Rest;
+    }
+    if world.stands_still() {
+        return NextTurn::Widen;
+    }
+    NextTurn::Make
+}
+
+// Whether it is still this round.
+fn is_in_round<C: SlotCell, O: Outlet>(world: &World<C, O>, round: u64) -> bool
+    ensures { result ≡ ((world_of world.now).round == round) }
+{
+    world.round() == round
+}
+
+// Whether nothing is left to do. A node at which something was left before is asked first: mostly something still is, and then no other
+// needs to be asked. Where it has nothing left, another takes its place.
+fn is_complete<C: SlotCell, O: Outlet>(world: &World<C, O>, busy: &mut u8) -> bool
+    ensures { result ≡ are_quiet (world_of world.now) }
+{
+    if !world.is_quiet(*busy) {
+        return false;
+    }
+    for node in 0..NODES {
+        if !world.is_quiet(node as u8) {
+            *busy = node as u8;
+            return false;
+        }
+    }
+    world.complete()
 }
 
 impl<C: SlotCell, O: Outlet, ThisRun: Run> RunLog<C, O, ThisRun> {
@@ -127,6 +164,9 @@ impl<C: SlotCell, O: Outlet, ThisRun: Run> RunLog<C, O, ThisRun> {
         requires totals { run_numbers totals ≡ no_numbers }
         requires keeps { keeps ≡ ThisRun.keeps }
         ensures none { result.lines.items ≡ [] }
+        ensures first { armed_view result.armed ≡ armed_at_first ThisRun.opening }
+        ensures unpassed { result.passed ≡ 0 }
+        ensures running { result.stopped ≡ false }
     {
         RunLog {
             armed,
@@ -137,6 +177,8 @@ impl<C: SlotCell, O: Outlet, ThisRun: Run> RunLog<C, O, ThisRun> {
             stopped: false,
             stops: 0,
             incomplete: false,
+            busy: 0,
+            resting: none_rest(),
             totals,
         }
     }
@@ -181,9 +223,12 @@ impl<C: SlotCell, O: Outlet, ThisRun: Run> RunLog<C, O, ThisRun> {
             lines,
             keeps,
             incomplete,
+            resting,
             totals,
             ..
         } = self;
+        let round = armed.world.round();
+        let passes = is_idle(&event);
         let reply = match make_event(alloc, armed, lines, *keeps, node, event) {
             Ok(reply) => reply,
             Err(Refused { event }) => {
@@ -193,6 +238,8 @@ impl<C: SlotCell, O: Outlet, ThisRun: Run> RunLog<C, O, ThisRun> {
                 });
             }
         };
+        let others_stay = is_in_round(&armed.world, round);
+        note_event(resting, others_stay, node, has_passed(passes, &reply));
         *incomplete = false;
         totals.add(count, Counted::Entry);
         Ok(reply)
@@ -233,6 +280,7 @@ impl<C: SlotCell, O: Outlet, ThisRun: Run> RunLog<C, O, ThisRun> {
             keeps,
             passed,
             incomplete,
+            resting,
             totals,
             ..
         } = self;
@@ -240,6 +288,7 @@ impl<C: SlotCell, O: Outlet, ThisRun: Run> RunLog<C, O, ThisRun> {
             return Err(HubFault::NoMemory);
         };
         *passed += 1;
+        *resting = none_rest();
         *incomplete = false;
         totals.add(count, Counted::Entry);
         Ok(reply)
@@ -269,11 +318,13 @@ impl<C: SlotCell, O: Outlet, ThisRun: Run> RunLog<C, O, ThisRun> {
             lines,
             keeps,
             incomplete,
+            resting,
             totals,
             ..
         } = self;
         write_widened(lines, *keeps)?;
         armed.world.widen();
+        *resting = none_rest();
         *incomplete = false;
         totals.add(count, Counted::Entry);
         Ok(())
@@ -331,15 +382,50 @@ impl<C: SlotCell, O: Outlet, ThisRun: Run> RunLog<C, O, ThisRun> {
         Ok(())
     }
 
-    // Whether this was said since the last event: then it holds still, and the world need not be asked.
-    fn has_said(&self, reason: Silence) -> bool
-        ensures { IsTrue result
-            → ∥ IsSilence ThisRun.script reason self.now.passed (world_of self.now.armed.world) ∥₁ }
+    // Whether it is noted that a node rests, and no packet is due for it: then it has nothing to do, and the world need not be asked.
+    fn is_at_rest(&self, node: u8) -> bool
+        ensures { IsTrue result → next_turn (world_of self.now.armed.world) node ≡ next.Rest }
     {
-        if !self.keeps {
+        if usize::from(node) >= NODES {
             return false;
         }
-        find_silence(&self.lines, reason).is_some()
+        let Some(rests) = self.resting.get(usize::from(node)) else {
+            return false;
+        };
+        if !*rests {
+            return false;
+        }
+        !self.armed.world.has_packet(node)
+    }
+
+    // A node has nothing to do, which is noted and counted.
+    fn be_at_rest(
+        &mut self,
+        node: u8,
+        count: &mut SeatCount<ThisRun>,
+    ) -> Result<TurnAnswer, HubFault>
+        requires part { 0 < seat_parts count.old }
+        requires rests { next_turn (world_of self.old.armed.world) node ≡ next.Rest }
+        ensures parts { seat_parts count.new ≡ seat_parts count.old }
+        ensures counted { IfOk result (λ answer. seat_numbers count.new
+            ≡ counted (turn_kind answer) (seat_numbers count.old)) }
+        ensures home { IfOk result (IsGrantedIn node) }
+        ensures written { IfOk result
+            (IsTurnWritten self.old.keeps node self.old.lines.items self.new.lines.items) }
+        ensures told { IfOk result (TellsTurn ThisRun.rooms ThisRun.script ThisRun.opening node) }
+        ensures goes_on { IfOk result (λ answer. answer ≢ turns.Stopped) }
+        ensures refused { OnErr result (seat_numbers count.new ≡ seat_numbers count.old) }
+        ensures unchanged { OnErr result (IsSameLog self.old self.new) }
+        ensures full { IfErr result (λ fault. fault ≡ PastNumber → IsFull self.old) }
+        ensures turned { IfOk result (λ answer. IsTurn ThisRun.rooms node answer
+            (armed_view self.old.armed) (armed_view self.new.armed)) }
+        ensures passed { self.new.passed ≡ self.old.passed }
+        ensures running { self.new.stopped ≡ self.old.stopped }
+    {
+        self.be_silent(Silence::Nothing(node), count)?;
+        let RunLog { resting, .. } = self;
+        note_event(resting, true, node, true);
+        Ok(TurnAnswer::Nothing)
     }
 
     /// The event that is next for a node; none where all that it could do is to let its turn pass, and it has done so in this
@@ -365,12 +451,15 @@ impl<C: SlotCell, O: Outlet, ThisRun: Run> RunLog<C, O, ThisRun> {
         // Where the run is stopped no event is made. `install` has no such clause: a job that is out comes back all the same.
         ensures stopped { self.old.stopped ≡ true
             → IfOk result (λ answer. answer ≡ turns.Stopped) }
+        // And `Stopped` is answered nowhere else.
+        ensures goes_on { self.old.stopped ≡ false
+            → IfOk result (λ answer. answer ≢ turns.Stopped) }
         ensures refused { OnErr result (seat_numbers count.new ≡ seat_numbers count.old) }
         ensures unchanged { OnErr result (IsSameLog self.old self.new) }
         // 44 only where a count stands at 2^63 - 1.
         ensures full { IfErr result (λ fault. fault ≡ PastNumber → IsFull self.old) }
         // What it does to the world, exactly.
-        ensures turned { IfOk result (λ answer. IsTurn ThisRun.rooms ThisRun.script self.old.passed node answer
+        ensures turned { IfOk result (λ answer. IsTurn ThisRun.rooms node answer
             (armed_view self.old.armed) (armed_view self.new.armed)) }
         ensures passed { self.new.passed ≡ self.old.passed }
         ensures running { self.new.stopped ≡ self.old.stopped }
@@ -379,22 +468,20 @@ impl<C: SlotCell, O: Outlet, ThisRun: Run> RunLog<C, O, ThisRun> {
             self.be_stopped(count)?;
             return Ok(TurnAnswer::Stopped);
         }
-        if self.has_said(Silence::Nothing(node)) {
-            self.be_silent(Silence::Nothing(node), count)?;
-            return Ok(TurnAnswer::Nothing);
+        if self.is_at_rest(node) {
+            return self.be_at_rest(node, count);
         }
         let event = self.armed.world.pick(node);
-        if is_idle(&event) && has_idled(&self.armed.world, node) {
-            self.be_silent(Silence::Nothing(node), count)?;
-            return Ok(TurnAnswer::Nothing);
-        }
-        if is_idle(&event) && self.armed.world.stands_still() {
-            self.widen(count)?;
-            return Ok(TurnAnswer::Widened);
-        }
-        match self.make(alloc, node, event, count) {
-            Ok(reply) => Ok(TurnAnswer::Reply(reply)),
-            Err(held) => Err(held.fault),
+        match next_turn(&self.armed.world, &event, node) {
+            NextTurn::Rest => self.be_at_rest(node, count),
+            NextTurn::Widen => {
+                self.widen(count)?;
+                Ok(TurnAnswer::Widened)
+            }
+            NextTurn::Make => match self.make(alloc, node, event, count) {
+                Ok(reply) => Ok(TurnAnswer::Reply(reply)),
+                Err(held) => Err(held.fault),
+            },
         }
     }
 
@@ -443,6 +530,8 @@ impl<C: SlotCell, O: Outlet, ThisRun: Run> RunLog<C, O, ThisRun> {
         ensures told { IfOk result (TellsFault ThisRun.rooms ThisRun.script ThisRun.opening) }
         ensures stopped { self.old.stopped ≡ true
             → IfOk result (λ answer. answer ≡ faults.Stopped) }
+        ensures goes_on { self.old.stopped ≡ false
+            → IfOk result (λ answer. answer ≢ faults.Stopped) }
         ensures refused { OnErr result (seat_numbers count.new ≡ seat_numbers count.old) }
         ensures unchanged { OnErr result (IsSameLog self.old self.new) }
         ensures full { IfErr result (λ fault. fault ≡ PastNumber → IsFull self.old) }
@@ -493,7 +582,10 @@ impl<C: SlotCell, O: Outlet, ThisRun: Run> RunLog<C, O, ThisRun> {
     }
 
     /// Whether a packet is due for a node.
-    pub fn has_packet(&self, node: u8) -> bool {
+    pub fn has_packet(&self, node: u8) -> bool
+        ensures due { node < NODES → result ≡ has_due (world_of self.now.armed.world) node }
+        ensures none { NODES ≤ node → result ≡ false }
+    {
         self.armed.world.has_packet(node)
     }
 
@@ -532,17 +624,24 @@ impl<C: SlotCell, O: Outlet, ThisRun: Run> RunLog<C, O, ThisRun> {
         self.stopped = true;
     }
 
-    // Whether nothing is left to do. The world is asked once behind each event.
-    fn is_complete(&mut self) -> bool
+    /// Whether nothing is left to do. The world is asked once behind each event.
+    pub fn is_complete(&mut self) -> bool
         ensures quiet { result ≡ are_quiet (world_of self.old.armed.world) }
-        ensures same { (self.new.armed ≡ self.old.armed) × (self.new.stopped ≡ self.old.stopped) }
+        ensures same { (self.new.armed ≡ self.old.armed) × (self.new.passed ≡ self.old.passed)
+            × (self.new.stopped ≡ self.old.stopped) }
         ensures same_lines { self.new.lines ≡ self.old.lines }
     {
         if self.incomplete {
             return false;
         }
-        let complete = self.armed.world.complete();
-        self.incomplete = !complete;
+        let RunLog {
+            armed,
+            incomplete,
+            busy,
+            ..
+        } = self;
+        let complete = is_complete(&armed.world, busy);
+        *incomplete = !complete;
         complete
     }
 
@@ -565,6 +664,7 @@ impl<C: SlotCell, O: Outlet, ThisRun: Run> RunLog<C, O, ThisRun> {
 
     /// The world, and the history that leads to it, if one was kept. Whoever has the parts of all seats learns its numbers.
     pub fn close(mut self, all: &mut SeatCount<ThisRun>) -> (World<C, O>, History)
+        ensures world { result.0 ≡ self.armed.world }
         // Kept or not, a history leads there.
         ensures run { HasRun ThisRun.rooms ThisRun.script ThisRun.opening (world_of result.0) }
         // Where it was written it is this one: each entry is the event that was next for its node, a turn that came back to it, or the

@@ -3,3 +3,4 @@ mod Left
 mod Nowhere
 mod Beginnings
 mod Completeness
+mod Turns

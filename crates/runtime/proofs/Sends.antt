@@ -29,10 +29,10 @@ net_send = search (sendable, crosses, channel_s, operator_t, name_s, send-Expr, 
 pub net_sync : IsSync net_row
 net_sync = search (sendable, crosses, channel_y, operator_z, name_y, sync-Expr, sync-Statement) depth 60 fits 100000
 
-job_send : IsSend job_row
+pub job_send : IsSend job_row
 job_send = search (sendable, crosses, net_send, net_sync, history_s, pstate_t) depth 60 fits 100000
 
-job_sync : IsSync job_row
+pub job_sync : IsSync job_row
 job_sync = search (sendable, crosses, net_send, net_sync, history_y, pstate_z) depth 60 fits 100000
 
 running_field_send : IsSend (running_field.row)

@@ -1,11 +1,14 @@
 // What the driver's thread does at the hub.
-ghost use Rattle.std.specs.Prelude.{◌≡◌, [], true, IfOk};
+ghost use Rattle.std.specs.Prelude.{◌≡◌, [], true, false, OnOk};
+ghost use Rattle.run_log.specs.ArmedWorlds.{armed_view};
 ghost use Rattle.run_log.specs.RunLogs.{happened_in};
 ghost use Rattle.runtime.specs.Beginning.{first_lines, BeginsByDriver};
+ghost use Rattle.runtime.specs.Turning.{ArePassed, progress, was_passed};
 
 use crate::hub::Hub;
 use crate::seat::DriverSeat;
-use crate::waking::{Seen, Until};
+use crate::seen::Seen;
+use crate::until::Until;
 use kahn_net::{Channel, Port};
 use marks::{Marks, MarksName, Seat};
 use outlet::Outlet;
@@ -22,27 +25,26 @@ pub struct Bounds {
     pub items: Option<u64>,
 }
 
-// Whether the marks tell that so many items have left by each output.
-fn have_left<ItsMarks: MarksName>(
+// How many items have to leave at least until so many of each output have, as the marks tell it. None where no number is asked for.
+fn count_missing<ItsMarks: MarksName>(
     channels: &[Channel],
     marks: &Marks<ItsMarks>,
     seat: &mut Seat<ItsMarks>,
     items: Option<u64>,
-) -> bool {
-    let Some(items) = items else {
-        return false;
-    };
+) -> Option<u64> {
+    let items = items?;
+    let mut missing: u64 = 0;
     for (number, channel) in channels.iter().enumerate() {
-        let Ok(number) = u8::try_from(number) else {
-            return false;
-        };
         if let Port::Outside = channel.consumer {
-            if marks.read(seat, number) < items {
-                return false;
-            }
+            let left = match u8::try_from(number) {
+                Ok(number) => marks.read(seat, number),
+                // (A network has at most 256 channels.)
+                Err(_) => 0,
+            };
+            missing = missing.saturating_add(items.saturating_sub(left));
         }
     }
-    true
+    Some(missing)
 }
 
 /// How many lines at a script's head are of round 0.
@@ -57,34 +59,51 @@ pub(crate) fn first_lines(script: &[ScriptedEvent]) -> usize
     script.len()
 }
 
-/// Makes the events of the script's first lines, so many, in a log in which nothing is written yet. Whether each was made.
+// Whether a line was passed.
+fn was_passed(answer: &FaultAnswer) -> bool
+    ensures { result ≡ was_passed answer.now }
+{
+    match answer {
+        FaultAnswer::Reply(_) => true,
+        FaultAnswer::NotYet | FaultAnswer::NoMore | FaultAnswer::Stopped => false,
+    }
+}
+
+/// Makes the events of the script's lines of round 0, of which there are so many, in a log in which nothing is written yet.
 pub(crate) fn begin<C: SlotCell, O: Outlet, ThisRun: Run>(
     alloc: Global,
     log: &mut RunLog<C, O, ThisRun>,
     seat: &mut DriverSeat<ThisRun>,
     lines: usize,
-) -> Result<bool, HubFault>
+) -> Result<(), HubFault>
     requires none { happened_in log.old ≡ [] }
-    ensures begun { IfOk result (λ begun. begun ≡ true → ThisRun.keeps ≡ true
-        → BeginsByDriver lines (happened_in log.new)) }
+    requires running { log.old.stopped ≡ false }
+    requires unpassed { log.old.passed ≡ 0 }
+    requires lines { lines ≡ first_lines ThisRun.script }
+    ensures running { log.new.stopped ≡ false }
+    ensures begun { OnOk result (ThisRun.keeps ≡ true → BeginsByDriver lines (happened_in log.new)) }
+    ensures passed { OnOk result (ArePassed ThisRun.rooms ThisRun.script lines
+        (progress (armed_view log.old.armed) 0) (progress (armed_view log.new.armed) log.new.passed)) }
 {
     for _line in 0..lines {
-        match seat.fault(alloc, log)? {
-            FaultAnswer::Reply(_) => {}
-            FaultAnswer::NotYet | FaultAnswer::NoMore | FaultAnswer::Stopped => return Ok(false),
+        let answer = seat.fault(alloc, log)?;
+        if !was_passed(&answer) {
+            // A line of round 0 is due from the beginning on.
+            unreachable!();
         }
     }
-    Ok(true)
+    Ok(())
 }
 
-// What the driver waits for behind a line: the round of the next one, the last round, and where items are asked for, each that leaves.
-fn wait_until(next: Option<u64>, bounds: Bounds, seen: Seen) -> Until {
+// What the driver waits for behind a line: the round of the next one, the last round, and where items are asked for, that as many have
+// left as are missing.
+fn wait_until(next: Option<u64>, bounds: Bounds, seen: Seen, missing: Option<u64>) -> Until {
     let round = match next {
         Some(round) => round.min(bounds.rounds),
         None => bounds.rounds,
     };
-    let left = match bounds.items {
-        Some(_) => Some(seen.left),
+    let left = match missing {
+        Some(missing) => Some(seen.left.saturating_add(missing)),
         None => None,
     };
     Until { round, left }
@@ -101,10 +120,7 @@ fn go_through<C: SlotCell, O: Outlet, ThisRun: Run, ItsMarks: MarksName, R: Wait
     marks_seat: &mut Seat<ItsMarks>,
     bounds: Bounds,
 ) -> Result<(), HubFault> {
-    let mut until = Until {
-        round: 0,
-        left: None,
-    };
+    let mut until = Until::now();
     for _ in rt.forever() {
         let mut entered = hub.enter_driver(rt, until);
         if entered.is_stopped() || entered.round() >= bounds.rounds {
@@ -113,15 +129,13 @@ fn go_through<C: SlotCell, O: Outlet, ThisRun: Run, ItsMarks: MarksName, R: Wait
         let answer = entered.fault(alloc, seat)?;
         let next = entered.line_round();
         let seen = entered.leave();
-        if have_left(channels, marks, marks_seat, bounds.items) {
+        let missing = count_missing(channels, marks, marks_seat, bounds.items);
+        if missing == Some(0) {
             return Ok(());
         }
         until = match answer {
-            FaultAnswer::Reply(_) => Until {
-                round: 0,
-                left: None,
-            },
-            _ => wait_until(next, bounds, seen),
+            FaultAnswer::Reply(_) => Until::now(),
+            _ => wait_until(next, bounds, seen, missing),
         };
     }
     unreachable!()

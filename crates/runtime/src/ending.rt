@@ -1,10 +1,10 @@
 // What a run came to, and why it ended.
-ghost use Rattle.std.specs.Prelude.{◌≡◌, ◌≤◌, [], if◌then◌else◌, true, nat_le, length, map};
+ghost use Rattle.std.specs.Prelude.{◌≡◌, ◌≤◌, [], if◌then◌else◌, true, nat_le, not, length, map};
 ghost use Rattle.std.specs.List.{list_all};
 ghost use Rattle.protocol.specs.Node.Common.{MAX_CHANNELS};
-ghost use Rattle.protocol.specs.World.Common.{released_of, goes_outside, output_channels};
+ghost use Rattle.protocol.specs.World.Common.{are_quiet, released_of, goes_outside, output_channels};
 ghost use Rattle.run_log.specs.Lines.{happenings};
-ghost use Rattle.runtime.specs.Ending.{IsOver};
+ghost use Rattle.runtime.specs.Ending.{IsOver, goes_on, is_over};
 ghost use Rattle.runtime.specs.declared.ending.RunEnd.TheVariants.{Refused};
 ghost use Rattle.world.specs.WholeView.{world_of};
 
@@ -29,6 +29,18 @@ pub enum RunEnd {
     Refused(HubFault),
     /// The run was stopped before any of these, by who watches it or by a call of `Hub::stop`.
     Stopped,
+}
+
+impl RunEnd {
+    /// Whether it is none of the reasons for which a run is over.
+    pub(crate) fn goes_on(self) -> bool
+        ensures { result ≡ goes_on self }
+    {
+        match self {
+            RunEnd::Stopped => true,
+            RunEnd::Complete | RunEnd::Rounds | RunEnd::Items | RunEnd::Refused(_) => false,
+        }
+    }
 }
 
 /// What a run came to: its world, the history that leads to it, and why it ended.
@@ -93,17 +105,19 @@ pub fn have_left<C: SlotCell, O: Outlet>(
     true
 }
 
-/// Why a run ended of which no call was refused: asked of the world to which it came.
-pub fn end_of<C: SlotCell, O: Outlet>(
+/// Why a run is over, or that it isn't (`Stopped`), where it is known whether nothing is left to do.
+pub(crate) fn end_by<C: SlotCell, O: Outlet>(
     channels: &[Channel],
     world: &World<C, O>,
     bounds: Bounds,
+    complete: bool,
 ) -> RunEnd
-    requires { length channels.now ≤ MAX_CHANNELS }
-    // That a run was stopped says nothing of its world.
-    ensures { IsOver channels.now bounds (world_of world.now) result }
+    requires few { length channels.now ≤ MAX_CHANNELS }
+    requires complete { complete ≡ are_quiet (world_of world.now) }
+    ensures over { IsOver channels.now bounds (world_of world.now) result }
+    ensures exact { goes_on result ≡ not (is_over channels.now bounds (world_of world.now)) }
 {
-    if world.complete() {
+    if complete {
         return RunEnd::Complete;
     }
     if bounds.rounds <= world.round() {
@@ -119,4 +133,18 @@ pub fn end_of<C: SlotCell, O: Outlet>(
         }
         None => RunEnd::Stopped,
     }
+}
+
+/// Why a run ended of which no call was refused: asked of the world to which it came.
+pub fn end_of<C: SlotCell, O: Outlet>(
+    channels: &[Channel],
+    world: &World<C, O>,
+    bounds: Bounds,
+) -> RunEnd
+    requires { length channels.now ≤ MAX_CHANNELS }
+    ensures over { IsOver channels.now bounds (world_of world.now) result }
+    // That a run was stopped is told only where none of the other reasons is so.
+    ensures exact { goes_on result ≡ not (is_over channels.now bounds (world_of world.now)) }
+{
+    end_by(channels, world, bounds, world.complete())
 }

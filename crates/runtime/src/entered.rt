@@ -10,8 +10,10 @@ ghost use Rattle.station.specs.DoneView.{done_view};
 ghost use Rattle.station.specs.ReplyView.{reply_view};
 ghost use Rattle.station.specs.declared.event.Event.TheVariants as event;
 
+use crate::locked::Locked;
 use crate::seat::{DriverSeat, NodeSeat};
-use crate::waking::{Locked, Seen, Sleepers};
+use crate::seen::Seen;
+use crate::sleepers::Sleepers;
 use kahn_net::MAX_COUNT;
 use outlet::Outlet;
 use proc_step::Done;
@@ -68,7 +70,7 @@ impl<'hub, C: SlotCell, O: Outlet, ThisRun: Run> Entered<'hub, C, O, ThisRun> {
             TurnAnswer::Reply(reply) => {
                 *made += 1;
                 if let Reply::Released(_) = reply {
-                    self.locked.left = self.locked.left.wrapping_add(1);
+                    self.locked.left = self.locked.left.saturating_add(1);
                 }
             }
             TurnAnswer::Widened => *made += 1,

@@ -1,5 +1,5 @@
 // A world that threads share.
-ghost use Rattle.std.specs.Prelude.{◌≡◌, ◌+◌, ◌≤◌, true, [], replicate, vec_len, IfErr, IfOk, OnErr, OnOk};
+ghost use Rattle.std.specs.Prelude.{◌≡◌, ◌+◌, ◌≤◌, true, [], replicate, vec_len, IfErr, IfOk, OnErr, OnOk, false};
 ghost use Rattle.std.specs.Vec.{vec_capacity};
 ghost use Rattle.protocol.specs.World.Common.{event_node, Install};
 ghost use Rattle.replay.specs.Replay.{LeadsTo};
@@ -23,8 +23,12 @@ ghost use Rattle.world.specs.WorldView.{rooms};
 ghost use Rattle.station.specs.declared.event.Event.TheVariants as event;
 
 use crate::entered::Entered;
+use crate::locked::Locked;
 use crate::seat::{DriverSeat, NodeSeat, driver_seat, node_seat};
-use crate::waking::{Locked, Seen, Sleepers, Until, Woken};
+use crate::seen::Seen;
+use crate::sleepers::{Sleepers, Woken};
+use crate::until::Until;
+use crate::workers::Workers;
 use outlet::Outlet;
 use proc_step::Done;
 use replay::ScriptedEvent;
@@ -36,7 +40,6 @@ use slot_cell::SlotCell;
 use std::alloc::{AllocError, Global};
 use std::sync::{CondvarTimeouts, Mutex, Wait};
 use std::time::{Clock, Duration};
-use wire::NODES;
 use world::{Reply, World};
 
 /// A world with its history, under one lock, and where those sleep who wait for it.
@@ -100,6 +103,8 @@ pub(crate) fn open_log<C: SlotCell, O: Outlet, ThisRun: Run>(
     requires room { nodes ≤ vec_capacity seats }
     requires keeps { keeps ≡ ThisRun.keeps }
     ensures none { happened_in result.0 ≡ [] }
+    ensures unpassed { result.0.passed ≡ 0 }
+    ensures running { result.0.stopped ≡ false }
     ensures seats { vec_len result.1 ≡ nodes }
     ensures numbered { AreOfNodes nodes result.1.items }
 {
@@ -164,11 +169,8 @@ impl<C: SlotCell, O: Outlet, ThisRun: Run> Hub<C, O, ThisRun> {
             locked: Mutex::new(Locked {
                 log,
                 left: 0,
-                asleep: [false; NODES],
-                until: Until {
-                    round: 0,
-                    left: None,
-                },
+                workers: Workers::new(),
+                until: Until::never(),
                 told: None,
                 begun,
             }),
@@ -181,30 +183,31 @@ impl<C: SlotCell, O: Outlet, ThisRun: Run> Hub<C, O, ThisRun> {
         Entered::new(self.locked.lock(rt), &self.sleepers)
     }
 
-    /// The lock, once there may be something to do for the seat's node, to which there was nothing when the hub stood so: the run
-    /// is stopped, or a packet is due, the round is another, a line was passed or channels have more room. While a line of an
-    /// earlier round isn't passed yet it waits, so that no line comes more than a round late. A wait makes no event.
-    pub fn enter_node<R: Wait>(
-        &self,
-        rt: &R,
-        seat: &NodeSeat<ThisRun>,
-        nothing_at: Option<Seen>,
-    ) -> Entered<'_, C, O, ThisRun> {
-        let node = seat.node;
+    /// So many nodes, from 0 on, have their seats at their desks from now on, so that the threads of all take their turns.
+    pub fn open_desks<R: Wait>(&self, rt: &R, nodes: u8) {
+        let mut locked = self.locked.lock(rt);
+        for node in 0..nodes {
+            locked.workers.comes_back(node);
+        }
+    }
+
+    /// The lock, once there is something to do for a node's thread: it is on duty, a job waits for it, or the run is stopped. A wait
+    /// makes no event.
+    pub(crate) fn enter_worker<R: Wait>(&self, rt: &R, node: u8) -> Entered<'_, C, O, ThisRun> {
         let mut locked = self.locked.lock(rt);
         if let Some(place) = self.sleepers.node(node) {
             for _ in rt.forever() {
-                if locked.wakes_node(node, nothing_at) {
+                if locked.wakes_worker(node) {
                     break;
                 }
-                locked.falls_asleep(node);
                 locked = place.wait(rt, locked);
             }
         }
         Entered::new(locked, &self.sleepers)
     }
 
-    /// The lock, once the run is stopped, or what the driver waits for has come.
+    /// The lock, once the run is stopped, or what the driver waits for has come. What it waited for before held the nodes up, so it
+    /// wakes who takes their turns.
     pub fn enter_driver<R: Wait>(&self, rt: &R, until: Until) -> Entered<'_, C, O, ThisRun> {
         let mut locked = self.locked.lock(rt);
         locked.until = until;
@@ -212,6 +215,8 @@ impl<C: SlotCell, O: Outlet, ThisRun: Run> Hub<C, O, ThisRun> {
             if locked.wakes_driver() {
                 break;
             }
+            let nodes = locked.woken_workers();
+            self.sleepers.wake_nodes(nodes);
             locked = self.sleepers.driver().wait(rt, locked);
         }
         Entered::new(locked, &self.sleepers)

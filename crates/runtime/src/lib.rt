@@ -5,22 +5,30 @@
 //! the one to which the history leads from the opening world.
 #![tactic(auto)]
 
+mod desks;
 mod driving;
 mod ending;
 mod entered;
 mod hub;
 mod job_watch;
+mod locked;
 mod playing;
+mod quiet;
 mod run_handle;
 mod run_watch;
 mod seat;
+mod seen;
+mod sleepers;
+mod task;
 mod threads;
 mod turn_watch;
 mod turning;
-mod waking;
+mod until;
 mod watching;
+mod workers;
 mod working;
 
+pub use desks::Desks;
 pub use driving::{Bounds, drive};
 pub use ending::{Ended, RunEnd, end_of, have_left};
 pub use entered::Entered;
@@ -34,8 +42,9 @@ pub use run_log::{
 };
 pub use run_watch::RunWatch;
 pub use seat::{DriverSeat, NodeSeat};
+pub use seen::Seen;
 pub use threads::{DriverSeats, Joined, NodeSeats, SharedRun, run_threads};
 pub use turn_watch::TurnWatch;
 pub use turning::run_world_by_turns;
-pub use waking::{Seen, Until};
+pub use until::Until;
 pub use working::work;

@@ -1,5 +1,5 @@
 // A run by threads, from its world to its history.
-ghost use Rattle.std.specs.Prelude.{◌≡◌, ◌+◌, ◌≤◌, true, length, Ok};
+ghost use Rattle.std.specs.Prelude.{◌≡◌, ◌+◌, ◌≤◌, true, length};
 ghost use Rattle.marks.specs.Seats.{table_of};
 ghost use Rattle.protocol.specs.Node.Common.{MAX_CHANNELS, network_of};
 ghost use Rattle.replay.specs.Replay.{LeadsTo};
@@ -48,20 +48,10 @@ fn list_seats<ThisRun: RunLedgers, ItsMarks: MarksName>(
     Ok(node_seats)
 }
 
-// Whether the lines of round 0 were all passed.
-pub(crate) fn has_begun(begun: &Result<bool, HubFault>) -> bool
-    ensures { result ≡ true → begun.now ≡ Ok true }
-{
-    match begun {
-        Ok(begun) => *begun,
-        Err(_) => false,
-    }
-}
-
 // The seats of each node, where the lines of round 0 could be passed.
 fn listed<ThisRun: RunLedgers, ItsMarks: MarksName>(
     alloc: Global,
-    begun: Result<bool, HubFault>,
+    begun: Result<(), HubFault>,
     seats: Vec<NodeSeat<ThisRun>>,
     marks_seats: Vec<Seat<ItsMarks>>,
 ) -> Result<Vec<NodeSeats<ThisRun, ItsMarks>>, HubFault> {
@@ -126,7 +116,7 @@ fn play<
         alloc, world, deliveries, script, nodes, ledgers, seats, keeps,
     );
     let begun = begin(alloc, &mut log, &mut driver, lines);
-    let hub = Hub::over(log, sleepers, has_begun(&begun));
+    let hub = Hub::over(log, sleepers, begun.is_ok());
     let shared = SharedRun { hub, marks };
     let mut driver_seats = DriverSeats {
         seat: driver,

@@ -1,7 +1,7 @@
 // A run that goes on, as who watches it has it.
 
+use crate::seen::Seen;
 use crate::threads::SharedRun;
-use crate::waking::Seen;
 use marks::{MarksName, Seat};
 use net_check::Net;
 use outlet::Outlet;

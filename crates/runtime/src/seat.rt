@@ -1,6 +1,9 @@
 // Seats: the right to act for a node, or for the script.
-ghost use Rattle.std.specs.Prelude.{◌≡◌, ◌+◌, IfOk, OnErr, vec_len};
+ghost use Rattle.std.specs.Prelude.{◌≡◌, ◌≢◌, ◌+◌, false, IfOk, OnErr, vec_len};
 ghost use Rattle.run_log.specs.Answers.{fault_kind, IsFaultWritten, TellsFault};
+ghost use Rattle.run_log.specs.ArmedWorlds.{armed_view};
+ghost use Rattle.run_log.specs.Turns.{IsFault, passed_then};
+ghost use Rattle.run_log.specs.declared.answer.FaultAnswer.TheVariants as faults;
 ghost use Rattle.run_log.specs.Numbers.{added, counted, no_numbers};
 ghost use Rattle.run_log.specs.SeatCounts.{seat_numbers, seat_parts};
 
@@ -110,6 +113,11 @@ impl<ThisRun: Run> DriverSeat<ThisRun> {
         ensures refused { OnErr result
             (seat_numbers self.new.count ≡ seat_numbers self.old.count) }
         ensures unchanged { OnErr result (log.new.lines.items ≡ log.old.lines.items) }
+        ensures goes_on { log.old.stopped ≡ false → IfOk result (λ answer. answer ≢ faults.Stopped) }
+        ensures played { IfOk result (λ answer. IsFault ThisRun.rooms ThisRun.script log.old.passed answer
+            (armed_view log.old.armed) (armed_view log.new.armed)) }
+        ensures passed { IfOk result (λ answer. log.new.passed ≡ passed_then answer log.old.passed) }
+        ensures running { log.new.stopped ≡ log.old.stopped }
     {
         let DriverSeat { made, count } = self;
         if *made >= MAX_COUNT {

@@ -2,6 +2,7 @@
 ghost use Rattle.std.specs.Prelude.{◌≡◌, vec_len, OnOk};
 ghost use denote.Param.Send.{IsSend};
 
+use crate::desks::Desks;
 use crate::driving::{Bounds, drive};
 use crate::hub::Hub;
 use crate::job_watch::JobWatch;
@@ -24,6 +25,14 @@ pub struct NodeSeats<ThisRun: RunLedgers, ItsMarks: MarksName> {
     pub marks: Seat<ItsMarks>,
 }
 
+impl<ThisRun: RunLedgers, ItsMarks: MarksName> NodeSeats<ThisRun, ItsMarks> {
+    /// The seat at the hub alone.
+    pub(crate) fn into_seat(self) -> NodeSeat<ThisRun> {
+        let NodeSeats { seat, .. } = self;
+        seat
+    }
+}
+
 /// The driver's.
 #[derive(Drop)]
 pub struct DriverSeats<ThisRun: RunLedgers, ItsMarks: MarksName> {
@@ -36,36 +45,6 @@ pub struct DriverSeats<ThisRun: RunLedgers, ItsMarks: MarksName> {
 pub struct SharedRun<C: SlotCell, O: Outlet, ThisRun: Run, ItsMarks: MarksName> {
     pub hub: Hub<C, O, ThisRun>,
     pub marks: Marks<ItsMarks>,
-}
-
-// A seat that comes back, and how its work ended.
-#[derive(Drop)]
-struct Worked<ThisRun: RunLedgers> {
-    seat: NodeSeat<ThisRun>,
-    end: Result<(), HubFault>,
-}
-
-fn work_at_seats<C: SlotCell, O: Outlet, ThisRun: Run, ItsMarks: MarksName, W: JobWatch, R: Wait>(
-    rt: &R,
-    alloc: Global,
-    shared: &SharedRun<C, O, ThisRun, ItsMarks>,
-    seats: NodeSeats<ThisRun, ItsMarks>,
-    watch: &W,
-) -> Worked<ThisRun> {
-    let NodeSeats {
-        mut seat,
-        marks: mut marks_seat,
-    } = seats;
-    let end = work(
-        rt,
-        alloc,
-        &shared.hub,
-        &mut seat,
-        &shared.marks,
-        &mut marks_seat,
-        watch,
-    );
-    Worked { seat, end }
 }
 
 // Starts the worker of a node, if a thread can be made.
@@ -83,11 +62,12 @@ fn start<
     alloc: Global,
     scope: &Scope<'s, E>,
     shared: &'s SharedRun<C, O, ThisRun, ItsMarks>,
-    seats: NodeSeats<ThisRun, ItsMarks>,
+    desks: &'s Desks<ThisRun, ItsMarks>,
+    node: u8,
     watch: &'s W,
-) -> Option<JoinHandle<Worked<ThisRun>>> {
+) -> Option<JoinHandle<Result<(), HubFault>>> {
     scope
-        .spawn(move || work_at_seats(rt, alloc, shared, seats, watch))
+        .spawn(move || work(rt, alloc, &shared.hub, &shared.marks, desks, node, watch))
         .ok()
 }
 
@@ -106,12 +86,13 @@ fn start_all<
     alloc: Global,
     scope: &Scope<'s, E>,
     shared: &'s SharedRun<C, O, ThisRun, ItsMarks>,
-    seats: Vec<NodeSeats<ThisRun, ItsMarks>>,
+    desks: &'s Desks<ThisRun, ItsMarks>,
+    nodes: u8,
     watch: &'s W,
-    running: &mut Vec<JoinHandle<Worked<ThisRun>>>,
+    running: &mut Vec<JoinHandle<Result<(), HubFault>>>,
 ) {
-    for node_seats in seats {
-        if let Some(handle) = start(rt, alloc, scope, shared, node_seats, watch) {
+    for node in 0..nodes {
+        if let Some(handle) = start(rt, alloc, scope, shared, desks, node, watch) {
             let _ = running.push(handle);
         }
     }
@@ -151,6 +132,84 @@ pub struct Joined<ThisRun: RunLedgers> {
     pub end: Result<(), HubFault>,
 }
 
+// Starts a worker for each of so many nodes, drives on the thread that calls, and joins them. Why they ended, if a call was refused.
+fn run_at_desks<
+    C: SlotCell + Send,
+    O: Outlet + Send,
+    ThisRun: Run + Send + Sync,
+    ItsMarks: MarksName + Send + Sync,
+    W: JobWatch + Sync,
+    R: Threads + Wait + Sync,
+>(
+    rt: &R,
+    alloc: Global,
+    shared: &SharedRun<C, O, ThisRun, ItsMarks>,
+    desks: &Desks<ThisRun, ItsMarks>,
+    nodes: u8,
+    driver: &mut DriverSeats<ThisRun, ItsMarks>,
+    channels: &[Channel],
+    watch: &W,
+    bounds: Bounds,
+) -> Result<(), HubFault> {
+    let count = usize::from(nodes);
+    let mut end = Ok(());
+    let Ok(mut running) = Vec::with_capacity(alloc, count) else {
+        return Err(HubFault::NoMemory);
+    };
+    shared.hub.open_desks(rt, nodes);
+    thread::scope(
+        thread::scope_env(),
+        rt,
+        |scope|
+            requires { IsSend C.row × IsSend O.row × IsSend ThisRun.row × IsSend ItsMarks.row }
+        {
+            start_all(rt, alloc, scope, shared, desks, nodes, watch, &mut running);
+            let all_work = running.len() == count;
+            end = lead(rt, alloc, shared, driver, channels, bounds, all_work);
+            while let Some(handle) = running.pop() {
+                if let Err(fault) = handle.join(rt) {
+                    end = Err(fault);
+                }
+            }
+        },
+    );
+    end
+}
+
+// Puts the seats to desks, lets the nodes' threads work there, and gives back what stands there then, as far as there is room for it. Why it
+// ended, if a call was refused.
+fn run_seats<
+    C: SlotCell + Send,
+    O: Outlet + Send,
+    ThisRun: Run + Send + Sync,
+    ItsMarks: MarksName + Send + Sync,
+    W: JobWatch + Sync,
+    R: Threads + Wait + Sync,
+>(
+    rt: &R,
+    alloc: Global,
+    shared: &SharedRun<C, O, ThisRun, ItsMarks>,
+    seats: Vec<NodeSeats<ThisRun, ItsMarks>>,
+    driver: &mut DriverSeats<ThisRun, ItsMarks>,
+    channels: &[Channel],
+    watch: &W,
+    bounds: Bounds,
+    back: &mut Vec<NodeSeat<ThisRun>>,
+) -> Result<(), HubFault> {
+    // (A network has at most 16 nodes.)
+    let Ok(nodes) = u8::try_from(seats.len()) else {
+        return Err(HubFault::NoMemory);
+    };
+    let Ok(desks) = Desks::new(alloc, seats) else {
+        return Err(HubFault::NoMemory);
+    };
+    let end = run_at_desks(
+        rt, alloc, shared, &desks, nodes, driver, channels, watch, bounds,
+    );
+    desks.clear(back);
+    end
+}
+
 /// Lets each node work on a thread of its own, and drives on the thread that calls. It ends with the hub stopped. Where no call is
 /// refused all seats come back. Refuses for want of memory, also where a thread can't be made, and where a seat's call was refused.
 pub fn run_threads<
@@ -174,33 +233,15 @@ pub fn run_threads<
 {
     let count = seats.len();
     let mut back = Vec::new(alloc);
-    let mut running = Vec::new(alloc);
-    let mut end = Ok(());
-    if back.reserve(count).is_err() || running.reserve(count).is_err() {
-        end = Err(HubFault::NoMemory);
+    let mut end = Err(HubFault::NoMemory);
+    if back.reserve(count).is_ok() {
+        end = run_seats(
+            rt, alloc, shared, seats, driver, channels, watch, bounds, &mut back,
+        );
     }
     if end.is_err() {
         shared.hub.stop(rt);
-        return Joined { seats: back, end };
     }
-    thread::scope(
-        thread::scope_env(),
-        rt,
-        |scope|
-            requires { IsSend C.row × IsSend O.row × IsSend ThisRun.row × IsSend ItsMarks.row }
-        {
-            start_all(rt, alloc, scope, shared, seats, watch, &mut running);
-            let all_work = running.len() == count;
-            end = lead(rt, alloc, shared, driver, channels, bounds, all_work);
-            while let Some(handle) = running.pop() {
-                let Worked { seat, end: own } = handle.join(rt);
-                if let Err(fault) = own {
-                    end = Err(fault);
-                }
-                let _ = back.push(seat);
-            }
-        },
-    );
     if end.is_ok() && back.len() != count {
         end = Err(HubFault::NoMemory);
     }

@@ -1,21 +1,23 @@
 // What a node's thread does at the hub.
 ghost use Rattle.std.specs.Prelude.{◌≡◌, IfOk};
-ghost use Rattle.node_memory.specs.JobView.{shared_view};
-ghost use Rattle.protocol.specs.World.Common.{node_in};
+ghost use Rattle.protocol.specs.World.Common.{event_node, Install};
 ghost use Rattle.run_log.specs.Answers.{IsGrantedIn};
+ghost use Rattle.station.specs.DoneView.{done_view};
 
+use crate::desks::{Desk, Desks};
 use crate::entered::Entered;
 use crate::hub::Hub;
 use crate::job_watch::JobWatch;
 use crate::seat::NodeSeat;
-use crate::waking::Seen;
+use crate::task::Task;
+use crate::threads::NodeSeats;
 use marks::{Marks, MarksName, Seat};
 use outlet::Outlet;
-use proc_step::Job;
+use proc_step::{Done, Job};
 use run_log::{HubFault, Run, TurnAnswer};
 use slot_cell::SlotCell;
 use std::alloc::Global;
-use std::sync::{Arc, Wait};
+use std::sync::Wait;
 use world::Reply;
 
 // Items have left by an output, if there is one here: its mark is raised to how far it has come, where it is one of the seat's node.
@@ -35,33 +37,6 @@ fn raise<C: SlotCell, O: Outlet, ThisRun: Run, ItsMarks: MarksName>(
         marks.raise(seat, freed);
     }
     Ok(())
-}
-
-// Runs a job outside the lock, and brings back what came of it.
-fn run_job<C: SlotCell, O: Outlet, ThisRun: Run, W: JobWatch, R: Wait>(
-    rt: &R,
-    alloc: Global,
-    hub: &Hub<C, O, ThisRun>,
-    seat: &mut NodeSeat<ThisRun>,
-    watch: &W,
-    nth: u64,
-    job: Arc<Job>,
-) -> Result<(), HubFault>
-    requires home { node_in (shared_view job).code ≡ seat.old.node }
-    ensures node { seat.new.node ≡ seat.old.node }
-{
-    let node = seat.node();
-    watch.before_run(rt, node, nth);
-    let Ok(done) = Job::run(job, alloc) else {
-        return Err(HubFault::NoMemory);
-    };
-    match hub.install(rt, alloc, seat, done) {
-        Ok(_) => {
-            watch.after_install(rt, node, nth);
-            Ok(())
-        }
-        Err(held) => Err(held.fault),
-    }
 }
 
 // How many turns in a row a node takes at most while it has the lock.
@@ -103,75 +78,256 @@ fn take_turns<C: SlotCell, O: Outlet, ThisRun: Run, ItsMarks: MarksName>(
     Ok(TurnAnswer::Widened)
 }
 
-// A stay under the lock, once there may be something to do for the seat's node, to which there was nothing when the hub stood so.
-// It notes how the hub stands where there is nothing once more.
+// What a node's turns came to: its seats are at their desk again, or out with a job that was granted.
+fn put_down<C: SlotCell, O: Outlet, ThisRun: Run, ItsMarks: MarksName>(
+    entered: &mut Entered<'_, C, O, ThisRun>,
+    desk: &mut Desk<ThisRun, ItsMarks>,
+    node: u8,
+    seats: NodeSeats<ThisRun, ItsMarks>,
+    answer: TurnAnswer,
+) -> Option<Task<ThisRun, ItsMarks>>
+    requires home { IsGrantedIn seats.seat.node answer }
+{
+    match answer {
+        TurnAnswer::Reply(Reply::Granted(job)) => {
+            let nth = entered.locked.workers.goes_out(node);
+            return Some(Task { seats, nth, job });
+        }
+        TurnAnswer::Reply(_other) => entered.locked.workers.rests(node, None),
+        TurnAnswer::Widened | TurnAnswer::Stopped => entered.locked.workers.rests(node, None),
+        TurnAnswer::Nothing => entered.locked.rests(node),
+    }
+    desk.seats = Some(seats);
+    None
+}
+
+// Takes a node's turns by the seats at its desk, until a job is granted, nothing is to be done, or others have something to do. The job, if
+// one was granted.
+fn serve_node<C: SlotCell, O: Outlet, ThisRun: Run, ItsMarks: MarksName>(
+    alloc: Global,
+    entered: &mut Entered<'_, C, O, ThisRun>,
+    marks: &Marks<ItsMarks>,
+    desk: &mut Desk<ThisRun, ItsMarks>,
+    node: u8,
+) -> Result<Option<Task<ThisRun, ItsMarks>>, HubFault> {
+    let Some(node_seats) = desk.seats.take() else {
+        entered.locked.rests(node);
+        return Ok(None);
+    };
+    let NodeSeats {
+        mut seat,
+        marks: mut marks_seat,
+    } = node_seats;
+    let mut left_by = None;
+    let answer = take_turns(
+        alloc,
+        entered,
+        &mut seat,
+        marks,
+        &mut marks_seat,
+        &mut left_by,
+    );
+    let raised = raise(entered, marks, &mut marks_seat, left_by);
+    let seats = NodeSeats {
+        seat,
+        marks: marks_seat,
+    };
+    match answer {
+        Ok(answer) => {
+            let task = put_down(entered, desk, node, seats, answer);
+            raised?;
+            Ok(task)
+        }
+        Err(fault) => {
+            desk.seats = Some(seats);
+            Err(fault)
+        }
+    }
+}
+
+// What a node's thread does next.
+#[derive(Drop)]
+enum Step<ThisRun: Run, ItsMarks: MarksName> {
+    /// It runs this job.
+    Run(Task<ThisRun, ItsMarks>),
+    /// It takes the lock again, once there is something to do for it.
+    GoOn,
+    /// It ends.
+    End,
+}
+
+// Who runs a job that was granted to a node while this thread is on duty. A short one this thread runs, and is on duty meanwhile; it is
+// too short for another thread to be woken. One that may be long is the node's own thread's, and the others' turns go on meanwhile: by
+// this thread, or, where it is its own, by one that it wakes as it leaves.
+fn assign<C: SlotCell, O: Outlet, ThisRun: Run, ItsMarks: MarksName>(
+    entered: &mut Entered<'_, C, O, ThisRun>,
+    desk: &mut Desk<ThisRun, ItsMarks>,
+    node: u8,
+    own: u8,
+    task: Task<ThisRun, ItsMarks>,
+) -> Step<ThisRun, ItsMarks> {
+    if task.is_short() {
+        return Step::Run(task);
+    }
+    if node == own {
+        entered.locked.workers.leaves_duty(own);
+        return Step::Run(task);
+    }
+    desk.task = Some(task);
+    entered.locked.workers.gives_job(node);
+    Step::GoOn
+}
+
+// Takes the turns of all nodes whose seats are at their desks, in ascending order, until a job is granted, nothing is to be done, or a
+// round is over.
+fn serve<C: SlotCell, O: Outlet, ThisRun: Run, ItsMarks: MarksName, R: Wait>(
+    rt: &R,
+    alloc: Global,
+    entered: &mut Entered<'_, C, O, ThisRun>,
+    marks: &Marks<ItsMarks>,
+    desks: &mut Vec<Desk<ThisRun, ItsMarks>>,
+    own: u8,
+) -> Result<Step<ThisRun, ItsMarks>, HubFault> {
+    for _ in rt.forever() {
+        let Some(node) = entered.locked.next_due() else {
+            break;
+        };
+        let Some(desk) = desks.get_mut(usize::from(node)) else {
+            break;
+        };
+        if let Some(task) = serve_node(alloc, entered, marks, desk, node)? {
+            return Ok(assign(entered, desk, node, own, task));
+        }
+        if entered.has_moved_on() {
+            return Ok(Step::GoOn);
+        }
+    }
+    entered.locked.workers.leaves_duty(own);
+    Ok(Step::GoOn)
+}
+
+// What a node's thread finds under the lock: a job that waits for it, the end of the run, or that it is on duty.
+fn find_step<C: SlotCell, O: Outlet, ThisRun: Run, ItsMarks: MarksName, R: Wait>(
+    rt: &R,
+    alloc: Global,
+    entered: &mut Entered<'_, C, O, ThisRun>,
+    marks: &Marks<ItsMarks>,
+    desks: &mut Vec<Desk<ThisRun, ItsMarks>>,
+    own: u8,
+) -> Result<Step<ThisRun, ItsMarks>, HubFault> {
+    if let Some(desk) = desks.get_mut(usize::from(own)) {
+        if let Some(task) = desk.task.take() {
+            entered.locked.workers.takes_job(own);
+            return Ok(Step::Run(task));
+        }
+    }
+    if entered.is_stopped() {
+        return Ok(Step::End);
+    }
+    serve(rt, alloc, entered, marks, desks, own)
+}
+
+// A stay under the lock, once there is something to do for a node's thread.
 fn stay<C: SlotCell, O: Outlet, ThisRun: Run, ItsMarks: MarksName, R: Wait>(
     rt: &R,
     alloc: Global,
     hub: &Hub<C, O, ThisRun>,
-    seat: &mut NodeSeat<ThisRun>,
     marks: &Marks<ItsMarks>,
-    marks_seat: &mut Seat<ItsMarks>,
-    nothing_at: &mut Option<Seen>,
-) -> Result<TurnAnswer, HubFault>
-    ensures node { seat.new.node ≡ seat.old.node }
-    ensures home { IfOk result (IsGrantedIn seat.old.node) }
-{
-    let mut entered = hub.enter_node(rt, seat, *nothing_at);
-    let mut left_by = None;
-    let answer = take_turns(alloc, &mut entered, seat, marks, marks_seat, &mut left_by);
-    raise(&entered, marks, marks_seat, left_by)?;
-    let answer = answer?;
-    let seen = entered.leave();
-    *nothing_at = match &answer {
-        TurnAnswer::Nothing => Some(seen),
-        _ => None,
-    };
-    Ok(answer)
+    desks: &Desks<ThisRun, ItsMarks>,
+    own: u8,
+) -> Result<Step<ThisRun, ItsMarks>, HubFault> {
+    let mut entered = hub.enter_worker(rt, own);
+    let mut open = desks.open(rt);
+    let step = find_step(rt, alloc, &mut entered, marks, &mut open, own);
+    drop(open);
+    entered.leave();
+    step
 }
 
-// Takes turns until the hub is stopped, or a call is refused.
+// What came of a job is brought back, and the seats of its node to their desk. The thread goes on duty, if nobody is.
+fn bring_back<C: SlotCell, O: Outlet, ThisRun: Run, ItsMarks: MarksName, R: Wait>(
+    rt: &R,
+    alloc: Global,
+    hub: &Hub<C, O, ThisRun>,
+    desks: &Desks<ThisRun, ItsMarks>,
+    own: u8,
+    seats: NodeSeats<ThisRun, ItsMarks>,
+    done: Done,
+) -> Result<(), HubFault>
+    requires home { event_node (Install (done_view done)) ≡ seats.seat.node }
+{
+    let NodeSeats { mut seat, marks } = seats;
+    let node = seat.node();
+    let mut entered = hub.enter(rt);
+    let installed = entered.install(alloc, &mut seat, done);
+    let mut open = desks.open(rt);
+    if let Some(desk) = open.get_mut(usize::from(node)) {
+        desk.seats = Some(NodeSeats { seat, marks });
+    }
+    drop(open);
+    entered.locked.workers.comes_back(node);
+    entered.locked.workers.takes_duty(own);
+    entered.leave();
+    match installed {
+        Ok(_) => Ok(()),
+        Err(held) => Err(held.fault),
+    }
+}
+
+// Runs a job outside the lock, and brings back what came of it.
+fn run_task<C: SlotCell, O: Outlet, ThisRun: Run, ItsMarks: MarksName, W: JobWatch, R: Wait>(
+    rt: &R,
+    alloc: Global,
+    hub: &Hub<C, O, ThisRun>,
+    desks: &Desks<ThisRun, ItsMarks>,
+    own: u8,
+    watch: &W,
+    task: Task<ThisRun, ItsMarks>,
+) -> Result<(), HubFault> {
+    let Task { seats, nth, job } = task;
+    let node = seats.seat.node();
+    watch.before_run(rt, node, nth);
+    let Ok(done) = Job::run(job, alloc) else {
+        return Err(HubFault::NoMemory);
+    };
+    bring_back(rt, alloc, hub, desks, own, seats, done)?;
+    watch.after_install(rt, node, nth);
+    Ok(())
+}
+
+// Takes turns and runs jobs until the hub is stopped, or a call is refused.
 fn work_on<C: SlotCell, O: Outlet, ThisRun: Run, ItsMarks: MarksName, W: JobWatch, R: Wait>(
     rt: &R,
     alloc: Global,
     hub: &Hub<C, O, ThisRun>,
-    seat: &mut NodeSeat<ThisRun>,
     marks: &Marks<ItsMarks>,
-    marks_seat: &mut Seat<ItsMarks>,
+    desks: &Desks<ThisRun, ItsMarks>,
+    own: u8,
     watch: &W,
-) -> Result<(), HubFault>
-    ensures node { seat.new.node ≡ seat.old.node }
-{
-    let mut nth: u64 = 0;
-    let mut nothing_at = None;
+) -> Result<(), HubFault> {
     for _ in rt.forever() {
-        match stay(rt, alloc, hub, seat, marks, marks_seat, &mut nothing_at)? {
-            TurnAnswer::Stopped => return Ok(()),
-            TurnAnswer::Reply(Reply::Granted(job)) => {
-                run_job(rt, alloc, hub, seat, watch, nth, job)?;
-                nth = nth.wrapping_add(1);
-            }
-            TurnAnswer::Reply(_other) => {}
-            TurnAnswer::Widened | TurnAnswer::Nothing => {}
+        match stay(rt, alloc, hub, marks, desks, own)? {
+            Step::Run(task) => run_task(rt, alloc, hub, desks, own, watch, task)?,
+            Step::GoOn => {}
+            Step::End => return Ok(()),
         }
     }
     unreachable!()
 }
 
-/// Works for a node until the hub is stopped: takes its turns, runs its jobs outside the lock, and raises the marks of what leaves.
-/// Where a call is refused, it stops the hub, and answers why.
+/// Works as a node's thread until the hub is stopped. It runs the node's jobs outside the lock; and while it is on duty, it takes the turns of all
+/// nodes whose seats are at their desks, raises the marks of what leaves, and runs their short jobs. Where a call is refused, it stops the
+/// hub, and answers why.
 pub fn work<C: SlotCell, O: Outlet, ThisRun: Run, ItsMarks: MarksName, W: JobWatch, R: Wait>(
     rt: &R,
     alloc: Global,
     hub: &Hub<C, O, ThisRun>,
-    seat: &mut NodeSeat<ThisRun>,
     marks: &Marks<ItsMarks>,
-    marks_seat: &mut Seat<ItsMarks>,
+    desks: &Desks<ThisRun, ItsMarks>,
+    own: u8,
     watch: &W,
-) -> Result<(), HubFault>
-    ensures node { seat.new.node ≡ seat.old.node }
-{
-    let end = work_on(rt, alloc, hub, seat, marks, marks_seat, watch);
+) -> Result<(), HubFault> {
+    let end = work_on(rt, alloc, hub, marks, desks, own, watch);
     if end.is_err() {
         hub.stop(rt);
     }

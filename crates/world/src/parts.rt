@@ -1,6 +1,9 @@
 // What a world is made of, to be read.
-ghost use Rattle.std.specs.Prelude.{◌≡◌, None, Some, MatchOption, slice_get};
-ghost use Rattle.world.specs.WholeView.{inputs_in, net_in, nodes_in, stations_in};
+ghost use Rattle.std.specs.Prelude.{◌≡◌, ◌<◌, ◌≤◌, false, None, Some, MatchOption, is_some, slice_get};
+ghost use Rattle.std.specs.List.{position_from};
+ghost use Rattle.protocol.specs.World.Common.{flights_to, is_due};
+ghost use Rattle.wire.specs.declared.queue.TheConstants.{NODES};
+ghost use Rattle.world.specs.WholeView.{inputs_in, net_in, nodes_in, stations_in, world_of};
 
 use crate::world::World;
 use net_check::{Inputs, Net};
@@ -41,7 +44,14 @@ impl<C: SlotCell, O: Outlet> World<C, O> {
     }
 
     /// Whether a packet is due for a node.
-    pub fn has_packet(&self, node: u8) -> bool {
-        usize::from(node) < NODES && self.wire.first_due(node, self.round).is_some()
+    pub fn has_packet(&self, node: u8) -> bool
+        ensures due { node < NODES → result ≡ is_some (position_from (is_due (world_of self.now).round) 0
+            (flights_to (world_of self.now).traffic node)) }
+        ensures none { NODES ≤ node → result ≡ false }
+    {
+        if usize::from(node) >= NODES {
+            return false;
+        }
+        self.wire.first_due(node, self.round).is_some()
     }
 }

@@ -1,61 +1,64 @@
-use Rattle.std.proofs.Common.{◌≡◌, ◌∙◌, ap, subst, sym}
-use Rattle.std.specs.Prelude.{IfOk}
+use Rattle.std.proofs.Common.{true, false, ◌≡◌, ◌∙◌, ℕ, length, ap, sym, refl}
 use Rattle.std.proofs.Math.Logic.{∥∥₁_map}
+use Rattle.std.proofs.lemmas.List.{length-map}
 use Rattle.std.proofs.lemmas.Result.{err_from_is_err_and}
-use Rattle.protocol.specs.Node.Common.{network_of, Net}
-use Rattle.protocol.specs.World.Common.{WorldView}
-use Rattle.runtime.specs.Ending.{IsOver}
-use Rattle.world.specs.WholeView.{world_of}
+use Rattle.protocol.specs.Node.Common.{network_of, node_count}
+use Rattle.protocol.specs.World.Common.{are_quiet, WorldView}
+use Rattle.runtime.specs.Ending.{was_refused}
+use Rattle.station.specs.StationView.{station_view}
+use Rattle.world.specs.WholeView.{nodes_in, world_of}
 use Rattle.run_log.specs.Lines.{happenings}
-use Rattle.cobaltmidge.specs.Failing.{is_counted}
-use Rattle.cobaltmidge.specs.Runs.{IsEnd, bounds_of}
-use Rattle.cobaltmidge.specs.Turning.{first_world}
+use Rattle.cobaltmidge.specs.Runs.{IsEnd, IsRun, released_streams}
 use Rattle.cobaltmidge.proofs.Streams.{run_at_end}
-use Rattle.cobaltmidge.proofs.Turns.{if_ok_then}
+use Rattle.cobaltmidge.proofs.Turns.{ended_so, of_end, run_stays}
 use Rattle.cobaltmidge.proofs.running.run_network.Goals as goal
 
 pub returns-in_err-world-clause-err : goal.returns-in_err-world-clause-err
 returns-in_err-world-clause-err g c =
     let p = err_from_is_err_and c.from_residual.result c.from_residual.ensures.1 in
-    rw (p.1, p.2) (c.in_err-world.ensures.err (is_counted c.args.settings))
+    rw (p.1, p.2) (c.in_err-world.ensures.err true)
 
 pub returns-clause-run : goal.returns-clause-run
 returns-clause-run g c =
     let net = network_of c.args.net.now.value.program in
     let opened = c.in_ok-world.ensures.first in
-    if_ok_then _ _ c.run_to_end.result
-    (λ now same. run_at_end (world_of now.world) net c.args.inputs
-    (∥∥₁_map same (λ s. (
+    let ended = c.run_to_end.result in
+    of_end (λ now. was_refused now.end ≡ false)
+    (λ now. IsRun net c.args.inputs (released_streams net (world_of now.world).stations) (are_quiet (world_of now.world)))
+    c.came_to.result ended c.came_to.ensures.same c.came_to.ensures.unrefused
+    (λ unrefused. run_at_end (world_of ended.world) net c.args.inputs
+    (∥∥₁_map (run_stays _ c.args.script.items _ (world_of ended.world) c.run_to_end.ensures.run) (λ s. (
       s.0 ∙ ap (λ (w : WorldView). w.net) opened,
       s.1 ∙ ap (λ (w : WorldView). w.inputs) opened,
     )))
-    now.world.sound)
-    c.run_to_end.ensures.same
+    ended.world.sound)
 
 pub returns-clause-end : goal.returns-clause-end
 returns-clause-end g c =
-    let settings = c.args.settings in
-    let inputs = c.args.inputs in
-    let seen : c.deref-2.result.now ≡ c.args.net.now.value = c.deref-2.ensures in
-    subst (λ (n : Net). IfOk c.run_to_end.result
-    (λ now. IsEnd settings (network_of n.program) inputs c.args.script.items (happenings now.history.lines.items)
-    (world_of now.world))) seen
-    (c.run_to_end.ensures.end inputs
-    (c.in_ok-world.ensures.first
-    ∙ ap (λ (n : Net). first_world (network_of n.program) inputs settings.room) (sym seen)))
-
-pub returns-clause-over : goal.returns-clause-over
-returns-clause-over g c =
+    let net = network_of c.args.net.now.value.program in
+    let world = c.in_ok-world.world in
     let opened = c.in_ok-world.ensures.first in
-    subst (λ (w : WorldView). IfOk c.run_to_end.result (λ now. IsOver w.net.channels (bounds_of c.args.settings)
-    (world_of now.world) now.end)) opened c.run_to_end.ensures.over
+    let ended = c.run_to_end.result in
+    let view = station_view g.O.Outlet.taken g.O.Outlet.failures in
+    let many : nodes_in world ≡ node_count net =
+    world.stations.ok.0 ∙ (sym (length-map world.stations.items view) ∙ (world.sound.count ∙ ap (λ (w : WorldView). node_count w.net) opened)) in
+    of_end (λ now. was_refused now.end ≡ false)
+    (λ now. IsEnd c.args.settings net c.args.inputs c.args.script.items (happenings now.history.lines.items) (world_of now.world))
+    c.came_to.result ended c.came_to.ensures.same c.came_to.ensures.unrefused
+    (λ unrefused. ended_so g.O.Outlet.taken g.O.Outlet.failures world.stations.items c.args.settings net c.args.inputs c.args.script.items
+    (happenings ended.history.lines.items) (world_of world) (world_of ended.world) ended.end (nodes_in world)
+    c.in_ok-world.ensures.room refl opened many unrefused c.run_to_end.ensures.run c.run_to_end.ensures.leads
+    c.run_to_end.ensures.turns)
 
 pub returns-clause-same : goal.returns-clause-same
 returns-clause-same g c =
+    let net = network_of c.args.net.now.value.program in
     let opened = c.in_ok-world.ensures.first in
-    if_ok_then _ _ c.run_to_end.result
-    (λ now same. ∥∥₁_map same (λ s. (
+    let ended = c.run_to_end.result in
+    of_end (λ now. was_refused now.end ≡ false)
+    (λ now. ∥ ((world_of now.world).net ≡ net) × ((world_of now.world).inputs ≡ c.args.inputs) ∥₁)
+    c.came_to.result ended c.came_to.ensures.same c.came_to.ensures.unrefused
+    (λ unrefused. ∥∥₁_map (run_stays _ c.args.script.items _ (world_of ended.world) c.run_to_end.ensures.run) (λ s. (
       s.0 ∙ ap (λ (w : WorldView). w.net) opened,
       s.1 ∙ ap (λ (w : WorldView). w.inputs) opened,
     )))
-    c.run_to_end.ensures.same

@@ -1,4 +1,4 @@
-use Rattle.std.proofs.Common.{string_bytes, ℤ, List}
+use Rattle.std.proofs.Common.{true, string_bytes, ℤ, List}
 use Rattle.std.proofs.Math.Logic.{∥∥₁_map}
 use Rattle.std.proofs.lemmas.Result.{IfErr-weaker, IfOk-weaker, err_from_is_err_and}
 use Rattle.protocol.specs.Node.Common.{network_of}
@@ -7,7 +7,6 @@ use Rattle.run_files.specs.Wanted.{wanted_of}
 use Rattle.run_files.specs.declared.fault.FilesFault.TheVariants.{Astray}
 use Rattle.run_files.proofs.Caused.{caused_as}
 use Rattle.run_files.proofs.Going.{opened_goes}
-use Rattle.cobaltmidge.specs.Failing.{is_counted}
 use Rattle.cobaltmidge.specs.KeptOutlets.{AreInFiles, IsRunStop}
 use Rattle.cobaltmidge.specs.KeptRuns.{IsKeptRun}
 use Rattle.cobaltmidge.specs.KeptStreams.{AreKeptIn, IsStateCause}
@@ -43,13 +42,12 @@ returns-clause-run g c =
 
 pub returns-clause-cause : goal.returns-clause-cause
 returns-clause-cause g c =
-    let counted = is_counted c.args.run.settings in
     let o = wanted_of c.args.names.now in
     let outlets = c.run_over-kept.new.outlets.items in
     let now = g.H.Host.asked c.give_back.new.host in
     IfErr-weaker c.run_over-kept.result
-    (λ (error : StateError). IsRunStop counted outlets error.fault)
-    (λ (error : StateError). IsStateCause counted o now error.fault)
-    (λ error stop. stop_in_log counted o (string_bytes c.args.folder.now) now c.args.opened.now outlets error.fault
+    (λ (error : StateError). IsRunStop true outlets error.fault)
+    (λ (error : StateError). IsStateCause true o now error.fault)
+    (λ error stop. stop_in_log true o (string_bytes c.args.folder.now) now c.args.opened.now outlets error.fault
     (opened_goes _ _ _ _ _ _ _ c.give_back.ensures.goes c.requires.opened) c.in_ok-give_back.ensures.used stop)
     c.run_over-kept.ensures.cause

@@ -1,4 +1,4 @@
-use Rattle.std.proofs.Common.{◌≡◌, ◌∙◌, inl, subst, sym}
+use Rattle.std.proofs.Common.{true, ◌≡◌, ◌∙◌, inl, subst, sym}
 use Rattle.protocol.specs.Node.Common.{network_of, Net}
 use Rattle.protocol.specs.World.Common.{are_quiet}
 use Rattle.world.specs.WholeView.{world_of}
@@ -6,7 +6,6 @@ use Rattle.std.specs.Prelude.{is_some}
 use Rattle.std.specs.Io.KnownBytes.{Appends}
 use Rattle.history_text.specs.Histories.{history_text}
 use Rattle.run_log.specs.Lines.{happenings}
-use Rattle.cobaltmidge.specs.Failing.{IsRunFault, is_counted}
 use Rattle.cobaltmidge.specs.Runs.{IsEnd, IsRun, released_streams}
 use Rattle.cobaltmidge.specs.declared.settings.Settings.{Settings}
 use Rattle.kahn_program.specs.Runnable.{IsReportless}
@@ -21,8 +20,7 @@ pub returns-in-Err-clause-err : goal.returns-in-Err-clause-err
 returns-in-Err-clause-err g c =
     let options = c.args.options.now in
     subst (IsReportless options g.K.Keeper.keeps) (sym c.run_failure.ensures)
-    (inl (fault_is (is_counted (settings_of options)) c.in-Err.fault
-    (subst (λ (s : Settings). IsRunFault (is_counted s) c.in-Err.fault) c.settings.ensures c.in-Err.ensures.err)))
+    (inl (fault_is true c.in-Err.fault c.in-Err.ensures.err))
 
 pub returns-clause-ok : goal.returns-clause-ok
 returns-clause-ok g c =

@@ -1,24 +1,16 @@
-use Rattle.std.proofs.Common.{◌++◌, ◌∷◌, [], List, ap, ◌∙◌}
-use Rattle.replay.specs.Replay.{Made}
-use Rattle.replay.specs.Replies.{KeptReply}
+use Rattle.replay.specs.Armed.{OfWorld}
 use Rattle.replay.specs.declared.kept.Maker.TheVariants.{Node}
-use Rattle.run_log.specs.Counts.{numbers_in}
-use Rattle.run_log.specs.Lines.{happenings, kept_view}
-use Rattle.run_log.specs.Numbers.{counted}
-use Rattle.run_log.specs.declared.history.Line.{Line}
-use Rattle.run_log.specs.declared.seat_count.Counted.TheVariants as kind
+use Rattle.station.specs.EventView.{event_view}
+use Rattle.station.specs.ReplyView.{reply_view}
+use Rattle.run_log.proofs.Kept.{unwritten, unwritten_of, written}
 use Rattle.run_log.proofs.making.make_event.Goals as goal
 
-pub returns-clause-added : goal.returns-clause-added
-returns-clause-added g c =
-    let kept = kept_view c.in-Ok.kept in
-    let said = c.keep_reply-said in
-    record {
-      kept = kept;
-      happened = λ yes. (c.write_entry.ensures yes).happened
-          ∙ (ap (λ (lines : List Line). happenings lines ++ Made (Node c.args.node) kept said.result ∷ []) c.reserve.ensures.items
-          ∙ ap (λ (answer : KeptReply). happenings c.args.lines.now.items ++ Made (Node c.args.node) kept answer ∷ []) said.ensures);
-      counts = λ yes stops. (c.write_entry.ensures yes).counts stops
-          ∙ ap (λ (lines : List Line). counted kind.Entry (numbers_in lines stops)) c.reserve.ensures.items;
-      is_kept = c.in-Ok.ensures;
-    }
+pub returns-then-keeps-clause-added : goal.returns-then-keeps-clause-added
+returns-then-keeps-clause-added g c =
+    written reply_view c.args.keeps (Node c.args.node) (OfWorld (event_view c.args.event)) c.make_kept.result c.args.lines.now.items
+    c.make_kept.new.lines.items c.if-keeps.true c.make_kept.ensures.added
+
+pub returns-else-keeps-clause-added : goal.returns-else-keeps-clause-added
+returns-else-keeps-clause-added g c =
+    unwritten_of reply_view c.args.keeps (Node c.args.node) (OfWorld (event_view c.args.event)) c.apply.result c.args.lines.now.items
+    (λ answer. unwritten c.args.keeps (Node c.args.node) c.args.event answer c.args.lines.now.items c.if-keeps.false)

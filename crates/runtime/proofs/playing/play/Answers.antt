@@ -1,5 +1,8 @@
 -- where the run didn't begin nothing is written, and the world is the one that was handed in
-use Rattle.std.proofs.Common.{rules}
+use Rattle.std.proofs.Common.{rules, ◌≡◌, ℕ, subst}
+use Rattle.run_log.specs.RunLogs.{happened_in}
+use Rattle.runtime.specs.Beginning.{BeginsByDriver, first_lines}
+use Rattle.runtime.proofs.Turns.{where_ok}
 use Rattle.run_log.specs.Lines.{happenings}
 use Rattle.runtime.proofs.Beginnings.{begun_so}
 use Rattle.runtime.proofs.Nowhere.{leads_nowhere, runs_nowhere}
@@ -35,3 +38,12 @@ returns-clause-begun g c = λ keeps. elim c.match-end.branch [
       (c.close_begun-world.ensures.begun (search rules) keeps)
   | in-Err-end w ↦ rw w.end-is tt
 ]
+
+-- the lines of round 0 are passed, where none was refused
+pub over-hub-requires : goal.over-hub-requires
+over-hub-requires g c = record {
+  begun = λ told keeps.
+      let are : c.first_lines-lines.result ≡ first_lines g.ThisRun.Run.script = search rules in
+      subst (λ (n : ℕ). BeginsByDriver n (happened_in c.begin-begun.new.log)) are
+      (where_ok _ c.begin-begun.result _ c.is_ok.ensures.value told c.begin-begun.ensures.begun keeps);
+}

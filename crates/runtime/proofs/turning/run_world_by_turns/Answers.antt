@@ -1,7 +1,12 @@
-use Rattle.std.proofs.Common.{rules, ◌≡◌, List, refl, subst}
+use Rattle.std.proofs.Common.{rules, ◌≡◌, ◌≤◌, ◌∙◌, ℕ, List, length, sym, refl, subst, arith}
+use Rattle.std.proofs.lemmas.List.{length-map}
+use Rattle.protocol.specs.Node.Common.{node_count, MAX_NODES}
+use Rattle.protocol_laws.specs.Node.PlaceLaws.{nodes_few}
+use Rattle.station.specs.StationView.{station_view}
 use Rattle.protocol.specs.Node.Common.{Channel}
-use Rattle.runtime.specs.Ending.{IsOver}
-use Rattle.world.specs.WholeView.{world_of}
+use Rattle.runtime.specs.Ending.{IsOver, is_over}
+use Rattle.runtime.specs.Turning.{EndsByTurns}
+use Rattle.world.specs.WholeView.{nodes_in, rooms_in, world_of}
 use Rattle.runtime.proofs.Nowhere.{leads_nowhere, runs_nowhere}
 use Rattle.runtime.proofs.turning.run_world_by_turns.Goals as goal
 
@@ -18,3 +23,25 @@ returns-clause-over g c =
     let same : c.as_slice-channels.result.now ≡ c.args.world.net.value.program.channels.items = search rules in
     subst (λ (channels : List Channel). IsOver channels c.args.bounds (world_of c.play_by_turns.result.world) c.play_by_turns.result.end) same
     c.play_by_turns.ensures.over
+
+-- a network has at most 16 nodes
+pub play_by_turns-requires-clause-nodes : goal.play_by_turns-requires-clause-nodes
+play_by_turns-requires-clause-nodes g c =
+    let world = c.args.world in
+    let view = station_view {cell = g.C.StableCell} {slots = g.C.SlotCell} g.O.Outlet.taken g.O.Outlet.failures in
+    let count : nodes_in world ≡ node_count (world_of world).net =
+    world.stations.ok.0 ∙ (sym (length-map world.stations.items view) ∙ world.sound.count) in
+    let few : node_count (world_of world).net ≤ MAX_NODES = nodes_few (world_of world).net world.sound.valid in
+    let is : c.nodes-nodes.result ≡ nodes_in world = c.nodes-nodes.ensures in
+    omega (arith, is, count, few)
+
+pub returns-clause-turns : goal.returns-clause-turns
+returns-clause-turns g c =
+    let world = c.args.world in
+    let end = c.play_by_turns.result.end in
+    let now = world_of c.play_by_turns.result.world in
+    let same : c.as_slice-channels.result.now ≡ world.net.value.program.channels.items = search rules in
+    subst (λ (channels : List Channel). EndsByTurns (is_over channels c.args.bounds) (nodes_in world) (rooms_in world) c.args.script.items
+    (world_of world) now end) same
+    (subst (λ (n : ℕ). EndsByTurns (is_over c.as_slice-channels.result.now c.args.bounds) n (rooms_in world) c.args.script.items
+    (world_of world) now end) c.nodes-nodes.ensures c.play_by_turns.ensures.turns)

@@ -1,4 +1,4 @@
-use Rattle.std.proofs.Common.{◌∙◌, ◌++◌, ◌∷◌, [], ap, subst, string_bytes, ℕ, ℤ, List, Some}
+use Rattle.std.proofs.Common.{true, ◌∙◌, ◌++◌, ◌∷◌, [], ap, subst, string_bytes, ℕ, ℤ, List, Some}
 use Rattle.std.proofs.Math.Logic.{∥∥₁_map}
 use Rattle.std.proofs.lemmas.Result.{IfErr-weaker, IfOk-weaker}
 use Rattle.protocol.specs.Node.Common.{Net, network_of}
@@ -8,7 +8,6 @@ use Rattle.run_files.specs.Wanted.{wanted_of}
 use Rattle.run_files.specs.declared.held_file.OpenedName.{OpenedName}
 use Rattle.run_files.proofs.Going.{synced_later}
 use Rattle.run_files.proofs.Left.{left_by_goes}
-use Rattle.cobaltmidge.specs.Failing.{is_counted}
 use Rattle.cobaltmidge.specs.FileNames.{file_names}
 use Rattle.cobaltmidge.specs.KeptRuns.{IsKeptRun}
 use Rattle.cobaltmidge.specs.KeptStreams.{AreKept, AreKeptIn, IsStateCause}
@@ -60,12 +59,11 @@ returns-clause-run g c =
 
 pub returns-clause-cause : goal.returns-clause-cause
 returns-clause-cause g c =
-    let counted = is_counted c.args.self.settings in
     let o = wanted_of c.args.names.now in
     let before = g.H.Host.asked c.run_locked-kept.new.host in
     let now = g.H.Host.asked c.let_go.new.host in
     IfErr-weaker c.run_locked-kept.result
-    (λ (error : StateError). IsStateCause counted o before error.fault)
-    (λ (error : StateError). IsStateCause counted o now error.fault)
-    (λ error why. cause_later counted o before now error.fault c.let_go.ensures.later why)
+    (λ (error : StateError). IsStateCause true o before error.fault)
+    (λ (error : StateError). IsStateCause true o now error.fault)
+    (λ error why. cause_later true o before now error.fault c.let_go.ensures.later why)
     c.run_locked-kept.ensures.cause

@@ -1,8 +1,10 @@
 use Rattle.std.proofs.Common.{◌∙◌, refl, sym, ap}
+use Rattle.std.proofs.Math.Logic.{∥∥₁_map}
 use Rattle.replay.specs.declared.kept.Maker.TheVariants.{Node}
 use Rattle.run_log.specs.Numbers.{Numbers, counted}
 use Rattle.run_log.specs.declared.seat_count.Counted.TheVariants as kind
 use Rattle.run_log.proofs.Adding.{makes, tells}
+use Rattle.run_log.proofs.Rested.{noted_event}
 use Rattle.run_log.proofs.run_log.RunLog.make.Goals as goal
 
 pub invariant_of-self-2-clause-replays : goal.invariant_of-self-2-clause-replays
@@ -22,3 +24,11 @@ returns-clause-told g c =
     let old = c.args.self.now in
     tells _ _ _ _ _ old.keeps old.lines.items _ old.passed _ _ (Node c.args.node) _ _ old.replays c.requires.own c.in-Ok.ensures.added
     c.in-Ok.ensures.step old.same_rooms
+
+pub invariant_of-self-2-clause-rest : goal.invariant_of-self-2-clause-rest
+invariant_of-self-2-clause-rest g c =
+    let old = c.args.self.now in
+    ∥∥₁_map old.rest (λ all.
+    noted_event _ g.ThisRun.Run.script c.args.node old.passed _ _ _ _ _ old.resting _ _ _ _ old.armed.world.sound c.requires.own
+    c.in-Ok.ensures.step c.round-round.ensures c.is_in_round-others_stay.ensures c.is_idle-passes.ensures c.has_passed.ensures all
+    c.note_event.ensures)

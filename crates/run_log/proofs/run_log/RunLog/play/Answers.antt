@@ -1,8 +1,11 @@
-use Rattle.std.proofs.Common.{◌∙◌, refl, sym, ap}
+use Rattle.std.proofs.Common.{◌∙◌, refl, sym, ap, Bool, List, subst}
 use Rattle.replay.specs.declared.kept.Maker.TheVariants.{Driver}
 use Rattle.run_log.specs.Numbers.{Numbers, counted}
 use Rattle.run_log.specs.declared.seat_count.Counted.TheVariants as kind
 use Rattle.run_log.proofs.Adding.{makes, tells}
+use Rattle.world.specs.WholeView.{world_of}
+use Rattle.replay.specs.Rests.{AllRest}
+use Rattle.replay.proofs.Rests.{none_noted}
 use Rattle.run_log.proofs.run_log.RunLog.play.Goals as goal
 
 pub invariant_of-self-2-clause-replays : goal.invariant_of-self-2-clause-replays
@@ -22,3 +25,8 @@ returns-clause-told g c =
     let old = c.args.self.now in
     tells _ _ _ _ _ old.keeps old.lines.items _ old.passed _ _ Driver _ _ old.replays c.requires.own c.in-Ok.ensures.added
     c.in-Ok.ensures.step old.same_rooms
+
+pub invariant_of-self-2-clause-rest : goal.invariant_of-self-2-clause-rest
+invariant_of-self-2-clause-rest g c =
+    let world = world_of c.make_scripted.new.world.world in
+    ∣ subst (λ (list : List Bool). AllRest list world) (sym c.none_rest.ensures) (none_noted world) ∣₁

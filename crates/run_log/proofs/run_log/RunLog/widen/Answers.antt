@@ -1,10 +1,13 @@
-use Rattle.std.proofs.Common.{◌∙◌, sym, ap}
+use Rattle.std.proofs.Common.{◌∙◌, sym, ap, Bool, List, subst}
 use Rattle.protocol.specs.World.Common.{WorldView}
 use Rattle.replay.specs.Armed.{with_world}
 use Rattle.run_log.specs.ArmedWorlds.{armed_view}
 use Rattle.run_log.specs.Numbers.{Numbers, counted}
 use Rattle.run_log.specs.declared.seat_count.Counted.TheVariants as kind
 use Rattle.run_log.proofs.Adding.{numbers_widened, tells_still, widens}
+use Rattle.world.specs.WholeView.{world_of}
+use Rattle.replay.specs.Rests.{AllRest}
+use Rattle.replay.proofs.Rests.{none_noted}
 use Rattle.run_log.proofs.run_log.RunLog.widen.Goals as goal
 
 pub invariant_of-self-2-clause-replays : goal.invariant_of-self-2-clause-replays
@@ -28,3 +31,8 @@ pub returns-clause-told : goal.returns-clause-told
 returns-clause-told g c =
     let old = c.args.self.now in
     tells_still _ _ _ _ old.lines.items old.passed (armed_view old.armed) old.replays c.requires.still
+
+pub invariant_of-self-2-clause-rest : goal.invariant_of-self-2-clause-rest
+invariant_of-self-2-clause-rest g c =
+    let world = world_of c.widen.new.self in
+    ∣ subst (λ (list : List Bool). AllRest list world) (sym c.none_rest.ensures) (none_noted world) ∣₁

@@ -1,18 +1,25 @@
-use Rattle.std.proofs.Common.{refl, subst}
-use Rattle.node_memory.specs.JobView.{shared_view}
-use Rattle.protocol.specs.World.Common.{IsGrantedAt}
-use Rattle.run_log.specs.Answers.{IsGrantedIn}
-use Rattle.run_log.specs.declared.answer.TurnAnswer.{TurnAnswer}
-use Rattle.station.specs.ReplyView.{Reply, reply_view}
+use Rattle.std.proofs.lemmas.Result.{on_ok_weaker}
+use Rattle.run_log.specs.ArmedWorlds.{armed_view}
+use Rattle.runtime.proofs.Turns.{turn_made, turn_rested, turn_widened}
 use Rattle.runtime.proofs.turning.Table.take_turn.Goals as goal
 
--- a job that the node is granted is of a process of it
-pub run_job-requires : goal.run_job-requires
-run_job-requires g c =
-    let node = c.args.node in
-    let granted = c.in-Reply-Granted in
-    record {
-      home = subst (λ (reply : Reply). IsGrantedAt node (reply_view reply)) granted.field-0-is
-          (subst (λ (answer : TurnAnswer). IsGrantedIn node answer) granted.is c.in_ok-job.ensures.home)
-          (shared_view granted.job) refl;
-    }
+pub returns-in-Reply-clause-turn : goal.returns-in-Reply-clause-turn
+returns-in-Reply-clause-turn g c =
+    let rooms = g.ThisRun.Run.rooms in
+    let old = armed_view c.args.self.now.log.armed in
+    let between = armed_view c.turn.new.self.log.armed in
+    let new = armed_view c.follow.new.self.log.armed in
+    on_ok_weaker c.follow.result
+    (λ follows. turn_made rooms c.args.node old between new c.in_ok-answer.answer c.in-Reply.reply c.in-Reply.is
+    c.in_ok-answer.ensures.turned follows)
+    c.follow.ensures.follows
+
+pub returns-in-Widened-clause-turn : goal.returns-in-Widened-clause-turn
+returns-in-Widened-clause-turn g c =
+    turn_widened g.ThisRun.Run.rooms c.args.node (armed_view c.args.self.now.log.armed) (armed_view c.turn.new.self.log.armed)
+    c.in_ok-answer.answer c.in-Widened.is c.in_ok-answer.ensures.turned
+
+pub returns-in-Nothing-clause-turn : goal.returns-in-Nothing-clause-turn
+returns-in-Nothing-clause-turn g c =
+    turn_rested g.ThisRun.Run.rooms c.args.node (armed_view c.args.self.now.log.armed) (armed_view c.turn.new.self.log.armed)
+    c.in_ok-answer.answer c.in-Nothing.is c.in_ok-answer.ensures.turned

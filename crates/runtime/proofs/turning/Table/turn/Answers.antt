@@ -5,8 +5,9 @@ use Rattle.runtime.proofs.turning.Table.turn.Goals as goal
 pub invariant_of-self : goal.invariant_of-self
 invariant_of-self g c = record {
   one_part = c.turn.ensures.parts ∙ c.args.self.now.one_part;
-  begins = λ begun keeps.
+  running = c.turn.ensures.running ∙ c.args.self.now.running;
+  begins = λ keeps.
       turned _ c.args.self.now.log.lines.items c.turn.new.self.lines.items _
-      (c.args.self.now.log.same_keeps ∙ keeps) (c.args.self.now.begins begun keeps) (λ same. same.lines) c.args.node
+      (c.args.self.now.log.same_keeps ∙ keeps) (c.args.self.now.begins keeps) (λ same. same.lines) c.args.node
       c.turn.result c.turn.ensures.written c.turn.ensures.unchanged;
 }

@@ -1,0 +1,62 @@
+-- An event, as it would be kept.
+use Rattle.std.proofs.Common.{◌≡◌, Bool, true, false, List, refl, sym, subst}
+use Rattle.std.specs.Prelude.{IfOk, Result, Ok, Err}
+use Rattle.protocol.specs.World.Common.{ReplyView}
+use Rattle.replay.specs.Armed.{ArmedEvent, OfWorld}
+use Rattle.replay.specs.Plain.{run_view}
+use Rattle.replay.specs.Replay.{IsKeptOf, KeptEventView, OfJob, Plainly}
+use Rattle.replay.specs.declared.kept.Maker.{Maker}
+use Rattle.replay.specs.declared.kept.RunEvent.{RunEvent}
+use Rattle.replay.specs.declared.kept.RunEvent.TheVariants as run
+use Rattle.run_log.specs.Added.{IsAdded}
+use Rattle.run_log.specs.declared.history.Line.{Line}
+use Rattle.station.specs.DoneView.{done_view}
+use Rattle.station.specs.EventView.{event_view}
+use Rattle.station.specs.declared.event.Event.{Event}
+use Rattle.station.specs.declared.event.Event.TheVariants.{Plain, Install}
+
+record IsKept (event : ArmedEvent) : Type 0 where
+  pub kept : KeptEventView
+  pub is : IsKeptOf kept event
+
+kept_of : (event : Event) → IsKept (OfWorld (event_view event))
+kept_of (Plain event) = record { kept = Plainly (run.World event); is = refl }
+kept_of (Install done) = record { kept = OfJob (done_view done).job; is = (done_view done, refl, refl) }
+
+added_none : (keeps : Bool) (maker : Maker) (event : ArmedEvent) (answer : ReplyView) (lines : List Line) → keeps ≡ false
+    → IsKept event → IsAdded keeps maker event answer lines lines
+added_none keeps maker event answer lines none one = record {
+  kept = one.kept;
+  is_kept = one.is;
+  happened = λ kept. absurd (no kept);
+  counts = λ kept. absurd (no kept);
+}
+  where
+    no : keeps ≡ true → ⊥
+    no kept = absurd (cc)
+
+-- an event of a node that isn't written
+pub unwritten : (keeps : Bool) (maker : Maker) (event : Event) (answer : ReplyView) (lines : List Line) → keeps ≡ false
+    → IsAdded keeps maker (OfWorld (event_view event)) answer lines lines
+unwritten keeps maker event answer lines none =
+    added_none keeps maker (OfWorld (event_view event)) answer lines none (kept_of event)
+
+-- a line of the script that isn't written
+pub unwritten_line : (keeps : Bool) (maker : Maker) (event : RunEvent) (answer : ReplyView) (lines : List Line) → keeps ≡ false
+    → IsAdded keeps maker (run_view event) answer lines lines
+unwritten_line keeps maker event answer lines none =
+    added_none keeps maker (run_view event) answer lines none (record { kept = Plainly event; is = refl })
+
+-- where what happens is written
+pub written : {R : Type 0} {E : Type 0} (view : R → ReplyView) (keeps : Bool) (maker : Maker) (event : ArmedEvent) (result : Result R E)
+    (before now : List Line) → keeps ≡ true → IfOk result (λ reply. IsAdded true maker event (view reply) before now)
+    → IfOk result (λ reply. IsAdded keeps maker event (view reply) before now)
+written view keeps maker event result before now keeping added =
+    subst (λ (k : Bool). IfOk result (λ reply. IsAdded k maker event (view reply) before now)) (sym keeping) added
+
+-- whatever came of a call that writes nothing
+pub unwritten_of : {R : Type 0} {E : Type 0} (view : R → ReplyView) (keeps : Bool) (maker : Maker) (event : ArmedEvent) (result : Result R E)
+    (lines : List Line) → ((answer : ReplyView) → IsAdded keeps maker event answer lines lines)
+    → IfOk result (λ reply. IsAdded keeps maker event (view reply) lines lines)
+unwritten_of view keeps maker event (Ok reply) lines none = none (view reply)
+unwritten_of view keeps maker event (Err error) lines none = tt

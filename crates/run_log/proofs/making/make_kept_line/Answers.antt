@@ -1,0 +1,24 @@
+use Rattle.std.proofs.Common.{◌++◌, ◌∷◌, [], List, refl, ap, ◌∙◌}
+use Rattle.replay.specs.Replay.{Made, Plainly}
+use Rattle.replay.specs.Replies.{KeptReply}
+use Rattle.replay.specs.declared.kept.Maker.TheVariants.{Driver}
+use Rattle.run_log.specs.Counts.{numbers_in}
+use Rattle.run_log.specs.Lines.{happenings}
+use Rattle.run_log.specs.Numbers.{counted}
+use Rattle.run_log.specs.declared.history.Line.{Line}
+use Rattle.run_log.specs.declared.seat_count.Counted.TheVariants as kind
+use Rattle.run_log.proofs.making.make_kept_line.Goals as goal
+
+pub returns-clause-added : goal.returns-clause-added
+returns-clause-added g c =
+    let kept = Plainly c.args.event in
+    let said = c.keep_reply-said in
+    record {
+      kept = kept;
+      happened = λ yes. c.put_entry.ensures.happened
+          ∙ (ap (λ (lines : List Line). happenings lines ++ Made Driver kept said.result ∷ []) c.reserve.ensures.items
+          ∙ ap (λ (answer : KeptReply). happenings c.args.lines.now.items ++ Made Driver kept answer ∷ []) said.ensures);
+      counts = λ yes stops. c.put_entry.ensures.counts stops
+          ∙ ap (λ (lines : List Line). counted kind.Entry (numbers_in lines stops)) c.reserve.ensures.items;
+      is_kept = refl;
+    }

@@ -1,4 +1,0 @@
-use Rattle.runtime.proofs.threads.fn.run_threads.scope.Given as goal
-
-abbrev pub decreases-loop-handle : goal.decreases-loop-handle
-decreases-loop-handle g l = goal.left-loop-handle g l
