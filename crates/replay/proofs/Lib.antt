@@ -5,3 +5,4 @@ pub mod Outs
 pub mod Silences
 pub mod Choices
 pub mod Rests
+pub mod Endings

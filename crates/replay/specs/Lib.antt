@@ -5,3 +5,4 @@ pub mod Replay
 pub mod Out
 pub mod Laws
 pub mod Rests
+pub mod Endings

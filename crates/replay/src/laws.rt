@@ -1,4 +1,5 @@
 // Laws of histories.
+ghost use Rattle.replay.specs.Endings.{InstallsEndNothing, RoundsAreNext};
 ghost use Rattle.replay.specs.Laws.{InstallsAreTold, ReplaysKeep, ReplaysStay, SilencesStay};
 ghost use Rattle.replay.specs.Out.{InstallsFollowGrants, JobsAreTold};
 ghost use Rattle.replay.specs.Rests.{PassingRests, RestIsSilence, RestsStay, SilenceIsRest};
@@ -34,4 +35,11 @@ pub fn rest_law()
     ensures passing { PassingRests }
     ensures silent { RestIsSilence }
     ensures rests { SilenceIsRest }
+{}
+
+/// Where a run is over it stays so when a job comes back: the round is the same, what has left is, and where nothing was left to do nothing
+/// is. And an event ends one round at most.
+pub fn ending_law()
+    ensures installs { InstallsEndNothing }
+    ensures rounds { RoundsAreNext }
 {}

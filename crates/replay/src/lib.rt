@@ -6,4 +6,4 @@ mod kept;
 mod laws;
 
 pub use kept::{ArmedCrash, KeptReply, Maker, NextTurn, RunEvent, ScriptedEvent, Silence};
-pub use laws::{installs_law, replay_law, rest_law, silence_law};
+pub use laws::{ending_law, installs_law, replay_law, rest_law, silence_law};

@@ -1,0 +1,18 @@
+-- What an event leaves of that by which a run ends.
+use Rattle.std.specs.Prelude.{◌≡◌, ◌≤◌, ◌+◌, ℕ, Bool, true, List}
+use Rattle.protocol.specs.Node.Common.{RecordView}
+use Rattle.protocol.specs.World.Common.{DoneView, Install, ReplyView, are_quiet, released_of}
+use Rattle.replay.specs.Armed.{ArmedEvent, ArmedView, IsArmedStep, OfWorld}
+
+-- A turn that comes back leaves the round as it is, and all that has left; and where nothing is left to do, nothing is left to do behind it.
+abbrev pub InstallsEndNothing : Type 0
+InstallsEndNothing = (fits : List (RecordView → Bool)) (done : DoneView) (old new : ArmedView) (answer : ReplyView)
+    → IsArmedStep fits (OfWorld (Install done)) old answer new
+    → (new.world.round ≡ old.world.round)
+    × ((channel : ℕ) → released_of channel new.world.stations ≡ released_of channel old.world.stations)
+    × (are_quiet old.world ≡ true → are_quiet new.world ≡ true)
+
+-- Behind an event it is the same round, or the next one.
+abbrev pub RoundsAreNext : Type 0
+RoundsAreNext = (fits : List (RecordView → Bool)) (event : ArmedEvent) (old new : ArmedView) (answer : ReplyView)
+    → IsArmedStep fits event old answer new → new.world.round ≤ old.world.round + 1
