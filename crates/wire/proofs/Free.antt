@@ -90,6 +90,13 @@ at_once n m = omega arith
 one_later : (n ahead m : ℕ) → min (min (min (n + 1) m + 1) m + ahead) m ≡ min (min (n + 1) m + (ahead + 1)) m
 one_later n ahead m = omega arith
 
+-- the numbers of so many lie between that of the next one and that of the one behind them
+pub not_before : (n ahead m : ℕ) → min (n + 1) m ≤ min (min (n + 1) m + ahead) m
+not_before n ahead m = omega arith
+
+pub not_behind : (n ahead count m : ℕ) → ahead < count → min (min (n + 1) m + ahead) m ≤ min (min (n + 1) m + count) m
+not_behind n ahead count m less = omega (arith, less)
+
 -- behind one that is sent, one packet less is to come
 free_next : (rules : List Rule) (queues : List QueueTraffic) (sending other : Sending) (round count : ℕ)
     → IsFree (traffic queues rules) (suc count) other

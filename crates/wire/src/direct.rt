@@ -17,7 +17,11 @@ use crate::rules::Rules;
 use crate::sending::Sending;
 use std::alloc::AllocError;
 
-// Whether no rule is for any of so many packets that come next from the node that sends this one.
+// So many packets are few: it is asked of each number whether a rule is for it.
+const FEW: usize = 4;
+
+// Whether no rule is for any of so many packets that come next from the node that sends this one. Of more than a few it may be
+// said that one is.
 fn is_free(queue: &Queue, rules: &Rules, sending: &Sending, count: usize) -> bool
     requires { AreNodes sending.now }
     ensures { IsTrue result → (ahead : ℕ) → ahead < count
@@ -25,6 +29,12 @@ fn is_free(queue: &Queue, rules: &Rules, sending: &Sending, count: usize) -> boo
         (capped (nth_in queue.now.counts sending.now.from + ahead)) ≡ plain_fate }
 {
     let next = queue.next_number(sending.from);
+    if rules.is_none_between(next, capped_sum(next, count as u64)) {
+        return true;
+    }
+    if count > FEW {
+        return false;
+    }
     for ahead in 0..count {
         if rules.is_for(sending.from, sending.to, capped_sum(next, ahead as u64)) {
             return false;
@@ -33,7 +43,7 @@ fn is_free(queue: &Queue, rules: &Rules, sending: &Sending, count: usize) -> boo
     true
 }
 
-/// Whether no rule is for any of these, wherever each stands among them.
+/// Whether no rule is for any of these, wherever each stands among them. Of more than a few it may be said that one is.
 pub(crate) fn are_free(queues: &[Queue], rules: &Rules, packets: &[Sending]) -> bool
     requires nodes { All AreNodes packets.now }
     requires there { NODES ≤ length queues.now }

@@ -3,7 +3,9 @@
 // Each packet that is sent asks for its fate, so that is looked up and not reckoned anew: it takes the same time for one rule as
 // for many thousands. Arming a rule looks up one packet too. In memory a rule is 32 bytes, and in the index a packet
 // for which there is one takes about 50 more.
-ghost use Rattle.std.specs.Prelude.{◌≡◌, ◌++◌, [], ◌∷◌, false, IsTrue, ◌↔◌, OnOk, OnErr};
+//
+// Rules that are all for packets long past or far ahead cost less still: it is known between which numbers they lie.
+ghost use Rattle.std.specs.Prelude.{◌≡◌, ◌≤◌, ℕ, ◌++◌, [], ◌∷◌, false, IsTrue, ◌↔◌, OnOk, OnErr};
 ghost use Rattle.wire.specs.Index.{plain_fate};
 ghost use Rattle.wire.specs.Rules.{fate_of};
 
@@ -25,18 +27,22 @@ pub(crate) struct Passage {
 pub(crate) struct Rules {
     list: Vec<Rule>,
     fates: HashMap<Passage, Fate>,
+    // The least number of a packet for which there is one, and the greatest.
+    least: u64,
+    most: u64,
 }
 
 impl Model for Rules {
     ghost use Rattle.std.specs.Prelude.{List};
-    ghost use Rattle.wire.specs.Index.{IsIndex};
+    ghost use Rattle.wire.specs.Index.{AreFrom, AreUpTo, IsIndex};
     ghost use Rattle.wire.specs.declared.rule.Rule.{Rule as Armed};
 
     ghost Value = { List Armed };
 
     ghost view = { λ rules. rules.list.items };
 
-    ghost invariant = { λ rules. IsIndex rules.list.items rules.fates };
+    ghost invariant = { λ rules. IsIndex rules.list.items rules.fates
+        × AreFrom rules.list.items rules.least × AreUpTo rules.list.items rules.most };
 }
 
 impl Rules {
@@ -46,6 +52,8 @@ impl Rules {
         Rules {
             list: Vec::new(alloc),
             fates: HashMap::new(alloc),
+            least: u64::MAX,
+            most: 0,
         }
     }
 
@@ -75,6 +83,14 @@ impl Rules {
         self.fates.contains_key(&Passage { from, to, nth })
     }
 
+    // Whether there is none for any packet with one of these numbers, whichever node sends it.
+    pub(crate) fn is_none_between(&self, first: u64, last: u64) -> bool
+        ensures { IsTrue result → (from to nth : ℕ) → first ≤ nth → nth ≤ last
+            → fate_of self.now from to nth ≡ plain_fate }
+    {
+        last < self.least || self.most < first
+    }
+
     // Arms one more. All memory is taken first, and a refusal leaves them as they were.
     pub(crate) fn arm(&mut self, rule: Rule) -> Result<(), AllocError>
         ensures ok { OnOk result (self.new ≡ self.old ++ rule ∷ []) }
@@ -90,6 +106,8 @@ impl Rules {
         self.list.reserve(1)?;
         self.fates.insert(Passage { from, to, nth }, fate)?;
         self.list.push_reserved(rule);
+        self.least = self.least.min(nth);
+        self.most = self.most.max(nth);
         Ok(())
     }
 }

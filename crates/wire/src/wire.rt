@@ -36,9 +36,6 @@ impl Model for Wire {
     ghost invariant = { λ wire. length wire.queues.items ≡ NODES };
 }
 
-// So many packets are few: each of them asks once for each of them whether a rule is for it.
-const FEW: usize = 4;
-
 // So many queues with nothing in them.
 fn empty_queues(alloc: Global) -> Result<Vec<Queue>, AllocError>
     ensures { IfOk result (λ queues. queues_traffic queues.items ≡ replicate NODES empty_queue) }
@@ -175,8 +172,7 @@ impl Wire {
         requires { All AreNodes packets.now }
         ensures { IsTrue result → All (IsFree (traffic_of self.now) (length packets.now)) packets.now }
     {
-        self.rules.is_empty()
-            || packets.len() <= FEW && are_free(&self.queues, &self.rules, packets)
+        self.rules.is_empty() || are_free(&self.queues, &self.rules, packets)
     }
 
     /// Makes these packets ready to be sent one after the other in a round, as the rules have it. Changes nothing, and refuses
