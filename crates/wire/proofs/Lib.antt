@@ -3,3 +3,5 @@ pub mod Seen
 pub mod Staged
 pub mod Ready
 pub mod Roomy
+pub mod Indexed
+pub mod Free

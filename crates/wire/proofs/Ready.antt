@@ -15,6 +15,7 @@ use Rattle.wire.specs.Traffic.{traffic_at, traffic_without}
 use Rattle.wire.specs.RoomFor.{FindsRoom, room_in}
 use Rattle.wire.specs.Staging.{behind, unsent, BatchState, HasPlaces, HasRoom, HasRoomFor, HasNoLessRoom, IsReady}
 use Rattle.wire.specs.Staging.{IsStaged, ruled}
+use Rattle.wire.proofs.Free.{still_free}
 use Rattle.wire.proofs.Staged.{all_sent_behind, nothing_behind}
 
 -- each queue with itself
@@ -119,7 +120,7 @@ still_staged traffic to place round sendings staged ready =
 pub still_ready : (traffic : Traffic) (to place round : ℕ) (sendings : List Sending) (batch : BatchState)
     → IsReady traffic round sendings batch → IsReady (traffic_without traffic to place) round sendings batch
 still_ready traffic to place round sendings batch ready =
-    ⊎_elim (λ straight. inl straight)
+    ⊎_elim (λ straight. inl (still_free traffic to place (length sendings) sendings straight.0, straight.1, straight.2, straight.3))
     (λ queued. inr (queued.0, queued.1, still_staged traffic to place round sendings batch.queues queued.2)) ready
 
 -- and there is no less room

@@ -1,4 +1,5 @@
 pub mod Rules
+pub mod Index
 pub mod Queue
 pub mod Wire
 pub mod Traffic

@@ -10,6 +10,7 @@ mod direct;
 mod laws;
 mod queue;
 mod rule;
+mod rules;
 mod sending;
 mod staging;
 mod wire;

@@ -5,7 +5,8 @@ ghost use Rattle.std.specs.VecDeque.{deque_len, deque_capacity};
 ghost use Rattle.wire.specs.Queue.{flight, is_due, without, with_delay, with_copy, counted};
 
 use crate::bytes::Bytes;
-use crate::rule::{Rule, capped_sum, fate_by};
+use crate::rule::capped_sum;
+use crate::rules::Rules;
 use crate::sending::Sending;
 use std::alloc::{AllocError, Global};
 use std::collections::VecDeque;
@@ -160,7 +161,7 @@ impl Queue {
     pub(crate) fn add(
         &mut self,
         alloc: Global,
-        rules: &[Rule],
+        rules: &Rules,
         sending: Sending,
         round: u64,
     ) -> Result<(), AllocError>
@@ -170,7 +171,7 @@ impl Queue {
             (queue_traffic self.old)) }
     {
         let Sending { from, to, packet } = sending;
-        let fate = fate_by(rules, from, to, self.next_number(from));
+        let fate = rules.fate(from, to, self.next_number(from));
         let due = capped_sum(round, fate.delay);
         put_copies(alloc, &mut self.flights, packet, fate.copies, due)?;
         self.note_sent(from);
@@ -241,7 +242,7 @@ impl Queue {
     }
 
     // Which packet from a node the next one is, from 1.
-    fn next_number(&self, from: u8) -> u64
+    pub(crate) fn next_number(&self, from: u8) -> u64
         requires { from < NODES }
         ensures { result ≡ nth_in self.now.counts from }
     {

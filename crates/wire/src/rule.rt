@@ -1,6 +1,6 @@
 // Rules for packets that are still to be sent.
 ghost use Rattle.std.specs.Prelude.{◌≡◌, ◌+◌, min};
-ghost use Rattle.wire.specs.Rules.{capped, changed, fate_after, fate_of};
+ghost use Rattle.wire.specs.Rules.{capped, changed};
 
 use kahn_net::MAX_COUNT;
 
@@ -42,7 +42,8 @@ pub(crate) fn capped_sum(one: u64, other: u64) -> u64
     one.saturating_add(other).min(MAX_COUNT)
 }
 
-fn changed_by(fate: Fate, change: Change) -> Fate
+// What becomes of a packet by one rule more for it.
+pub(crate) fn changed_by(fate: Fate, change: Change) -> Fate
     ensures { result ≡ changed fate change }
 {
     match change {
@@ -60,28 +61,4 @@ fn changed_by(fate: Fate, change: Change) -> Fate
             delay: capped_sum(fate.delay, rounds),
         },
     }
-}
-
-fn after_rule(fate: Fate, rule: Rule, from: u8, to: u8, nth: u64) -> Fate
-    ensures { result ≡ fate_after from to nth fate rule }
-{
-    if rule.from == from && rule.to == to && rule.nth == nth {
-        changed_by(fate, rule.change)
-    } else {
-        fate
-    }
-}
-
-// What becomes of the `nth` packet from one node to another.
-pub(crate) fn fate_by(rules: &[Rule], from: u8, to: u8, nth: u64) -> Fate
-    ensures { result ≡ fate_of rules.now from to nth }
-{
-    let mut fate = Fate {
-        copies: 1,
-        delay: 0,
-    };
-    for rule in rules {
-        fate = after_rule(fate, *rule, from, to, nth);
-    }
-    fate
 }

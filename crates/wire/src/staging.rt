@@ -7,7 +7,7 @@ ghost use Rattle.wire.specs.Traffic.{AreNodes, queues_traffic, traffic_sent, all
 ghost use Rattle.wire.specs.Staging.{all_joined, unsent, HasNoLessRoom, HasRoom, IsStaged, ruled};
 
 use crate::queue::{NODES, Queue};
-use crate::rule::Rule;
+use crate::rules::Rules;
 use crate::sending::Sending;
 use std::alloc::{AllocError, Global};
 use std::marker::Model;
@@ -28,7 +28,7 @@ fn unsent_queues(alloc: Global, queues: &[Queue]) -> Result<Vec<Queue>, AllocErr
 fn stage(
     alloc: Global,
     staged: &mut [Queue],
-    rules: &[Rule],
+    rules: &Rules,
     sending: Sending,
     round: u64,
 ) -> Result<(), AllocError>
@@ -46,7 +46,7 @@ fn stage(
 fn stage_all(
     alloc: Global,
     staged: &mut [Queue],
-    rules: &[Rule],
+    rules: &Rules,
     packets: Vec<Sending>,
     round: u64,
 ) -> Result<(), AllocError>
@@ -62,8 +62,8 @@ fn stage_all(
     Ok(())
 }
 
-/// Packets that are ready to be sent in a round. Where no rule is armed they are kept as they are, and else there is a queue for
-/// each node with what is to go last there.
+/// Packets that are ready to be sent in a round. Where no rule is for any of them they are kept as they are, and else there is a
+/// queue for each node with what is to go last there.
 #[derive(Drop)]
 pub struct Batch {
     pub(crate) straight: Vec<Sending>,
@@ -87,7 +87,7 @@ impl Model for Batch {
 pub(crate) fn staged(
     alloc: Global,
     queues: &[Queue],
-    rules: &[Rule],
+    rules: &Rules,
     packets: Vec<Sending>,
     round: u64,
 ) -> Result<Vec<Queue>, AllocError>

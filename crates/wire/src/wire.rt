@@ -1,16 +1,17 @@
 // All that is in flight.
-ghost use Rattle.std.specs.Prelude.{◌≡◌, ◌<◌, ◌++◌, [], ◌∷◌, ℕ, List, All, replicate, length, slice_get, option_map, IfOk, OnOk, OnErr};
+ghost use Rattle.std.specs.Prelude.{◌≡◌, ◌<◌, ◌++◌, [], ◌∷◌, ℕ, List, All, IsTrue, replicate, length, slice_get, option_map, IfOk, OnOk, OnErr};
 ghost use Rattle.std.specs.List.{AllZip, position_from};
 ghost use Rattle.wire.specs.RoomFor.{FindsRoom};
-ghost use Rattle.wire.specs.Staging.{behind, ruled, HasNoLessRoom, HasRoom, HasRoomFor, IsBatch, IsReady};
+ghost use Rattle.wire.specs.Staging.{behind, by_no_rule, ruled, IsFree, HasNoLessRoom, HasRoom, HasRoomFor, IsBatch, IsReady};
 ghost use Rattle.wire.specs.declared.sending.Sending.{Sending as SendingValue};
 ghost use Rattle.wire.specs.Queue.{is_due, without, with_delay, with_copy};
 ghost use Rattle.wire.specs.Wire.{queue_at, in_flight, room_for, with_queue, with_room, is_due_at};
 ghost use Rattle.wire.specs.Traffic.{AreNodes, empty_queue, queues_traffic, traffic_of, opening_traffic, traffic_without, traffic_delayed, traffic_repeated, traffic_armed, all_sent};
 
-use crate::direct::{make_room_for, put_all};
+use crate::direct::{are_free, make_room_for, put_all};
 use crate::queue::{NODES, Queue};
 use crate::rule::Rule;
+use crate::rules::Rules;
 use crate::sending::Sending;
 use crate::staging::{Batch, join_all, reserve_all, staged};
 use std::alloc::{AllocError, Global};
@@ -20,7 +21,7 @@ use std::marker::Model;
 #[derive(Drop)]
 pub struct Wire {
     queues: Vec<Queue>,
-    rules: Vec<Rule>,
+    rules: Rules,
 }
 
 impl Model for Wire {
@@ -30,7 +31,7 @@ impl Model for Wire {
 
     ghost Value = { WireState };
 
-    ghost view = { λ wire. record { queues = wire.queues.items; rules = wire.rules.items } };
+    ghost view = { λ wire. record { queues = wire.queues.items; rules = wire.rules } };
 
     ghost invariant = { λ wire. length wire.queues.items ≡ NODES };
 }
@@ -53,7 +54,7 @@ impl Wire {
     {
         Ok(Wire {
             queues: empty_queues(alloc)?,
-            rules: Vec::new(alloc),
+            rules: Rules::new(alloc),
         })
     }
 
@@ -144,8 +145,7 @@ impl Wire {
             ≡ traffic_armed (traffic_of self.old) rule) }
         ensures refused { OnErr result (traffic_of self.new ≡ traffic_of self.old) }
     {
-        self.rules.push(rule)?;
-        Ok(())
+        self.rules.arm(rule)
     }
 
     /// Sends these packets in this round, one after the other, as the rules have it: all of them or none. Takes all memory
@@ -167,8 +167,16 @@ impl Wire {
         Ok(())
     }
 
+    // Whether no rule is for any of these. More than a few may be said to have one.
+    fn are_free(&self, packets: &[Sending]) -> bool
+        requires { All AreNodes packets.now }
+        ensures { IsTrue result → All (IsFree (traffic_of self.now) (length packets.now)) packets.now }
+    {
+        self.rules.is_empty() || are_free(&self.queues, &self.rules, packets)
+    }
+
     /// Makes these packets ready to be sent one after the other in a round, as the rules have it. Changes nothing, and refuses
-    /// for want of memory alone. Where no rule is armed it takes none.
+    /// for want of memory alone. Where no rule is for any of them, and they are few, it takes none.
     pub fn stage(
         &self,
         alloc: Global,
@@ -180,7 +188,7 @@ impl Wire {
             (λ batch. IsReady (traffic_of self.now) round packets.items batch) }
         ensures batch { IfOk result (λ batch. IsBatch batch) }
     {
-        if self.rules.is_empty() {
+        if self.are_free(&packets) {
             return Ok(Batch {
                 straight: packets,
                 round,
@@ -208,11 +216,11 @@ impl Wire {
         reserve_all(&mut self.queues, &batch.queues)
     }
 
-    // Puts these packets last one after the other, where there is room and no rule is armed.
+    // Puts these packets last one after the other, where there is room, as if no rule were armed.
     fn put_straight(&mut self, packets: Vec<Sending>, round: u64)
         requires nodes { All AreNodes packets.items }
         requires room { All (FindsRoom self.old.queues (length packets.items)) packets.items }
-        ensures { self.old.rules ≡ [] → traffic_of self.new ≡ all_sent round packets.items (traffic_of self.old) }
+        ensures { traffic_of self.new ≡ by_no_rule round packets.items (traffic_of self.old) }
     {
         put_all(&mut self.queues, packets, round);
     }

@@ -11,6 +11,6 @@ returns-clause-traffic c =
     (seen_there
     (λ queue. record
     { flights = with_delay queue.flights c.args.place c.args.rounds; counts = queue.counts; room = queue.room })
-    queues c.self.inside.rules.items
+    queues c.self.inside.rules
     c.args.self.now c.args.to c.index_mut-queue.result.now c.delay.new.self c.self.view_is within
     c.index_mut-queue.ensures.value c.delay.ensures)

@@ -8,6 +8,6 @@ returns-clause-traffic c =
     let queues = c.self.inside.queues.items in
     let within : c.args.to < length queues = omega (arith, c.self.invariant, c.requires.node) in
     seen_without c.args.self.now _ c.args.to c.args.place
-    (seen_there (λ queue. without queue c.args.place) queues c.self.inside.rules.items c.args.self.now c.args.to
+    (seen_there (λ queue. without queue c.args.place) queues c.self.inside.rules c.args.self.now c.args.to
     c.index_mut-queue.result.now c.take-lost.new.self
     c.self.view_is within c.index_mut-queue.ensures.value c.take-lost.ensures.left)

@@ -11,7 +11,7 @@ returns-clause-traffic c =
     on_ok_map c.repeat.result c.repeat.ensures.ok (λ is. seen_repeated c.args.self.now _ c.args.to c.args.place room
     (seen_there
     (λ queue. record { flights = with_copy queue.flights c.args.place; counts = queue.counts; room = room }) queues
-    c.self.inside.rules.items c.args.self.now c.args.to
+    c.self.inside.rules c.args.self.now c.args.to
     c.index_mut-queue.result.now c.repeat.new.self c.self.view_is within c.index_mut-queue.ensures.value is))
 
 pub returns-clause-refused : goal.returns-clause-refused
@@ -21,5 +21,5 @@ returns-clause-refused c =
     let within : c.args.to < length queues = omega (arith, c.self.invariant, c.requires.node) in
     on_err_map c.repeat.result c.repeat.ensures.err (λ is. seen_room c.args.self.now _ c.args.to room
     (seen_there (λ queue. record { flights = queue.flights; counts = queue.counts; room = room }) queues
-    c.self.inside.rules.items c.args.self.now c.args.to
+    c.self.inside.rules c.args.self.now c.args.to
     c.index_mut-queue.result.now c.repeat.new.self c.self.view_is within c.index_mut-queue.ensures.value is))
