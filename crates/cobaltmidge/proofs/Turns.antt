@@ -37,6 +37,7 @@ use Rattle.station.specs.ReplyView.{Reply}
 use Rattle.protocol.specs.declared.reply.Reply.TheVariants.{Granted}
 use Rattle.station.specs.declared.output.Output.{Output}
 use Rattle.station.specs.declared.station.Station.{Station}
+use Rattle.runtime.specs.Causes.{last_round}
 use Rattle.runtime.specs.Ending.{is_over, was_refused}
 use Rattle.runtime.specs.Turning.{EndsByTurns, IsRunByTurns}
 use Rattle.runtime.specs.declared.ending.RunEnd.{RunEnd}
@@ -199,18 +200,21 @@ pub ended_so : {C O : Type 0} {cell : CellWords C} {slots : SlotWords C} (taken 
     → HasRun (rooms stations) script first now
     → (settings.history ≡ true → LeadsTo (rooms stations) script first happened now)
     → (settings.threads ≡ false → EndsByTurns (is_over first.net.channels (bounds_of settings)) nodes (rooms stations) script first now end)
+    → (settings.threads ≡ true → was_refused end ≡ false → now.round ≤ last_round first script (bounds_of settings))
     → IsEnd settings net inputs script happened now
-ended_so taken failures stations settings net inputs script happened first now end nodes room same opened many unrefused run leads turns = record {
-  run = subst (λ (w : WorldView). HasRun (run_rooms w.stations) script w now) opened
-      (subst (λ (fits : List (RecordView → Bool)). HasRun fits script first now) fitting run);
-  history = λ yes. subst (λ (w : WorldView). LeadsTo (run_rooms w.stations) script w happened now) opened
-      (subst (λ (fits : List (RecordView → Bool)). LeadsTo fits script first happened now) fitting (leads yes));
-  turns = λ by_turns. subst (λ (w : WorldView). IsRunByTurns (is_over w.net.channels (bounds_of settings)) (node_count net)
-      (run_rooms w.stations) script w now) opened
-      (subst (λ (n : ℕ). IsRunByTurns (is_over first.net.channels (bounds_of settings)) n (run_rooms first.stations) script first now) many
-      (subst (λ (fits : List (RecordView → Bool)). IsRunByTurns (is_over first.net.channels (bounds_of settings)) nodes fits script first now)
-      fitting (until_over _ nodes (rooms stations) script first now end unrefused (turns by_turns))));
-}
+ended_so taken failures stations settings net inputs script happened first now end nodes room same opened many unrefused run leads turns
+    rounds = record {
+      run = subst (λ (w : WorldView). HasRun (run_rooms w.stations) script w now) opened
+          (subst (λ (fits : List (RecordView → Bool)). HasRun fits script first now) fitting run);
+      history = λ yes. subst (λ (w : WorldView). LeadsTo (run_rooms w.stations) script w happened now) opened
+          (subst (λ (fits : List (RecordView → Bool)). LeadsTo fits script first happened now) fitting (leads yes));
+      turns = λ by_turns. subst (λ (w : WorldView). IsRunByTurns (is_over w.net.channels (bounds_of settings)) (node_count net)
+          (run_rooms w.stations) script w now) opened
+          (subst (λ (n : ℕ). IsRunByTurns (is_over first.net.channels (bounds_of settings)) n (run_rooms first.stations) script first now) many
+          (subst (λ (fits : List (RecordView → Bool)). IsRunByTurns (is_over first.net.channels (bounds_of settings)) nodes fits script first now)
+          fitting (until_over _ nodes (rooms stations) script first now end unrefused (turns by_turns))));
+      rounds = λ by_threads. subst (λ (w : WorldView). now.round ≤ last_round w script (bounds_of settings)) opened (rounds by_threads unrefused);
+    }
   where
     fitting : rooms stations ≡ run_rooms first.stations
     fitting = rooms_are taken failures stations room ∙ ap run_rooms (sym same)

@@ -1,12 +1,13 @@
 -- What a run of a network releases, and how it came to its end.
-use Rattle.std.specs.Prelude.{◌≡◌, ℕ, nat_le, if◌then◌else◌, Bool, true, false, IsTrue, ℤ, List, Option, Some, None, length, map, slice_get}
+use Rattle.std.specs.Prelude.{◌≡◌, ◌≤◌, ℕ, nat_le, if◌then◌else◌, Bool, true, false, IsTrue, ℤ, List, Option, Some, None, length, map, slice_get}
 use Rattle.std.specs.List.{list_all}
 use Rattle.protocol.specs.Node.Common.{history_of, IsPrefix, node_count, Network, approximation}
 use Rattle.kahn_net.specs.Common.{IsReached}
 use Rattle.protocol.specs.World.Common.{output_channels, released_of, StationView, WorldView}
 use Rattle.replay.specs.Replay.{Happening, LeadsTo}
 use Rattle.run_log.specs.Happened.{HasRun}
-use Rattle.runtime.specs.declared.driving.Bounds.{Bounds}
+use Rattle.runtime.specs.Causes.{last_round}
+use Rattle.runtime.specs.declared.bounds.Bounds.{Bounds}
 use Rattle.replay.specs.declared.kept.ScriptedEvent.{ScriptedEvent}
 use Rattle.runtime.specs.Ending.{is_over}
 use Rattle.runtime.specs.Turning.{IsRunByTurns}
@@ -51,7 +52,8 @@ cut_at (Some items) released =
 
 -- How a run comes to its end. A history leads there from the opening world: each event of it is one that was next for its node, a turn that came
 -- back to its node, or the event of the script's next line. Where the history is kept, it is that one. By turns it is also fixed which event
--- comes when, the same whether the history is kept or not, and that turns were taken until the run was over.
+-- comes when, the same whether the history is kept or not, and that turns were taken until the run was over. By threads no round begins behind
+-- the last one.
 pub record IsEnd (settings : Settings) (net : Network) (inputs : List (List ℤ)) (script : List ScriptedEvent) (happened : List Happening)
     (now : WorldView) : Type 0
   where
@@ -61,3 +63,4 @@ pub record IsEnd (settings : Settings) (net : Network) (inputs : List (List ℤ)
     pub turns : settings.threads ≡ false
         → IsRunByTurns (is_over net.channels (bounds_of settings)) (node_count net)
         (run_rooms (first_world net inputs settings.room).stations) script (first_world net inputs settings.room) now
+    pub rounds : settings.threads ≡ true → now.round ≤ last_round (first_world net inputs settings.room) script (bounds_of settings)

@@ -1,12 +1,13 @@
 //! A run of a network, to be set and then started.
 
-ghost use Rattle.std.specs.Prelude.{◌≡◌, None, Some, true, map, IfErr, IfOk};
+ghost use Rattle.std.specs.Prelude.{◌≡◌, ◌≢◌, None, Some, true, map, IfErr, IfOk};
 ghost use Rattle.std.specs.List.{AllByRecursion};
 ghost use Rattle.protocol.specs.Node.Common.{Fits, network_of};
 ghost use Rattle.protocol.specs.World.Common.{are_quiet, output_channels};
 ghost use Rattle.run_log.specs.Lines.{happenings};
 ghost use Rattle.runtime.specs.Beginning.{HasBegun};
 ghost use Rattle.runtime.specs.Ending.{IsOver};
+ghost use Rattle.runtime.specs.declared.ending.RunEnd.TheVariants.{Stopped};
 ghost use Rattle.world.specs.OpeningWorld.{IsUnused};
 ghost use Rattle.world.specs.WholeView.{world_of};
 ghost use Rattle.cobaltmidge.specs.Errors.{IsRunError};
@@ -22,7 +23,7 @@ use crate::settings::Settings;
 use net_check::Inputs;
 use outlet::{ListOutlet, Outlet};
 use replay::ScriptedEvent;
-use runtime::NoWatch;
+use runtime::{NoWatch, RunWatch, TurnWatch};
 use std::alloc::Global;
 use std::sync::Wait;
 use std::thread::Threads;
@@ -178,6 +179,8 @@ impl<'a> Run<'a> {
         // Where the history is kept, it begins with the events of the script's lines of round 0.
         ensures begun { self.entry.settings.history ≡ true → IfOk result
             (λ finished. HasBegun (script_of self.entry.script) (happenings finished.history.lines.items) finished.end) }
+        // Nobody stops it.
+        ensures unstopped { IfOk result (λ finished. finished.end ≢ Stopped) }
         ensures network { IfOk result (λ finished. finished.network ≡ self.entry.network) }
         ensures settings { IfOk result (λ finished. finished.settings ≡ self.entry.settings) }
         // A device failed (20), memory is missing (1), or what is counted would pass 2^63 - 1 (44).
@@ -215,6 +218,44 @@ impl<'a> Run<'a> {
         // Where the history is kept, it begins with the events of the script's lines of round 0.
         ensures begun { self.entry.settings.history ≡ true → IfOk result
             (λ finished. HasBegun (script_of self.entry.script) (happenings finished.history.lines.items) finished.end) }
+        // Nobody stops it.
+        ensures unstopped { IfOk result (λ finished. finished.end ≢ Stopped) }
+        ensures network { IfOk result (λ finished. finished.network ≡ self.entry.network) }
+        ensures settings { IfOk result (λ finished. finished.settings ≡ self.entry.settings) }
+        ensures err { IfErr result (IsRunError true) }
+    {
+        self.run_watched(rt, alloc, outputs, &mut NoWatch)
+    }
+
+    /// The same, while somebody watches it: where it runs with threads, on one more of its own, from which it may be stopped; and else before each
+    /// turn of node 0, on the thread that takes the turns.
+    pub fn run_watched<O: Outlet + Send, W: RunWatch + TurnWatch + Sync, R: Threads + Wait + Sync>(
+        self,
+        rt: &R,
+        alloc: Global,
+        outputs: Vec<Output<O>>,
+        watch: &mut W,
+    ) -> Result<Finished<'a, O>, Error>
+        requires listed { map (λ output. output.channel) outputs.items
+            ≡ output_channels 0 (network_of self.network.now.net.value.program).channels }
+        requires unused { AllByRecursion (IsUnused O.taken) outputs.items }
+        requires unfailed { AllByRecursion (HasNoFailures O.failures) outputs.items }
+        ensures run { IfOk result (λ finished. IsRun (network_of self.entry.network.now.net.value.program)
+            self.entry.inputs (released_streams (network_of self.entry.network.now.net.value.program)
+            (world_of finished.world).stations) (are_quiet (world_of finished.world))) }
+        ensures end { IfOk result (λ finished. IsEnd self.entry.settings
+            (network_of self.entry.network.now.net.value.program) self.entry.inputs (script_of self.entry.script)
+            (happenings finished.history.lines.items) (world_of finished.world)) }
+        ensures over { IfOk result (λ finished. IsOver (network_of self.entry.network.now.net.value.program).channels
+            (bounds_of self.entry.settings) (world_of finished.world) finished.end) }
+        ensures same { IfOk result (λ finished.
+            ∥ ((world_of finished.world).net ≡ network_of self.entry.network.now.net.value.program)
+            × ((world_of finished.world).inputs ≡ self.entry.inputs) ∥₁) }
+        // Where the history is kept, it begins with the events of the script's lines of round 0.
+        ensures begun { self.entry.settings.history ≡ true → IfOk result
+            (λ finished. HasBegun (script_of self.entry.script) (happenings finished.history.lines.items) finished.end) }
+        // It ends by a stop only where who watches it may stop it.
+        ensures stopped { IfOk result (λ finished. finished.end ≡ Stopped → W.may_stop ≡ true) }
         ensures network { IfOk result (λ finished. finished.network ≡ self.entry.network) }
         ensures settings { IfOk result (λ finished. finished.settings ≡ self.entry.settings) }
         ensures err { IfErr result (IsRunError true) }
@@ -234,7 +275,7 @@ impl<'a> Run<'a> {
             inputs,
             outputs,
             script,
-            &mut NoWatch,
+            watch,
         ) {
             Ok(ended) => Ok(Finished {
                 network,

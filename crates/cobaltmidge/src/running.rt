@@ -1,6 +1,6 @@
 //! A network's run, from its first event to its end.
 
-ghost use Rattle.std.specs.Prelude.{◌≡◌, false, true, map, IfErr, IfOk};
+ghost use Rattle.std.specs.Prelude.{◌≡◌, ◌≤◌, false, true, map, IfErr, IfOk};
 ghost use Rattle.std.specs.List.{AllByRecursion};
 ghost use Rattle.protocol.specs.Node.Common.{Fits, network_of};
 ghost use Rattle.protocol.specs.World.Common.{are_quiet, output_channels};
@@ -8,8 +8,10 @@ ghost use Rattle.replay.specs.Replay.{LeadsTo};
 ghost use Rattle.run_log.specs.Happened.{HasRun};
 ghost use Rattle.run_log.specs.Lines.{happenings};
 ghost use Rattle.runtime.specs.Beginning.{HasBegun};
+ghost use Rattle.runtime.specs.Causes.{last_round};
 ghost use Rattle.runtime.specs.Ending.{IsOver, is_over, was_refused};
 ghost use Rattle.runtime.specs.Turning.{EndsByTurns};
+ghost use Rattle.runtime.specs.declared.ending.RunEnd.TheVariants.{Stopped};
 ghost use Rattle.world.specs.WholeView.{net_in, nodes_in, rooms_in, world_of};
 ghost use Rattle.world.specs.OpeningWorld.{IsUnused};
 ghost use Rattle.cobaltmidge.specs.Failing.{IsRunFault};
@@ -60,6 +62,9 @@ fn run_to_end<O: Outlet + Send, W: RunWatch + TurnWatch + Sync, R: Threads + Wai
     ensures turns { settings.threads ≡ false
         → EndsByTurns (is_over (network_of (net_in world).value.program).channels (bounds_of settings)) (nodes_in world)
         (rooms_in world) script.items (world_of world) (world_of result.world) result.end }
+    ensures stopped { result.end ≡ Stopped → W.may_stop ≡ true }
+    ensures rounds { settings.threads ≡ true → was_refused result.end ≡ false
+        → (world_of result.world).round ≤ last_round (world_of world) script.items (bounds_of settings) }
 {
     let bounds = Bounds {
         rounds: settings.rounds,
@@ -106,6 +111,8 @@ pub fn run_network<O: Outlet + Send, W: RunWatch + TurnWatch + Sync, R: Threads 
         (λ now. HasBegun script.items (happenings now.history.lines.items) now.end) }
     ensures same { IfOk result (λ now. ∥ ((world_of now.world).net ≡ network_of net.now.value.program)
         × ((world_of now.world).inputs ≡ inputs) ∥₁) }
+    // It ends by a stop only where who watches it may stop it.
+    ensures stopped { IfOk result (λ now. now.end ≡ Stopped → W.may_stop ≡ true) }
     // A device failed (20), memory is missing (1), or a count would pass 2^63 - 1 (44).
     ensures err { IfErr result (IsRunFault true) }
 {

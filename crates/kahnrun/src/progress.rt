@@ -128,6 +128,10 @@ impl<'a, R: Wait + Clock> Progress<'a, R> {
 }
 
 impl<Rt: Wait + Clock> RunWatch for Progress<'_, Rt> {
+    ghost use Rattle.std.specs.Prelude.{false};
+
+    ghost may_stop = { false };
+
     fn watches(&self) -> bool {
         self.shows
     }

@@ -104,8 +104,8 @@ acted setting place fits station done came old answer new inputs there act = rec
       ∙ released_set channel old place station act.later there (ap (λ (s : StationView). s.outlets) act.step.same);
   quiet = λ all.
       let none = none_out setting.net inputs old station.node.kept station.node.version station.node.mode (outputs_of station.outlets) done.job
-          (all_at (λ (s : StationView). is_quiet_at setting.net inputs old (running_of s.node) (outputs_of s.outlets)) old place station all
-          there) in
+      (all_at (λ (s : StationView). is_quiet_at setting.net inputs old (running_of s.node) (outputs_of s.outlets)) old place station all
+      there) in
       let same = node_stays setting.net.channels done station.node act.later.node act.step.applied none act.step.step in
       act.stations ∙ (ap (λ (s : StationView). slice_set old place s)
       (act.step.same ∙ ap (λ (node : NodeView). moved_to node station.failures station.turns station) same)
@@ -130,9 +130,8 @@ installs_end_nothing fits done old new answer step =
     let one = step.step in
     let place = event_node (Install done) in
     let leaves = acts (setting_of old.world) place (slice_get fits place) (slice_get old.world.stations place) done one.came
-        old.world.stations step.said between.stations old.world.inputs refl one.act in
-    let same : new.world ≡ between = step.ends.1 in
-    (
+    old.world.stations step.said between.stations old.world.inputs refl one.act in
+    let same : new.world ≡ between = step.ends.1 in (
       ap (λ (w : WorldView). w.round) same ∙ (one.round ∙ leaves.round old.world.round between.stations),
       λ channel. ap (λ (w : WorldView). released_of channel w.stations) same ∙ leaves.released channel,
       λ quiet. ap are_quiet same

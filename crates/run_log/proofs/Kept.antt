@@ -1,7 +1,8 @@
 -- An event, as it would be kept.
 use Rattle.std.proofs.Common.{◌≡◌, Bool, true, false, List, refl, sym, subst}
-use Rattle.std.specs.Prelude.{IfOk, Result, Ok, Err}
-use Rattle.protocol.specs.World.Common.{ReplyView}
+use Rattle.std.specs.Prelude.{IfOk, IfSome, Option, Some, None, Result, Ok, Err}
+use Rattle.protocol.specs.World.Common.{ByNetwork, ByNode, EventView, Install, Release, ReplyView}
+use Rattle.protocol.specs.declared.event.PlainEvent.TheVariants as plain_is
 use Rattle.replay.specs.Armed.{ArmedEvent, OfWorld}
 use Rattle.replay.specs.Plain.{run_view}
 use Rattle.replay.specs.Replay.{IsKeptOf, KeptEventView, OfJob, Plainly}
@@ -13,15 +14,15 @@ use Rattle.run_log.specs.declared.history.Line.{Line}
 use Rattle.station.specs.DoneView.{done_view}
 use Rattle.station.specs.EventView.{event_view}
 use Rattle.station.specs.declared.event.Event.{Event}
-use Rattle.station.specs.declared.event.Event.TheVariants.{Plain, Install}
+use Rattle.station.specs.declared.event.Event.TheVariants as event_is
 
 record IsKept (event : ArmedEvent) : Type 0 where
   pub kept : KeptEventView
   pub is : IsKeptOf kept event
 
 kept_of : (event : Event) → IsKept (OfWorld (event_view event))
-kept_of (Plain event) = record { kept = Plainly (run.World event); is = refl }
-kept_of (Install done) = record { kept = OfJob (done_view done).job; is = (done_view done, refl, refl) }
+kept_of (event_is.Plain event) = record { kept = Plainly (run.World event); is = refl }
+kept_of (event_is.Install done) = record { kept = OfJob (done_view done).job; is = (done_view done, refl, refl) }
 
 added_none : (keeps : Bool) (maker : Maker) (event : ArmedEvent) (answer : ReplyView) (lines : List Line) → keeps ≡ false
     → IsKept event → IsAdded keeps maker event answer lines lines
@@ -60,3 +61,25 @@ pub unwritten_of : {R : Type 0} {E : Type 0} (view : R → ReplyView) (keeps : B
     → IfOk result (λ reply. IsAdded keeps maker event (view reply) lines lines)
 unwritten_of view keeps maker event (Ok reply) lines none = none (view reply)
 unwritten_of view keeps maker event (Err error) lines none = tt
+
+-- ---- the event that is next for a node
+
+kept_next : (event : EventView) → IsKept (OfWorld event)
+kept_next (ByNode node deed) = record { kept = Plainly (run.World (plain_is.ByNode node deed)); is = refl }
+kept_next (Release node) = record { kept = Plainly (run.World (plain_is.Release node)); is = refl }
+kept_next (ByNetwork node place act) = record { kept = Plainly (run.World (plain_is.ByNetwork node place act)); is = refl }
+kept_next (Install done) = record { kept = OfJob done.job; is = (done, refl, refl) }
+
+pub written_next : {R : Type 0} {E : Type 0} (view : R → ReplyView) (keeps : Bool) (maker : Maker) (event : ArmedEvent)
+    (result : Result (Option R) E) (before now : List Line) → keeps ≡ true
+    → IfOk result (λ made. IfSome made (λ reply. IsAdded true maker event (view reply) before now))
+    → IfOk result (λ made. IfSome made (λ reply. IsAdded keeps maker event (view reply) before now))
+written_next view keeps maker event result before now keeping added =
+    subst (λ (k : Bool). IfOk result (λ made. IfSome made (λ reply. IsAdded k maker event (view reply) before now))) (sym keeping) added
+
+pub unwritten_next : {R : Type 0} {E : Type 0} (view : R → ReplyView) (keeps : Bool) (maker : Maker) (event : EventView)
+    (result : Result (Option R) E) (lines : List Line) → keeps ≡ false
+    → IfOk result (λ made. IfSome made (λ reply. IsAdded keeps maker (OfWorld event) (view reply) lines lines))
+unwritten_next view keeps maker event (Ok (Some reply)) lines none = added_none keeps maker (OfWorld event) (view reply) lines none (kept_next event)
+unwritten_next view keeps maker event (Ok None) lines none = tt
+unwritten_next view keeps maker event (Err error) lines none = tt

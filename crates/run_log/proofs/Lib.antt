@@ -3,3 +3,4 @@ mod Adding
 mod Arming
 mod Rested
 mod Kept
+mod Stepped

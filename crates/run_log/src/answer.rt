@@ -27,15 +27,6 @@ pub enum FaultAnswer {
     Stopped,
 }
 
-/// How a run stands.
-#[derive(Clone, Copy, Debug, PartialEq, Eq)]
-pub struct Status {
-    pub round: u64,
-    /// Nothing is left to do, and what has left is all that ever will.
-    pub complete: bool,
-    pub stopped: bool,
-}
-
 /// Why a call is refused. It leaves no event and no count.
 #[derive(Clone, Copy, Debug, PartialEq, Eq, Error)]
 pub enum HubFault {

@@ -16,7 +16,7 @@ mod resting;
 mod run_log;
 mod seat_count;
 
-pub use answer::{FaultAnswer, HeldBack, HubFault, Status, TurnAnswer};
+pub use answer::{FaultAnswer, HeldBack, HubFault, TurnAnswer};
 pub use armed::{ArmedWorld, no_deliveries};
 pub use history::{Entry, History, KeptEvent, Line};
 pub use keeping::keep_reply;

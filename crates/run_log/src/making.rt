@@ -1,14 +1,15 @@
 // An event, and its line.
-ghost use Rattle.std.specs.Prelude.{◌≡◌, true, IfErr, IfOk, OnErr};
+ghost use Rattle.std.specs.Prelude.{◌≡◌, is_none, true, IfErr, IfOk, IfSome, IsNone, OnErr};
+ghost use Rattle.protocol.specs.World.Choice.{choice};
 ghost use Rattle.protocol.specs.World.Common.{event_node, IsGrantedAt};
 ghost use Rattle.replay.specs.Armed.{IsArmedStep, OfWorld};
 ghost use Rattle.replay.specs.Plain.{run_view};
 ghost use Rattle.replay.specs.declared.kept.Maker.TheVariants as who;
 ghost use Rattle.run_log.specs.ArmedWorlds.{armed_view};
 ghost use Rattle.run_log.specs.Added.{IsAdded};
-ghost use Rattle.station.specs.EventView.{event_view};
+ghost use Rattle.station.specs.EventView.{event_view, is_idle};
 ghost use Rattle.station.specs.ReplyView.{reply_view};
-ghost use Rattle.world.specs.WholeView.{rooms_in};
+ghost use Rattle.world.specs.WholeView.{rooms_in, world_of};
 ghost use Rattle.world.specs.WorldView.{rooms};
 
 use crate::appending::put_entry;
@@ -85,6 +86,69 @@ pub(crate) fn make_event<C: SlotCell, O: Outlet>(
         make_kept(alloc, world, lines, node, event)
     } else {
         world.apply(alloc, event)
+    }
+}
+
+// Makes the event that is next for a node, and writes it with its answer, unless that is to let its turn pass.
+fn make_kept_next<C: SlotCell, O: Outlet>(
+    alloc: Global,
+    world: &mut ArmedWorld<C, O>,
+    lines: &mut Vec<Line>,
+    node: u8,
+) -> Result<Option<Reply>, AllocError>
+    ensures passes { IfOk result
+        (λ made. is_none made ≡ is_idle (choice (world_of world.old.world) node)) }
+    ensures passed { IfOk result (λ made. IsNone made
+        → (world.new ≡ world.old) × (lines.new ≡ lines.old)) }
+    ensures added { IfOk result (λ made. IfSome made (λ reply. IsAdded true (who.Node node)
+        (OfWorld (choice (world_of world.old.world) node)) (reply_view reply) lines.old.items lines.new.items)) }
+    ensures step { IfOk result (λ made. IfSome made (λ reply. IsArmedStep (rooms_in world.old.world)
+        (OfWorld (choice (world_of world.old.world) node)) (armed_view world.old) (reply_view reply)
+        (armed_view world.new))) }
+    ensures home { IfOk result (λ made. IfSome made
+        (λ reply. IsGrantedAt (event_node (choice (world_of world.old.world) node)) (reply_view reply))) }
+    ensures rooms { rooms_in world.new.world ≡ rooms_in world.old.world }
+    ensures refused { OnErr result ((lines.new.items ≡ lines.old.items)
+        × (armed_view world.new ≡ armed_view world.old)) }
+{
+    let event = world.world.pick(node);
+    if event.is_idle() {
+        return Ok(None);
+    }
+    match make_kept(alloc, world, lines, node, event) {
+        Ok(reply) => Ok(Some(reply)),
+        Err(_) => Err(AllocError),
+    }
+}
+
+/// Makes the event that is next for a node, and writes it with its answer, where what happens is written; none where that is to let its turn
+/// pass. A refusal leaves all as it was.
+pub(crate) fn make_next<C: SlotCell, O: Outlet>(
+    alloc: Global,
+    world: &mut ArmedWorld<C, O>,
+    lines: &mut Vec<Line>,
+    keeps: bool,
+    node: u8,
+) -> Result<Option<Reply>, AllocError>
+    ensures passes { IfOk result
+        (λ made. is_none made ≡ is_idle (choice (world_of world.old.world) node)) }
+    ensures passed { IfOk result (λ made. IsNone made
+        → (world.new ≡ world.old) × (lines.new ≡ lines.old)) }
+    ensures added { IfOk result (λ made. IfSome made (λ reply. IsAdded keeps (who.Node node)
+        (OfWorld (choice (world_of world.old.world) node)) (reply_view reply) lines.old.items lines.new.items)) }
+    ensures step { IfOk result (λ made. IfSome made (λ reply. IsArmedStep (rooms_in world.old.world)
+        (OfWorld (choice (world_of world.old.world) node)) (armed_view world.old) (reply_view reply)
+        (armed_view world.new))) }
+    ensures home { IfOk result (λ made. IfSome made
+        (λ reply. IsGrantedAt (event_node (choice (world_of world.old.world) node)) (reply_view reply))) }
+    ensures rooms { rooms_in world.new.world ≡ rooms_in world.old.world }
+    ensures refused { OnErr result ((lines.new.items ≡ lines.old.items)
+        × (armed_view world.new ≡ armed_view world.old)) }
+{
+    if keeps {
+        make_kept_next(alloc, world, lines, node)
+    } else {
+        world.step(alloc, node)
     }
 }
 

@@ -1,5 +1,5 @@
 // The log of a run, with the world to which it leads.
-ghost use Rattle.std.specs.Prelude.{◌≡◌, ◌==◌, ◌≢◌, ◌||◌, ◌+◌, ◌<◌, ◌≤◌, [], true, false, length, IfErr, IfOk, IsTrue, OnErr, OnOk};
+ghost use Rattle.std.specs.Prelude.{◌≡◌, ◌==◌, ◌≢◌, ◌+◌, ◌<◌, ◌≤◌, [], true, false, is_none, length, IfErr, IfOk, IfSome, IsNone, IsTrue, OnErr, OnOk};
 ghost use Rattle.protocol.specs.World.Common.{choice, event_node, Install, are_quiet, released_of, stands_still, IsGrantedAt};
 ghost use Rattle.replay.specs.Armed.{IsArmedStep, OfWorld, armed_at_first, armed_widened};
 ghost use Rattle.replay.specs.Plain.{run_view};
@@ -22,18 +22,18 @@ ghost use Rattle.run_log.specs.Numbers.{counted, no_numbers};
 ghost use Rattle.run_log.specs.SeatCounts.{run_numbers, seat_numbers, seat_parts};
 ghost use Rattle.run_log.specs.declared.seat_count.Counted.TheVariants as kind;
 ghost use Rattle.station.specs.DoneView.{done_view};
-ghost use Rattle.station.specs.EventView.{event_view};
+ghost use Rattle.station.specs.EventView.{event_view, is_idle};
 ghost use Rattle.station.specs.ReplyView.{reply_view};
 ghost use Rattle.world.specs.WholeView.{rooms_in, world_of};
 ghost use Rattle.world.specs.WorldView.{rooms};
 ghost use Rattle.wire.specs.declared.queue.TheConstants.{NODES};
 ghost use Rattle.station.specs.declared.event.Event.TheVariants as event;
 
-use crate::answer::{FaultAnswer, HeldBack, HubFault, Status, TurnAnswer};
+use crate::answer::{FaultAnswer, HeldBack, HubFault, TurnAnswer};
 use crate::armed::ArmedWorld;
 use crate::counting::{write_silence, write_widened};
 use crate::history::{History, Line};
-use crate::making::{make_event, make_scripted};
+use crate::making::{make_event, make_next, make_scripted};
 use crate::resting::{Resting, has_passed, is_idle, none_rest, note_event};
 use crate::seat_count::{Counted, Run, RunCount, SeatCount};
 use kahn_net::MAX_COUNT;
@@ -82,6 +82,8 @@ pub struct RunLog<C: SlotCell, O: Outlet, ThisRun: Run> {
     // The totals are the numbers of what is written.
     pub ghost numbers: { ThisRun.keeps ≡ true → numbers_in lines.items stops ≡ run_numbers totals },
     pub ghost running: { stopped ≡ false → stops ≡ 0 },
+    // As many answers `Stopped` were counted.
+    pub ghost same_stops: { stops ≡ (run_numbers totals).stops },
     pub ghost still: { incomplete ≡ true → are_quiet (world_of armed.world) ≡ false },
     pub ghost rest: { ∥ AllRest resting (world_of armed.world) ∥₁ },
 }
@@ -428,6 +430,104 @@ impl<C: SlotCell, O: Outlet, ThisRun: Run> RunLog<C, O, ThisRun> {
         Ok(TurnAnswer::Nothing)
     }
 
+    // The event that is next for a node, with its line and its count, unless that is to let its turn pass: then nothing is done.
+    fn step(
+        &mut self,
+        alloc: Global,
+        node: u8,
+        count: &mut SeatCount<ThisRun>,
+    ) -> Result<Option<Reply>, HubFault>
+        requires part { 0 < seat_parts count.old }
+        ensures parts { seat_parts count.new ≡ seat_parts count.old }
+        ensures passes { IfOk result
+            (λ made. is_none made ≡ is_idle (choice (world_of self.old.armed.world) node)) }
+        ensures none { IfOk result (λ made. IsNone made → IsSameLog self.old self.new
+            × (run_numbers self.new.totals ≡ run_numbers self.old.totals) × (self.new.stops ≡ self.old.stops)
+            × (seat_numbers count.new ≡ seat_numbers count.old)) }
+        ensures counted { IfOk result (λ made. IfSome made (λ reply. seat_numbers count.new
+            ≡ counted kind.Entry (seat_numbers count.old))) }
+        ensures home { IfOk result (λ made. IfSome made
+            (λ reply. IsGrantedAt (event_node (choice (world_of self.old.armed.world) node)) (reply_view reply))) }
+        ensures added { IfOk result (λ made. IfSome made (λ reply. IsAdded self.old.keeps (who.Node node)
+            (OfWorld (choice (world_of self.old.armed.world) node)) (reply_view reply) self.old.lines.items
+            self.new.lines.items)) }
+        ensures told { IfOk result (λ made. IfSome made (λ reply. ∥ IsReplyIn ThisRun.rooms ThisRun.script ThisRun.opening
+            (who.Node node) (reply_view reply) ∥₁)) }
+        ensures refused { OnErr result (seat_numbers count.new ≡ seat_numbers count.old) }
+        ensures unchanged { OnErr result (IsSameLog self.old self.new) }
+        ensures full { IfErr result (λ fault. fault ≡ PastNumber → IsFull self.old) }
+        ensures step { IfOk result (λ made. IfSome made (λ reply. IsArmedStep ThisRun.rooms
+            (OfWorld (choice (world_of self.old.armed.world) node)) (armed_view self.old.armed) (reply_view reply)
+            (armed_view self.new.armed))) }
+        ensures keeps { self.new.keeps ≡ self.old.keeps }
+        ensures passed { self.new.passed ≡ self.old.passed }
+        ensures running { self.new.stopped ≡ self.old.stopped }
+    {
+        if self.totals.made() >= MAX_COUNT {
+            return Err(HubFault::PastNumber);
+        }
+        let RunLog {
+            armed,
+            lines,
+            keeps,
+            incomplete,
+            resting,
+            totals,
+            ..
+        } = self;
+        let round = armed.world.round();
+        let Ok(made) = make_next(alloc, armed, lines, *keeps, node) else {
+            return Err(HubFault::NoMemory);
+        };
+        let Some(reply) = made else {
+            return Ok(None);
+        };
+        let others_stay = is_in_round(&armed.world, round);
+        note_event(resting, others_stay, node, false);
+        *incomplete = false;
+        totals.add(count, Counted::Entry);
+        Ok(Some(reply))
+    }
+
+    // The turn of a node that could only let it pass: nothing, where it has done so in this round; more room for channels, where the world stands
+    // still for want of it; and else that it does so.
+    fn pass(
+        &mut self,
+        alloc: Global,
+        node: u8,
+        count: &mut SeatCount<ThisRun>,
+    ) -> Result<TurnAnswer, HubFault>
+        requires part { 0 < seat_parts count.old }
+        ensures parts { seat_parts count.new ≡ seat_parts count.old }
+        ensures counted { IfOk result (λ answer. seat_numbers count.new
+            ≡ counted (turn_kind answer) (seat_numbers count.old)) }
+        ensures home { IfOk result (IsGrantedIn node) }
+        ensures written { IfOk result
+            (IsTurnWritten self.old.keeps node self.old.lines.items self.new.lines.items) }
+        ensures told { IfOk result (TellsTurn ThisRun.rooms ThisRun.script ThisRun.opening node) }
+        ensures goes_on { IfOk result (λ answer. answer ≢ turns.Stopped) }
+        ensures refused { OnErr result (seat_numbers count.new ≡ seat_numbers count.old) }
+        ensures unchanged { OnErr result (IsSameLog self.old self.new) }
+        ensures full { IfErr result (λ fault. fault ≡ PastNumber → IsFull self.old) }
+        ensures turned { IfOk result (λ answer. IsTurn ThisRun.rooms node answer
+            (armed_view self.old.armed) (armed_view self.new.armed)) }
+        ensures passed { self.new.passed ≡ self.old.passed }
+        ensures running { self.new.stopped ≡ self.old.stopped }
+    {
+        let event = self.armed.world.pick(node);
+        match next_turn(&self.armed.world, &event, node) {
+            NextTurn::Rest => self.be_at_rest(node, count),
+            NextTurn::Widen => {
+                self.widen(count)?;
+                Ok(TurnAnswer::Widened)
+            }
+            NextTurn::Make => match self.make(alloc, node, event, count) {
+                Ok(reply) => Ok(TurnAnswer::Reply(reply)),
+                Err(held) => Err(held.fault),
+            },
+        }
+    }
+
     /// The event that is next for a node; none where all that it could do is to let its turn pass, and it has done so in this
     /// round. Before it does so first, channels get more room if the world stands still for want of it.
     pub fn turn(
@@ -471,17 +571,9 @@ impl<C: SlotCell, O: Outlet, ThisRun: Run> RunLog<C, O, ThisRun> {
         if self.is_at_rest(node) {
             return self.be_at_rest(node, count);
         }
-        let event = self.armed.world.pick(node);
-        match next_turn(&self.armed.world, &event, node) {
-            NextTurn::Rest => self.be_at_rest(node, count),
-            NextTurn::Widen => {
-                self.widen(count)?;
-                Ok(TurnAnswer::Widened)
-            }
-            NextTurn::Make => match self.make(alloc, node, event, count) {
-                Ok(reply) => Ok(TurnAnswer::Reply(reply)),
-                Err(held) => Err(held.fault),
-            },
+        match self.step(alloc, node, count)? {
+            Some(reply) => Ok(TurnAnswer::Reply(reply)),
+            None => self.pass(alloc, node, count),
         }
     }
 
@@ -619,7 +711,8 @@ impl<C: SlotCell, O: Outlet, ThisRun: Run> RunLog<C, O, ThisRun> {
     /// From now on no turn and no line of the script makes an event. What comes of a job that is out may still come back.
     pub fn stop(&mut self)
         ensures stopped { self.new.stopped ≡ true }
-        ensures same { self.new.lines ≡ self.old.lines }
+        ensures same { (self.new.lines ≡ self.old.lines) × (self.new.armed ≡ self.old.armed)
+            × (self.new.passed ≡ self.old.passed) }
     {
         self.stopped = true;
     }
@@ -645,23 +738,6 @@ impl<C: SlotCell, O: Outlet, ThisRun: Run> RunLog<C, O, ThisRun> {
         complete
     }
 
-    /// How the run stands. It is stopped where nothing is left to do.
-    pub fn status(&mut self) -> Status
-        ensures round { result.round ≡ (world_of self.old.armed.world).round }
-        ensures complete { result.complete ≡ are_quiet (world_of self.old.armed.world) }
-        ensures stopped { (result.stopped ≡ self.new.stopped)
-            × (self.new.stopped ≡ self.old.stopped || result.complete) }
-        ensures same { self.new.lines ≡ self.old.lines }
-    {
-        let complete = self.is_complete();
-        self.stopped = self.stopped || complete;
-        Status {
-            round: self.armed.world.round(),
-            complete,
-            stopped: self.stopped,
-        }
-    }
-
     /// The world, and the history that leads to it, if one was kept. Whoever has the parts of all seats learns its numbers.
     pub fn close(mut self, all: &mut SeatCount<ThisRun>) -> (World<C, O>, History)
         ensures world { result.0 ≡ self.armed.world }
@@ -675,6 +751,8 @@ impl<C: SlotCell, O: Outlet, ThisRun: Run> RunLog<C, O, ThisRun> {
         // Whoever has the parts of all seats learns that it has as many events and answers of each kind as they got.
         ensures numbers { seat_parts all.old ≡ ThisRun.seats → ThisRun.keeps ≡ true
             → numbers_in result.1.lines.items result.1.stops ≡ seat_numbers all.old }
+        // Whoever was answered `Stopped` learns that it is stopped.
+        ensures stopped { 0 < (seat_numbers all.old).stops → self.stopped ≡ true }
     {
         self.totals.audit(all);
         let RunLog {

@@ -1,5 +1,5 @@
 // How often each seat was answered, in tokens that can't be made up.
-ghost use Rattle.std.specs.Prelude.{◌≡◌, ◌+◌, ◌<◌, ℕ, Bool, true, List, []};
+ghost use Rattle.std.specs.Prelude.{◌≡◌, ◌+◌, ◌<◌, ◌≤◌, ℕ, Bool, true, List, []};
 ghost use Rattle.protocol.specs.Node.Common.{MAX_COUNT};
 ghost use Rattle.run_log.specs.declared.seat_count.Counted.TheVariants as kind;
 ghost use Rattle.run_log.specs.Numbers.{Names, added, counted, no_names, no_numbers};
@@ -172,6 +172,8 @@ impl<ThisRun: RunLedgers> RunCount<ThisRun> {
         ensures same { run_numbers self.new ≡ run_numbers self.old }
         ensures whole { seat_parts all.old ≡ ThisRun.seats
             → run_numbers self.old ≡ seat_numbers all.old }
+        // And whoever has some of them, that no answer `Stopped` of theirs is missing.
+        ensures stops { (seat_numbers all.old).stops ≤ (run_numbers self.old).stops }
     {
         self.entries.audit(&mut all.entries);
         self.nothings.audit(&mut all.nothings);

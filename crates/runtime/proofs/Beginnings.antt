@@ -160,4 +160,4 @@ begun_so script happened Complete begun = begun
 begun_so script happened Rounds begun = begun
 begun_so script happened Items begun = begun
 begun_so script happened (Refused fault) begun = tt
-begun_so script happened Stopped begun = tt
+begun_so script happened Stopped begun = begun

@@ -4,3 +4,4 @@ mod Nowhere
 mod Beginnings
 mod Completeness
 mod Turns
+mod Causes

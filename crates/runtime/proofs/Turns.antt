@@ -1,7 +1,7 @@
 -- Turns of a run by turns.
 use Rattle.std.proofs.Common.{◌≡◌, ◌≢◌, ◌+◌, ◌<◌, ◌≤◌, ◌%◌, ◌∙◌, ℕ, zero, suc, Bool, true, false, cond, not, List, [], ◌∷◌, length, Option, Some, None, slice_get}
 use Rattle.std.proofs.Common.{refl, sym, ap, subst, arith}
-use Rattle.std.specs.Prelude.{◌==◌, is_ok, IfOk, OnOk, Result, Ok, Err, if◌then◌else◌, nat_le}
+use Rattle.std.specs.Prelude.{◌==◌, IfOk, OnOk, Result, Ok, Err, if◌then◌else◌, nat_le}
 use Rattle.std.proofs.lemmas.Bool.{lt-ltb}
 use Rattle.std.proofs.Math.Nat.{mod-eq_of_lt, mod-lt, mod_self, suc-mod, zero-lt-suc}
 use Rattle.protocol.specs.Node.Common.{RecordView}
@@ -208,10 +208,6 @@ not_over goes true is told = absurd (clash (sym told ∙ is))
 pub unrefused : {T E : Type 0} (P : Type 0) (result : Result T E) → ((e : E) → result ≡ Err e → ⊥) → OnOk result P → P
 unrefused P (Ok value) well holds = holds
 unrefused P (Err e) well holds = absurd (well e refl)
-
-pub where_ok : {T E : Type 0} (P : Type 0) (result : Result T E) (flag : Bool) → flag ≡ is_ok result → flag ≡ true → OnOk result P → P
-where_ok P (Ok value) flag is told holds = holds
-where_ok P (Err e) flag is told holds = absurd (cc)
 
 -- turns were taken to the end that is told
 pub taken_to : (over : WorldView → Bool) (nodes : ℕ) (fits : List (RecordView → Bool)) (script : List ScriptedEvent) (first : Progress)

@@ -27,11 +27,10 @@ begins_by_driver (suc lines) (next ∷ rest) = is_by_driver next && begins_by_dr
 abbrev pub BeginsByDriver : ℕ → List Happening → Type 0
 BeginsByDriver lines happened = begins_by_driver lines happened ≡ true
 
--- Where a run came to its end, the events of the script's lines of round 0 come before all others. (One that was refused or stopped
--- may have ended before.)
+-- Where a run came to its end, the events of the script's lines of round 0 come before all others. (One that was refused may have ended before.)
 abbrev pub HasBegun : List ScriptedEvent → List Happening → RunEnd → Type 0
 HasBegun script happened Complete = BeginsByDriver (first_lines script) happened
 HasBegun script happened Rounds = BeginsByDriver (first_lines script) happened
 HasBegun script happened Items = BeginsByDriver (first_lines script) happened
 HasBegun script happened (Refused fault) = Unit {0}
-HasBegun script happened Stopped = Unit {0}
+HasBegun script happened Stopped = BeginsByDriver (first_lines script) happened

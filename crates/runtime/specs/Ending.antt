@@ -5,7 +5,7 @@ use Rattle.protocol.specs.World.Common.{are_quiet, output_channels, released_of,
 use Rattle.protocol.specs.Node.Common.{Channel, RecordView}
 use Rattle.replay.specs.declared.kept.ScriptedEvent.{ScriptedEvent}
 use Rattle.run_log.specs.Happened.{HasRun}
-use Rattle.runtime.specs.declared.driving.Bounds.{Bounds}
+use Rattle.runtime.specs.declared.bounds.Bounds.{Bounds}
 use Rattle.runtime.specs.declared.ending.RunEnd.{RunEnd}
 use Rattle.runtime.specs.declared.ending.RunEnd.TheVariants.{Complete, Rounds, Items, Refused, Stopped}
 

@@ -1,11 +1,16 @@
 // What the driver's thread does at the hub.
-ghost use Rattle.std.specs.Prelude.{◌≡◌, [], true, false, OnOk};
+ghost use Rattle.std.specs.Prelude.{◌≡◌, ◌<◌, [], true, false, IsTrue, OnOk};
 ghost use Rattle.run_log.specs.ArmedWorlds.{armed_view};
 ghost use Rattle.run_log.specs.RunLogs.{happened_in};
+ghost use Rattle.run_log.specs.SeatCounts.{seat_numbers};
+ghost use Rattle.run_log.specs.declared.answer.FaultAnswer.TheVariants as faults;
+ghost use Rattle.std.proofs.Props.{props};
 ghost use Rattle.runtime.specs.Beginning.{first_lines, BeginsByDriver};
 ghost use Rattle.runtime.specs.Turning.{ArePassed, progress, was_passed};
 
+use crate::bounds::{Bounds, RunBounds};
 use crate::hub::Hub;
+use crate::hub_run::HubRun;
 use crate::seat::DriverSeat;
 use crate::seen::Seen;
 use crate::until::Until;
@@ -17,13 +22,6 @@ use run_log::{FaultAnswer, HubFault, Run, RunLog};
 use slot_cell::SlotCell;
 use std::alloc::Global;
 use std::sync::Wait;
-
-/// Where a run ends: after so many rounds, or once so many items of each output have left.
-#[derive(Clone, Copy, Debug, PartialEq, Eq)]
-pub struct Bounds {
-    pub rounds: u64,
-    pub items: Option<u64>,
-}
 
 // How many items have to leave at least until so many of each output have, as the marks tell it. None where no number is asked for.
 fn count_missing<ItsMarks: MarksName>(
@@ -69,6 +67,16 @@ fn was_passed(answer: &FaultAnswer) -> bool
     }
 }
 
+// Whether the answer is that the run is stopped.
+fn is_stopped(answer: &FaultAnswer) -> bool
+    ensures { IsTrue result → answer.now ≡ faults.Stopped }
+{
+    match answer {
+        FaultAnswer::Stopped => true,
+        FaultAnswer::Reply(_) | FaultAnswer::NotYet | FaultAnswer::NoMore => false,
+    }
+}
+
 /// Makes the events of the script's lines of round 0, of which there are so many, in a log in which nothing is written yet.
 pub(crate) fn begin<C: SlotCell, O: Outlet, ThisRun: Run>(
     alloc: Global,
@@ -109,51 +117,67 @@ fn wait_until(next: Option<u64>, bounds: Bounds, seen: Seen, missing: Option<u64
     Until { round, left }
 }
 
-// Goes through the script, until nothing is left to do or the run has come to its bounds.
-fn go_through<C: SlotCell, O: Outlet, ThisRun: Run, ItsMarks: MarksName, R: Wait>(
+// Goes through the script until the run is stopped, which it is told by its seat.
+fn go_through<C: SlotCell, O: Outlet, ThisRun: HubRun, ItsMarks: MarksName, R: Wait>(
     rt: &R,
     alloc: Global,
     hub: &Hub<C, O, ThisRun>,
     seat: &mut DriverSeat<ThisRun>,
-    channels: &[Channel],
     marks: &Marks<ItsMarks>,
     marks_seat: &mut Seat<ItsMarks>,
-    bounds: Bounds,
-) -> Result<(), HubFault> {
+    run: &RunBounds<'_, ThisRun>,
+) -> Result<(), HubFault>
+    ensures told { OnOk result (0 < (seat_numbers seat.new.count).stops) }
+{
+    let bounds = run.bounds;
     let mut until = Until::now();
+    let mut all_left = false;
     for _ in rt.forever() {
         let mut entered = hub.enter_driver(rt, until);
-        if entered.is_stopped() || entered.round() >= bounds.rounds {
-            return Ok(());
+        if all_left {
+            entered.end_if_over(run);
         }
         let answer = entered.fault(alloc, seat)?;
         let next = entered.line_round();
         let seen = entered.leave();
-        let missing = count_missing(channels, marks, marks_seat, bounds.items);
-        if missing == Some(0) {
+        if is_stopped(&answer) {
             return Ok(());
         }
-        until = match answer {
-            FaultAnswer::Reply(_) => Until::now(),
-            _ => wait_until(next, bounds, seen, missing),
+        let missing = count_missing(run.channels, marks, marks_seat, bounds.items);
+        all_left = missing == Some(0);
+        until = if all_left || was_passed(&answer) {
+            Until::now()
+        } else {
+            wait_until(next, bounds, seen, missing)
         };
     }
     unreachable!()
 }
 
-/// The driver's work: the script's lines, each once its round has come, until nothing is left to do, the rounds are over or each
-/// output has the items that are asked for. It ends with the hub stopped.
-pub fn drive<C: SlotCell, O: Outlet, ThisRun: Run, ItsMarks: MarksName, R: Wait>(
+/// The driver's seat once it has gone through the script, and whether a call was refused before the run was stopped.
+#[derive(Drop)]
+pub struct Driven<ThisRun: HubRun> {
+    pub seat: DriverSeat<ThisRun>,
+    pub end: Result<(), HubFault>,
+    // Where none was, it was told that the run is stopped.
+    pub ghost told: { OnOk end (0 < (seat_numbers seat.count).stops) } by { Prim.hlevel props },
+}
+
+/// The driver's work: the script's lines, each once its round has come, until the run is stopped. It stops it where its rounds are over, and where
+/// each output has the items that are asked for; and where a call of its own is refused.
+pub fn drive<C: SlotCell, O: Outlet, ThisRun: HubRun, ItsMarks: MarksName, R: Wait>(
     rt: &R,
     alloc: Global,
     hub: &Hub<C, O, ThisRun>,
-    seat: &mut DriverSeat<ThisRun>,
-    channels: &[Channel],
+    seat: DriverSeat<ThisRun>,
     marks: &Marks<ItsMarks>,
     marks_seat: &mut Seat<ItsMarks>,
-    bounds: Bounds,
-) -> Result<(), HubFault> {
-    let end = go_through(rt, alloc, hub, seat, channels, marks, marks_seat, bounds);
-    hub.stop(rt);
-    end
+    run: &RunBounds<'_, ThisRun>,
+) -> Driven<ThisRun> {
+    let mut seat = seat;
+    let end = go_through(rt, alloc, hub, &mut seat, marks, marks_seat, run);
+    if let Err(fault) = end {
+        hub.refuse(rt, fault);
+    }
+    Driven { seat, end }
 }

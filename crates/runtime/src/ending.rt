@@ -1,14 +1,17 @@
 // What a run came to, and why it ended.
-ghost use Rattle.std.specs.Prelude.{◌≡◌, ◌≤◌, [], if◌then◌else◌, true, nat_le, not, length, map};
+ghost use Rattle.std.specs.Prelude.{◌≡◌, ◌≤◌, [], if◌then◌else◌, true, nat_le, not, length, map, OnErr, OnOk};
 ghost use Rattle.std.specs.List.{list_all};
 ghost use Rattle.protocol.specs.Node.Common.{MAX_CHANNELS};
 ghost use Rattle.protocol.specs.World.Common.{are_quiet, released_of, goes_outside, output_channels};
 ghost use Rattle.run_log.specs.Lines.{happenings};
-ghost use Rattle.runtime.specs.Ending.{IsOver, goes_on, is_over};
-ghost use Rattle.runtime.specs.declared.ending.RunEnd.TheVariants.{Refused};
+ghost use Rattle.runtime.specs.Causes.{is_caused};
+ghost use Rattle.runtime.specs.Ending.{IsOver, goes_on, is_over, was_refused};
+ghost use Rattle.runtime.specs.declared.ending.RunEnd.TheVariants.{Refused, Stopped};
 ghost use Rattle.world.specs.WholeView.{world_of};
 
-use crate::driving::Bounds;
+use crate::bounds::{Bounds, RunBounds};
+use crate::cause::Cause;
+use crate::hub_run::HubRun;
 use kahn_net::{Channel, Port};
 use outlet::Outlet;
 use run_log::{History, HubFault};
@@ -27,7 +30,7 @@ pub enum RunEnd {
     Items,
     /// A call was refused.
     Refused(HubFault),
-    /// The run was stopped before any of these, by who watches it or by a call of `Hub::stop`.
+    /// Somebody stopped it before any of these, who may: who watches it, or by a call of `Hub::stop`.
     Stopped,
 }
 
@@ -40,6 +43,30 @@ impl RunEnd {
             RunEnd::Stopped => true,
             RunEnd::Complete | RunEnd::Rounds | RunEnd::Items | RunEnd::Refused(_) => false,
         }
+    }
+}
+
+/// Why a run by threads ended, by whether a call of the driver was refused, and else by the cause for which it is stopped.
+pub(crate) fn end_for<C: SlotCell, O: Outlet, ThisRun: HubRun>(
+    run: &RunBounds<'_, ThisRun>,
+    world: &World<C, O>,
+    driven: Result<(), HubFault>,
+    cause: Option<Cause>,
+) -> RunEnd
+    requires caused { OnOk driven (is_caused (is_over ThisRun.channels ThisRun.bounds) ThisRun.may_stop
+        (world_of world.now) cause ≡ true) }
+    ensures over { IsOver ThisRun.channels ThisRun.bounds (world_of world.now) result }
+    ensures stopped { result ≡ Stopped → ThisRun.may_stop ≡ true }
+    ensures refused { OnErr driven (was_refused result ≡ true) }
+{
+    if let Err(fault) = driven {
+        return RunEnd::Refused(fault);
+    }
+    match cause {
+        Some(Cause::Over) | Some(Cause::Asked) => end_of(run.channels, world, run.bounds),
+        Some(Cause::Refused(fault)) => RunEnd::Refused(fault),
+        // A run that is stopped is so for a cause.
+        None => unreachable!(),
     }
 }
 

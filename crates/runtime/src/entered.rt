@@ -10,6 +10,8 @@ ghost use Rattle.station.specs.DoneView.{done_view};
 ghost use Rattle.station.specs.ReplyView.{reply_view};
 ghost use Rattle.station.specs.declared.event.Event.TheVariants as event;
 
+use crate::bounds::RunBounds;
+use crate::hub_run::HubRun;
 use crate::locked::Locked;
 use crate::seat::{DriverSeat, NodeSeat};
 use crate::seen::Seen;
@@ -17,7 +19,7 @@ use crate::sleepers::Sleepers;
 use kahn_net::MAX_COUNT;
 use outlet::Outlet;
 use proc_step::Done;
-use run_log::{FaultAnswer, HeldBack, HubFault, Run, TurnAnswer};
+use run_log::{FaultAnswer, HeldBack, HubFault, TurnAnswer};
 use slot_cell::SlotCell;
 use std::alloc::{AllocError, Global};
 use std::sync::MutexGuard;
@@ -26,13 +28,13 @@ use world::{Event, Freed, Reply};
 /// The lock of a hub: who has it calls for a seat as often as it wants, and gives it back by `leave`, which wakes whoever has
 /// something to do by then. Where it is only let go of, nobody is woken.
 #[derive(Drop)]
-pub struct Entered<'hub, C: SlotCell, O: Outlet, ThisRun: Run> {
+pub struct Entered<'hub, C: SlotCell, O: Outlet, ThisRun: HubRun> {
     pub(crate) locked: MutexGuard<'hub, Locked<C, O, ThisRun>>,
     pub(crate) sleepers: &'hub Sleepers,
     pub(crate) found: Seen,
 }
 
-impl<'hub, C: SlotCell, O: Outlet, ThisRun: Run> Entered<'hub, C, O, ThisRun> {
+impl<'hub, C: SlotCell, O: Outlet, ThisRun: HubRun> Entered<'hub, C, O, ThisRun> {
     pub(crate) fn new(
         locked: MutexGuard<'hub, Locked<C, O, ThisRun>>,
         sleepers: &'hub Sleepers,
@@ -65,7 +67,7 @@ impl<'hub, C: SlotCell, O: Outlet, ThisRun: Run> Entered<'hub, C, O, ThisRun> {
         if *made >= MAX_COUNT {
             return Err(HubFault::PastNumber);
         }
-        let answer = self.locked.log.turn(alloc, *node, count)?;
+        let answer = self.locked.turn(alloc, *node, count)?;
         match &answer {
             TurnAnswer::Reply(reply) => {
                 *made += 1;
@@ -103,7 +105,7 @@ impl<'hub, C: SlotCell, O: Outlet, ThisRun: Run> Entered<'hub, C, O, ThisRun> {
                 fault: HubFault::PastNumber,
             });
         }
-        let reply = self.locked.log.install(alloc, *node, done, count)?;
+        let reply = self.locked.install(alloc, *node, done, count)?;
         *made += 1;
         Ok(reply)
     }
@@ -121,7 +123,12 @@ impl<'hub, C: SlotCell, O: Outlet, ThisRun: Run> Entered<'hub, C, O, ThisRun> {
         ensures refused { OnErr result
             (seat_numbers seat.new.count ≡ seat_numbers seat.old.count) }
     {
-        seat.fault(alloc, &mut self.locked.log)
+        self.locked.fault(alloc, seat)
+    }
+
+    /// The run is stopped where it is over: nothing is left to do, the rounds are over, or each output has the items that are asked for.
+    pub fn end_if_over(&mut self, run: &RunBounds<'_, ThisRun>) {
+        self.locked.end_if_over(run);
     }
 
     /// How far an output has come. Its type keeps that the channel's history has so many items in some approximation.

@@ -1,10 +1,12 @@
 // A world that threads share.
-ghost use Rattle.std.specs.Prelude.{◌≡◌, ◌+◌, ◌≤◌, true, [], replicate, vec_len, IfErr, IfOk, OnErr, OnOk, false};
+ghost use Rattle.std.specs.Prelude.{◌≡◌, ◌+◌, ◌<◌, ◌≤◌, true, [], replicate, vec_len, IfErr, IfOk, OnErr, OnOk, false};
 ghost use Rattle.std.specs.Vec.{vec_capacity};
-ghost use Rattle.protocol.specs.World.Common.{event_node, Install};
+ghost use Rattle.protocol.specs.World.Common.{event_node, Install, WorldView};
+ghost use Rattle.replay.specs.Armed.{armed_at_first};
 ghost use Rattle.replay.specs.Replay.{LeadsTo};
 ghost use Rattle.replay.specs.declared.kept.Maker.TheVariants as who;
 ghost use Rattle.run_log.specs.Answers.{fault_kind, turn_kind, IsGrantedIn, IsReplyIn, TellsFault, TellsTurn};
+ghost use Rattle.run_log.specs.ArmedWorlds.{armed_view};
 ghost use Rattle.run_log.specs.LedgerNames.{HaveParts, names_of};
 ghost use Rattle.run_log.specs.Counts.{numbers_in};
 ghost use Rattle.run_log.specs.Happened.{HasRun};
@@ -12,7 +14,8 @@ ghost use Rattle.run_log.specs.Lines.{happenings};
 ghost use Rattle.run_log.specs.RunLogs.{happened_in};
 ghost use Rattle.runtime.specs.Beginning.{first_lines, BeginsByDriver};
 ghost use Rattle.run_log.specs.Numbers.{added, counted};
-ghost use Rattle.runtime.specs.Ending.{HasBeenComplete};
+ghost use Rattle.runtime.specs.Causes.{is_cause, is_caused, last_round};
+ghost use Rattle.runtime.specs.Ending.{HasBeenComplete, is_over};
 ghost use Rattle.runtime.specs.Seats.{AreOfNodes, numbers_of_seats};
 ghost use Rattle.run_log.specs.SeatCounts.{seat_numbers};
 ghost use Rattle.run_log.specs.declared.seat_count.Counted.TheVariants as kind;
@@ -22,19 +25,22 @@ ghost use Rattle.world.specs.WholeView.{nodes_in, rooms_in, world_of};
 ghost use Rattle.world.specs.WorldView.{rooms};
 ghost use Rattle.station.specs.declared.event.Event.TheVariants as event;
 
+use crate::cause::Cause;
 use crate::entered::Entered;
+use crate::hub_run::HubRun;
 use crate::locked::Locked;
 use crate::seat::{DriverSeat, NodeSeat, driver_seat, node_seat};
 use crate::seen::Seen;
 use crate::sleepers::{Sleepers, Woken};
+use crate::status::Status;
 use crate::until::Until;
 use crate::workers::Workers;
 use outlet::Outlet;
 use proc_step::Done;
 use replay::ScriptedEvent;
 use run_log::{
-    ArmedWorld, FaultAnswer, HeldBack, History, HubFault, Run, RunLog, Status, TurnAnswer,
-    UnusedLedgers, no_deliveries,
+    ArmedWorld, FaultAnswer, HeldBack, History, HubFault, Run, RunLog, TurnAnswer, UnusedLedgers,
+    no_deliveries,
 };
 use slot_cell::SlotCell;
 use std::alloc::{AllocError, Global};
@@ -44,7 +50,7 @@ use world::{Reply, World};
 
 /// A world with its history, under one lock, and where those sleep who wait for it.
 #[derive(Drop)]
-pub struct Hub<C: SlotCell, O: Outlet, ThisRun: Run> {
+pub struct Hub<C: SlotCell, O: Outlet, ThisRun: HubRun> {
     locked: Mutex<Locked<C, O, ThisRun>>,
     sleepers: Sleepers,
 }
@@ -103,6 +109,7 @@ pub(crate) fn open_log<C: SlotCell, O: Outlet, ThisRun: Run>(
     requires room { nodes ≤ vec_capacity seats }
     requires keeps { keeps ≡ ThisRun.keeps }
     ensures none { happened_in result.0 ≡ [] }
+    ensures first { armed_view result.0.armed ≡ armed_at_first ThisRun.opening }
     ensures unpassed { result.0.passed ≡ 0 }
     ensures running { result.0.stopped ≡ false }
     ensures seats { vec_len result.1 ≡ nodes }
@@ -118,14 +125,15 @@ pub(crate) fn open_log<C: SlotCell, O: Outlet, ThisRun: Run>(
     (log, seats, driver_seat(all))
 }
 
-impl<C: SlotCell, O: Outlet, ThisRun: Run> Hub<C, O, ThisRun> {
+impl<C: SlotCell, O: Outlet, ThisRun: HubRun> Hub<C, O, ThisRun> {
     /// A hub over the world with which its run begins, with a seat for each of so many nodes, by number, and the driver's. It keeps
-    /// a history of the run. Refuses for want of memory alone.
+    /// a history of the run, which is over after so many rounds. Refuses for want of memory alone.
     pub fn new(
         alloc: Global,
         world: World<C, O>,
         script: Vec<ScriptedEvent>,
         nodes: u8,
+        rounds: u64,
         ledgers: UnusedLedgers,
     ) -> Result<
         (
@@ -142,6 +150,8 @@ impl<C: SlotCell, O: Outlet, ThisRun: Run> Hub<C, O, ThisRun> {
         requires parts { HaveParts ledgers ThisRun.seats }
         requires seats { ThisRun.seats ≡ nodes + 1 }
         requires keeps { ThisRun.keeps ≡ true }
+        requires unbegun { ThisRun.begun ≡ false }
+        requires rounds { rounds ≡ ThisRun.bounds.rounds }
         ensures seats { IfOk result (λ hub. vec_len hub.1 ≡ nodes) }
         ensures numbered { IfOk result (λ hub. AreOfNodes nodes hub.1.items) }
     {
@@ -153,17 +163,21 @@ impl<C: SlotCell, O: Outlet, ThisRun: Run> Hub<C, O, ThisRun> {
         let (log, seats, driver) = open_log(
             alloc, world, deliveries, script, nodes, ledgers, seats, true,
         );
-        Ok((Hub::over(log, sleepers, false), seats, driver))
+        Ok((Hub::over(log, sleepers, rounds), seats, driver))
     }
 
-    /// A hub over a log, of which it says whether it begins with the script's lines of round 0.
+    /// A hub over a log that goes on.
     pub(crate) fn over(
         log: RunLog<C, O, ThisRun>,
         sleepers: Sleepers,
-        begun: bool,
+        rounds: u64,
     ) -> Hub<C, O, ThisRun>
-        requires begun { begun ≡ true → ThisRun.keeps ≡ true
+        requires begun { ThisRun.begun ≡ true → ThisRun.keeps ≡ true
             → BeginsByDriver (first_lines ThisRun.script) (happened_in log) }
+        requires running { log.stopped ≡ false }
+        requires rounds { rounds ≡ ThisRun.bounds.rounds }
+        requires in_rounds { (world_of log.armed.world).round
+            ≤ last_round ThisRun.opening ThisRun.script ThisRun.bounds }
     {
         Hub {
             locked: Mutex::new(Locked {
@@ -172,7 +186,8 @@ impl<C: SlotCell, O: Outlet, ThisRun: Run> Hub<C, O, ThisRun> {
                 workers: Workers::new(),
                 until: Until::never(),
                 told: None,
-                begun,
+                cause: None,
+                rounds,
             }),
             sleepers,
         }
@@ -328,7 +343,14 @@ impl<C: SlotCell, O: Outlet, ThisRun: Run> Hub<C, O, ThisRun> {
         // It was so of a world to which a history of this run leads.
         ensures { result.complete ≡ true → HasBeenComplete ThisRun.rooms ThisRun.script ThisRun.opening }
     {
-        let status = self.locked.lock(rt).log.status();
+        let mut locked = self.locked.lock(rt);
+        let complete = locked.end_if_complete();
+        let status = Status {
+            round: locked.log.moment().round,
+            complete,
+            stopped: locked.log.is_stopped(),
+        };
+        drop(locked);
         if status.stopped {
             self.sleepers.wake(Woken::all());
         }
@@ -340,10 +362,26 @@ impl<C: SlotCell, O: Outlet, ThisRun: Run> Hub<C, O, ThisRun> {
         self.locked.lock(rt).log.made()
     }
 
-    /// From now on no turn and no line of the script makes an event. What comes of a job that is out may still come back.
-    pub fn stop<R: Wait>(&self, rt: &R) {
-        self.locked.lock(rt).log.stop();
+    // The run is stopped for this cause, unless it is already, and everybody is woken.
+    fn end<R: Wait>(&self, rt: &R, cause: Cause)
+        requires { (world : WorldView) → is_cause (is_over ThisRun.channels ThisRun.bounds) ThisRun.may_stop world cause
+            ≡ true }
+    {
+        self.locked.lock(rt).end(cause);
         self.sleepers.wake(Woken::all());
+    }
+
+    /// From now on no turn and no line of the script makes an event. What comes of a job that is out may still come back. Who calls it is one
+    /// who may stop the run, as its name says.
+    pub fn stop<R: Wait>(&self, rt: &R)
+        requires { ThisRun.may_stop ≡ true }
+    {
+        self.end(rt, Cause::Asked);
+    }
+
+    /// The same, since a call was refused.
+    pub(crate) fn refuse<R: Wait>(&self, rt: &R, fault: HubFault) {
+        self.end(rt, Cause::Refused(fault));
     }
 
     /// The world, with the history that leads to it from the one with which the run began, if one was kept. Where these are all seats, the history
@@ -361,29 +399,31 @@ impl<C: SlotCell, O: Outlet, ThisRun: Run> Hub<C, O, ThisRun> {
             → numbers_in result.1.lines.items result.1.stops
             ≡ added (numbers_of_seats seats.items) (seat_numbers driver.count) }
     {
-        let (world, history, _begun) = self.close_begun(seats, driver);
-        (world, history)
+        let Hub { locked, .. } = self;
+        let Locked { log, .. } = locked.into_inner();
+        let mut all = driver.with_all(seats);
+        log.close(&mut all)
     }
 
-    /// The same, and whether the run began with the script's lines of round 0.
-    pub(crate) fn close_begun(
+    /// The world, its history if one was kept, and why the run is stopped, for a driver who was told that it is.
+    pub(crate) fn close_stopped(
         self,
-        seats: Vec<NodeSeat<ThisRun>>,
         driver: DriverSeat<ThisRun>,
-    ) -> (World<C, O>, History, bool)
+    ) -> (World<C, O>, History, Option<Cause>)
         ensures run { HasRun ThisRun.rooms ThisRun.script ThisRun.opening (world_of result.0) }
         ensures leads { ThisRun.keeps ≡ true → LeadsTo ThisRun.rooms ThisRun.script ThisRun.opening
             (happenings result.1.lines.items) (world_of result.0) }
-        ensures numbers { vec_len seats + 1 ≡ ThisRun.seats → ThisRun.keeps ≡ true
-            → numbers_in result.1.lines.items result.1.stops
-            ≡ added (numbers_of_seats seats.items) (seat_numbers driver.count) }
-        ensures begun { result.2 ≡ true → ThisRun.keeps ≡ true
+        ensures begun { ThisRun.begun ≡ true → ThisRun.keeps ≡ true
             → BeginsByDriver (first_lines ThisRun.script) (happenings result.1.lines.items) }
+        ensures cause { 0 < (seat_numbers driver.count).stops
+            → is_caused (is_over ThisRun.channels ThisRun.bounds) ThisRun.may_stop (world_of result.0) result.2
+            ≡ true }
+        ensures rounds { (world_of result.0).round ≤ last_round ThisRun.opening ThisRun.script ThisRun.bounds }
     {
         let Hub { locked, .. } = self;
-        let Locked { log, begun, .. } = locked.into_inner();
-        let mut all = driver.with_all(seats);
-        let (world, history) = log.close(&mut all);
-        (world, history, begun)
+        let Locked { log, cause, .. } = locked.into_inner();
+        let DriverSeat { mut count, .. } = driver;
+        let (world, history) = log.close(&mut count);
+        (world, history, cause)
     }
 }

@@ -5,11 +5,14 @@
 //! the one to which the history leads from the opening world.
 #![tactic(auto)]
 
+mod bounds;
+mod cause;
 mod desks;
 mod driving;
 mod ending;
 mod entered;
 mod hub;
+mod hub_run;
 mod job_watch;
 mod locked;
 mod playing;
@@ -19,6 +22,7 @@ mod run_watch;
 mod seat;
 mod seen;
 mod sleepers;
+mod status;
 mod task;
 mod threads;
 mod turn_watch;
@@ -28,21 +32,24 @@ mod watching;
 mod workers;
 mod working;
 
+pub use bounds::{Bounds, RunBounds};
 pub use desks::Desks;
-pub use driving::{Bounds, drive};
+pub use driving::{Driven, drive};
 pub use ending::{Ended, RunEnd, end_of, have_left};
 pub use entered::Entered;
 pub use hub::Hub;
+pub use hub_run::HubRun;
 pub use job_watch::{JobWatch, NoWatch};
 pub use playing::run_world;
 pub use run_handle::RunHandle;
 pub use run_log::{
     Entry, FaultAnswer, HeldBack, History, HubFault, KeptEvent, Line, Moment, Run, RunLedgers,
-    Status, TurnAnswer, UnusedLedgers,
+    TurnAnswer, UnusedLedgers,
 };
 pub use run_watch::RunWatch;
 pub use seat::{DriverSeat, NodeSeat};
 pub use seen::Seen;
+pub use status::Status;
 pub use threads::{DriverSeats, Joined, NodeSeats, SharedRun, run_threads};
 pub use turn_watch::TurnWatch;
 pub use turning::run_world_by_turns;

@@ -1,21 +1,41 @@
 // What is under a hub's lock.
-ghost use Rattle.std.specs.Prelude.{◌≡◌, true};
+ghost use Rattle.std.specs.Prelude.{◌≡◌, ◌<◌, ◌≤◌, false, true, IfErr, IfOk, OnErr, OnOk};
+ghost use Rattle.protocol.specs.World.Common.{are_quiet, event_node, Install};
+ghost use Rattle.replay.specs.declared.kept.Maker.TheVariants as who;
+ghost use Rattle.run_log.specs.Answers.{fault_kind, turn_kind, IsGrantedIn, IsReplyIn, TellsFault, TellsTurn};
+ghost use Rattle.run_log.specs.Numbers.{counted};
 ghost use Rattle.run_log.specs.RunLogs.{happened_in};
+ghost use Rattle.run_log.specs.SeatCounts.{seat_numbers, seat_parts};
+ghost use Rattle.run_log.specs.declared.seat_count.Counted.TheVariants as kind;
 ghost use Rattle.runtime.specs.Beginning.{first_lines, BeginsByDriver};
+ghost use Rattle.runtime.specs.Causes.{is_cause, is_caused, last_round};
+ghost use Rattle.runtime.specs.Ending.{is_over};
+ghost use Rattle.station.specs.DoneView.{done_view};
+ghost use Rattle.station.specs.ReplyView.{reply_view};
+ghost use Rattle.station.specs.declared.event.Event.TheVariants as event;
+ghost use Rattle.world.specs.WholeView.{world_of};
 
+use crate::bounds::RunBounds;
+use crate::cause::Cause;
+use crate::ending::end_by;
+use crate::hub_run::HubRun;
 use crate::quiet::Quiet;
+use crate::seat::DriverSeat;
 use crate::seen::Seen;
 use crate::sleepers::Woken;
 use crate::until::Until;
 use crate::workers::Workers;
 use outlet::Outlet;
-use run_log::{Run, RunLog};
+use proc_step::Done;
+use run_log::{FaultAnswer, HeldBack, HubFault, RunLog, SeatCount, TurnAnswer};
 use slot_cell::SlotCell;
+use std::alloc::Global;
 use wire::NODES;
+use world::Reply;
 
 /// What is under a hub's lock.
 #[derive(Drop)]
-pub(crate) struct Locked<C: SlotCell, O: Outlet, ThisRun: Run> {
+pub(crate) struct Locked<C: SlotCell, O: Outlet, ThisRun: HubRun> {
     pub log: RunLog<C, O, ThisRun>,
     pub left: u64,
     // Who takes the turns of the nodes whose seats are at their desks.
@@ -24,13 +44,120 @@ pub(crate) struct Locked<C: SlotCell, O: Outlet, ThisRun: Run> {
     pub until: Until,
     // How the hub stands as far as who watches the run was told, if anybody was.
     pub told: Option<Seen>,
-    // Whether the run began with the script's lines of round 0.
-    pub begun: bool,
-    pub ghost begins: { begun ≡ true → ThisRun.keeps ≡ true
+    // Why the run is stopped, once it is.
+    pub cause: Option<Cause>,
+    // The rounds after which it is over.
+    pub rounds: u64,
+    pub ghost begins: { ThisRun.begun ≡ true → ThisRun.keeps ≡ true
         → BeginsByDriver (first_lines ThisRun.script) (happened_in log) },
+    pub ghost caused: { log.stopped ≡ true → is_caused (is_over ThisRun.channels ThisRun.bounds) ThisRun.may_stop
+        (world_of log.armed.world) cause ≡ true },
+    pub ghost same_rounds: { rounds ≡ ThisRun.bounds.rounds },
+    pub ghost in_rounds: { (world_of log.armed.world).round
+        ≤ last_round ThisRun.opening ThisRun.script ThisRun.bounds },
 }
 
-impl<C: SlotCell, O: Outlet, ThisRun: Run> Locked<C, O, ThisRun> {
+impl<C: SlotCell, O: Outlet, ThisRun: HubRun> Locked<C, O, ThisRun> {
+    /// The run is stopped for this cause, unless it is stopped already.
+    pub fn end(&mut self, cause: Cause)
+        requires cause { is_cause (is_over ThisRun.channels ThisRun.bounds) ThisRun.may_stop
+            (world_of self.old.log.armed.world) cause ≡ true }
+        ensures stopped { self.new.log.stopped ≡ true }
+        ensures same { self.new.log.armed ≡ self.old.log.armed }
+    {
+        if !self.log.is_stopped() {
+            self.log.stop();
+            self.cause = Some(cause);
+        }
+    }
+
+    // The run is stopped where its rounds are over.
+    fn end_by_rounds(&mut self)
+        ensures over { self.new.log.stopped ≡ false
+            → (world_of self.new.log.armed.world).round < ThisRun.bounds.rounds }
+        ensures same { self.new.log.armed ≡ self.old.log.armed }
+    {
+        if self.rounds <= self.log.world().round() {
+            self.end(Cause::Over);
+        }
+    }
+
+    // The run is stopped where nothing is left to do. Whether that is so.
+    pub fn end_if_complete(&mut self) -> bool
+        ensures { result ≡ are_quiet (world_of self.old.log.armed.world) }
+    {
+        let complete = self.log.is_complete();
+        if complete {
+            self.end(Cause::Over);
+        }
+        complete
+    }
+
+    /// The run is stopped where it is over.
+    pub fn end_if_over(&mut self, run: &RunBounds<'_, ThisRun>) {
+        let complete = self.log.is_complete();
+        let end = end_by(run.channels, self.log.world(), run.bounds, complete);
+        if !end.goes_on() {
+            self.end(Cause::Over);
+        }
+    }
+
+    /// The event that is next for a node, `Widened`, `Nothing` or `Stopped`.
+    pub fn turn(
+        &mut self,
+        alloc: Global,
+        node: u8,
+        count: &mut SeatCount<ThisRun>,
+    ) -> Result<TurnAnswer, HubFault>
+        requires part { 0 < seat_parts count.old }
+        ensures parts { seat_parts count.new ≡ seat_parts count.old }
+        ensures counted { IfOk result (λ answer. seat_numbers count.new
+            ≡ counted (turn_kind answer) (seat_numbers count.old)) }
+        ensures home { IfOk result (IsGrantedIn node) }
+        ensures told { IfOk result (TellsTurn ThisRun.rooms ThisRun.script ThisRun.opening node) }
+        ensures refused { OnErr result (seat_numbers count.new ≡ seat_numbers count.old) }
+    {
+        self.end_by_rounds();
+        self.log.turn(alloc, node, count)
+    }
+
+    /// What came of a job of this node comes back. A refusal hands it back.
+    pub fn install(
+        &mut self,
+        alloc: Global,
+        node: u8,
+        done: Done,
+        count: &mut SeatCount<ThisRun>,
+    ) -> Result<Reply, HeldBack>
+        requires part { 0 < seat_parts count.old }
+        requires home { event_node (Install (done_view done)) ≡ node }
+        ensures parts { seat_parts count.new ≡ seat_parts count.old }
+        ensures told { IfOk result (λ reply. ∥ IsReplyIn ThisRun.rooms ThisRun.script ThisRun.opening
+            (who.Node node) (reply_view reply) ∥₁) }
+        ensures counted { OnOk result
+            (seat_numbers count.new ≡ counted kind.Entry (seat_numbers count.old)) }
+        ensures refused { OnErr result (seat_numbers count.new ≡ seat_numbers count.old) }
+        ensures handed_back { IfErr result (λ held. held.event ≡ event.Install done) }
+    {
+        self.log.install(alloc, node, done, count)
+    }
+
+    /// The event of the script's next line, `NotYet`, `NoMore` or `Stopped`.
+    pub fn fault(
+        &mut self,
+        alloc: Global,
+        seat: &mut DriverSeat<ThisRun>,
+    ) -> Result<FaultAnswer, HubFault>
+        ensures counted { IfOk result (λ answer. seat_numbers seat.new.count
+            ≡ counted (fault_kind answer) (seat_numbers seat.old.count)) }
+        ensures told { IfOk result (TellsFault ThisRun.rooms ThisRun.script ThisRun.opening) }
+        ensures refused { OnErr result
+            (seat_numbers seat.new.count ≡ seat_numbers seat.old.count) }
+    {
+        self.end_by_rounds();
+        seat.fault(alloc, &mut self.log)
+    }
+
     pub fn seen(&self) -> Seen {
         Seen {
             moment: self.log.moment(),
@@ -126,13 +253,10 @@ impl<C: SlotCell, O: Outlet, ThisRun: Run> Locked<C, O, ThisRun> {
 
     /// Whom it wakes that the hub stood so before, and stands as it does now. Where a round is over, the run may be too.
     pub fn woken(&mut self, before: Seen) -> Woken {
-        let has_moved_on = self.log.moment() != before.moment;
-        let stopped = if has_moved_on {
-            self.log.status().stopped
-        } else {
-            self.log.is_stopped()
-        };
-        if stopped {
+        if self.log.moment() != before.moment {
+            let _complete = self.end_if_complete();
+        }
+        if self.log.is_stopped() {
             return Woken::all();
         }
         Woken {

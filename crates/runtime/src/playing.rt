@@ -1,29 +1,33 @@
 // A run by threads, from its world to its history.
-ghost use Rattle.std.specs.Prelude.{◌≡◌, ◌+◌, ◌≤◌, true, length};
+ghost use Rattle.std.specs.Prelude.{◌≡◌, ◌+◌, ◌≤◌, false, true, length};
 ghost use Rattle.marks.specs.Seats.{table_of};
 ghost use Rattle.protocol.specs.Node.Common.{MAX_CHANNELS, network_of};
 ghost use Rattle.replay.specs.Replay.{LeadsTo};
 ghost use Rattle.run_log.specs.LedgerNames.{HaveParts, names_of};
 ghost use Rattle.run_log.specs.Happened.{HasRun};
 ghost use Rattle.run_log.specs.Lines.{happenings};
-ghost use Rattle.runtime.specs.Beginning.{HasBegun};
-ghost use Rattle.runtime.specs.Ending.{IsOver};
+ghost use Rattle.runtime.specs.Beginning.{first_lines, BeginsByDriver, HasBegun};
+ghost use Rattle.runtime.specs.Causes.{last_round};
+ghost use Rattle.runtime.specs.Ending.{IsOver, was_refused};
+ghost use Rattle.runtime.specs.declared.ending.RunEnd.TheVariants.{Refused, Stopped};
 ghost use Rattle.world.specs.WholeView.{net_in, rooms_in, world_of};
 ghost use Rattle.world.specs.WorldView.{rooms};
 
-use crate::driving::{Bounds, begin, first_lines};
-use crate::ending::{Ended, RunEnd, end_of};
+use crate::bounds::{Bounds, RunBounds};
+use crate::driving::{Driven, begin, first_lines};
+use crate::ending::{Ended, RunEnd, end_for};
 use crate::hub::{Hub, HubParts, open_log};
+use crate::hub_run::HubRun;
 use crate::run_watch::RunWatch;
-use crate::seat::NodeSeat;
-use crate::threads::{DriverSeats, Joined, NodeSeats, SharedRun};
+use crate::seat::{DriverSeat, NodeSeat};
+use crate::threads::{DriverSeats, NodeSeats, SharedRun};
 use crate::watching::run_watched;
 use kahn_net::Channel;
 use marks::{MarksName, Opened, Seat};
 use net_check::Net;
 use outlet::Outlet;
 use replay::ScriptedEvent;
-use run_log::{HubFault, Run, RunLedgers, UnusedLedgers};
+use run_log::{HubFault, Run, RunLedgers, RunLog, UnusedLedgers};
 use slot_cell::SlotCell;
 use std::alloc::Global;
 use std::marker::Brand;
@@ -48,22 +52,70 @@ fn list_seats<ThisRun: RunLedgers, ItsMarks: MarksName>(
     Ok(node_seats)
 }
 
-// The seats of each node, where the lines of round 0 could be passed.
-fn listed<ThisRun: RunLedgers, ItsMarks: MarksName>(
-    alloc: Global,
-    begun: Result<(), HubFault>,
-    seats: Vec<NodeSeat<ThisRun>>,
-    marks_seats: Vec<Seat<ItsMarks>>,
-) -> Result<Vec<NodeSeats<ThisRun, ItsMarks>>, HubFault> {
-    begun?;
-    list_seats(alloc, seats, marks_seats)
+// A run of which a line of round 0 was refused.
+fn refused_at_once<C: SlotCell, O: Outlet, ThisRun: Run>(
+    log: RunLog<C, O, ThisRun>,
+    driver: DriverSeat<ThisRun>,
+    fault: HubFault,
+) -> Ended<C, O>
+    ensures run { HasRun ThisRun.rooms ThisRun.script ThisRun.opening (world_of result.world) }
+    ensures leads { ThisRun.keeps ≡ true → LeadsTo ThisRun.rooms ThisRun.script ThisRun.opening
+        (happenings result.history.lines.items) (world_of result.world) }
+    ensures end { result.end ≡ Refused fault }
+{
+    let DriverSeat { mut count, .. } = driver;
+    let (world, history) = log.close(&mut count);
+    Ended {
+        world,
+        history,
+        end: RunEnd::Refused(fault),
+    }
+}
+
+// The driver's seat where nobody drove.
+fn undriven<ThisRun: HubRun, ItsMarks: MarksName>(
+    driver: DriverSeats<ThisRun, ItsMarks>,
+    fault: HubFault,
+) -> Driven<ThisRun> {
+    let DriverSeats { seat, .. } = driver;
+    Driven {
+        seat,
+        end: Err(fault),
+    }
+}
+
+// The end of a run that began.
+fn close<C: SlotCell, O: Outlet, ThisRun: HubRun, ItsMarks: MarksName>(
+    shared: SharedRun<C, O, ThisRun, ItsMarks>,
+    driven: Driven<ThisRun>,
+    run: &RunBounds<'_, ThisRun>,
+) -> Ended<C, O>
+    requires begun { ThisRun.begun ≡ true }
+    ensures run { HasRun ThisRun.rooms ThisRun.script ThisRun.opening (world_of result.world) }
+    ensures leads { ThisRun.keeps ≡ true → LeadsTo ThisRun.rooms ThisRun.script ThisRun.opening
+        (happenings result.history.lines.items) (world_of result.world) }
+    ensures over { IsOver ThisRun.channels ThisRun.bounds (world_of result.world) result.end }
+    ensures stopped { result.end ≡ Stopped → ThisRun.may_stop ≡ true }
+    ensures rounds { (world_of result.world).round ≤ last_round ThisRun.opening ThisRun.script ThisRun.bounds }
+    ensures begun { ThisRun.keeps ≡ true
+        → BeginsByDriver (first_lines ThisRun.script) (happenings result.history.lines.items) }
+{
+    let SharedRun { hub, .. } = shared;
+    let Driven { seat, end } = driven;
+    let (world, history, cause) = hub.close_stopped(seat);
+    let end = end_for(run, &world, end, cause);
+    Ended {
+        world,
+        history,
+        end,
+    }
 }
 
 // The run of this hub's name and these marks'.
 fn play<
     C: SlotCell + Send,
     O: Outlet + Send,
-    ThisRun: Run + Send + Sync,
+    ThisRun: HubRun + Send + Sync,
     ItsMarks: MarksName + Send + Sync,
     W: RunWatch + Sync,
     R: Threads + Wait + Sync,
@@ -72,16 +124,18 @@ fn play<
     alloc: Global,
     net: &Net,
     channels: &[Channel],
+    bounds: Bounds,
     world: World<C, O>,
     script: Vec<ScriptedEvent>,
     ledgers: UnusedLedgers,
     opened: Opened,
     watch: &W,
-    bounds: Bounds,
     nodes: u8,
     keeps: bool,
 ) -> Ended<C, O>
     requires few { length channels.now ≤ MAX_CHANNELS }
+    requires channels { channels.now ≡ ThisRun.channels }
+    requires bounds { bounds ≡ ThisRun.bounds }
     requires opening { world_of world ≡ ThisRun.opening }
     requires rooms { rooms_in world ≡ ThisRun.rooms }
     requires script { script.items ≡ ThisRun.script }
@@ -90,10 +144,15 @@ fn play<
     requires seats { ThisRun.seats ≡ nodes + 1 }
     requires table { table_of opened ≡ ItsMarks.table }
     requires keeps { keeps ≡ ThisRun.keeps }
+    requires watch { ThisRun.may_stop ≡ W.may_stop }
+    requires begun { ThisRun.begun ≡ true }
     ensures run { HasRun ThisRun.rooms ThisRun.script ThisRun.opening (world_of result.world) }
     ensures leads { ThisRun.keeps ≡ true → LeadsTo ThisRun.rooms ThisRun.script ThisRun.opening
         (happenings result.history.lines.items) (world_of result.world) }
-    ensures over { IsOver channels.now bounds (world_of result.world) result.end }
+    ensures over { IsOver ThisRun.channels ThisRun.bounds (world_of result.world) result.end }
+    ensures stopped { result.end ≡ Stopped → W.may_stop ≡ true }
+    ensures rounds { was_refused result.end ≡ false
+        → (world_of result.world).round ≤ last_round ThisRun.opening ThisRun.script ThisRun.bounds }
     ensures begun { ThisRun.keeps ≡ true
         → HasBegun ThisRun.script (happenings result.history.lines.items) result.end }
 {
@@ -116,43 +175,31 @@ fn play<
         alloc, world, deliveries, script, nodes, ledgers, seats, keeps,
     );
     let begun = begin(alloc, &mut log, &mut driver, lines);
-    let hub = Hub::over(log, sleepers, begun.is_ok());
+    if let Err(fault) = begun {
+        return refused_at_once(log, driver, fault);
+    }
+    let hub = Hub::over(log, sleepers, bounds.rounds);
+    let run = RunBounds::<ThisRun>::new(channels, bounds);
     let shared = SharedRun { hub, marks };
-    let mut driver_seats = DriverSeats {
+    let driver_seats = DriverSeats {
         seat: driver,
         marks: driver_marks,
     };
-    let Joined { seats, end } = match listed(alloc, begun, seats, marks_seats) {
+    let driven = match list_seats(alloc, seats, marks_seats) {
         Ok(node_seats) => run_watched(
             rt,
             alloc,
             &shared,
             node_seats,
-            &mut driver_seats,
-            channels,
+            driver_seats,
+            &run,
             net,
             watch,
-            bounds,
-        ),
-        Err(fault) => Joined {
-            seats: Vec::new(alloc),
-            end: Err(fault),
-        },
+        )
+        .driven,
+        Err(fault) => undriven(driver_seats, fault),
     };
-    let SharedRun { hub, .. } = shared;
-    let DriverSeats { seat, .. } = driver_seats;
-    let (world, history, begun) = hub.close_begun(seats, seat);
-    let end = match end {
-        // (It has begun. What came out of the lock is known by its type alone, which doesn't say so.)
-        Ok(()) if !begun => RunEnd::Stopped,
-        Ok(()) => end_of(channels, &world, bounds),
-        Err(fault) => RunEnd::Refused(fault),
-    };
-    Ended {
-        world,
-        history,
-        end,
-    }
+    close(shared, driven, &run)
 }
 
 /// Runs a world with a thread for each node, and one, which calls, for the script, until nothing is left to do or it comes to its
@@ -184,6 +231,11 @@ pub fn run_world<
     // Where the run came to its end, the events of the script's lines of round 0 come before all others.
     ensures begun { keeps_history ≡ true
         → HasBegun script.items (happenings result.history.lines.items) result.end }
+    // It ends by a stop only where who watches it may stop it.
+    ensures stopped { result.end ≡ Stopped → W.may_stop ≡ true }
+    // No round begins behind the last one.
+    ensures rounds { was_refused result.end ≡ false
+        → (world_of result.world).round ≤ last_round (world_of world) script.items bounds }
 {
     let Ok(net) = Arc::try_clone(world.net()) else {
         return Ended::unbegun(alloc, world, HubFault::NoMemory);
@@ -200,12 +252,12 @@ pub fn run_world<
         alloc,
         &net,
         channels,
+        bounds,
         world,
         script,
         ledgers,
         opened,
         watch,
-        bounds,
         nodes,
         keeps_history,
     )

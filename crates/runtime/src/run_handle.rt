@@ -1,21 +1,24 @@
 // A run that goes on, as who watches it has it.
 
+use crate::hub_run::HubRun;
 use crate::seen::Seen;
 use crate::threads::SharedRun;
 use marks::{MarksName, Seat};
 use net_check::Net;
 use outlet::Outlet;
-use run_log::Run;
 use slot_cell::SlotCell;
 use std::sync::Wait;
 use std::time::{Clock, Duration};
 
 /// A run that goes on: whoever has this reads how many items have left, and may stop the run.
 pub trait RunHandle {
-    ghost use Rattle.std.specs.Prelude.{◌≡◌, ◌≢◌, ◌≤◌, ◌⊎◌, ℕ, List, Option, None, IsSome};
+    ghost use Rattle.std.specs.Prelude.{◌≡◌, ◌≢◌, ◌≤◌, ◌⊎◌, ℕ, Bool, true, List, Option, None, IsSome};
     ghost use Rattle.std.specs.List.{Contains};
     ghost use Rattle.marks.specs.Known.{BeginsWith, greatest};
     ghost use Rattle.marks.specs.Owners.{owner_at};
+
+    /// Whether the run may be stopped by this.
+    ghost may_stop: { Bool };
 
     /// The owner of each channel: of an output its node.
     ghost owners: { Self → List (Option ℕ) };
@@ -46,8 +49,9 @@ pub trait RunHandle {
     /// Whether the run is over: no turn and no line of the script makes an event any more.
     fn is_over<R: Wait>(&self, rt: &R) -> bool;
 
-    /// Ends the run. What comes of a job that is out is taken in all the same.
-    fn stop<R: Wait>(&self, rt: &R);
+    /// Ends the run, where it may be stopped by this. What comes of a job that is out is taken in all the same.
+    fn stop<R: Wait>(&self, rt: &R)
+        requires { may_stop ≡ true };
 
     /// Sleeps until the run has moved on since the last call: an item has left, a round began, a line of the script was passed,
     /// channels got more room, or the run is over. Whether it goes on. The first call doesn't sleep.
@@ -61,7 +65,7 @@ pub trait RunHandle {
 
 /// The threads' run, with a seat that reads its marks.
 #[derive(Drop)]
-pub(crate) struct Watched<'run, C: SlotCell, O: Outlet, ThisRun: Run, ItsMarks: MarksName> {
+pub(crate) struct Watched<'run, C: SlotCell, O: Outlet, ThisRun: HubRun, ItsMarks: MarksName> {
     shared: &'run SharedRun<C, O, ThisRun, ItsMarks>,
     seat: Seat<ItsMarks>,
     net: &'run Net,
@@ -69,7 +73,7 @@ pub(crate) struct Watched<'run, C: SlotCell, O: Outlet, ThisRun: Run, ItsMarks: 
     seen: Option<Seen>,
 }
 
-impl<'run, C: SlotCell, O: Outlet, ThisRun: Run, ItsMarks: MarksName> Watched<
+impl<'run, C: SlotCell, O: Outlet, ThisRun: HubRun, ItsMarks: MarksName> Watched<
     'run,
     C,
     O,
@@ -90,9 +94,11 @@ impl<'run, C: SlotCell, O: Outlet, ThisRun: Run, ItsMarks: MarksName> Watched<
     }
 }
 
-impl<C: SlotCell, O: Outlet, ThisRun: Run, ItsMarks: MarksName> RunHandle
+impl<C: SlotCell, O: Outlet, ThisRun: HubRun, ItsMarks: MarksName> RunHandle
     for Watched<'_, C, O, ThisRun, ItsMarks> {
     ghost use Rattle.marks.specs.Seats.{known, owners_of};
+
+    ghost may_stop = { ThisRun.may_stop };
 
     ghost owners = { λ run. owners_of run.shared.now.marks };
 

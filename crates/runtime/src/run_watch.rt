@@ -6,6 +6,11 @@ use std::sync::Wait;
 
 /// Who watches a run while it goes on: it reads how many items have left by each output, and may stop the run.
 pub trait RunWatch {
+    ghost use Rattle.std.specs.Prelude.{◌≡◌, Bool};
+
+    /// Whether it may stop the run.
+    ghost may_stop: { Bool };
+
     /// Whether it watches at all. Where it says no, no thread is made for it, and `watch` isn't called.
     fn watches(&self) -> bool {
         true
@@ -14,10 +19,15 @@ pub trait RunWatch {
     /// Called once, on a thread of its own beside those of the run. (Where none can be made, it is called once the run is over.)
     /// `run_world` returns only when this has returned, so it should return once the run is over. Whoever waits for news is woken
     /// by then.
-    fn watch<H: RunHandle, R: Wait>(&self, rt: &R, run: &mut H);
+    fn watch<H: RunHandle, R: Wait>(&self, rt: &R, run: &mut H)
+        requires { H.may_stop ≡ may_stop };
 }
 
 impl RunWatch for NoWatch {
+    ghost use Rattle.std.specs.Prelude.{false};
+
+    ghost may_stop = { false };
+
     fn watches(&self) -> bool {
         false
     }

@@ -1,7 +1,8 @@
 // Seats: the right to act for a node, or for the script.
-ghost use Rattle.std.specs.Prelude.{◌≡◌, ◌≢◌, ◌+◌, false, IfOk, OnErr, vec_len};
+ghost use Rattle.std.specs.Prelude.{◌≡◌, ◌≢◌, ◌+◌, false, true, IfOk, OnErr, vec_len};
 ghost use Rattle.run_log.specs.Answers.{fault_kind, IsFaultWritten, TellsFault};
 ghost use Rattle.run_log.specs.ArmedWorlds.{armed_view};
+ghost use Rattle.run_log.specs.RunLogs.{IsSameLog};
 ghost use Rattle.run_log.specs.Turns.{IsFault, passed_then};
 ghost use Rattle.run_log.specs.declared.answer.FaultAnswer.TheVariants as faults;
 ghost use Rattle.run_log.specs.Numbers.{added, counted, no_numbers};
@@ -112,7 +113,8 @@ impl<ThisRun: Run> DriverSeat<ThisRun> {
         ensures told { IfOk result (TellsFault ThisRun.rooms ThisRun.script ThisRun.opening) }
         ensures refused { OnErr result
             (seat_numbers self.new.count ≡ seat_numbers self.old.count) }
-        ensures unchanged { OnErr result (log.new.lines.items ≡ log.old.lines.items) }
+        ensures unchanged { OnErr result (IsSameLog log.old log.new) }
+        ensures stopped { log.old.stopped ≡ true → IfOk result (λ answer. answer ≡ faults.Stopped) }
         ensures goes_on { log.old.stopped ≡ false → IfOk result (λ answer. answer ≢ faults.Stopped) }
         ensures played { IfOk result (λ answer. IsFault ThisRun.rooms ThisRun.script log.old.passed answer
             (armed_view log.old.armed) (armed_view log.new.armed)) }

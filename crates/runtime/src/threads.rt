@@ -2,16 +2,17 @@
 ghost use Rattle.std.specs.Prelude.{◌≡◌, vec_len, OnOk};
 ghost use denote.Param.Send.{IsSend};
 
+use crate::bounds::RunBounds;
 use crate::desks::Desks;
-use crate::driving::{Bounds, drive};
+use crate::driving::{Driven, drive};
 use crate::hub::Hub;
+use crate::hub_run::HubRun;
 use crate::job_watch::JobWatch;
 use crate::seat::{DriverSeat, NodeSeat};
 use crate::working::work;
-use kahn_net::Channel;
 use marks::{Marks, MarksName, Seat};
 use outlet::Outlet;
-use run_log::{HubFault, Run, RunLedgers};
+use run_log::{HubFault, RunLedgers};
 use slot_cell::SlotCell;
 use std::alloc::Global;
 use std::sync::Wait;
@@ -42,7 +43,7 @@ pub struct DriverSeats<ThisRun: RunLedgers, ItsMarks: MarksName> {
 
 /// What the threads of a run share.
 #[derive(Drop)]
-pub struct SharedRun<C: SlotCell, O: Outlet, ThisRun: Run, ItsMarks: MarksName> {
+pub struct SharedRun<C: SlotCell, O: Outlet, ThisRun: HubRun, ItsMarks: MarksName> {
     pub hub: Hub<C, O, ThisRun>,
     pub marks: Marks<ItsMarks>,
 }
@@ -53,7 +54,7 @@ fn start<
     E,
     C: SlotCell + Send + 's,
     O: Outlet + Send + 's,
-    ThisRun: Run + Send + Sync + 's,
+    ThisRun: HubRun + Send + Sync + 's,
     ItsMarks: MarksName + Send + Sync + 's,
     W: JobWatch + Sync + 's,
     R: Wait + Sync + 's,
@@ -77,7 +78,7 @@ fn start_all<
     E,
     C: SlotCell + Send + 's,
     O: Outlet + Send + 's,
-    ThisRun: Run + Send + Sync + 's,
+    ThisRun: HubRun + Send + Sync + 's,
     ItsMarks: MarksName + Send + Sync + 's,
     W: JobWatch + Sync + 's,
     R: Wait + Sync + 's,
@@ -99,44 +100,48 @@ fn start_all<
 }
 
 // Drives where each node has its worker, and else stops the hub.
-fn lead<C: SlotCell, O: Outlet, ThisRun: Run, ItsMarks: MarksName, R: Wait>(
+fn lead<C: SlotCell, O: Outlet, ThisRun: HubRun, ItsMarks: MarksName, R: Wait>(
     rt: &R,
     alloc: Global,
     shared: &SharedRun<C, O, ThisRun, ItsMarks>,
-    driver: &mut DriverSeats<ThisRun, ItsMarks>,
-    channels: &[Channel],
-    bounds: Bounds,
+    driver: DriverSeats<ThisRun, ItsMarks>,
+    run: &RunBounds<'_, ThisRun>,
     all_work: bool,
-) -> Result<(), HubFault> {
+) -> Driven<ThisRun> {
     if !all_work {
-        shared.hub.stop(rt);
-        return Err(HubFault::NoMemory);
+        return unled(rt, shared, driver);
     }
-    let DriverSeats { seat, marks } = driver;
-    drive(
-        rt,
-        alloc,
-        &shared.hub,
+    let DriverSeats { seat, mut marks } = driver;
+    drive(rt, alloc, &shared.hub, seat, &shared.marks, &mut marks, run)
+}
+
+// A driver who doesn't drive, for want of memory.
+fn unled<C: SlotCell, O: Outlet, ThisRun: HubRun, ItsMarks: MarksName, R: Wait>(
+    rt: &R,
+    shared: &SharedRun<C, O, ThisRun, ItsMarks>,
+    driver: DriverSeats<ThisRun, ItsMarks>,
+) -> Driven<ThisRun> {
+    shared.hub.refuse(rt, HubFault::NoMemory);
+    let DriverSeats { seat, .. } = driver;
+    Driven {
         seat,
-        channels,
-        &shared.marks,
-        marks,
-        bounds,
-    )
+        end: Err(HubFault::NoMemory),
+    }
 }
 
-/// What came of the threads: the seats that came back, and why they ended, if a call was refused.
+/// What came of the threads: the seats that came back, the driver's, and why the driver ended, if a call of its own was refused.
 #[derive(Drop)]
-pub struct Joined<ThisRun: RunLedgers> {
+pub struct Joined<ThisRun: HubRun> {
     pub seats: Vec<NodeSeat<ThisRun>>,
-    pub end: Result<(), HubFault>,
+    pub driven: Driven<ThisRun>,
 }
 
-// Starts a worker for each of so many nodes, drives on the thread that calls, and joins them. Why they ended, if a call was refused.
+// Starts a worker for each of so many nodes, drives on the thread that calls, and joins them. (A worker of which a call is refused tells the hub
+// why.)
 fn run_at_desks<
     C: SlotCell + Send,
     O: Outlet + Send,
-    ThisRun: Run + Send + Sync,
+    ThisRun: HubRun + Send + Sync,
     ItsMarks: MarksName + Send + Sync,
     W: JobWatch + Sync,
     R: Threads + Wait + Sync,
@@ -146,42 +151,37 @@ fn run_at_desks<
     shared: &SharedRun<C, O, ThisRun, ItsMarks>,
     desks: &Desks<ThisRun, ItsMarks>,
     nodes: u8,
-    driver: &mut DriverSeats<ThisRun, ItsMarks>,
-    channels: &[Channel],
+    driver: DriverSeats<ThisRun, ItsMarks>,
+    run: &RunBounds<'_, ThisRun>,
     watch: &W,
-    bounds: Bounds,
-) -> Result<(), HubFault> {
+) -> Driven<ThisRun> {
     let count = usize::from(nodes);
-    let mut end = Ok(());
     let Ok(mut running) = Vec::with_capacity(alloc, count) else {
-        return Err(HubFault::NoMemory);
+        return unled(rt, shared, driver);
     };
     shared.hub.open_desks(rt, nodes);
     thread::scope(
         thread::scope_env(),
         rt,
-        |scope|
+        |scope| -> Driven<ThisRun>
             requires { IsSend C.row × IsSend O.row × IsSend ThisRun.row × IsSend ItsMarks.row }
         {
             start_all(rt, alloc, scope, shared, desks, nodes, watch, &mut running);
             let all_work = running.len() == count;
-            end = lead(rt, alloc, shared, driver, channels, bounds, all_work);
+            let driven = lead(rt, alloc, shared, driver, run, all_work);
             while let Some(handle) = running.pop() {
-                if let Err(fault) = handle.join(rt) {
-                    end = Err(fault);
-                }
+                let _ended = handle.join(rt);
             }
+            driven
         },
-    );
-    end
+    )
 }
 
-// Puts the seats to desks, lets the nodes' threads work there, and gives back what stands there then, as far as there is room for it. Why it
-// ended, if a call was refused.
+// Puts the seats to desks, lets the nodes' threads work there, and gives back what stands there then, as far as there is room for it.
 fn run_seats<
     C: SlotCell + Send,
     O: Outlet + Send,
-    ThisRun: Run + Send + Sync,
+    ThisRun: HubRun + Send + Sync,
     ItsMarks: MarksName + Send + Sync,
     W: JobWatch + Sync,
     R: Threads + Wait + Sync,
@@ -190,24 +190,46 @@ fn run_seats<
     alloc: Global,
     shared: &SharedRun<C, O, ThisRun, ItsMarks>,
     seats: Vec<NodeSeats<ThisRun, ItsMarks>>,
-    driver: &mut DriverSeats<ThisRun, ItsMarks>,
-    channels: &[Channel],
+    driver: DriverSeats<ThisRun, ItsMarks>,
+    run: &RunBounds<'_, ThisRun>,
     watch: &W,
-    bounds: Bounds,
     back: &mut Vec<NodeSeat<ThisRun>>,
-) -> Result<(), HubFault> {
+) -> Driven<ThisRun> {
     // (A network has at most 16 nodes.)
     let Ok(nodes) = u8::try_from(seats.len()) else {
-        return Err(HubFault::NoMemory);
+        return unled(rt, shared, driver);
     };
     let Ok(desks) = Desks::new(alloc, seats) else {
-        return Err(HubFault::NoMemory);
+        return unled(rt, shared, driver);
     };
-    let end = run_at_desks(
-        rt, alloc, shared, &desks, nodes, driver, channels, watch, bounds,
-    );
+    let driven = run_at_desks(rt, alloc, shared, &desks, nodes, driver, run, watch);
     desks.clear(back);
-    end
+    driven
+}
+
+// What came of the threads, where so many seats should have come back.
+fn join_all<ThisRun: HubRun>(
+    seats: Vec<NodeSeat<ThisRun>>,
+    driven: Driven<ThisRun>,
+    count: usize,
+) -> Joined<ThisRun>
+    ensures seats { OnOk result.driven.end (vec_len result.seats ≡ count) }
+{
+    if seats.len() == count {
+        return Joined { seats, driven };
+    }
+    let Driven { seat, end } = driven;
+    let fault = match end {
+        Ok(()) => HubFault::NoMemory,
+        Err(fault) => fault,
+    };
+    Joined {
+        seats,
+        driven: Driven {
+            seat,
+            end: Err(fault),
+        },
+    }
 }
 
 /// Lets each node work on a thread of its own, and drives on the thread that calls. It ends with the hub stopped. Where no call is
@@ -215,7 +237,7 @@ fn run_seats<
 pub fn run_threads<
     C: SlotCell + Send,
     O: Outlet + Send,
-    ThisRun: Run + Send + Sync,
+    ThisRun: HubRun + Send + Sync,
     ItsMarks: MarksName + Send + Sync,
     W: JobWatch + Sync,
     R: Threads + Wait + Sync,
@@ -224,26 +246,18 @@ pub fn run_threads<
     alloc: Global,
     shared: &SharedRun<C, O, ThisRun, ItsMarks>,
     seats: Vec<NodeSeats<ThisRun, ItsMarks>>,
-    driver: &mut DriverSeats<ThisRun, ItsMarks>,
-    channels: &[Channel],
+    driver: DriverSeats<ThisRun, ItsMarks>,
+    run: &RunBounds<'_, ThisRun>,
     watch: &W,
-    bounds: Bounds,
 ) -> Joined<ThisRun>
-    ensures seats { OnOk result.end (vec_len result.seats ≡ vec_len seats) }
+    ensures seats { OnOk result.driven.end (vec_len result.seats ≡ vec_len seats) }
 {
     let count = seats.len();
     let mut back = Vec::new(alloc);
-    let mut end = Err(HubFault::NoMemory);
-    if back.reserve(count).is_ok() {
-        end = run_seats(
-            rt, alloc, shared, seats, driver, channels, watch, bounds, &mut back,
-        );
+    if back.reserve(count).is_err() {
+        let driven = unled(rt, shared, driver);
+        return join_all(back, driven, count);
     }
-    if end.is_err() {
-        shared.hub.stop(rt);
-    }
-    if end.is_ok() && back.len() != count {
-        end = Err(HubFault::NoMemory);
-    }
-    Joined { seats: back, end }
+    let driven = run_seats(rt, alloc, shared, seats, driver, run, watch, &mut back);
+    join_all(back, driven, count)
 }

@@ -22,7 +22,8 @@ ghost use Rattle.world.specs.WorldView.{rooms};
 ghost use Rattle.run_log.specs.declared.answer.TurnAnswer.TheVariants as turns;
 ghost use Rattle.protocol.specs.declared.reply.Reply.TheVariants.{Granted};
 
-use crate::driving::{Bounds, begin, first_lines};
+use crate::bounds::Bounds;
+use crate::driving::{begin, first_lines};
 use crate::ending::{Ended, RunEnd, end_by};
 use crate::seat::{DriverSeat, driver_seat};
 use crate::turn_watch::TurnWatch;

@@ -1,16 +1,16 @@
 // The threads of a run, and who watches it beside them.
+ghost use Rattle.std.specs.Prelude.{◌≡◌};
 ghost use denote.Param.Send.{IsSend};
 
-use crate::driving::Bounds;
+use crate::bounds::RunBounds;
+use crate::hub_run::HubRun;
 use crate::job_watch::NoWatch;
 use crate::run_handle::Watched;
 use crate::run_watch::RunWatch;
 use crate::threads::{DriverSeats, Joined, NodeSeats, SharedRun, run_threads};
-use kahn_net::Channel;
 use marks::{MarksName, Seat};
 use net_check::Net;
 use outlet::Outlet;
-use run_log::Run;
 use slot_cell::SlotCell;
 use std::alloc::Global;
 use std::sync::Wait;
@@ -18,13 +18,15 @@ use std::thread;
 use std::thread::Threads;
 
 // Watches from this thread, by a seat of the marks.
-fn watch_at<C: SlotCell, O: Outlet, ThisRun: Run, ItsMarks: MarksName, W: RunWatch, R: Wait>(
+fn watch_at<C: SlotCell, O: Outlet, ThisRun: HubRun, ItsMarks: MarksName, W: RunWatch, R: Wait>(
     rt: &R,
     shared: &SharedRun<C, O, ThisRun, ItsMarks>,
     seat: Seat<ItsMarks>,
     net: &Net,
     watch: &W,
-) {
+)
+    requires { ThisRun.may_stop ≡ W.may_stop }
+{
     let mut run = Watched::new(shared, seat, net);
     watch.watch(rt, &mut run);
 }
@@ -33,7 +35,7 @@ fn watch_at<C: SlotCell, O: Outlet, ThisRun: Run, ItsMarks: MarksName, W: RunWat
 fn run_beside<
     C: SlotCell + Send,
     O: Outlet + Send,
-    ThisRun: Run + Send + Sync,
+    ThisRun: HubRun + Send + Sync,
     ItsMarks: MarksName + Send + Sync,
     W: RunWatch + Sync,
     R: Threads + Wait + Sync,
@@ -42,19 +44,22 @@ fn run_beside<
     alloc: Global,
     shared: &SharedRun<C, O, ThisRun, ItsMarks>,
     seats: Vec<NodeSeats<ThisRun, ItsMarks>>,
-    driver: &mut DriverSeats<ThisRun, ItsMarks>,
-    channels: &[Channel],
+    driver: DriverSeats<ThisRun, ItsMarks>,
+    run: &RunBounds<'_, ThisRun>,
     net: &Net,
     watch: &W,
-    bounds: Bounds,
-) -> Joined<ThisRun> {
+) -> Joined<ThisRun>
+    requires { ThisRun.may_stop ≡ W.may_stop }
+{
     let reader = shared.marks.reader();
     let (_watched, joined) = thread::join(
         rt,
-        || watch_at(rt, shared, reader, net, watch),
+        ||
+            requires { ThisRun.may_stop ≡ W.may_stop }
+        { watch_at(rt, shared, reader, net, watch) },
         || -> Joined<ThisRun>
             requires { IsSend C.row × IsSend O.row × IsSend ThisRun.row × IsSend ItsMarks.row }
-        { run_threads(rt, alloc, shared, seats, driver, channels, &NoWatch, bounds) },
+        { run_threads(rt, alloc, shared, seats, driver, run, &NoWatch) },
     );
     joined
 }
@@ -63,7 +68,7 @@ fn run_beside<
 pub(crate) fn run_watched<
     C: SlotCell + Send,
     O: Outlet + Send,
-    ThisRun: Run + Send + Sync,
+    ThisRun: HubRun + Send + Sync,
     ItsMarks: MarksName + Send + Sync,
     W: RunWatch + Sync,
     R: Threads + Wait + Sync,
@@ -72,17 +77,16 @@ pub(crate) fn run_watched<
     alloc: Global,
     shared: &SharedRun<C, O, ThisRun, ItsMarks>,
     seats: Vec<NodeSeats<ThisRun, ItsMarks>>,
-    driver: &mut DriverSeats<ThisRun, ItsMarks>,
-    channels: &[Channel],
+    driver: DriverSeats<ThisRun, ItsMarks>,
+    run: &RunBounds<'_, ThisRun>,
     net: &Net,
     watch: &W,
-    bounds: Bounds,
-) -> Joined<ThisRun> {
+) -> Joined<ThisRun>
+    requires { ThisRun.may_stop ≡ W.may_stop }
+{
     if watch.watches() {
-        run_beside(
-            rt, alloc, shared, seats, driver, channels, net, watch, bounds,
-        )
+        run_beside(rt, alloc, shared, seats, driver, run, net, watch)
     } else {
-        run_threads(rt, alloc, shared, seats, driver, channels, &NoWatch, bounds)
+        run_threads(rt, alloc, shared, seats, driver, run, &NoWatch)
     }
 }

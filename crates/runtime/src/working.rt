@@ -7,6 +7,7 @@ ghost use Rattle.station.specs.DoneView.{done_view};
 use crate::desks::{Desk, Desks};
 use crate::entered::Entered;
 use crate::hub::Hub;
+use crate::hub_run::HubRun;
 use crate::job_watch::JobWatch;
 use crate::seat::NodeSeat;
 use crate::task::Task;
@@ -14,14 +15,14 @@ use crate::threads::NodeSeats;
 use marks::{Marks, MarksName, Seat};
 use outlet::Outlet;
 use proc_step::{Done, Job};
-use run_log::{HubFault, Run, TurnAnswer};
+use run_log::{HubFault, TurnAnswer};
 use slot_cell::SlotCell;
 use std::alloc::Global;
 use std::sync::Wait;
 use world::Reply;
 
 // Items have left by an output, if there is one here: its mark is raised to how far it has come, where it is one of the seat's node.
-fn raise<C: SlotCell, O: Outlet, ThisRun: Run, ItsMarks: MarksName>(
+fn raise<C: SlotCell, O: Outlet, ThisRun: HubRun, ItsMarks: MarksName>(
     entered: &Entered<'_, C, O, ThisRun>,
     marks: &Marks<ItsMarks>,
     seat: &mut Seat<ItsMarks>,
@@ -45,7 +46,7 @@ const TURNS: u32 = 256;
 // Turns in a row, until a job is granted, nothing is to be done, or others have something to do. It answers what the last one came to.
 // Items leave by one output after another, mostly many in a row, so a mark is raised once for all of them: before items leave by another
 // output, and by who called for the output that is left in `left_by`.
-fn take_turns<C: SlotCell, O: Outlet, ThisRun: Run, ItsMarks: MarksName>(
+fn take_turns<C: SlotCell, O: Outlet, ThisRun: HubRun, ItsMarks: MarksName>(
     alloc: Global,
     entered: &mut Entered<'_, C, O, ThisRun>,
     seat: &mut NodeSeat<ThisRun>,
@@ -79,7 +80,7 @@ fn take_turns<C: SlotCell, O: Outlet, ThisRun: Run, ItsMarks: MarksName>(
 }
 
 // What a node's turns came to: its seats are at their desk again, or out with a job that was granted.
-fn put_down<C: SlotCell, O: Outlet, ThisRun: Run, ItsMarks: MarksName>(
+fn put_down<C: SlotCell, O: Outlet, ThisRun: HubRun, ItsMarks: MarksName>(
     entered: &mut Entered<'_, C, O, ThisRun>,
     desk: &mut Desk<ThisRun, ItsMarks>,
     node: u8,
@@ -103,7 +104,7 @@ fn put_down<C: SlotCell, O: Outlet, ThisRun: Run, ItsMarks: MarksName>(
 
 // Takes a node's turns by the seats at its desk, until a job is granted, nothing is to be done, or others have something to do. The job, if
 // one was granted.
-fn serve_node<C: SlotCell, O: Outlet, ThisRun: Run, ItsMarks: MarksName>(
+fn serve_node<C: SlotCell, O: Outlet, ThisRun: HubRun, ItsMarks: MarksName>(
     alloc: Global,
     entered: &mut Entered<'_, C, O, ThisRun>,
     marks: &Marks<ItsMarks>,
@@ -147,7 +148,7 @@ fn serve_node<C: SlotCell, O: Outlet, ThisRun: Run, ItsMarks: MarksName>(
 
 // What a node's thread does next.
 #[derive(Drop)]
-enum Step<ThisRun: Run, ItsMarks: MarksName> {
+enum Step<ThisRun: HubRun, ItsMarks: MarksName> {
     /// It runs this job.
     Run(Task<ThisRun, ItsMarks>),
     /// It takes the lock again, once there is something to do for it.
@@ -159,7 +160,7 @@ enum Step<ThisRun: Run, ItsMarks: MarksName> {
 // Who runs a job that was granted to a node while this thread is on duty. A short one this thread runs, and is on duty meanwhile; it is
 // too short for another thread to be woken. One that may be long is the node's own thread's, and the others' turns go on meanwhile: by
 // this thread, or, where it is its own, by one that it wakes as it leaves.
-fn assign<C: SlotCell, O: Outlet, ThisRun: Run, ItsMarks: MarksName>(
+fn assign<C: SlotCell, O: Outlet, ThisRun: HubRun, ItsMarks: MarksName>(
     entered: &mut Entered<'_, C, O, ThisRun>,
     desk: &mut Desk<ThisRun, ItsMarks>,
     node: u8,
@@ -180,7 +181,7 @@ fn assign<C: SlotCell, O: Outlet, ThisRun: Run, ItsMarks: MarksName>(
 
 // Takes the turns of all nodes whose seats are at their desks, in ascending order, until a job is granted, nothing is to be done, or a
 // round is over.
-fn serve<C: SlotCell, O: Outlet, ThisRun: Run, ItsMarks: MarksName, R: Wait>(
+fn serve<C: SlotCell, O: Outlet, ThisRun: HubRun, ItsMarks: MarksName, R: Wait>(
     rt: &R,
     alloc: Global,
     entered: &mut Entered<'_, C, O, ThisRun>,
@@ -207,7 +208,7 @@ fn serve<C: SlotCell, O: Outlet, ThisRun: Run, ItsMarks: MarksName, R: Wait>(
 }
 
 // What a node's thread finds under the lock: a job that waits for it, the end of the run, or that it is on duty.
-fn find_step<C: SlotCell, O: Outlet, ThisRun: Run, ItsMarks: MarksName, R: Wait>(
+fn find_step<C: SlotCell, O: Outlet, ThisRun: HubRun, ItsMarks: MarksName, R: Wait>(
     rt: &R,
     alloc: Global,
     entered: &mut Entered<'_, C, O, ThisRun>,
@@ -228,7 +229,7 @@ fn find_step<C: SlotCell, O: Outlet, ThisRun: Run, ItsMarks: MarksName, R: Wait>
 }
 
 // A stay under the lock, once there is something to do for a node's thread.
-fn stay<C: SlotCell, O: Outlet, ThisRun: Run, ItsMarks: MarksName, R: Wait>(
+fn stay<C: SlotCell, O: Outlet, ThisRun: HubRun, ItsMarks: MarksName, R: Wait>(
     rt: &R,
     alloc: Global,
     hub: &Hub<C, O, ThisRun>,
@@ -245,7 +246,7 @@ fn stay<C: SlotCell, O: Outlet, ThisRun: Run, ItsMarks: MarksName, R: Wait>(
 }
 
 // What came of a job is brought back, and the seats of its node to their desk. The thread goes on duty, if nobody is.
-fn bring_back<C: SlotCell, O: Outlet, ThisRun: Run, ItsMarks: MarksName, R: Wait>(
+fn bring_back<C: SlotCell, O: Outlet, ThisRun: HubRun, ItsMarks: MarksName, R: Wait>(
     rt: &R,
     alloc: Global,
     hub: &Hub<C, O, ThisRun>,
@@ -275,7 +276,7 @@ fn bring_back<C: SlotCell, O: Outlet, ThisRun: Run, ItsMarks: MarksName, R: Wait
 }
 
 // Runs a job outside the lock, and brings back what came of it.
-fn run_task<C: SlotCell, O: Outlet, ThisRun: Run, ItsMarks: MarksName, W: JobWatch, R: Wait>(
+fn run_task<C: SlotCell, O: Outlet, ThisRun: HubRun, ItsMarks: MarksName, W: JobWatch, R: Wait>(
     rt: &R,
     alloc: Global,
     hub: &Hub<C, O, ThisRun>,
@@ -296,7 +297,7 @@ fn run_task<C: SlotCell, O: Outlet, ThisRun: Run, ItsMarks: MarksName, W: JobWat
 }
 
 // Takes turns and runs jobs until the hub is stopped, or a call is refused.
-fn work_on<C: SlotCell, O: Outlet, ThisRun: Run, ItsMarks: MarksName, W: JobWatch, R: Wait>(
+fn work_on<C: SlotCell, O: Outlet, ThisRun: HubRun, ItsMarks: MarksName, W: JobWatch, R: Wait>(
     rt: &R,
     alloc: Global,
     hub: &Hub<C, O, ThisRun>,
@@ -318,7 +319,7 @@ fn work_on<C: SlotCell, O: Outlet, ThisRun: Run, ItsMarks: MarksName, W: JobWatc
 /// Works as a node's thread until the hub is stopped. It runs the node's jobs outside the lock; and while it is on duty, it takes the turns of all
 /// nodes whose seats are at their desks, raises the marks of what leaves, and runs their short jobs. Where a call is refused, it stops the
 /// hub, and answers why.
-pub fn work<C: SlotCell, O: Outlet, ThisRun: Run, ItsMarks: MarksName, W: JobWatch, R: Wait>(
+pub fn work<C: SlotCell, O: Outlet, ThisRun: HubRun, ItsMarks: MarksName, W: JobWatch, R: Wait>(
     rt: &R,
     alloc: Global,
     hub: &Hub<C, O, ThisRun>,
@@ -328,8 +329,8 @@ pub fn work<C: SlotCell, O: Outlet, ThisRun: Run, ItsMarks: MarksName, W: JobWat
     watch: &W,
 ) -> Result<(), HubFault> {
     let end = work_on(rt, alloc, hub, marks, desks, own, watch);
-    if end.is_err() {
-        hub.stop(rt);
+    if let Err(fault) = end {
+        hub.refuse(rt, fault);
     }
     end
 }

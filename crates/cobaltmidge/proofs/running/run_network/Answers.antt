@@ -48,7 +48,7 @@ returns-clause-end g c =
     (λ unrefused. ended_so g.O.Outlet.taken g.O.Outlet.failures world.stations.items c.args.settings net c.args.inputs c.args.script.items
     (happenings ended.history.lines.items) (world_of world) (world_of ended.world) ended.end (nodes_in world)
     c.in_ok-world.ensures.room refl opened many unrefused c.run_to_end.ensures.run c.run_to_end.ensures.leads
-    c.run_to_end.ensures.turns)
+    c.run_to_end.ensures.turns c.run_to_end.ensures.rounds)
 
 pub returns-clause-same : goal.returns-clause-same
 returns-clause-same g c =

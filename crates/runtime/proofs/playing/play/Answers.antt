@@ -1,13 +1,17 @@
 -- where the run didn't begin nothing is written, and the world is the one that was handed in
-use Rattle.std.proofs.Common.{rules, ◌≡◌, ℕ, subst}
+use Rattle.std.proofs.Common.{rules, ◌≡◌, ℕ, true, ap, subst}
+use Rattle.replay.specs.Armed.{ArmedView}
+use Rattle.run_log.specs.ArmedWorlds.{armed_view}
 use Rattle.run_log.specs.RunLogs.{happened_in}
 use Rattle.runtime.specs.Beginning.{BeginsByDriver, first_lines}
-use Rattle.runtime.proofs.Turns.{where_ok}
+use Rattle.runtime.specs.Turning.{ArePassed, progress}
+use Rattle.runtime.specs.declared.bounds.Bounds.{Bounds}
+use Rattle.runtime.proofs.Causes.{begun_within}
+use Rattle.runtime.proofs.Turns.{unrefused}
 use Rattle.run_log.specs.Lines.{happenings}
 use Rattle.runtime.proofs.Beginnings.{begun_so}
 use Rattle.runtime.proofs.Nowhere.{leads_nowhere, runs_nowhere}
 use Rattle.runtime.proofs.playing.play.Goals as goal
-use Rattle.runtime.proofs.playing.play.Goals.{in-Ok-end, in-Ok-2, in-Err-end}
 
 pub returns-in_default-clause-leads : goal.returns-in_default-clause-leads
 returns-in_default-clause-leads g c = λ kept.
@@ -32,18 +36,28 @@ returns-in_default-pop-clause-run g c = runs_nowhere _ _ _ _ (rw c.unbegun-in_de
 
 -- one that ended well began with the lines of round 0, and of the others nothing is said
 pub returns-clause-begun : goal.returns-clause-begun
-returns-clause-begun g c = λ keeps. elim c.match-end.branch [
-  | in-Ok-end w ↦ rw w.end-is tt
-  | in-Ok-2 w ↦ begun_so g.ThisRun.Run.script (happenings c.close_begun-world.result.1.lines.items) c.match-end.end
-      (c.close_begun-world.ensures.begun (search rules) keeps)
-  | in-Err-end w ↦ rw w.end-is tt
-]
+returns-clause-begun g c = λ keeps.
+    begun_so g.ThisRun.Run.script (happenings c.close.result.history.lines.items) c.close.result.end (c.close.ensures.begun keeps)
 
 -- the lines of round 0 are passed, where none was refused
 pub over-hub-requires : goal.over-hub-requires
-over-hub-requires g c = record {
-  begun = λ told keeps.
-      let are : c.first_lines-lines.result ≡ first_lines g.ThisRun.Run.script = search rules in
-      subst (λ (n : ℕ). BeginsByDriver n (happened_in c.begin-begun.new.log)) are
-      (where_ok _ c.begin-begun.result _ c.is_ok.ensures.value told c.begin-begun.ensures.begun keeps);
-}
+over-hub-requires g c =
+    let rooms = g.ThisRun.Run.rooms in
+    let script = g.ThisRun.Run.script in
+    let lines = c.first_lines-lines.result in
+    let log = c.begin-begun.new.log in
+    let first = progress (armed_view c.open_log-log.result.0.armed) 0 in
+    let begun = progress (armed_view log.armed) log.passed in
+    let are : lines ≡ first_lines script = search rules in
+    let passed = unrefused (ArePassed rooms script lines first begun) c.begin-begun.result c.in_default-begun.not-Err
+    c.begin-begun.ensures.passed in
+    record {
+      begun = λ told keeps.
+          subst (λ (n : ℕ). BeginsByDriver n (happened_in log)) are
+          (unrefused (g.ThisRun.Run.keeps ≡ true → BeginsByDriver lines (happened_in log)) c.begin-begun.result c.in_default-begun.not-Err
+          c.begin-begun.ensures.begun keeps);
+      running = c.begin-begun.ensures.running;
+      rounds = ap (λ (bounds : Bounds). bounds.rounds) c.requires.bounds;
+      in_rounds = begun_within rooms script g.ThisRun.HubRun.bounds lines g.ThisRun.Run.opening first begun are
+          (ap (λ (a : ArmedView). a.world) c.open_log-log.ensures.first) passed;
+    }

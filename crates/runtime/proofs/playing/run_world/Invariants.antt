@@ -1,4 +1,4 @@
-use Rattle.std.proofs.Common.{◌+◌}
+use Rattle.std.proofs.Common.{◌+◌, true}
 use Rattle.marks.specs.Seats.{table_of}
 use Rattle.run_log.specs.LedgerNames.{names_of}
 use Rattle.world.specs.WholeView.{world_of}
@@ -18,3 +18,11 @@ ghosts-play-ThisRun-RunLedgers g a = record { names = names_of a.ledgers; seats 
 
 abbrev pub ghosts-play-ItsMarks-MarksName : goal.ghosts-play-ItsMarks-MarksName
 ghosts-play-ItsMarks-MarksName g a = record { table = table_of a.opened }
+
+abbrev pub ghosts-play-ThisRun-HubRun : goal.ghosts-play-ThisRun-HubRun
+ghosts-play-ThisRun-HubRun g a = record {
+  channels = a.channels.now;
+  bounds = a.bounds;
+  may_stop = g.W.RunWatch.may_stop;
+  begun = true;
+}

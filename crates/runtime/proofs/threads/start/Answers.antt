@@ -10,9 +10,8 @@ use Rattle.replay.proofs.kept.ArmedCrash.TheSendSync.{the_send as crash_s}
 use Rattle.replay.proofs.kept.ScriptedEvent.TheSendSync.{the_send as script_s}
 use Rattle.run_log.proofs.seat_count.RunCount.TheSendSync.{the_field_send as totals_t}
 use Rattle.runtime.proofs.threads.NodeSeats.TheSendSync.{the_field_send as seats_t, the_send as seats_s}
-use Rattle.runtime.proofs.sleepers.Sleepers.TheSendSync.{the_send as sleepers_s, the_sync as sleepers_y}
-use Rattle.runtime.proofs.workers.Workers.TheSendSync.{the_send as workers_s, the_field_send as workers_t}
-use Rattle.runtime.proofs.until.Until.TheSendSync.{the_send as until_s}
+use Rattle.runtime.proofs.cause.Cause.TheSendSync.{the_send as cause_s, the_field_send as cause_t}
+use Rattle.runtime.proofs.workers.Workers.TheSendSync.{the_field_send as workers_t}
 use Rattle.runtime.proofs.seen.Seen.TheSendSync.{the_send as seen_s}
 use Rattle.runtime.proofs.Sends.{job_send, job_sync, line_send, net_send, net_sync, state_field_send}
 use Rattle.runtime.proofs.threads.start.Goals as goal
@@ -28,4 +27,4 @@ spawn-requires-send-F g c κs within =
     let e = c.type_bounds.sync-ItsMarks in
     let h = c.type_bounds.sync-W in
     let r = c.type_bounds.sync-R in
-    search (sendable, crosses, sleepers_s, sleepers_y, workers_s, workers_t, until_s, seen_s, state_field_send, job_send, job_sync, net_send, net_sync, store_t, wire_s, output_t, turns_t, inputs_s, inputs_y, marks_z, crash_s, line_send, script_s, totals_t, seats_t, seats_s) depth 150 fits 3000000
+    search (sendable, crosses, workers_t, seen_s, cause_s, cause_t, state_field_send, job_send, job_sync, net_send, net_sync, store_t, wire_s, output_t, turns_t, inputs_s, inputs_y, marks_z, crash_s, line_send, script_s, totals_t, seats_t, seats_s) depth 200 fits 12000000

@@ -28,6 +28,7 @@ invariant_of-self g c =
       same_script = log.same_script;
       numbers = log.numbers;
       running = log.running;
+      same_stops = log.same_stops;
       still = log.still;
       rest = ∥∥₁_map log.rest (λ all. subst (λ (list : List Bool). AllRest list world) (sym c.note_event.ensures)
           (noted log.resting world world c.args.node true true all (λ yes k other resting. resting)

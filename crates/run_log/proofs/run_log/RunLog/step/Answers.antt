@@ -1,0 +1,33 @@
+use Rattle.std.proofs.Common.{◌∙◌, inl, refl, sym, ap}
+use Rattle.std.proofs.Math.Logic.{∥∥₁_map}
+use Rattle.replay.specs.declared.kept.Maker.TheVariants.{Node}
+use Rattle.run_log.specs.Numbers.{Numbers, counted}
+use Rattle.run_log.specs.declared.seat_count.Counted.TheVariants as kind
+use Rattle.run_log.proofs.Adding.{makes, tells}
+use Rattle.run_log.proofs.Stepped.{noted_next, some_so}
+use Rattle.run_log.proofs.run_log.RunLog.step.Goals as goal
+
+pub invariant_of-self-2-clause-replays : goal.invariant_of-self-2-clause-replays
+invariant_of-self-2-clause-replays g c =
+    let old = c.args.self.now in
+    makes _ _ _ _ _ old.keeps old.lines.items _ old.passed _ _ _ (Node c.args.node) _ _ old.replays old.same_keeps (inl refl)
+    (some_so _ _ _ c.in-Some.is c.in-Ok.ensures.added) (some_so _ _ _ c.in-Some.is c.in-Ok.ensures.step) refl old.same_rooms
+
+pub invariant_of-self-2-clause-numbers : goal.invariant_of-self-2-clause-numbers
+invariant_of-self-2-clause-numbers g c = λ yes.
+    let old = c.args.self.now in
+    (some_so _ _ _ c.in-Some.is c.in-Ok.ensures.added).counts (old.same_keeps ∙ yes) old.stops
+    ∙ (ap (λ (n : Numbers). counted kind.Entry n) (old.numbers yes) ∙ sym c.add.ensures.total)
+
+pub returns-clause-told : goal.returns-clause-told
+returns-clause-told g c =
+    let old = c.args.self.now in
+    tells _ _ _ _ _ old.keeps old.lines.items _ old.passed _ _ (Node c.args.node) _ _ old.replays (inl refl) (some_so _ _ _ c.in-Some.is c.in-Ok.ensures.added)
+    (some_so _ _ _ c.in-Some.is c.in-Ok.ensures.step) old.same_rooms
+
+pub invariant_of-self-2-clause-rest : goal.invariant_of-self-2-clause-rest
+invariant_of-self-2-clause-rest g c =
+    let old = c.args.self.now in
+    ∥∥₁_map old.rest (λ all.
+    noted_next _ g.ThisRun.Run.script c.args.node old.passed _ _ _ _ old.resting _ _ old.armed.world.sound (some_so _ _ _ c.in-Some.is c.in-Ok.ensures.step)
+    c.round-round.ensures c.is_in_round-others_stay.ensures all c.note_event.ensures)

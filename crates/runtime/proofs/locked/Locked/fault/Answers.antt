@@ -1,0 +1,32 @@
+use Rattle.std.proofs.Common.{◌≡◌, ◌∙◌, true, sym}
+use Rattle.protocol.specs.World.Common.{WorldView}
+use Rattle.run_log.specs.ArmedWorlds.{armed_view}
+use Rattle.runtime.specs.Causes.{is_caused, last_round}
+use Rattle.runtime.specs.Ending.{is_over}
+use Rattle.runtime.proofs.Beginnings.{faulted}
+use Rattle.runtime.proofs.Causes.{bound_within, err_so, fault_keeps, fault_within}
+use Rattle.runtime.proofs.locked.Locked.fault.Goals as goal
+
+pub invariant_of-self : goal.invariant_of-self
+invariant_of-self g c =
+    let run = g.ThisRun.HubRun in
+    let rooms = g.ThisRun.Run.rooms in
+    let opening = g.ThisRun.Run.opening in
+    let script = g.ThisRun.Run.script in
+    let mid = c.end_by_rounds.new.self in
+    let old = armed_view mid.log.armed in
+    let new = armed_view c.fault.new.log.armed in
+    let refused = err_so c.fault.result (λ same. same.world) c.fault.ensures.unchanged in
+    record {
+      begins = λ begun keeps.
+          faulted _ mid.log.lines.items c.fault.new.log.lines.items _ (mid.log.same_keeps ∙ keeps) (mid.begins begun keeps)
+          (λ same. same.lines) c.fault.result c.fault.ensures.written c.fault.ensures.unchanged;
+      caused = λ stopped.
+          let was : mid.log.stopped ≡ true = sym c.fault.ensures.running ∙ stopped in
+          fault_keeps (λ (w : WorldView). is_caused (is_over run.channels run.bounds) run.may_stop w mid.cause ≡ true) rooms script
+          mid.log.passed c.fault.result old new (c.fault.ensures.stopped was) c.fault.ensures.played refused (mid.caused was);
+      same_rounds = mid.same_rounds;
+      in_rounds = fault_within rooms script mid.log.passed run.bounds.rounds (last_round opening script run.bounds) mid.log.stopped
+          c.fault.result old new c.end_by_rounds.ensures.over (bound_within opening script run.bounds) mid.in_rounds c.fault.ensures.stopped
+          c.fault.ensures.played refused;
+    }

@@ -1,0 +1,32 @@
+use Rattle.std.proofs.Common.{◌≡◌, ◌∙◌, true, sym}
+use Rattle.protocol.specs.World.Common.{WorldView}
+use Rattle.run_log.specs.ArmedWorlds.{armed_view}
+use Rattle.runtime.specs.Causes.{is_caused, last_round}
+use Rattle.runtime.specs.Ending.{is_over}
+use Rattle.runtime.proofs.Beginnings.{turned}
+use Rattle.runtime.proofs.Causes.{bound_within, err_so, turn_keeps, turn_within}
+use Rattle.runtime.proofs.locked.Locked.turn.Goals as goal
+
+pub invariant_of-self : goal.invariant_of-self
+invariant_of-self g c =
+    let run = g.ThisRun.HubRun in
+    let rooms = g.ThisRun.Run.rooms in
+    let opening = g.ThisRun.Run.opening in
+    let script = g.ThisRun.Run.script in
+    let mid = c.end_by_rounds.new.self in
+    let old = armed_view mid.log.armed in
+    let new = armed_view c.turn.new.self.armed in
+    let refused = err_so c.turn.result (λ same. same.world) c.turn.ensures.unchanged in
+    record {
+      begins = λ begun keeps.
+          turned _ mid.log.lines.items c.turn.new.self.lines.items _ (mid.log.same_keeps ∙ keeps) (mid.begins begun keeps)
+          (λ same. same.lines) c.args.node c.turn.result c.turn.ensures.written c.turn.ensures.unchanged;
+      caused = λ stopped.
+          let was : mid.log.stopped ≡ true = sym c.turn.ensures.running ∙ stopped in
+          turn_keeps (λ (w : WorldView). is_caused (is_over run.channels run.bounds) run.may_stop w mid.cause ≡ true) rooms c.args.node
+          c.turn.result old new (c.turn.ensures.stopped was) c.turn.ensures.turned refused (mid.caused was);
+      same_rounds = mid.same_rounds;
+      in_rounds = turn_within rooms c.args.node run.bounds.rounds (last_round opening script run.bounds) mid.log.stopped c.turn.result old new
+          c.end_by_rounds.ensures.over (bound_within opening script run.bounds) mid.in_rounds c.turn.ensures.stopped c.turn.ensures.turned
+          refused;
+    }
