@@ -9,4 +9,4 @@ use Rattle.run_log.specs.declared.armed.ArmedWorld.{ArmedWorld}
 abbrev pub armed_view : {C O : Type 0} {cell : CellWords C} {slots : SlotWords C} {outlet : OutletWords O}
     → ArmedWorld C O slots cell outlet → ArmedView
 armed_view {C} {O} {cell} {slots} {outlet} armed =
-    record { world = world_of armed.world; deliveries = armed.deliveries.items; crashes = armed.crashes.items }
+    record { world = world_of armed.world; deliveries = armed.deliveries.items; crashes = armed.crashes }

@@ -8,5 +8,6 @@ pub mod Added
 pub mod Happened
 pub mod Answers
 pub mod Turns
+pub mod Firsts
 pub mod ArmedWorlds
 pub mod RunLogs

@@ -2,13 +2,14 @@
 ghost use Rattle.std.specs.Prelude.{◌≡◌, is_none, replicate, IfErr, IfOk, IfSome, IsNone, OnErr};
 ghost use Rattle.protocol.specs.World.Choice.{choice};
 ghost use Rattle.protocol.specs.World.Common.{event_node, IsGrantedAt, has_happened};
-ghost use Rattle.replay.specs.Armed.{ArmCrash, EndsWith, IsArmedStep, OfWorld, armed_at_first, crash_after, deliveries_after, delivered_to, first_crash, has_come, is_for, one_more};
+ghost use Rattle.replay.specs.Armed.{ArmCrash, EndsWith, IsArmedStep, OfWorld, armed_at_first, crash_after, deliveries_after, delivered_to, has_come, one_more};
 ghost use Rattle.replay.specs.Plain.{run_view};
 ghost use Rattle.station.specs.EventView.{event_view, is_idle};
 ghost use Rattle.station.specs.ReplyView.{reply_view};
 ghost use Rattle.world.specs.WholeView.{capacities_in, inputs_in, net_in, nodes_in, rooms_in, world_of};
 ghost use Rattle.world.specs.WorldView.{capacities, rooms};
 
+use crate::armed_crashes::ArmedCrashes;
 use outlet::Outlet;
 use replay::{ArmedCrash, RunEvent};
 use slot_cell::SlotCell;
@@ -21,7 +22,7 @@ use world::{Deed, Event, PlainEvent, Refused, Reply, World, next_after};
 pub struct ArmedWorld<C: SlotCell, O: Outlet> {
     pub world: World<C, O>,
     deliveries: Vec<u64>,
-    crashes: Vec<ArmedCrash>,
+    crashes: ArmedCrashes,
 }
 
 // The node to which a packet is to come, where that is the event.
@@ -82,29 +83,10 @@ fn count(deliveries: &mut Vec<u64>, came_to: Option<u8>, said: &Reply)
     }
 }
 
-// Whether a crash is armed for this delivery of a node.
-fn is_for(crash: &ArmedCrash, node: u8, delivery: u64) -> bool
-    ensures { result ≡ is_for node delivery crash.now }
-{
-    crash.node == node && crash.delivery == delivery
-}
-
-// The first crash that is armed for this delivery of a node.
-fn first_crash(crashes: &[ArmedCrash], node: u8, delivery: u64) -> Option<ArmedCrash>
-    ensures { result ≡ first_crash node delivery crashes.now }
-{
-    for crash in crashes {
-        if is_for(crash, node, delivery) {
-            return Some(*crash);
-        }
-    }
-    None
-}
-
 // The crash that follows a packet's coming to this node, if to any, where that was answered so.
 fn crash_after(
     deliveries: &[u64],
-    crashes: &[ArmedCrash],
+    crashes: &ArmedCrashes,
     came_to: Option<u8>,
     said: &Reply,
 ) -> Option<ArmedCrash>
@@ -117,7 +99,7 @@ fn crash_after(
         return None;
     }
     match deliveries.get(usize::from(node)) {
-        Some(delivery) => first_crash(crashes, node, *delivery),
+        Some(delivery) => crashes.first(node, *delivery),
         None => None,
     }
 }
@@ -179,7 +161,7 @@ impl<C: SlotCell, O: Outlet> ArmedWorld<C, O> {
         ArmedWorld {
             world,
             deliveries,
-            crashes: Vec::new(alloc),
+            crashes: ArmedCrashes::new(alloc),
         }
     }
 
@@ -274,7 +256,7 @@ impl<C: SlotCell, O: Outlet> ArmedWorld<C, O> {
         ensures world { self.new.world ≡ self.old.world }
         ensures refused { OnErr result (armed_view self.new ≡ armed_view self.old) }
     {
-        self.crashes.push(crash)?;
+        self.crashes.arm(crash)?;
         Ok(Reply::Acted)
     }
 

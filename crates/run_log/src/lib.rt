@@ -8,6 +8,7 @@
 mod answer;
 mod appending;
 mod armed;
+mod armed_crashes;
 mod counting;
 mod history;
 mod keeping;
