@@ -26,7 +26,7 @@ use Rattle.station.specs.StationView.{outlet_view, outlet_views}
 use Rattle.protocol.specs.declared.limits.TheConstants.{DEFAULT_ROOM}
 use Rattle.replay.specs.Armed.{ArmedEvent, ArmedView, IsArmedStep}
 use Rattle.replay.specs.Replay.{Happening, LeadsTo}
-use Rattle.run_log.specs.Happened.{HasRun}
+use Rattle.runtime.specs.Logs.{HasRun}
 use Rattle.replay.specs.declared.kept.ScriptedEvent.{ScriptedEvent}
 use Rattle.replay.specs.declared.kept.RunEvent.{RunEvent}
 use Rattle.station.specs.ReplyView.{reply_view}

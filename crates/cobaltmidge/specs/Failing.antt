@@ -5,8 +5,8 @@ use Rattle.protocol.specs.Node.Common.{sectors_of, SECTORS, StoreFault}
 use Rattle.sector_disk.specs.MemDisk.{failures_of}
 use Rattle.sector_disk.specs.declared.memory.MemDisk.{MemDisk}
 use Rattle.ckpt_store.specs.declared.fault.StoreFault.TheVariants as store
-use Rattle.run_log.specs.declared.answer.HubFault.{HubFault}
-use Rattle.run_log.specs.declared.answer.HubFault.TheVariants as hub
+use Rattle.runtime.specs.Logs.{HubFault}
+use Rattle.runtime.specs.Logs as hub
 use Rattle.world.specs.OpeningWorld.{SomeFailed}
 use Rattle.cobaltmidge.specs.declared.fault.RunFault.{RunFault}
 use Rattle.cobaltmidge.specs.declared.fault.RunFault.TheVariants.{NoMemory, Device, PastNumber}

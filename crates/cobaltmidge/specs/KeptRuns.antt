@@ -3,7 +3,7 @@ use Rattle.std.specs.Prelude.{◌≡◌, ℤ, List, length}
 use Rattle.protocol.specs.Node.Common.{Network}
 use Rattle.protocol.specs.World.Common.{WorldView, are_quiet}
 use Rattle.replay.specs.declared.kept.ScriptedEvent.{ScriptedEvent}
-use Rattle.run_log.specs.Lines.{happenings}
+use Rattle.runtime.specs.Logs.{happenings}
 use Rattle.runtime.specs.Ending.{IsOver}
 use Rattle.cobaltmidge.specs.Reasons.{IsReasonOf}
 use Rattle.cobaltmidge.specs.Released.{AreReleased, lists_of}

@@ -5,8 +5,8 @@ use Rattle.protocol.specs.Node.Common.{history_of, IsPrefix, node_count, Network
 use Rattle.kahn_net.specs.Common.{IsReached}
 use Rattle.protocol.specs.World.Common.{output_channels, released_of, StationView, WorldView}
 use Rattle.replay.specs.Replay.{Happening, LeadsTo}
-use Rattle.run_log.specs.Happened.{HasRun}
 use Rattle.runtime.specs.Causes.{last_round}
+use Rattle.runtime.specs.Logs.{HasRun}
 use Rattle.runtime.specs.declared.bounds.Bounds.{Bounds}
 use Rattle.replay.specs.declared.kept.ScriptedEvent.{ScriptedEvent}
 use Rattle.runtime.specs.Ending.{is_over}

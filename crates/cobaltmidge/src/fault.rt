@@ -4,7 +4,7 @@ ghost use Rattle.std.specs.Prelude.{◌≡◌};
 ghost use Rattle.cobaltmidge.specs.Failing.{hub_fault, run_fault_number, store_fault};
 
 use ckpt_store::StoreFault;
-use run_log::HubFault;
+use runtime::HubFault;
 use thiserror::Error;
 
 /// Why a run comes to no end.

@@ -11,8 +11,7 @@ use crate::network::Network;
 use crate::reason::{Reason, reason_of};
 use crate::settings::Settings;
 use outlet::Outlet;
-use run_log::History;
-use runtime::RunEnd;
+use runtime::{History, RunEnd};
 
 /// What a run came to: the world at its end, of which what left is the same for good. `World::apply` would go on from there, and
 /// `World::close` hands out disks and outlets.

@@ -10,8 +10,7 @@ use crate::ending::RunWorld;
 use crate::network::Network;
 use crate::reason::Reason;
 use outlet::Outlet;
-use run_log::History;
-use runtime::RunEnd;
+use runtime::{History, RunEnd};
 use std::alloc::{AllocError, Global};
 
 /// What a run came to of which what left is kept in a folder. Its files are closed, and the folder's lock is let go of.

@@ -4,7 +4,7 @@ ghost use Rattle.std.specs.Prelude.{◌≡◌, ◌≢◌, None, Some, true, map,
 ghost use Rattle.std.specs.List.{AllByRecursion};
 ghost use Rattle.protocol.specs.Node.Common.{Fits, network_of};
 ghost use Rattle.protocol.specs.World.Common.{are_quiet, output_channels};
-ghost use Rattle.run_log.specs.Lines.{happenings};
+ghost use Rattle.runtime.specs.Logs.{happenings};
 ghost use Rattle.runtime.specs.Beginning.{HasBegun};
 ghost use Rattle.runtime.specs.Ending.{IsOver};
 ghost use Rattle.runtime.specs.declared.ending.RunEnd.TheVariants.{Stopped};

@@ -1,5 +1,6 @@
 // What a host was asked. It is read in proofs alone, and takes no memory.
 ghost use Rattle.std.specs.Prelude.{◌≡◌, [], ◌∷◌};
+ghost use Rattle.host.specs.Answers.{answered};
 
 use crate::fault::HostFault;
 use crate::host::Standing;
@@ -15,6 +16,16 @@ pub type Bytes = Snapshot<Vec<u8>>;
 
 /// What a host answered.
 pub type Answer = Result<(), HostFault>;
+
+/// An answer without what came.
+pub fn answer_of<T>(answer: &Result<T, HostFault>) -> Answer
+    ensures { result ≡ answered (λ value. tt) answer.now }
+{
+    match answer {
+        Ok(_) => Ok(()),
+        Err(fault) => Err(*fault),
+    }
+}
 
 /// A request and its answer, as `Request` of `specs/Requests` has them.
 #[derive(Drop)]

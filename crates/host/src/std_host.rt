@@ -1,10 +1,12 @@
 // The host that a program runs on. That each call makes the call of the system that it notes stands here alone, and is read.
 ghost use Rattle.std.specs.Prelude.{◌≡◌, [], ◌∷◌, IfOk, string_bytes};
+ghost use Rattle.std.specs.Result.{result_ok};
+ghost use Rattle.host.specs.Answers.{answered};
 ghost use Rattle.host.specs.Asked.{request_of};
 ghost use Rattle.host.specs.HostLines.{is_waiting, lines_name, requests_of as lines_requests};
 ghost use Rattle.host.specs.StdHost.{held_folder, made_path, requests_of};
 
-use crate::asked::{Answer, Asked, Noted};
+use crate::asked::{Answer, Asked, Bytes, Noted, answer_of};
 use crate::fault::HostFault;
 use crate::host::{Host, Standing};
 use crate::host_lines::HostLines;
@@ -149,15 +151,30 @@ fn take_lock(clock: &HostRuntime, file: &File) -> io::Result<()> {
     Err(io::Error::from(io::ErrorKind::WouldBlock))
 }
 
-fn lock(rt: &HostRuntime, folder: &String) -> io::Result<HeldLock>
-    ensures { IfOk result (λ lock. string_bytes lock.folder ≡ string_bytes folder.now) }
-{
+// The file of a folder's lock, which it holds. The file is made where it isn't there.
+fn locked_file(rt: &HostRuntime, folder: &String) -> io::Result<File> {
     let path = format!(in rt.alloc(); "{folder}/lock")?;
-    let folder = folder.clone()?;
     let mut options = OpenOptions::new();
     let file = options.write(true).create(true).open(rt, path.as_str())?;
     take_lock(rt, &file)?;
-    Ok(HeldLock { file, folder })
+    Ok(file)
+}
+
+fn lock(rt: &HostRuntime, folder: &String) -> io::Result<HeldLock>
+    ensures { IfOk result (λ lock. string_bytes lock.folder ≡ string_bytes folder.now) }
+{
+    let name = folder.clone()?;
+    let file = locked_file(rt, folder)?;
+    Ok(HeldLock { file, folder: name })
+}
+
+// A file that is there, for reading and writing, and what it holds.
+fn open_held(rt: &HostRuntime, path: &str) -> io::Result<(File, Vec<u8>)> {
+    let mut options = OpenOptions::new();
+    let mut file = options.read(true).write(true).open(rt, path)?;
+    let mut bytes = Vec::new(rt.alloc());
+    file.read_to_end(&mut bytes)?;
+    Ok((file, bytes))
 }
 
 // A file of lines, with a share of the lock, and what it holds.
@@ -176,12 +193,19 @@ fn open_lines(
         folder,
     } = lock;
     let path = format!(in rt.alloc(); "{folder}/{name}")?;
-    let mut options = OpenOptions::new();
-    let mut file = options.read(true).write(true).open(rt, path.as_str())?;
-    let mut bytes = Vec::new(rt.alloc());
-    file.read_to_end(&mut bytes)?;
+    let (file, bytes) = open_held(rt, path.as_str())?;
     let raw = StdFile::locked(file, shared.try_clone()?);
     Ok((HostLines::new(raw, name.clone()?, waits), bytes))
+}
+
+// What a file of lines that was opened holds.
+fn held_of(opened: &Result<(HostLines, Vec<u8>), HostFault>) -> Result<Bytes, HostFault>
+    ensures { answered (λ bytes. bytes.value.items) result ≡ answered (λ one. one.1.items) opened.now }
+{
+    match opened {
+        Ok((_, bytes)) => Ok(Snapshot::of(bytes)),
+        Err(fault) => Err(*fault),
+    }
 }
 
 fn say<W: Write>(out: &mut W, bytes: &Vec<u8>) -> io::Result<()> {
@@ -201,27 +225,23 @@ impl StdHost {
     }
 
     // What an answer of the system comes to. What it says of a failure is kept for its words.
-    fn failed(&mut self, error: io::Error) -> HostFault
-        ensures { self.new.asked ≡ self.old.asked }
+    fn kept<T>(&mut self, answer: io::Result<T>) -> Result<T, HostFault>
+        ensures same { self.new.asked ≡ self.old.asked }
+        ensures value { result_ok result ≡ result_ok answer }
     {
-        self.failed = Some(error);
-        HostFault::of(&error)
+        match answer {
+            Ok(value) => Ok(value),
+            Err(error) => {
+                self.failed = Some(error);
+                Err(HostFault::of(&error))
+            }
+        }
     }
 
     fn note(&mut self, noted: &Noted)
         ensures { requests_of self.new ≡ request_of noted.now ∷ requests_of self.old }
     {
         self.asked.note(noted);
-    }
-
-    // What it answers where the system has nothing to give.
-    fn done(&mut self, answer: io::Result<()>) -> Answer
-        ensures { self.new.asked ≡ self.old.asked }
-    {
-        match answer {
-            Ok(()) => Ok(()),
-            Err(error) => Err(self.failed(error)),
-        }
     }
 }
 
@@ -240,118 +260,85 @@ impl Host for StdHost {
 
     fn read(&mut self, path: &String) -> Result<Vec<u8>, HostFault> {
         let rt = self.rt;
-        let answer = match fs::read(&rt, path.as_str()) {
-            Ok(bytes) => Ok(bytes),
-            Err(error) => Err(self.failed(error)),
-        };
+        let answer = self.kept(fs::read(&rt, path.as_str()));
         self.note(&Noted::Read(Snapshot::of(path), Snapshot::of(&answer)));
         answer
     }
 
     fn look(&mut self, path: &String) -> Result<Standing, HostFault> {
         let rt = self.rt;
-        let answer = match standing(&rt, path.as_str()) {
-            Ok(standing) => Ok(standing),
-            Err(error) => Err(self.failed(error)),
-        };
+        let answer = self.kept(standing(&rt, path.as_str()));
         self.note(&Noted::Looked(Snapshot::of(path), answer));
         answer
     }
 
     fn place(&mut self, path: &String) -> Result<String, HostFault> {
         let rt = self.rt;
-        let answer = match place(&rt, path.as_str()) {
-            Ok(place) => Ok(place),
-            Err(error) => Err(self.failed(error)),
-        };
+        let answer = self.kept(place(&rt, path.as_str()));
         self.note(&Noted::Placed(Snapshot::of(path), Snapshot::of(&answer)));
         answer
     }
 
     fn make_file(&mut self, path: &String) -> Result<MadeFile, HostFault> {
         let rt = self.rt;
-        match make_file(&rt, path) {
-            Ok(file) => {
-                self.note(&Noted::MadeFile(Snapshot::of(path), Ok(())));
-                Ok(file)
-            }
-            Err(error) => {
-                let fault = self.failed(error);
-                self.note(&Noted::MadeFile(Snapshot::of(path), Err(fault)));
-                Err(fault)
-            }
-        }
+        let made = self.kept(make_file(&rt, path));
+        self.note(&Noted::MadeFile(Snapshot::of(path), answer_of(&made)));
+        made
     }
 
     fn open_device(&mut self, path: &String) -> Result<MadeFile, HostFault> {
         let rt = self.rt;
-        match open_device(&rt, path) {
-            Ok(file) => {
-                self.note(&Noted::OpenedDevice(Snapshot::of(path), Ok(())));
-                Ok(file)
-            }
-            Err(error) => {
-                let fault = self.failed(error);
-                self.note(&Noted::OpenedDevice(Snapshot::of(path), Err(fault)));
-                Err(fault)
-            }
-        }
+        let opened = self.kept(open_device(&rt, path));
+        self.note(&Noted::OpenedDevice(Snapshot::of(path), answer_of(&opened)));
+        opened
     }
 
     fn make_folder(&mut self, path: &String) -> Answer {
         let rt = self.rt;
-        let answer = self.done(fs::create_dir(&rt, path.as_str()));
+        let answer = self.kept(fs::create_dir(&rt, path.as_str()));
         self.note(&Noted::MadeFolder(Snapshot::of(path), answer));
         answer
     }
 
     fn write(&mut self, file: &mut MadeFile, bytes: &Vec<u8>) -> Answer {
-        let answer = self.done(file.file.write_all(bytes));
+        let answer = self.kept(file.file.write_all(bytes));
         self.note(&Noted::Wrote(Snapshot::of(&file.path), Snapshot::of(bytes), answer));
         answer
     }
 
     fn sync(&mut self, path: &String) -> Answer {
         let rt = self.rt;
-        let answer = self.done(sync(&rt, path.as_str()));
+        let answer = self.kept(sync(&rt, path.as_str()));
         self.note(&Noted::Synced(Snapshot::of(path), answer));
         answer
     }
 
     fn rename(&mut self, from: &String, to: &String) -> Answer {
         let rt = self.rt;
-        let answer = self.done(fs::rename(&rt, from.as_str(), to.as_str()));
+        let answer = self.kept(fs::rename(&rt, from.as_str(), to.as_str()));
         self.note(&Noted::Renamed(Snapshot::of(from), Snapshot::of(to), answer));
         answer
     }
 
     fn remove_file(&mut self, path: &String) -> Answer {
         let rt = self.rt;
-        let answer = self.done(fs::remove_file(&rt, path.as_str()));
+        let answer = self.kept(fs::remove_file(&rt, path.as_str()));
         self.note(&Noted::RemovedFile(Snapshot::of(path), answer));
         answer
     }
 
     fn remove_folder(&mut self, path: &String) -> Answer {
         let rt = self.rt;
-        let answer = self.done(fs::remove_dir(&rt, path.as_str()));
+        let answer = self.kept(fs::remove_dir(&rt, path.as_str()));
         self.note(&Noted::RemovedFolder(Snapshot::of(path), answer));
         answer
     }
 
     fn lock(&mut self, folder: &String) -> Result<HeldLock, HostFault> {
         let rt = self.rt;
-        match lock(&rt, folder) {
-            Ok(lock) => {
-                self.note(&Noted::Locked(Snapshot::of(folder), Ok(())));
-                Ok(lock)
-            }
-            Err(error) => {
-                let fault = self.failed(error);
-                self.note(&Noted::Locked(Snapshot::of(folder), Err(fault)));
-                Err(fault)
-            }
-        }
+        let locked = self.kept(lock(&rt, folder));
+        self.note(&Noted::Locked(Snapshot::of(folder), answer_of(&locked)));
+        locked
     }
 
     fn unlock(&mut self, lock: HeldLock) {
@@ -368,32 +355,18 @@ impl Host for StdHost {
         waits: bool,
     ) -> Result<(HostLines, Vec<u8>), HostFault> {
         let rt = self.rt;
-        match open_lines(&rt, lock, name, waits) {
-            Ok((lines, bytes)) => {
-                let held = Ok(Snapshot::of(&bytes));
-                self.note(&Noted::Opened(
-                    Snapshot::of(&lock.folder),
-                    Snapshot::of(name),
-                    waits,
-                    held,
-                ));
-                Ok((lines, bytes))
-            }
-            Err(error) => {
-                let fault = self.failed(error);
-                self.note(&Noted::Opened(
-                    Snapshot::of(&lock.folder),
-                    Snapshot::of(name),
-                    waits,
-                    Err(fault),
-                ));
-                Err(fault)
-            }
-        }
+        let opened = self.kept(open_lines(&rt, lock, name, waits));
+        self.note(&Noted::Opened(
+            Snapshot::of(&lock.folder),
+            Snapshot::of(name),
+            waits,
+            held_of(&opened),
+        ));
+        opened
     }
 
     fn cut(&mut self, lines: &mut HostLines, len: u64) -> Answer {
-        let answer = self.done(lines.raw.file.set_len(len));
+        let answer = self.kept(lines.raw.file.set_len(len));
         self.note(&Noted::Cut(Snapshot::of(&lines.name), len, answer));
         answer
     }
@@ -404,14 +377,14 @@ impl Host for StdHost {
 
     fn say(&mut self, bytes: &Vec<u8>) -> Answer {
         let answer = say(&mut self.rt.stdout(), bytes);
-        let answer = self.done(answer);
+        let answer = self.kept(answer);
         self.note(&Noted::Said(Snapshot::of(bytes), answer));
         answer
     }
 
     fn tell(&mut self, bytes: &Vec<u8>) -> Answer {
         let answer = say(&mut self.rt.stderr(), bytes);
-        let answer = self.done(answer);
+        let answer = self.kept(answer);
         self.note(&Noted::Told(Snapshot::of(bytes), answer));
         answer
     }

@@ -12,7 +12,7 @@ use Rattle.run_files.proofs.Caused.{caused_later}
 use Rattle.host.specs.Requests.{Request, Has, Later, Read, Told}
 use Rattle.protocol.specs.Node.Common.{Net, network_of, node_count}
 use Rattle.run_files.specs.Wanted.{Wanted}
-use Rattle.kahn_program.specs.Causes.{HasCause, HasFileFault, IsScriptStop, IsStopped, IsUnread, failure_of, in_memory}
+use Rattle.kahn_program.specs.Causes.{HasCause, HasFileFault, IsScriptStop, IsStopped, IsUnread, failure_of}
 use Rattle.kahn_program.specs.Causes.{HasFailed, IsToldOf, nothing, told}
 use Rattle.kahn_program.specs.Program.{asked_files}
 use Rattle.cobaltmidge.specs.declared.fault.RunFault.{RunFault}
@@ -20,7 +20,7 @@ use Rattle.cobaltmidge.specs.declared.fault.RunFault.TheVariants as run_fault
 use Rattle.kahn_program.specs.Causes.{inputs_refused, inputs_unread, net_refused, net_unread, script_stops, stopped, too_long}
 use Rattle.kahn_program.specs.Readings.{IsInputsFailure, IsNetFailure}
 use Rattle.kahn_program.specs.Keeping.{IsKeptFailure}
-use Rattle.kahn_program.specs.Runnable.{IsApproximationFailure, IsReportless, IsUnwritten, run_failure}
+use Rattle.kahn_program.specs.Runnable.{IsApproximationFailure, IsReportless, run_failure}
 use Rattle.kahn_program.specs.declared.asked.Options.{Options}
 use Rattle.kahn_program.specs.declared.failure.Failure.{Failure}
 use Rattle.kahn_program.specs.declared.failure.Failure.TheVariants.{Line, Whole, NotText, Unreadable, Approximation}
@@ -77,44 +77,26 @@ pub stopped_by_files : (failed : ℕ → Type 0) (o : Wanted) (e : List Request)
 stopped_by_files failed o e failure fault is h = subst (IsStopped failed o e) (sym is) (files_stop failed o e fault h)
 
 -- a failure of the run itself
-run_stops : (options : Options) (keeps : Bool) (failed : ℕ → Type 0) (o : Wanted) (e : List Request) (failure : Failure)
-    → IsReportless options keeps failure → IsKeptFailure failed failure → IsStopped failed o e (in_memory failure)
-run_stops options keeps failed o e (Line source line number) (inl h) kept = absurd h
-run_stops options keeps failed o e (Line source line number) (inr (inl h)) kept = absurd h
-run_stops options keeps failed o e (Line source line number) (inr (inr (inl h))) kept = absurd (cc)
-run_stops options keeps failed o e (Line source line number) (inr (inr (inr h))) kept = absurd (cc)
-run_stops options keeps failed o e (Whole source number) (inl h) kept = absurd h
-run_stops options keeps failed o e (Whole source number) (inr (inl h)) kept = absurd h
-run_stops options keeps failed o e (Whole source number) (inr (inr (inl h))) kept = absurd (cc)
-run_stops options keeps failed o e (Whole source number) (inr (inr (inr h))) kept = absurd (cc)
-run_stops options keeps failed o e (NotText source) (inl h) kept = absurd h
-run_stops options keeps failed o e (NotText source) (inr (inl h)) kept = absurd h
-run_stops options keeps failed o e (NotText source) (inr (inr (inl h))) kept = absurd (cc)
-run_stops options keeps failed o e (NotText source) (inr (inr (inr h))) kept = absurd (cc)
-run_stops options keeps failed o e (Unreadable source) (inl h) kept = absurd h
-run_stops options keeps failed o e (Unreadable source) (inr (inl h)) kept = absurd h
-run_stops options keeps failed o e (Unreadable source) (inr (inr (inl h))) kept = absurd (cc)
-run_stops options keeps failed o e (Unreadable source) (inr (inr (inr h))) kept = absurd (cc)
-run_stops options keeps failed o e (Approximation number) (inl h) kept = absurd h
-run_stops options keeps failed o e (Approximation number) (inr (inl h)) kept = absurd h
-run_stops options keeps failed o e (Approximation number) (inr (inr (inl h))) kept = absurd (cc)
-run_stops options keeps failed o e (Approximation number) (inr (inr (inr h))) kept = absurd (cc)
-run_stops options keeps failed o e NoMemory h kept = tt
-run_stops options keeps failed o e (State number) h kept = inl kept
-run_stops options keeps failed o e InUse (inl h) kept = absurd h
-run_stops options keeps failed o e InUse (inr (inl h)) kept = absurd h
-run_stops options keeps failed o e InUse (inr (inr (inl h))) kept = absurd (cc)
-run_stops options keeps failed o e InUse (inr (inr (inr h))) kept = absurd (cc)
-run_stops options keeps failed o e Unwritten h kept = tt
-run_stops options keeps failed o e (Other number) (inl h) kept = (true, h)
-run_stops options keeps failed o e (Other number) (inr (inl h)) kept = absurd h
-run_stops options keeps failed o e (Other number) (inr (inr (inl h))) kept = absurd (cc)
-run_stops options keeps failed o e (Other number) (inr (inr (inr h))) kept = absurd (cc)
-
-pub stopped_by_run : (options : Options) (keeps : Bool) (failed : ℕ → Type 0) (o : Wanted) (e : List Request) (shown failure : Failure)
-    → shown ≡ in_memory failure → IsReportless options keeps failure → IsKeptFailure failed failure → IsStopped failed o e shown
-stopped_by_run options keeps failed o e shown failure is h kept =
-    subst (IsStopped failed o e) (sym is) (run_stops options keeps failed o e failure h kept)
+pub run_stops : (keeps : Bool) (failed : ℕ → Type 0) (o : Wanted) (e : List Request) (failure : Failure)
+    → IsReportless keeps failure → IsKeptFailure failed failure → IsStopped failed o e failure
+run_stops keeps failed o e (Line source line number) (inl h) kept = absurd h
+run_stops keeps failed o e (Line source line number) (inr h) kept = absurd h
+run_stops keeps failed o e (Whole source number) (inl h) kept = absurd h
+run_stops keeps failed o e (Whole source number) (inr h) kept = absurd h
+run_stops keeps failed o e (NotText source) (inl h) kept = absurd h
+run_stops keeps failed o e (NotText source) (inr h) kept = absurd h
+run_stops keeps failed o e (Unreadable source) (inl h) kept = absurd h
+run_stops keeps failed o e (Unreadable source) (inr h) kept = absurd h
+run_stops keeps failed o e (Approximation number) (inl h) kept = absurd h
+run_stops keeps failed o e (Approximation number) (inr h) kept = absurd h
+run_stops keeps failed o e NoMemory h kept = tt
+run_stops keeps failed o e (State number) h kept = inl kept
+run_stops keeps failed o e InUse (inl h) kept = absurd h
+run_stops keeps failed o e InUse (inr h) kept = absurd h
+run_stops keeps failed o e Unwritten (inl h) kept = absurd h
+run_stops keeps failed o e Unwritten (inr h) kept = absurd h
+run_stops keeps failed o e (Other number) (inl h) kept = (true, h)
+run_stops keeps failed o e (Other number) (inr h) kept = absurd h
 
 still_caused : (o : Wanted) (a b : List Request) (failure : Failure) → Later a b → HasCause o a failure → HasCause o b failure
 still_caused o a b failure later (net_unread h) = net_unread (unread_later source.Net o.net a b failure later h)
@@ -138,14 +120,14 @@ pub by_unread_net : (o : Wanted) (e : List Request) (failure : Failure) → IsUn
 by_unread_net o e failure h = net_unread h
 
 pub by_net : (o : Wanted) (e : List Request) (bytes : List ℕ) (failure : Failure) → Has (Read o.net (Ok bytes)) e
-    → IsNetFailure (Some bytes) failure → HasCause o e failure
+    → IsNetFailure bytes failure → HasCause o e failure
 by_net o e bytes failure read h = net_refused bytes read h
 
 pub by_unread_inputs : (o : Wanted) (e : List Request) (failure : Failure) → IsUnread source.Inputs o.inputs e failure → HasCause o e failure
 by_unread_inputs o e failure h = inputs_unread h
 
 pub by_inputs : (o : Wanted) (a e : List Request) (net_bytes bytes : List ℕ) (net : Net) (failure : Failure) → Later a e
-    → Has (Read o.net (Ok net_bytes)) a → IsNetOf net_bytes net → Has (Read o.inputs (Ok bytes)) e → IsInputsFailure net (Some bytes) failure
+    → Has (Read o.net (Ok net_bytes)) a → IsNetOf net_bytes net → Has (Read o.inputs (Ok bytes)) e → IsInputsFailure net bytes failure
     → HasCause o e failure
 by_inputs o a e net_bytes bytes net failure later read of_net inputs h = inputs_refused net_bytes bytes net (later _ read) of_net inputs h
 
@@ -189,16 +171,11 @@ kept_maps failed other InUse more h = tt
 kept_maps failed other Unwritten more h = tt
 kept_maps failed other (Other number) more h = tt
 
--- a failure of the run, or of what is written of it, is none of what is kept
+-- a failure of the run is none of what is kept
 pub run_keeps : (failed : ℕ → Type 0) (fault : RunFault) (failure : Failure) → failure ≡ run_failure fault → IsKeptFailure failed failure
 run_keeps failed run_fault.NoMemory failure is = subst (IsKeptFailure failed) (sym is) tt
 run_keeps failed run_fault.Device failure is = subst (IsKeptFailure failed) (sym is) tt
 run_keeps failed run_fault.PastNumber failure is = subst (IsKeptFailure failed) (sym is) tt
-
-pub unwritten_keeps : (failed : ℕ → Type 0) (options : Options) (failure : Failure) → IsUnwritten options failure
-    → IsKeptFailure failed failure
-unwritten_keeps failed options failure (inl none) = subst (IsKeptFailure failed) (sym none) tt
-unwritten_keeps failed options failure (inr h) = subst (IsKeptFailure failed) (sym h.0) tt
 
 -- the line of a failure was told, or that of want of memory
 pub failed_by : (options : Options) (o : Wanted) (a b old : List Request) (failure : Failure) → o ≡ asked_files options → Later a b

@@ -1,30 +1,22 @@
 -- What a run's streams are printed as.
-use Rattle.std.proofs.Common.{◌≡◌, ◌≢◌, ◌⊎◌, inl, inr, Vec, Global, ℕ, suc, ◌+◌, ◌<◌, Bool, true, false, List, ℤ}
+use Rattle.std.proofs.Common.{◌≡◌, ℕ, suc, ◌+◌, ◌<◌, Bool, true, false, List, ℤ}
 use Rattle.std.proofs.Common.{[], ◌∷◌, ◌++◌, length, map, drop, get_or, Option, refl, sym, ap, subst, ◌∙◌}
 use Rattle.std.proofs.Common.{append_assoc, arith}
-use Rattle.std.specs.Prelude.{Result, Ok, Err, IfErr, IfOk, IfSome, if◌then◌else◌, is_some}
-use Rattle.std.specs.Io.KnownBytes.{Appends}
+use Rattle.std.specs.Prelude.{if◌then◌else◌, is_some}
 use Rattle.std.proofs.Math.Logic.{∥∥₁_map}
 use Rattle.std.proofs.Math.Seq.{drop-cons}
-use Rattle.protocol.specs.Node.Common.{Network, network_of, Channel, Port, Outside, Process, Net, node_count}
+use Rattle.protocol.specs.Node.Common.{Network, network_of, Channel, Port, Outside, Process, Net}
 use Rattle.protocol.specs.World.Common.{goes_outside, output_channels, WorldView, are_quiet, released_of}
-use Rattle.fail_script.specs.declared.act.ScriptLine.{ScriptLine}
-use Rattle.history_text.specs.Histories.{history_text}
+use Rattle.cobaltmidge.specs.Common.{history_text}
 use Rattle.replay.specs.Replay.{Happening}
 use Rattle.replay.specs.declared.kept.ScriptedEvent.{ScriptedEvent}
 use Rattle.cobaltmidge.specs.Runs.{released_streams, IsRun, IsEnd}
-use Rattle.cobaltmidge.specs.Scripts.{scripted_of}
-use Rattle.cobaltmidge.specs.Texts.{IsNetOf, AreInputsOf}
 use Rattle.cobaltmidge.specs.Runs.{cut_at}
 use Rattle.kahn_program.specs.Asked.{settings_of}
 use Rattle.kahn_program.specs.Report.{one_if_output, output_count, report_text}
-use Rattle.kahn_program.specs.Readings.{IsReportFailure, IsRunFailure, of_report}
 use Rattle.kahn_program.specs.Runs.{first_items, is_whole, run_text, IsReport}
-use Rattle.kahn_program.specs.Runs.{IsReportOf, IsReported, IsScriptedReport, IsToldOf, IsWrittenIf, HasWritten}
-use Rattle.kahn_program.specs.Scripts.{AreLinesOf}
-use Rattle.kahn_program.specs.Statuses.{status_of_run}
+use Rattle.kahn_program.specs.Runs.{IsToldOf, IsWrittenIf}
 use Rattle.kahn_program.specs.declared.asked.Options.{Options}
-use Rattle.kahn_program.specs.declared.failure.Failure.{Failure}
 
 -- Streams in order of the channels
 
@@ -116,59 +108,3 @@ report_is kept wrote options net inputs script happened now text told same end r
       subst (λ (n : Network). kept (released_streams n now.stations)) s.0 has,
       written,
     ))
-
--- The report that is asked for, of the texts of three readers
-pub run_of_readers : (kept : List (List ℤ) → Type 0) (wrote : List ℕ → Type 0) (options : Options) (net_bytes input_bytes script_bytes : Option (List ℕ))
-    (net : Net) (inputs : List (List ℤ)) (result : Result (Vec ℕ Global × Bool) Failure)
-    → IfSome net_bytes (λ bytes. IsNetOf bytes net) → IfSome input_bytes (λ bytes. AreInputsOf bytes net inputs)
-    → IfOk result (λ report. IsReportOf kept wrote options net inputs script_bytes report.0.items report.1)
-    → IfOk result (λ report. IsReported kept wrote options net_bytes input_bytes script_bytes report.0.items report.1)
-run_of_readers kept wrote options net_bytes input_bytes script_bytes net inputs (Err e) of_net of_inputs report = tt
-run_of_readers kept wrote options net_bytes input_bytes script_bytes net inputs (Ok r) of_net of_inputs report =
-    ∣ (net, inputs, of_net, of_inputs, report) ∣₁
-
-pub failed_run : {T : Type 0} (keeps : Bool) (options : Options) (net_bytes input_bytes script_bytes : Option (List ℕ)) (net : Net)
-    (inputs : List (List ℤ)) (result : Result T Failure)
-    → IfSome net_bytes (λ bytes. IsNetOf bytes net)
-    → IfSome input_bytes (λ bytes. AreInputsOf bytes net inputs)
-    → IfErr result (IsReportFailure keeps options (network_of net.program) inputs script_bytes)
-    → IfErr result (IsRunFailure keeps options net_bytes input_bytes script_bytes)
-failed_run keeps options net_bytes input_bytes script_bytes net inputs (Ok value) of_net of_inputs err = tt
-failed_run keeps options net_bytes input_bytes script_bytes net inputs (Err failure) of_net of_inputs err =
-    of_report net inputs of_net of_inputs err
-
--- a report by the lines of a script is one by its reader
-pub by_script : (kept : List (List ℤ) → Type 0) (wrote : List ℕ → Type 0) (options : Options) (net : Net) (inputs : List (List ℤ)) (script_bytes : Option (List ℕ))
-    (lines : List ScriptLine) (events : List ScriptedEvent) (result : Result (Vec ℕ Global × Bool) Failure)
-    → AreLinesOf options.script (node_count (network_of net.program)) script_bytes lines
-    → events ≡ map scripted_of lines
-    → IfOk result (λ report. IsReport kept wrote options net inputs events report.0.items report.1)
-    → IfOk result (λ report. IsScriptedReport kept wrote options net inputs script_bytes report.0.items report.1)
-by_script kept wrote options net inputs script_bytes lines events (Err e) of_script are report = tt
-by_script kept wrote options net inputs script_bytes lines events (Ok r) of_script are report =
-    (lines, of_script, subst (λ (list : List ScriptedEvent). IsReport kept wrote options net inputs list r.0.items r.1) are report)
-
--- what was written where the status is that of a report
-one_status : (a b : Bool) → status_of_run a ≡ status_of_run b → a ≡ b
-one_status true true e = refl
-one_status false false e = refl
-one_status true false e = absurd (cc)
-one_status false true e = absurd (cc)
-
-not_failed : (a : Bool) → status_of_run a ≡ 1 → ⊥
-not_failed true e = cc
-not_failed false e = cc
-
-pub written_report : (kept : List (List ℤ) → Type 0) (wrote : List ℕ → Type 0) (options : Options)
-    (net_bytes input_bytes script_bytes before after : Option (List ℕ)) (text : List ℕ) (complete : Bool) (status : ℕ)
-    → IsReported kept wrote options net_bytes input_bytes script_bytes text complete
-    → (status ≡ 1) ⊎ (status ≡ status_of_run complete) → (status ≢ 1 → Appends before after text)
-    → (whole : Bool) → status ≡ status_of_run whole
-    → HasWritten kept wrote options net_bytes input_bytes script_bytes before after whole
-written_report kept wrote options net_bytes input_bytes script_bytes before after text complete status of (inl failed) writes whole
-    is = absurd (not_failed whole (sym is ∙ failed))
-written_report kept wrote options net_bytes input_bytes script_bytes before after text complete status of (inr came) writes whole
-    is =
-    let same : complete ≡ whole = one_status complete whole (sym came ∙ is) in
-    subst (HasWritten kept wrote options net_bytes input_bytes script_bytes before after) same
-    ∣ (text, of, writes (λ failed. not_failed complete (sym came ∙ failed))) ∣₁

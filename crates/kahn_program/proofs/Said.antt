@@ -1,8 +1,7 @@
 -- The report of a run in other words.
-use Rattle.std.proofs.Common.{◌≡◌, inl, inr, ◌∙◌, sym, ap, subst, refl, ℕ, ℤ, List, [], ◌++◌, Option, Some, None, Ok, Err, Result, Bool, true, false, map, string_bytes}
+use Rattle.std.proofs.Common.{◌≡◌, inl, inr, ◌∙◌, sym, ap, subst, refl, ℕ, ℤ, List, Option, Some, None, Ok, Err, Result, Bool, true, false, map, string_bytes}
 use Rattle.std.specs.Prelude.{IfOk, is_some}
 use Rattle.std.specs.Option.{option_map}
-use Rattle.std.specs.Io.KnownBytes.{Appends}
 use Rattle.std.specs.declared.alloc.Global.{Global}
 use Rattle.std.specs.declared.string.String.{String}
 use Rattle.std.proofs.Math.Logic.{∥∥₁_map}
@@ -35,12 +34,10 @@ pub report_maps : (kept held : List (List ℤ) → Type 0) (wrote other : List �
 report_maps kept held wrote other options net inputs script text told keeps writes report =
     ∥∥₁_map report (λ r. (r.0, r.1, r.2, r.3, r.4, keeps _ r.5, written_maps (is_some options.history) wrote other writes _ r.6))
 
--- what was written to an empty text is the text
-pub written_from : (path : Option (List ℕ)) (e : List Request) (before happened text : List ℕ) → before ≡ []
-    → IsWrittenIfAsked path e happened → Appends (Some before) (Some happened) text → IsWrittenIfAsked path e text
-written_from path e before happened text empty wrote is =
-    let P : List ℕ → Type 0 = λ t. IsWrittenIfAsked path e t in
-    subst P (is ∙ ap (λ (b : List ℕ). b ++ text) empty) wrote
+-- a text that is written is what happened
+pub written_as : (path : Option (List ℕ)) (e : List Request) (happened text : List ℕ) → IsWrittenIfAsked path e happened → happened ≡ text
+    → IsWrittenIfAsked path e text
+written_as path e happened text wrote is = let P : List ℕ → Type 0 = λ t. IsWrittenIfAsked path e t in subst P is wrote
 
 pub written_later : (path : Option (List ℕ)) (a b : List Request) → Later a b → (text : List ℕ) → IsWrittenIfAsked path a text
     → IsWrittenIfAsked path b text

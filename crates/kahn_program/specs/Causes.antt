@@ -32,19 +32,6 @@ failure_of files.Failed = State FILE_FAILED
 failure_of files.Unwritten = Unwritten
 failure_of files.Astray = State ASTRAY
 
--- What a run writes of what happened is in memory, so that it fails for want of memory alone.
-abbrev pub in_memory : Failure → Failure
-in_memory (Line source line number) = Line source line number
-in_memory (Whole source number) = Whole source number
-in_memory (NotText source) = NotText source
-in_memory (Unreadable source) = Unreadable source
-in_memory (Approximation number) = Approximation number
-in_memory NoMemory = NoMemory
-in_memory (State number) = State number
-in_memory InUse = InUse
-in_memory Unwritten = NoMemory
-in_memory (Other number) = Other number
-
 -- Why a run of accepted texts ends without a report: memory is missing; its files were refused, for what stands in the log; what its outlets
 -- keep failed, as `failed` says by the number of the refusal; or the run itself did.
 abbrev pub IsStopped : (ℕ → Type 0) → Wanted → List Request → Failure → Type 0
@@ -81,18 +68,18 @@ abbrev pub IsScriptStop : Option (List ℕ) → ℕ → List Request → Failure
 IsScriptStop None nodes e failure = ⊥
 IsScriptStop (Some path) nodes e failure =
     IsUnread source.Script path e failure
-    ⊎ ((bytes : List ℕ) × Has (Read path (Ok bytes)) e × IsScriptFailure nodes (Some bytes) failure)
+    ⊎ ((bytes : List ℕ) × Has (Read path (Ok bytes)) e × IsScriptFailure nodes bytes failure)
 
 -- A file of a text wasn't read; or the text that was read of it is refused: that of the network, that of the inputs for this network, or
 -- that of the script for its nodes. Or a history of the approximation is too long, or the run ended otherwise.
 pub data HasCause : Wanted → List Request → Failure → Type 0 where
   net_unread : {o : Wanted} {e : List Request} {failure : Failure} → IsUnread source.Net o.net e failure → HasCause o e failure
   net_refused : {o : Wanted} {e : List Request} {failure : Failure} (bytes : List ℕ) → Has (Read o.net (Ok bytes)) e
-      → IsNetFailure (Some bytes) failure → HasCause o e failure
+      → IsNetFailure bytes failure → HasCause o e failure
   inputs_unread : {o : Wanted} {e : List Request} {failure : Failure} → IsUnread source.Inputs o.inputs e failure → HasCause o e failure
   inputs_refused : {o : Wanted} {e : List Request} {failure : Failure} (net_bytes bytes : List ℕ) (net : Net)
       → Has (Read o.net (Ok net_bytes)) e → IsNetOf net_bytes net → Has (Read o.inputs (Ok bytes)) e
-      → IsInputsFailure net (Some bytes) failure → HasCause o e failure
+      → IsInputsFailure net bytes failure → HasCause o e failure
   script_stops : {o : Wanted} {e : List Request} {failure : Failure} (net_bytes : List ℕ) (net : Net)
       → Has (Read o.net (Ok net_bytes)) e → IsNetOf net_bytes net
       → IsScriptStop o.script (node_count (network_of net.program)) e failure → HasCause o e failure

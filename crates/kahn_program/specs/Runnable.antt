@@ -1,5 +1,5 @@
 -- Why a network on its inputs comes to no report.
-use Rattle.std.specs.Prelude.{◌≡◌, ◌⊎◌, ℕ, ℤ, Bool, true, IsTrue, List, is_some}
+use Rattle.std.specs.Prelude.{◌≡◌, ◌⊎◌, ℕ, ℤ, Bool, true, List}
 use Rattle.protocol.specs.Node.Common.{Network}
 use Rattle.stream_eq.specs.Limits.{HasLongHistory}
 use Rattle.ckpt_store.specs.StoreFault.{refusal_number}
@@ -9,7 +9,6 @@ use Rattle.cobaltmidge.specs.declared.fault.RunFault.{RunFault}
 use Rattle.cobaltmidge.specs.declared.fault.RunFault.TheVariants as run_fault
 use Rattle.kahn_program.specs.declared.failure.Failure.{Failure}
 use Rattle.kahn_program.specs.Keeping.{IsKeeperFailure}
-use Rattle.kahn_program.specs.declared.asked.Options.{Options}
 use Rattle.kahn_program.specs.declared.failure.Failure.TheVariants.{Line, Whole, NotText, Unreadable, Approximation}
 use Rattle.kahn_program.specs.declared.failure.Failure.TheVariants.{NoMemory, State, InUse, Unwritten, Other}
 
@@ -40,11 +39,6 @@ IsStoreFailure counted (Other number) =
     ((number ≡ refusal_number fault.Device) × ∥ HasFailedAtOnce ∥₁)
     ⊎ ((number ≡ refusal_number fault.Spent) × (counted ≡ true))
 
--- what happened is to be written, and can't be, or memory is missing for it
-abbrev pub IsUnwritten : Options → Failure → Type 0
-IsUnwritten options failure = (failure ≡ NoMemory) ⊎ ((failure ≡ Unwritten) × IsTrue (is_some options.history))
-
 -- one of these; or what outlasts the run is refused, or failed
-abbrev pub IsReportless : Options → Bool → Failure → Type 0
-IsReportless options keeps failure =
-    IsStoreFailure true failure ⊎ (IsKeeperFailure keeps failure ⊎ IsUnwritten options failure)
+abbrev pub IsReportless : Bool → Failure → Type 0
+IsReportless keeps failure = IsStoreFailure true failure ⊎ IsKeeperFailure keeps failure

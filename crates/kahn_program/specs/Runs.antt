@@ -1,16 +1,14 @@
 -- The report of a run of a network.
 use Rattle.std.specs.Prelude.{◌≡◌, ◌↔◌, ℕ, Bool, true, false, IsTrue, ℤ, is_some}
-use Rattle.std.specs.Prelude.{List, Option, Some, None, IfSome, map, take}
-use Rattle.std.specs.Io.KnownBytes.{Appends}
+use Rattle.std.specs.Prelude.{List, Option, Some, None, map, take}
 use Rattle.protocol.specs.Node.Common.{history_of, node_count, network_of, approximation, Net}
 use Rattle.kahn_net.specs.Approximations.{IsSolution}
 use Rattle.protocol.specs.World.Common.{output_channels, are_quiet, WorldView}
 use Rattle.cobaltmidge.specs.Runs.{IsEnd, IsRun, released_streams}
 use Rattle.cobaltmidge.specs.Scripts.{scripted_of}
-use Rattle.cobaltmidge.specs.Texts.{IsNetOf, AreInputsOf}
 use Rattle.cobaltmidge.specs.Runs.{cut_at}
 use Rattle.fail_script.specs.declared.act.ScriptLine.{ScriptLine}
-use Rattle.history_text.specs.Histories.{history_text}
+use Rattle.cobaltmidge.specs.Common.{history_text}
 use Rattle.replay.specs.Replay.{Happening}
 use Rattle.replay.specs.declared.kept.ScriptedEvent.{ScriptedEvent}
 use Rattle.kahn_program.specs.Asked.{settings_of}
@@ -59,7 +57,7 @@ IsReport kept wrote options net inputs script text told =
     × kept (released_streams (network_of net.program) now.stations)
     × IsWrittenIf (is_some options.history) wrote (history_text net happened)) ∥₁
 
--- the same by the script of a reader with these bytes, where they are known, if a script is asked for
+-- the same by the script of a text with these bytes, where they are known, if a script is asked for
 abbrev pub IsScriptedReport : (List (List ℤ) → Type 0) → (List ℕ → Type 0) → Options → Net → List (List ℤ) → Option (List ℕ) → List ℕ → Bool → Type 0
 IsScriptedReport kept wrote options net inputs script_bytes text told =
     (lines : List ScriptLine)
@@ -85,19 +83,3 @@ IsReportBy None kept wrote options net inputs script_bytes text told =
 abbrev pub IsReportOf : (List (List ℤ) → Type 0) → (List ℕ → Type 0) → Options → Net → List (List ℤ) → Option (List ℕ) → List ℕ → Bool → Type 0
 IsReportOf kept wrote options net inputs script_bytes text told =
     IsReportBy options.approx kept wrote options net inputs script_bytes text told
-
--- A text is the report of a run of the network that a reader with these bytes describes, on the inputs that another
--- gives, where the bytes are known.
-abbrev pub IsReported : (List (List ℤ) → Type 0) → (List ℕ → Type 0) → Options → Option (List ℕ) → Option (List ℕ) → Option (List ℕ) → List ℕ → Bool
-    → Type 0
-IsReported kept wrote options net_bytes input_bytes script_bytes text told =
-    ∥ ((net : Net) × (inputs : List (List ℤ)) × IfSome net_bytes (λ bytes. IsNetOf bytes net)
-    × IfSome input_bytes (λ bytes. AreInputsOf bytes net inputs)
-    × IsReportOf kept wrote options net inputs script_bytes text told) ∥₁
-
--- the report of such a run was written behind what was written before
-abbrev pub HasWritten : (List (List ℤ) → Type 0) → (List ℕ → Type 0) → Options → Option (List ℕ) → Option (List ℕ) → Option (List ℕ)
-    → Option (List ℕ) → Option (List ℕ) → Bool → Type 0
-HasWritten kept wrote options net_bytes input_bytes script_bytes before after told =
-    ∥ ((text : List ℕ) × IsReported kept wrote options net_bytes input_bytes script_bytes text told
-    × Appends before after text) ∥₁

@@ -5,8 +5,7 @@ ghost use Rattle.protocol.specs.declared.limits.TheConstants.{DEFAULT_ROOM};
 ghost use Rattle.cobaltmidge.specs.declared.settings.TheConstants.{DEFAULT_ROUNDS};
 ghost use Rattle.kahn_program.specs.Asked.{settings_of};
 
-use cobaltmidge::{DEFAULT_ROUNDS, Settings};
-use world::DEFAULT_ROOM;
+use cobaltmidge::{DEFAULT_ROOM, DEFAULT_ROUNDS, Settings};
 
 /// The most rounds of a run that may be asked for.
 pub const MAX_ROUNDS: u64 = 1_000_000;

@@ -143,12 +143,10 @@ pub fn ending<O: Outlet>(
         None => reason_of(net, world, end, options.settings()),
     };
     if cut.is_some() || !world.complete() {
-        let line = format!(in alloc; "partial: {reason}\n")?;
-        lines.push_str(line.as_str())?;
+        write!(lines, "partial: {reason}\n")?;
     }
     if let Some(line) = undue(script, world.round()) {
-        let line = format!(in alloc; "{line}\n")?;
-        lines.push_str(line.as_str())?;
+        write!(lines, "{line}\n")?;
     }
     Ok(lines)
 }

@@ -4,15 +4,15 @@ ghost use Rattle.std.specs.Prelude.{◌≡◌, Bool, List, ℕ, ℤ, map, false,
 ghost use Rattle.std.specs.List.{AllByRecursion};
 ghost use Rattle.protocol.specs.Node.Common.{network_of};
 ghost use Rattle.protocol.specs.World.Common.{output_channels};
-ghost use Rattle.world.specs.OpeningWorld.{IsUnused};
+ghost use Rattle.cobaltmidge.specs.Common.{IsUnused};
 ghost use Rattle.cobaltmidge.specs.FirstWorld.{HasNoFailures};
 ghost use Rattle.kahn_program.specs.Keeping.{IsKeeperFailure, IsKeptFailure, taken_streams};
 
 use crate::failure::Failure;
+use cobaltmidge::{Output, list_outputs};
 use net_check::Net;
 use outlet::{ListOutlet, Outlet};
 use std::alloc::Global;
-use world::{Output, list_outputs};
 
 /// What gives a run its outlets, and takes them back at its end.
 pub trait Keeper<O: Outlet> {

@@ -7,14 +7,13 @@ ghost use Rattle.kahn_program.specs.KeptFiles.{AreInFiles, HasFailedBy, closed_o
 
 use crate::failure::Failure;
 use crate::keeper::Keeper;
-use cobaltmidge::{KeepFault, outlets_over, put_each};
+use cobaltmidge::{KeepFault, Output, outlets_over, put_each};
 use host::LineFile;
 use net_check::Net;
 use output_file::ResumedOutlet;
 use run_files::HeldFile;
 use std::alloc::Global;
 use std::mem;
-use world::Output;
 
 /// The refusal of a folder that is another network's, or has other inputs, or is damaged.
 pub const OTHER_STATE: u8 = 80;

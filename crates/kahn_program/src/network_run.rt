@@ -1,17 +1,13 @@
 //! A network's run, and its report.
 
-ghost use Rattle.std.specs.Prelude.{◌≡◌, ◌⊎◌, ◌≤◌, ◌++◌, ◌∷◌, [], false, if◌then◌else◌, is_some, length, map, IfErr, IfOk, OnOk};
-ghost use Rattle.std.specs.Io.KnownBytes.{Appends};
+ghost use Rattle.std.specs.Prelude.{◌≡◌, ◌≤◌, ◌++◌, ◌∷◌, [], if◌then◌else◌, is_some, length, map, IfErr, IfOk, OnOk};
 ghost use Rattle.protocol.specs.Node.Common.{Fits, network_of, MAX_CHANNELS};
 ghost use Rattle.protocol.specs.World.Common.{released_of, goes_outside, output_channels};
-ghost use Rattle.history_text.specs.Histories.{history_text};
-ghost use Rattle.run_log.specs.Lines.{happenings};
-ghost use Rattle.world.specs.WholeView.{net_in, world_of};
+ghost use Rattle.cobaltmidge.specs.Common.{happenings, history_text, net_in, world_of};
 ghost use Rattle.cobaltmidge.specs.Runs.{released_streams};
 ghost use Rattle.kahn_program.specs.Keeping.{IsKeeperFailure, IsKeptFailure};
-ghost use Rattle.kahn_program.specs.Runnable.{IsReportless, IsUnwritten, run_failure};
+ghost use Rattle.kahn_program.specs.Runnable.{IsReportless, run_failure};
 ghost use Rattle.kahn_program.specs.Runs.{IsReport, IsToldOf, IsWrittenIf, first_items, is_whole};
-ghost use Rattle.kahn_program.specs.declared.failure.Failure.TheVariants.{NoMemory, Unwritten};
 
 use crate::asked::Options;
 use crate::explaining::ending;
@@ -27,7 +23,6 @@ use net_check::{Inputs, Net};
 use outlet::Outlet;
 use replay::ScriptedEvent;
 use std::alloc::{AllocError, Global};
-use std::io::{self, Write};
 use std::sync::{Arc, Wait};
 use std::thread::Threads;
 
@@ -157,54 +152,66 @@ fn close_outputs<O: Outlet, K: Keeper<O>>(
     keeper.close(alloc, outputs)
 }
 
-/// What a failed write comes to.
-fn unwritten(error: &io::Error) -> Failure
-    ensures { (result ≡ NoMemory) ⊎ (result ≡ Unwritten) }
-{
-    match error.kind() {
-        io::ErrorKind::OutOfMemory => Failure::NoMemory,
-        _ => Failure::Unwritten,
-    }
-}
-
-/// Writes what happened, and flushes it.
-fn write_all<H: Write>(net: &Net, happened: &History, history: &mut H) -> io::Result<()>
-    ensures written { OnOk result (Appends (H.contents history.old) (H.contents history.new)
-        (history_text net.now (happenings happened.now.lines.items))) }
-{
-    write_history(history, net, happened)?;
-    history.flush()
-}
-
-/// Writes what happened, where that is asked for.
-fn tell_history<H: Write>(
+/// The text of what happened, where that is asked for.
+fn history_if_asked(
+    alloc: Global,
     options: &Options,
     net: &Net,
     happened: &History,
-    history: &mut H,
-) -> Result<(), Failure>
-    ensures written { OnOk result (IsWrittenIf (is_some options.now.history)
-        (Appends (H.contents history.old) (H.contents history.new))
+) -> Result<Vec<u8>, AllocError>
+    ensures { IfOk result (λ text. IsWrittenIf (is_some options.now.history) (λ history. text.items ≡ history)
         (history_text net.now (happenings happened.now.lines.items))) }
-    ensures unasked { is_some options.now.history ≡ false → history.new ≡ history.old }
-    ensures err { IfErr result (IsUnwritten options.now) }
 {
-    if options.history.is_none() {
-        return Ok(());
+    let mut text = Vec::new(alloc);
+    // It is written into memory, so that it fails for want of memory alone.
+    if options.history.is_some() && write_history(&mut text, net, happened).is_err() {
+        return Err(AllocError);
     }
-    match write_all(net, happened, history) {
-        Ok(()) => Ok(()),
-        Err(error) => Err(unwritten(&error)),
-    }
+    Ok(text)
+}
+
+/// What comes of a run or of an approximation.
+#[derive(Drop)]
+pub struct Report {
+    pub bytes: Vec<u8>,
+    pub complete: bool,
+    // what there is to say of the run's end
+    pub ending: String,
+}
+
+/// What is told of a run that is over, and the text of what happened, where that is asked for.
+fn told_of<O: Outlet>(
+    alloc: Global,
+    options: &Options,
+    net: &Net,
+    world: &RunWorld<O>,
+    end: RunEnd,
+    happened: &History,
+    script: Option<&[u8]>,
+) -> Result<(Report, Vec<u8>), AllocError>
+    ensures told { IfOk result
+        (λ came. IsToldOf net.now options.now.items (world_of world.now) came.0.bytes.items came.0.complete) }
+    ensures written { IfOk result
+        (λ came. IsWrittenIf (is_some options.now.history) (λ history. came.1.items ≡ history)
+        (history_text net.now (happenings happened.now.lines.items))) }
+{
+    let (bytes, complete) = report_of_world(alloc, net, world, options.items)?;
+    let ending = ending_if_asked(alloc, options, net, world, end, script)?;
+    let history = history_if_asked(alloc, options, net, happened)?;
+    let report = Report {
+        bytes,
+        complete,
+        ending,
+    };
+    Ok((report, history))
 }
 
 /// Runs a network on its inputs by the events of a script, as the options say, until nothing is left to do, the rounds are over,
 /// or each output has the items that are asked for. Gives the whole report, whether the run is complete, and what there is to say of its end,
-/// where that is asked for. `script_text` is the script's text, if there is one. What happened is written too, where that is asked for.
+/// where that is asked for; and the text of what happened, where that is. `script_text` is the script's text, if there is one.
 pub fn report_of_run<
     O: Outlet + Send,
     K: Keeper<O>,
-    H: Write,
     P: RunWatch + TurnWatch + Sync,
     R: Threads + Wait + Sync,
 >(
@@ -216,17 +223,14 @@ pub fn report_of_run<
     script: Vec<ScriptedEvent>,
     script_text: Option<&[u8]>,
     keeper: &mut K,
-    history: &mut H,
     watch: &mut P,
-) -> Result<(Vec<u8>, bool, String), Failure>
+) -> Result<(Report, Vec<u8>), Failure>
     requires fitting { Fits (network_of net.program) inputs }
     ensures ok { IfOk result
-        (λ report. IsReport (K.has_kept keeper.new) (Appends (H.contents history.old) (H.contents history.new))
-        options.now net inputs script.items report.0.items report.1) }
-    ensures unasked { is_some options.now.history ≡ false → history.new ≡ history.old }
-    // A device failed (20), memory is missing (1), a count would pass 2^63 - 1 (44), what outlasts the run failed, or what happened
-    // can't be written.
-    ensures err { IfErr result (IsReportless options.now K.keeps) }
+        (λ came. IsReport (K.has_kept keeper.new) (λ history. came.1.items ≡ history)
+        options.now net inputs script.items came.0.bytes.items came.0.complete) }
+    // A device failed (20), memory is missing (1), a count would pass 2^63 - 1 (44), or what outlasts the run failed.
+    ensures err { IfErr result (IsReportless K.keeps) }
     // Where what outlasts the run is refused or failed, the keeper says why.
     ensures cause { IfErr result (IsKeptFailure (K.has_failed keeper.new)) }
 {
@@ -252,46 +256,9 @@ pub fn report_of_run<
         history: happened,
         end,
     } = ended;
-    let Ok((report, complete)) = report_of_world(alloc, &net, &world, options.items) else {
-        return Err(Failure::NoMemory);
-    };
-    let Ok(ending) = ending_if_asked(alloc, options, &net, &world, end, script_text) else {
+    let Ok(told) = told_of(alloc, options, &net, &world, end, &happened, script_text) else {
         return Err(Failure::NoMemory);
     };
     close_outputs(alloc, world, keeper)?;
-    tell_history(options, &net, &happened, history)?;
-    Ok((report, complete, ending))
-}
-
-/// The same by a script of which nothing is told, and without what there is to say of the run's end.
-pub fn report_alone<
-    O: Outlet + Send,
-    K: Keeper<O>,
-    H: Write,
-    P: RunWatch + TurnWatch + Sync,
-    R: Threads + Wait + Sync,
->(
-    rt: &R,
-    alloc: Global,
-    options: &Options,
-    net: Net,
-    inputs: Inputs,
-    script: Vec<ScriptedEvent>,
-    keeper: &mut K,
-    history: &mut H,
-    watch: &mut P,
-) -> Result<(Vec<u8>, bool), Failure>
-    requires fitting { Fits (network_of net.program) inputs }
-    ensures ok { IfOk result
-        (λ report. IsReport (K.has_kept keeper.new) (Appends (H.contents history.old) (H.contents history.new))
-        options.now net inputs script.items report.0.items report.1) }
-    ensures unasked { is_some options.now.history ≡ false → history.new ≡ history.old }
-    ensures err { IfErr result (IsReportless options.now K.keeps) }
-{
-    match report_of_run(
-        rt, alloc, options, net, inputs, script, None, keeper, history, watch,
-    ) {
-        Ok((report, complete, _)) => Ok((report, complete)),
-        Err(failure) => Err(failure),
-    }
+    Ok(told)
 }

@@ -7,7 +7,7 @@ ghost use Rattle.protocol.specs.Node.Common.{Fits, MAX_NODES, network_of, node_c
 ghost use Rattle.cobaltmidge.specs.Texts.{AreInputsOf, IsNetOf};
 ghost use Rattle.fail_script.specs.Lines.{IsScript};
 ghost use Rattle.kahn_program.specs.Program.{IsAccepted, IsOpenIfAsked, IsWrittenIfAsked, Keeps, asked_files, file_names, given_of, made_for, AreKept, AreKeptIn, HasReport, IsDone};
-ghost use Rattle.kahn_program.specs.Causes.{HasCause, HasFailed, HasFileFault, IsRefused, IsScriptStop, IsStopped, IsToldOf, IsUnread, in_memory};
+ghost use Rattle.kahn_program.specs.Causes.{HasCause, HasFailed, HasFileFault, IsRefused, IsScriptStop, IsStopped, IsToldOf, IsUnread};
 ghost use Rattle.kahn_program.specs.Failures.{failure_line, status_of};
 ghost use Rattle.kahn_program.specs.Readings.{IsInputsFailure, IsNetFailure, IsScriptFailure};
 ghost use Rattle.kahn_program.specs.Runs.{IsReport};
@@ -26,9 +26,9 @@ use crate::explaining::explanation;
 use crate::failure::{Failure, Source};
 use crate::keeper::{InMemory, Keeper};
 use crate::kept_files::{ASTRAY, FILE_FAILED, FileKeeper, OTHER_STATE};
-use crate::network_run::report_of_run;
+use crate::network_run::{Report, report_of_run};
 use crate::reading::{read_inputs, read_net, read_script};
-use cobaltmidge::{Accepted, RunWatch, TurnWatch, events_of, file_names};
+use cobaltmidge::{Accepted, RunWatch, TurnWatch, events_of, file_names, node_count};
 use fail_script::{Script, ScriptLine};
 use host::{Host, HostFault};
 use net_check::{Inputs, Net};
@@ -42,7 +42,6 @@ use run_files::{
 use std::alloc::{AllocError, Global};
 use std::sync::Wait;
 use std::thread::Threads;
-use world::node_count;
 
 /// Why the program ends without a report, and what there is to say of it besides.
 #[derive(Drop)]
@@ -208,9 +207,9 @@ fn refused_text(
 // The network of a text.
 fn net_of(alloc: Global, options: &Options, net: &Vec<u8>) -> Result<Net, Stop>
     ensures net { IfOk result (IsNetOf net.now.items) }
-    ensures cause { IfErr result (λ stop. IsNetFailure (Some net.now.items) stop.failure) }
+    ensures cause { IfErr result (λ stop. IsNetFailure net.now.items stop.failure) }
 {
-    match read_net(alloc, Some(net.as_slice())) {
+    match read_net(alloc, net.as_slice()) {
         Ok(net) => Ok(net),
         Err(failure) => Err(refused_text(alloc, options, failure, net.as_slice(), None, None)),
     }
@@ -226,9 +225,9 @@ fn inputs_of(
 ) -> Result<Inputs, Stop>
     ensures inputs { IfOk result (AreInputsOf inputs.now.items net.now) }
     ensures fitting { IfOk result (Fits (network_of net.now.program)) }
-    ensures cause { IfErr result (λ stop. IsInputsFailure net.now (Some inputs.now.items) stop.failure) }
+    ensures cause { IfErr result (λ stop. IsInputsFailure net.now inputs.now.items stop.failure) }
 {
-    match read_inputs(alloc, Some(inputs.as_slice()), net) {
+    match read_inputs(alloc, inputs.as_slice(), net) {
         Ok(inputs) => Ok(inputs),
         Err(failure) => {
             let read = Some(inputs.as_slice());
@@ -248,9 +247,9 @@ fn lines_of(
 ) -> Result<Vec<ScriptLine>, Stop>
     requires { nodes ≤ MAX_NODES }
     ensures lines { IfOk result (λ lines. IsScript nodes script.now.items lines.items) }
-    ensures cause { IfErr result (λ stop. IsScriptFailure nodes (Some script.now.items) stop.failure) }
+    ensures cause { IfErr result (λ stop. IsScriptFailure nodes script.now.items stop.failure) }
 {
-    match read_script(alloc, Some(script.as_slice()), nodes as u8) {
+    match read_script(alloc, script.as_slice(), nodes as u8) {
         Ok(Script { lines }) => Ok(lines),
         Err(failure) => {
             let (inputs, script) = (Some(inputs.as_slice()), Some(script.as_slice()));
@@ -338,15 +337,6 @@ fn read_all<H: Host>(
     })
 }
 
-/// What comes of a run or of an approximation.
-#[derive(Drop)]
-struct Report {
-    bytes: Vec<u8>,
-    complete: bool,
-    // what there is to say of the run's end
-    ending: String,
-}
-
 // The file into which what happens is to be written, if that is asked for.
 fn open_if_asked<H: Host>(
     host: &mut H,
@@ -407,16 +397,6 @@ fn drop_if_asked<H: Host>(host: &mut H, names: &Names, history: Option<HistoryFi
     }
 }
 
-// What happened is written to a text in memory, so that this fails for want of memory alone.
-fn in_memory(failure: Failure) -> Failure
-    ensures { result ≡ in_memory failure }
-{
-    match failure {
-        Failure::Unwritten => Failure::NoMemory,
-        other => other,
-    }
-}
-
 // A run by outlets of this keeper, and what happened in it, written where that is asked for.
 fn run_over<
     H: Host,
@@ -450,30 +430,15 @@ fn run_over<
     } = asked;
     let events = events_of(alloc, &lines)?;
     let history = open_if_asked(host, alloc, names)?;
-    let mut happened = Vec::new(alloc);
     match report_of_run(
-        rt,
-        alloc,
-        options,
-        net,
-        inputs,
-        events,
-        script,
-        keeper,
-        &mut happened,
-        watch,
+        rt, alloc, options, net, inputs, events, script, keeper, watch,
     ) {
-        Ok((bytes, complete, ending)) => {
+        Ok((report, happened)) => {
             finish_if_asked(host, alloc, names, history, &happened)?;
-            Ok(Report {
-                bytes,
-                complete,
-                ending,
-            })
+            Ok(report)
         }
         Err(failure) => {
             drop_if_asked(host, names, history);
-            let failure = in_memory(failure);
             let words = keeper.take_words();
             Err(Stop { failure, words })
         }

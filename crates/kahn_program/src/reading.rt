@@ -1,22 +1,18 @@
-//! The texts that the program reads, from any reader.
+//! The texts that the program reads, from their bytes.
 
-ghost use Rattle.std.specs.Prelude.{◌≡◌, ℕ, Err, Option, IfErr, IfOk, IfSome, IsNone, IsOkUnless, IsUtf8, List, Some, option_and_then, string_bytes};
+ghost use Rattle.std.specs.Prelude.{◌≡◌, IfErr, IfOk, IsOkUnless, IsUtf8, List};
 ghost use Rattle.protocol.specs.Node.Common.{Fits, network_of};
 ghost use Rattle.cobaltmidge.specs.Texts.{AreInputsOf, IsNetOf, IsTextOfInputs, IsTextOfNet};
-ghost use Rattle.kahn_program.specs.Readings.{IsInputsFailure, IsInputsTextFailure, IsNetFailure, IsNetTextFailure, IsOutside, IsReadFailure, net_failure_of, text_failure_of};
 ghost use Rattle.fail_script.specs.Lines.{IsScript};
 ghost use Rattle.fail_script.specs.declared.act.ScriptLine.{ScriptLine as LineValue};
-ghost use Rattle.kahn_program.specs.Readings.{IsScriptFailure, IsScriptTextFailure, script_failure_of};
-ghost use Rattle.kahn_program.specs.declared.failure.Failure.TheVariants.{Unreadable};
-ghost use Rattle.kahn_program.specs.declared.failure.Source.TheVariants as source;
+ghost use Rattle.kahn_program.specs.Readings.{IsInputsFailure, IsInputsTextFailure, IsNetFailure, IsNetTextFailure, IsNotText};
+ghost use Rattle.kahn_program.specs.Readings.{IsScriptFailure, IsScriptTextFailure, net_failure_of, script_failure_of, text_failure_of};
 
 use crate::failure::{Failure, Source};
 use fail_script::{Script, ScriptFault, parse_script};
 use net_check::{Inputs, Net, NetFault, bind, check};
 use net_text::{TextFault, parse, parse_inputs};
 use std::alloc::Global;
-use std::io;
-use std::io::Read;
 
 /// What a fault of a text comes to.
 fn text_failure(source: Source, fault: TextFault) -> Failure
@@ -66,28 +62,12 @@ fn script_failure(fault: ScriptFault) -> Failure
     }
 }
 
-/// The whole text of a reader.
-fn read_text<R: Read + Drop>(
-    alloc: Global,
-    source: Source,
-    reader: Option<R>,
-) -> Result<String, Failure>
-    ensures ok { IfOk result (λ text. IfSome (option_and_then R.remaining reader)
-        (λ bytes. string_bytes text ≡ bytes)) }
-    ensures absent { IsNone reader → result ≡ Err (Unreadable source) }
-    ensures err { IfErr result (IsReadFailure source (option_and_then R.remaining reader)) }
+/// A file's bytes as text.
+fn text_of(source: Source, bytes: &[u8]) -> Result<&str, Failure>
+    ensures ok { IfOk result (λ text. text.now ≡ bytes.now) }
+    ensures err { IfErr result (IsNotText source bytes.now) }
 {
-    let Some(mut reader) = reader else {
-        return Err(Failure::Unreadable(source));
-    };
-    let mut bytes = Vec::new(alloc);
-    if let Err(error) = reader.read_to_end(&mut bytes) {
-        return Err(match error.kind() {
-            io::ErrorKind::OutOfMemory => Failure::NoMemory,
-            _ => Failure::Unreadable(source),
-        });
-    }
-    match String::from_utf8(bytes) {
+    match str::from_utf8(bytes) {
         Ok(text) => Ok(text),
         Err(_) => Err(Failure::NotText(source)),
     }
@@ -126,47 +106,34 @@ fn inputs_of_text(alloc: Global, text: &str, net: &Net) -> Result<Inputs, Failur
     }
 }
 
-/// The network that a reader's text describes; no reader stands for a file that can't be opened. Refuses by the
-/// first of these: the text can't be read, isn't UTF-8, is refused by `parse` or by `check`; and for want of
-/// memory.
-pub fn read_net<R: Read + Drop>(alloc: Global, reader: Option<R>) -> Result<Net, Failure>
-    // The network is that of the reader's bytes.
-    ensures net { IfOk result
-        (λ net. IfSome (option_and_then R.remaining reader) (λ bytes. IsNetOf bytes net)) }
-    ensures absent { IsNone reader → result ≡ Err (Unreadable source.Net) }
+/// The network that a text describes. Refuses by the first of these: the bytes aren't UTF-8, or are refused by `parse` or by `check`; and for
+/// want of memory.
+pub fn read_net(alloc: Global, bytes: &[u8]) -> Result<Net, Failure>
+    // The network is that of the bytes.
+    ensures net { IfOk result (IsNetOf bytes.now) }
     // What is refused has the fault, on its line.
-    ensures err { IfErr result (IsNetFailure (option_and_then R.remaining reader)) }
+    ensures err { IfErr result (IsNetFailure bytes.now) }
     // A text that describes a network isn't refused.
-    ensures accepted { (bytes : List ℕ) → option_and_then R.remaining reader ≡ Some bytes
-        → IsUtf8 bytes → IsTextOfNet bytes → IfErr result (IsOutside source.Net) }
+    ensures accepted { IsUtf8 bytes.now → IsTextOfNet bytes.now → IsOkUnless result Failure.NoMemory }
 {
-    let text = read_text(alloc, Source::Net, reader)?;
-    net_of_text(alloc, &text)
+    let text = text_of(Source::Net, bytes)?;
+    net_of_text(alloc, text)
 }
 
-/// The items for a network's inputs that a reader's text gives; no reader stands for a file that can't be opened.
-/// Refuses by the first of these: the text can't be read, isn't UTF-8, is refused by `parse_inputs` or by `bind`;
-/// and for want of memory.
-pub fn read_inputs<R: Read + Drop>(
-    alloc: Global,
-    reader: Option<R>,
-    net: &Net,
-) -> Result<Inputs, Failure>
-    // Each input has exactly the items of its line in the reader's bytes.
-    ensures inputs { IfOk result
-        (λ inputs. IfSome (option_and_then R.remaining reader)
-        (λ bytes. AreInputsOf bytes net.now inputs)) }
+/// The items for a network's inputs that a text gives. Refuses by the first of these: the bytes aren't UTF-8, or are refused by
+/// `parse_inputs` or by `bind`; and for want of memory.
+pub fn read_inputs(alloc: Global, bytes: &[u8], net: &Net) -> Result<Inputs, Failure>
+    // Each input has exactly the items of its line in the bytes.
+    ensures inputs { IfOk result (AreInputsOf bytes.now net.now) }
     // They are inputs for this network.
     ensures fitting { IfOk result (Fits (network_of net.now.program)) }
-    ensures absent { IsNone reader → result ≡ Err (Unreadable source.Inputs) }
     // What is refused has the fault, on its line.
-    ensures err { IfErr result (IsInputsFailure net.now (option_and_then R.remaining reader)) }
+    ensures err { IfErr result (IsInputsFailure net.now bytes.now) }
     // A text that gives the inputs their items isn't refused.
-    ensures accepted { (bytes : List ℕ) → option_and_then R.remaining reader ≡ Some bytes
-        → IsUtf8 bytes → IsTextOfInputs net.now bytes → IfErr result (IsOutside source.Inputs) }
+    ensures accepted { IsUtf8 bytes.now → IsTextOfInputs net.now bytes.now → IsOkUnless result Failure.NoMemory }
 {
-    let text = read_text(alloc, Source::Inputs, reader)?;
-    inputs_of_text(alloc, &text, net)
+    let text = text_of(Source::Inputs, bytes)?;
+    inputs_of_text(alloc, text, net)
 }
 
 /// The script of a text, for so many nodes.
@@ -182,24 +149,17 @@ fn script_of_text(alloc: Global, text: &str, nodes: u8) -> Result<Script, Failur
     }
 }
 
-/// The failure script for so many nodes that a reader's text gives; no reader stands for a file that can't be opened. Refuses by
-/// the first of these: the text can't be read, isn't UTF-8, is refused by `parse_script`; and for want of memory.
-pub fn read_script<R: Read + Drop>(
-    alloc: Global,
-    reader: Option<R>,
-    nodes: u8,
-) -> Result<Script, Failure>
-    // Its lines are those of the reader's bytes.
-    ensures script { IfOk result (λ script. IfSome (option_and_then R.remaining reader)
-        (λ bytes. IsScript nodes bytes script.lines.items)) }
-    ensures absent { IsNone reader → result ≡ Err (Unreadable source.Script) }
+/// The failure script for so many nodes that a text gives. Refuses by the first of these: the bytes aren't UTF-8, or are refused by
+/// `parse_script`; and for want of memory.
+pub fn read_script(alloc: Global, bytes: &[u8], nodes: u8) -> Result<Script, Failure>
+    // Its lines are those of the bytes.
+    ensures script { IfOk result (λ script. IsScript nodes bytes.now script.lines.items) }
     // What is refused has the fault, on its line.
-    ensures err { IfErr result (IsScriptFailure nodes (option_and_then R.remaining reader)) }
+    ensures err { IfErr result (IsScriptFailure nodes bytes.now) }
     // A text that is a script isn't refused.
-    ensures accepted { (bytes : List ℕ) (lines : List LineValue)
-        → option_and_then R.remaining reader ≡ Some bytes
-        → IsUtf8 bytes → IsScript nodes bytes lines → IfErr result (IsOutside source.Script) }
+    ensures accepted { (lines : List LineValue) → IsUtf8 bytes.now → IsScript nodes bytes.now lines
+        → IsOkUnless result Failure.NoMemory }
 {
-    let text = read_text(alloc, Source::Script, reader)?;
-    script_of_text(alloc, &text, nodes)
+    let text = text_of(Source::Script, bytes)?;
+    script_of_text(alloc, text, nodes)
 }

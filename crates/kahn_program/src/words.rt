@@ -1,7 +1,7 @@
 //! What the words of the command line ask for.
 
 ghost use Rattle.std.specs.Prelude.{◌≡◌, ◌∷◌, [], IfErr, IfOk, codes, false, is_some, map, option_map, string_bytes, true};
-ghost use Rattle.clap.specs.Words.{HasKind, app_of, fault_of, first_value, found_of, matches_of, one_text, rule_of};
+ghost use Rattle.clap.specs.Words.{HasKind, app_of, fault_of, first_value, found_of, matches_of, one_text, rows_of, rule_of};
 ghost use Rattle.clap.specs.declared.error.kind.ErrorKind.TheVariants as kind;
 ghost use Rattle.protocol.specs.Node.Common.{MAX_RETAINED_ITEMS};
 ghost use Rattle.protocol.specs.declared.limits.TheConstants.{MIN_ROOM};
@@ -12,9 +12,9 @@ use ckpt_codec::MAX_RETAINED_ITEMS;
 use clap::builder::ValueParser;
 use clap::error::ErrorKind;
 use clap::{Arg, ArgAction, ArgMatches, Command, Error};
+use cobaltmidge::MIN_ROOM;
 use std::alloc::{AllocError, Global};
 use std::convert::AsStr;
-use world::MIN_ROOM;
 
 // The bounds of a channel's room, as numbers of the command line.
 const LEAST_ROOM: u64 = MIN_ROOM as u64;
@@ -254,6 +254,35 @@ fn given(
     }
 }
 
+// What these matches ask for.
+fn options_of(alloc: Global, matches: &ArgMatches<'_>) -> Result<Options, AllocError>
+    ensures { IfOk result (IsAsked (rows_of (found_of matches.now))) }
+{
+    let (Some(net), Some(inputs), Some(rounds), Some(room)) = (
+        matches.get_str("NET"),
+        matches.get_str("INPUTS"),
+        given(matches, "rounds", 1, MAX_ROUNDS)?,
+        given(matches, "room", LEAST_ROOM, MOST_ROOM)?,
+    ) else {
+        return Err(AllocError);
+    };
+    Ok(Options {
+        net: String::from_str(alloc, net)?,
+        inputs: String::from_str(alloc, inputs)?,
+        script: name_given(alloc, matches, "script")?,
+        state: name_given(alloc, matches, "state")?,
+        sync: matches.get_flag("sync"),
+        rounds,
+        items: given(matches, "items", 0, MAX_ITEMS)?,
+        room,
+        plain: matches.get_flag("plain"),
+        approx: given(matches, "approx", 0, MAX_APPROXIMATION)?,
+        explain: matches.get_flag("explain"),
+        history: name_given(alloc, matches, "history")?,
+        quiet: matches.get_flag("quiet"),
+    })
+}
+
 /// What these words ask for, one by one.
 fn given_options<S: AsStr>(alloc: Global, words: &[S]) -> Result<Options, Error>
     // Each value is that of the matches, defaults included, and within its bounds.
@@ -262,29 +291,8 @@ fn given_options<S: AsStr>(alloc: Global, words: &[S]) -> Result<Options, Error>
     ensures refused { IfErr result (HasKind (fault_of kahnrun (map S.text words.now))) }
 {
     let matches = command(alloc)?.try_get_matches_from(words)?;
-    let (Some(net), Some(inputs), Some(rounds), Some(room)) = (
-        matches.get_str("NET"),
-        matches.get_str("INPUTS"),
-        given(&matches, "rounds", 1, MAX_ROUNDS)?,
-        given(&matches, "room", LEAST_ROOM, MOST_ROOM)?,
-    ) else {
-        return Err(AllocError.into());
-    };
-    Ok(Options {
-        net: String::from_str(alloc, net)?,
-        inputs: String::from_str(alloc, inputs)?,
-        script: name_given(alloc, &matches, "script")?,
-        state: name_given(alloc, &matches, "state")?,
-        sync: matches.get_flag("sync"),
-        rounds,
-        items: given(&matches, "items", 0, MAX_ITEMS)?,
-        room,
-        plain: matches.get_flag("plain"),
-        approx: given(&matches, "approx", 0, MAX_APPROXIMATION)?,
-        explain: matches.get_flag("explain"),
-        history: name_given(alloc, &matches, "history")?,
-        quiet: matches.get_flag("quiet"),
-    })
+    let options = options_of(alloc, &matches)?;
+    Ok(options)
 }
 
 /// The error of a command line with `--sync` and no folder.

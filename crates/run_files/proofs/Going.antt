@@ -347,6 +347,12 @@ opened_as sync folder name a b e same h =
 pub one_longer : {A : Type 0} (count : ℕ) (xs : List A) (x : A) → count ≡ length xs → count + 1 ≡ length (xs ++ x ∷ [])
 one_longer count xs x same = omega (arith, same, length-append xs (x ∷ []))
 
+-- behind the first ones one more is within all
+pub one_within : {A : Type 0} (count : ℕ) (done rest more whole : List A) (x : A) → count ≡ length done → rest ≡ x ∷ more
+    → done ++ rest ≡ whole → count + 1 ≤ length whole
+one_within {A} count done rest more whole x same first all =
+    omega (arith, same, ap (λ (list : List A). length list) (sym all), length-append done rest, ap (λ (list : List A). length list) first)
+
 pub no_items : {A : Type 0} (items : List A) → length items ≡ 0 → items ≡ []
 no_items [] none = refl
 no_items (item ∷ items) none = absurd (cc)

@@ -43,8 +43,8 @@ pub use job_watch::{JobWatch, NoWatch};
 pub use playing::run_world;
 pub use run_handle::RunHandle;
 pub use run_log::{
-    Entry, FaultAnswer, HeldBack, History, HubFault, KeptEvent, Line, Moment, Run, RunLedgers,
-    TurnAnswer, UnusedLedgers,
+    ArmedWorld, Entry, FaultAnswer, HeldBack, History, HubFault, KeptEvent, Line, Moment, Run,
+    RunLedgers, TurnAnswer, UnusedLedgers,
 };
 pub use run_watch::RunWatch;
 pub use seat::{DriverSeat, NodeSeat};

@@ -7,7 +7,7 @@ use Rattle.protocol.specs.World.Common.{are_quiet, WorldView}
 use Rattle.runtime.specs.Ending.{was_refused}
 use Rattle.station.specs.StationView.{station_view}
 use Rattle.world.specs.WholeView.{nodes_in, world_of}
-use Rattle.run_log.specs.Lines.{happenings}
+use Rattle.runtime.specs.Logs.{happenings}
 use Rattle.cobaltmidge.specs.Runs.{IsEnd, IsRun, released_streams}
 use Rattle.cobaltmidge.proofs.Streams.{run_at_end}
 use Rattle.cobaltmidge.proofs.Turns.{ended_so, of_end, run_stays}

@@ -1,6 +1,6 @@
 use Rattle.std.proofs.Common.{refl, subst, ℤ, List}
 use Rattle.std.specs.Prelude.{OnOk}
-use Rattle.world.specs.WholeView.{world_of}
+use Rattle.cobaltmidge.specs.Common.{world_of}
 use Rattle.cobaltmidge.proofs.Kept.{closed_streams}
 use Rattle.kahn_program.proofs.network_run.close_outputs.Goals as goal
 

@@ -1,11 +1,8 @@
-use Rattle.std.proofs.Common.{true, ◌≡◌, ◌∙◌, inl, subst, sym}
+use Rattle.std.proofs.Common.{true, ◌≡◌, ◌∙◌, inl, subst, sym, ℕ, List}
 use Rattle.protocol.specs.Node.Common.{network_of, Net}
 use Rattle.protocol.specs.World.Common.{are_quiet}
-use Rattle.world.specs.WholeView.{world_of}
+use Rattle.cobaltmidge.specs.Common.{happenings, history_text, world_of}
 use Rattle.std.specs.Prelude.{is_some}
-use Rattle.std.specs.Io.KnownBytes.{Appends}
-use Rattle.history_text.specs.Histories.{history_text}
-use Rattle.run_log.specs.Lines.{happenings}
 use Rattle.cobaltmidge.specs.Runs.{IsEnd, IsRun, released_streams}
 use Rattle.cobaltmidge.specs.declared.settings.Settings.{Settings}
 use Rattle.kahn_program.specs.Runnable.{IsReportless}
@@ -18,8 +15,7 @@ use Rattle.kahn_program.proofs.network_run.report_of_run.Goals as goal
 
 pub returns-in-Err-clause-err : goal.returns-in-Err-clause-err
 returns-in-Err-clause-err g c =
-    let options = c.args.options.now in
-    subst (IsReportless options g.K.Keeper.keeps) (sym c.run_failure.ensures)
+    subst (IsReportless g.K.Keeper.keeps) (sym c.run_failure.ensures)
     (inl (fault_is true c.in-Err.fault c.in-Err.ensures.err))
 
 pub returns-clause-ok : goal.returns-clause-ok
@@ -31,11 +27,10 @@ returns-clause-ok g c =
     let made : c.in-Ok.net.value ≡ net = c.in-Ok.ensures.ok in
     let now = world_of c.in-Ok-run_network.ended.world in
     let happened = happenings c.in-Ok-run_network.ended.history.lines.items in
-    let told = c.in-Ok-report_of_world in
+    let told = c.in-Ok-told_of.told in
     let seen : c.deref.result.now ≡ net = c.deref.ensures ∙ made in
-    report_is (g.K.Keeper.has_kept c.close_outputs.new.keeper)
-    (Appends (g.H.Write.contents c.args.history.now) (g.H.Write.contents c.tell_history.new.history)) options net inputs script
-    happened now told.report.items told.complete
+    let wrote : List ℕ → Type 0 = λ text. told.1.items ≡ text in
+    report_is (g.K.Keeper.has_kept c.close_outputs.new.keeper) wrote options net inputs script happened now told.0.bytes.items told.0.complete
     (subst (λ (n : Net). ∥ (now.net ≡ network_of n.program) × (now.inputs ≡ inputs) ∥₁) made
     c.in-Ok-run_network.ensures.same)
     (subst (λ (s : Settings). IsEnd s (network_of net.program) inputs script happened now) c.settings.ensures
@@ -43,11 +38,9 @@ returns-clause-ok g c =
     c.in-Ok-run_network.ensures.end))
     (subst (λ (n : Net). IsRun (network_of n.program) inputs (released_streams (network_of n.program) now.stations)
     (are_quiet now)) made c.in-Ok-run_network.ensures.run)
-    (subst (λ (n : Net). IsToldOf n options.items now told.report.items told.complete) seen c.in-Ok-report_of_world.ensures)
+    (subst (λ (n : Net). IsToldOf n options.items now told.0.bytes.items told.0.complete) seen c.in-Ok-told_of.ensures.told)
     c.in_ok-close_outputs.ensures.kept
-    (subst (λ (n : Net). IsWrittenIf (is_some options.history)
-    (Appends (g.H.Write.contents c.args.history.now) (g.H.Write.contents c.tell_history.new.history))
-    (history_text n happened)) (c.deref-3.ensures ∙ made) c.in_ok-tell_history.ensures.written)
+    (subst (λ (n : Net). IsWrittenIf (is_some options.history) wrote (history_text n happened)) seen c.in-Ok-told_of.ensures.written)
 
 pub returns-in-Err-clause-cause : goal.returns-in-Err-clause-cause
 returns-in-Err-clause-cause g c = run_keeps _ _ _ c.run_failure.ensures

@@ -1,6 +1,6 @@
 use Rattle.std.proofs.Common.{◌∙◌, ℕ, ℤ, List, ap, length}
 use Rattle.protocol.specs.World.Common.{released_of}
-use Rattle.world.specs.WholeView.{world_of}
+use Rattle.cobaltmidge.specs.Common.{world_of}
 use Rattle.kahn_program.specs.Report.{output_count, report_text}
 use Rattle.kahn_program.specs.Runs.{first_items}
 use Rattle.kahn_program.proofs.Released.{counted_streams, reported}

@@ -1,6 +1,6 @@
 use Rattle.std.proofs.Common.{◌≡◌, ◌++◌, ℕ, drop, map}
 use Rattle.protocol.specs.World.Common.{output_channels, released_of}
-use Rattle.world.specs.WholeView.{world_of}
+use Rattle.cobaltmidge.specs.Common.{world_of}
 use Rattle.kahn_program.specs.Runs.{first_items}
 use Rattle.kahn_program.proofs.network_run.streams.Given as goal
 

@@ -7,7 +7,7 @@ use Rattle.replay.specs.declared.kept.ScriptedEvent.{ScriptedEvent}
 use Rattle.kahn_program.specs.Program.{AreKept, IsAccepted, IsWrittenIfAsked, file_names, given_of}
 use Rattle.kahn_program.specs.Runs.{IsReport}
 use Rattle.kahn_program.specs.Causes.{HasFileFault, IsStopped}
-use Rattle.kahn_program.specs.declared.program.Report.{Report}
+use Rattle.kahn_program.specs.declared.network_run.Report.{Report}
 use Rattle.kahn_program.specs.declared.program.Stop.{Stop}
 use Rattle.kahn_program.proofs.Logs.{keeps_goes, keeps_then}
 use Rattle.kahn_program.proofs.Said.{if_ok, kept_asked, none_asked, report_maps}

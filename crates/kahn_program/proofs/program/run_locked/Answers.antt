@@ -11,7 +11,7 @@ use Rattle.kahn_program.specs.Causes.{HasFileFault, IsStopped}
 use Rattle.kahn_program.specs.KeptFiles.{AreInFiles, HasFailedBy}
 use Rattle.kahn_program.specs.Program.{AreKeptIn, IsWrittenIfAsked}
 use Rattle.kahn_program.specs.Runs.{IsReport}
-use Rattle.kahn_program.specs.declared.program.Report.{Report}
+use Rattle.kahn_program.specs.declared.network_run.Report.{Report}
 use Rattle.kahn_program.specs.declared.program.Stop.{Stop}
 use Rattle.kahn_program.proofs.Causes.{if_err, stopped_by_files, stopped_later}
 use Rattle.kahn_program.proofs.FileFaults.{fault_in_log}

@@ -1,11 +1,11 @@
 use Rattle.std.proofs.Common.{◌∙◌, ap, map, subst}
 use Rattle.std.proofs.lemmas.Result.{err_from_is_err_and}
-use Rattle.kahn_program.proofs.Causes.{kept_maps, stopped_by_run, stopped_later, stopped_none}
+use Rattle.kahn_program.proofs.Causes.{kept_maps, run_stops, stopped_later, stopped_none}
 use Rattle.cobaltmidge.specs.Scripts.{scripted_of}
 use Rattle.run_files.specs.Wanted.{wanted_of}
 use Rattle.kahn_program.specs.Program.{IsWrittenIfAsked}
 use Rattle.kahn_program.specs.Runs.{IsReport}
-use Rattle.kahn_program.proofs.Said.{report_maps, written_from}
+use Rattle.kahn_program.proofs.Said.{report_maps, written_as}
 use Rattle.run_files.proofs.Going.{none_left, ready_goes, with_goes}
 use Rattle.kahn_program.proofs.program.run_over.Goals as goal
 
@@ -24,10 +24,10 @@ pub returns-in-Ok-clause-report : goal.returns-in-Ok-clause-report
 returns-in-Ok-clause-report g c =
     subst (λ script. IsReport (g.K.Keeper.has_kept c.report_of_run.new.keeper)
     (IsWrittenIfAsked (wanted_of c.args.names.now).history (g.H.Host.asked c.finish_if_asked.new.host)) c.args.options.now
-    c.args.asked.net c.args.asked.inputs script c.in-Ok.bytes.items c.in-Ok.complete)
+    c.args.asked.net c.args.asked.inputs script c.in-Ok.report.bytes.items c.in-Ok.report.complete)
     (c.in_ok-events.ensures ∙ ap (map scripted_of) c.deref.ensures.value)
     (report_maps (g.K.Keeper.has_kept c.report_of_run.new.keeper) _ _ _ c.args.options.now c.args.asked.net c.args.asked.inputs _ _ _
-    (λ streams kept. kept) (λ t is. written_from _ _ _ _ t c.new-happened.ensures.items c.in_ok-finish_if_asked-in-Ok.ensures.written is)
+    (λ streams kept. kept) (λ t is. written_as _ _ _ t c.in_ok-finish_if_asked-in-Ok.ensures.written is)
     c.in-Ok.ensures.ok)
 
 pub returns-clause-goes : goal.returns-clause-goes
@@ -52,5 +52,4 @@ returns-in_err-finish_if_asked-in-Ok-clause-cause g c =
 
 pub returns-clause-cause : goal.returns-clause-cause
 returns-clause-cause g c =
-    stopped_by_run c.args.options.now g.K.Keeper.keeps _ _ _ _ _ c.in_memory-failure.ensures c.in-Err.ensures.err
-    (kept_maps _ _ _ c.take_words-words.ensures.same c.in-Err.ensures.cause)
+    run_stops g.K.Keeper.keeps _ _ _ _ c.in-Err.ensures.err (kept_maps _ _ _ c.take_words-words.ensures.same c.in-Err.ensures.cause)

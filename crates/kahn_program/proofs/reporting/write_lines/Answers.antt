@@ -6,6 +6,11 @@ use Rattle.kahn_program.proofs.Lines.{count_at, lines_at, line_at, written_more}
 use Rattle.kahn_program.proofs.reporting.write_lines.Goals as goal
 use Rattle.kahn_program.proofs.reporting.write_lines.Goals.{in-Outside+in_ok-write_line, in_default}
 
+pub bounds-streams-next : goal.bounds-streams-next
+bounds-streams-next c =
+    let more = count_at c.args.channels.now c.loop-number.number _ Outside c.loop-number-test.true c.in-Outside.is in
+    omega (arith, more, c.loop-number.invariant.count)
+
 pub loop-number-preserved : goal.loop-number-preserved
 loop-number-preserved c =
     let cs = c.args.channels.now in

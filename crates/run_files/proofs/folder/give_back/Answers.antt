@@ -1,7 +1,7 @@
-use Rattle.std.proofs.Common.{rules, ◌≡◌, ◌++◌, ◌∙◌, ◌∷◌, [], Some, length, slice_get, ap, sym, subst, append_assoc, append-nil}
+use Rattle.std.proofs.Common.{rules, arith, ◌≡◌, ◌≤◌, ◌++◌, ◌∙◌, ◌∷◌, [], Some, length, slice_get, ap, refl, sym, subst, append_assoc, append-nil}
 use Rattle.std.specs.Vec.Iter.{into_iter_items}
 use Rattle.run_files.specs.Opening.{AreUsed}
-use Rattle.run_files.proofs.Going.{goes_then, no_items, one_longer, opened_at, opened_goes, used_more}
+use Rattle.run_files.proofs.Going.{goes_still, goes_then, no_items, one_longer, one_within, opened_at, opened_goes, used_more}
 use Rattle.run_files.proofs.folder.give_back.Goals as goal
 
 pub give_one-requires-clause-held : goal.give_one-requires-clause-held
@@ -13,6 +13,15 @@ give_one-requires-clause-opened g c κs within =
 
 pub returns-in_err-give_one-clause-goes : goal.returns-in_err-give_one-clause-goes
 returns-in_err-give_one-clause-goes g c = goes_then _ _ _ _ _ c.loop-outlet.invariant.goes c.give_one.ensures.goes
+
+pub loop-outlet-init : goal.loop-outlet-init
+loop-outlet-init g c = record { goes = goes_still _ _ _; used = ([], tt, refl, search rules) }
+
+pub overflow_add-next : goal.overflow_add-next
+overflow_add-next g c =
+    let so_far = c.loop-outlet.invariant.used in
+    let within : length c.args.outlets.items ≤ c.args.outlets.cap = search rules in
+    omega (arith, c.args.outlets.small, within, one_within _ _ _ _ _ _ so_far.2 c.in-Some.ensures.steps.0 so_far.3)
 
 pub loop-outlet-preserved : goal.loop-outlet-preserved
 loop-outlet-preserved g c =

@@ -1,8 +1,11 @@
-use Rattle.std.proofs.Common.{sym, subst, string_bytes}
-use Rattle.run_files.specs.Opening.{AreOpened}
+use Rattle.std.proofs.Common.{rules, ◌≡◌, ◌++◌, ◌∙◌, List, ap, append-nil, length, map, sym, subst, string_bytes}
+use Rattle.std.specs.Vec.Iter.{into_iter_items}
+use Rattle.std.specs.declared.alloc.Global.{Global}
+use Rattle.std.specs.declared.string.String.{String}
+use Rattle.run_files.specs.Opening.{AreOpened, opened_names}
 use Rattle.run_files.proofs.Held.{held_longer, names_opened}
 use Rattle.run_files.proofs.Paths.{names_more}
-use Rattle.run_files.proofs.Going.{goes_then, opened_more, ready_goes, same_goes}
+use Rattle.run_files.proofs.Going.{goes_still, goes_then, no_items, opened_more, ready_goes, same_goes}
 use Rattle.run_files.proofs.folder.open_each.Goals as goal
 
 pub open_one-requires-clause-ready : goal.open_one-requires-clause-ready
@@ -33,3 +36,14 @@ loop-name-preserved g c = record {
 
 pub returns-in_err-push-2-clause-goes : goal.returns-in_err-push-2-clause-goes
 returns-in_err-push-2-clause-goes g c = goes_then _ _ _ _ _ c.loop-name.invariant.goes c.open_one.ensures.goes
+
+pub loop-name-init : goal.loop-name-init
+loop-name-init g c = record { goes = goes_still _ _ _; opened = search rules; named = search rules; files = search rules }
+
+pub returns-clause-named : goal.returns-clause-named
+returns-clause-named g c =
+    let none : length (into_iter_items c.loop-name.name-iterator) ≡ 0 = search rules in
+    let left = opened_names c.loop-name.opened.items in
+    sym (append-nil left)
+    ∙ (ap (λ (rest : List (String Global)). left ++ map (λ (name : String Global). string_bytes name) rest)
+    (sym (no_items (into_iter_items c.loop-name.name-iterator) none)) ∙ c.loop-name.invariant.named)

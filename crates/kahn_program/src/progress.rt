@@ -1,7 +1,7 @@
 // How far a run has come, in one line of the terminal.
 
+use crate::asked::Options;
 use cobaltmidge::{Net, Outlet, Port, RunHandle, RunWatch, SlotCell, TurnWatch, World};
-use kahn_program::Options;
 use std::alloc::{AllocError, Global};
 use std::io::{IsTerminal, Write};
 use std::sync::Wait;
