@@ -7,12 +7,10 @@ use Rattle.protocol.proofs.round_turns.RoundTurns.TheSendSync.{the_field_send as
 use Rattle.net_check.proofs.inputs.Inputs.TheSendSync.{the_send as inputs_s, the_sync as inputs_y}
 use Rattle.marks.proofs.marks.Marks.TheSendSync.{the_field_sync as marks_z}
 use Rattle.marks.proofs.seat.Seat.TheSendSync.{the_send as marks_seat_s}
-use Rattle.replay.proofs.kept.ArmedCrash.TheSendSync.{the_send as crash_s}
 use Rattle.replay.proofs.kept.ScriptedEvent.TheSendSync.{the_send as script_s}
+use Rattle.run_log.proofs.armed_crashes.ArmedCrashes.TheSendSync.{the_send as crashes_s}
 use Rattle.run_log.proofs.seat_count.RunCount.TheSendSync.{the_field_send as totals_t}
-use Rattle.runtime.proofs.sleepers.Sleepers.TheSendSync.{the_send as sleepers_s, the_sync as sleepers_y}
-use Rattle.runtime.proofs.workers.Workers.TheSendSync.{the_send as workers_s, the_field_send as workers_t}
-use Rattle.runtime.proofs.until.Until.TheSendSync.{the_send as until_s}
+use Rattle.runtime.proofs.workers.Workers.TheSendSync.{the_field_send as workers_t}
 use Rattle.runtime.proofs.seen.Seen.TheSendSync.{the_send as seen_s}
 use Rattle.runtime.proofs.Sends.{line_send, net_send, net_sync, state_field_send}
 use Rattle.runtime.proofs.watching.run_beside.Goals as goal
@@ -28,4 +26,4 @@ join-watched-requires-send-F g c κs within =
     let e = c.type_bounds.sync-ItsMarks in
     let h = c.type_bounds.sync-W in
     let r = c.type_bounds.sync-R in
-    search (sendable, crosses, sleepers_s, sleepers_y, workers_s, workers_t, until_s, seen_s, state_field_send, net_send, net_sync, store_t, wire_s, output_t, turns_t, inputs_s, inputs_y, marks_z, crash_s, line_send, script_s, totals_t, marks_seat_s) depth 100 fits 1000000
+    search (sendable, crosses, workers_t, seen_s, state_field_send, net_send, net_sync, store_t, wire_s, output_t, turns_t, inputs_s, inputs_y, marks_z, crashes_s, line_send, script_s, totals_t, marks_seat_s) depth 120 fits 6000000
