@@ -1,7 +1,7 @@
 //! What the words of the command line ask for.
 
-ghost use Rattle.std.specs.Prelude.{◌≡◌, ◌∷◌, [], IfErr, IfOk, codes, false, is_some, map, option_map, string_bytes, true};
-ghost use Rattle.clap.specs.Words.{HasKind, app_of, fault_of, first_value, found_of, matches_of, one_text, rows_of, rule_of};
+ghost use Rattle.std.specs.Prelude.{◌≡◌, ◌∷◌, [], IfErr, IfOk, IsOkAnd, codes, false, is_some, map, option_map, string_bytes, true};
+ghost use Rattle.clap.specs.Words.{HasKind, app_of, fault_of, first_value, found_of, matches_of, one_text, rows_of, rule_of, with_rule};
 ghost use Rattle.clap.specs.declared.error.kind.ErrorKind.TheVariants as kind;
 ghost use Rattle.protocol.specs.Node.Common.{MAX_RETAINED_ITEMS};
 ghost use Rattle.protocol.specs.declared.limits.TheConstants.{MIN_ROOM};
@@ -144,77 +144,120 @@ fn flag<'a>(alloc: Global, name: &'a str, help: &'a str) -> Arg<'a>
         .help(help)
 }
 
+// A command line, with one argument more.
+fn and<'a>(
+    command: Result<Command<'a>, AllocError>,
+    arg: Arg<'a>,
+) -> Result<Command<'a>, AllocError>
+    ensures { arg.entry.global ≡ false → IfOk result (λ c. IsOkAnd command.entry
+        (λ before. app_of c ≡ with_rule (app_of before) (rule_of arg.entry))) }
+{
+    match command {
+        Ok(before) => before.arg(arg),
+        Err(error) => Err(error),
+    }
+}
+
 /// The command line:
 /// `kahnrun [--script FILE] [--state FOLDER [--sync]] [--rounds N] [--items N] [--room N] [--plain] [--approx N] [--explain] [--history FILE] [--quiet] NET INPUTS`;
 /// or `kahnrun --help`, or `kahnrun --version`.
 fn command<'a>(alloc: Global) -> Result<Command<'a>, AllocError>
     ensures { IfOk result (λ c. app_of c ≡ kahnrun) }
 {
-    let command = Command::new(alloc, "kahnrun")
+    let start = Command::new(alloc, "kahnrun")
         .version(VERSION)
         .about(ABOUT)
-        .after_help(AFTER_OPTIONS)
-        .arg(file(alloc, "NET", "The network's text"))?
-        .arg(file(
+        .after_help(AFTER_OPTIONS);
+    let net = and(Ok(start), file(alloc, "NET", "The network's text"));
+    let inputs = and(
+        net,
+        file(
             alloc,
             "INPUTS",
             "The items of each input, a line for each: i: 1 2 3",
-        ))?
-        .arg(file_option(
+        ),
+    );
+    let script = and(
+        inputs,
+        file_option(
             alloc,
             "script",
             "FILE",
             "What is to fail, a line for each failure",
-        ))?
-        .arg(file_option(
+        ),
+    );
+    let state = and(
+        script,
+        file_option(
             alloc,
             "state",
             "FOLDER",
             "Keeps what left in this folder; a later run computes again, compares, and adds what is missing",
-        ))?
-        .arg(flag(
+        ),
+    );
+    let sync = and(
+        state,
+        flag(
             alloc,
             "sync",
             "With --state: waits until what the folder keeps outlasts a loss of power too",
-        ))?
-        .arg(rounds(alloc))?
-        .arg(number(
+        ),
+    );
+    let to_round = and(sync, rounds(alloc));
+    let items = and(
+        to_round,
+        number(
             alloc,
             "items",
             0,
             MAX_ITEMS,
             "Ends the run once so many items of each output have left",
-        ))?
-        .arg(room(alloc))?
-        .arg(flag(
+        ),
+    );
+    let channels = and(items, room(alloc));
+    let plain = and(
+        channels,
+        flag(
             alloc,
             "plain",
             "Takes the nodes' turns on one thread, one after another",
-        ))?
-        .arg(number(
+        ),
+    );
+    let approx = and(
+        plain,
+        number(
             alloc,
             "approx",
             0,
             MAX_APPROXIMATION,
             "Runs nothing, and prints this approximation of the outputs",
-        ))?
-        .arg(flag(
+        ),
+    );
+    let explain = and(
+        approx,
+        flag(
             alloc,
             "explain",
             "Says where and why a text is refused, and shows its line; a terminal has that without being asked",
-        ))?
-        .arg(file_option(
+        ),
+    );
+    let history = and(
+        explain,
+        file_option(
             alloc,
             "history",
             "FILE",
             "Writes what happens in the run into this file, a line for each event",
-        ))?
-        .arg(flag(
+        ),
+    );
+    and(
+        history,
+        flag(
             alloc,
             "quiet",
             "Never shows on a terminal how far the run has come",
-        ))?;
-    Ok(command)
+        ),
+    )
 }
 
 /// The name of the file or folder that an option was given, if it was.

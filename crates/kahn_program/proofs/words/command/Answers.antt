@@ -1,32 +1,49 @@
-use Rattle.std.proofs.Common.{◌≡◌, ◌∙◌, ap, ap₂}
+use Rattle.std.proofs.Common.{◌≡◌, ◌∙◌, ap, ap₂, codes, Ok, Err, Result}
+use Rattle.std.specs.Prelude.{IfOk, IsOkAnd}
+use Rattle.std.specs.declared.alloc.AllocError.{AllocError}
 use Rattle.clap.specs.Simple.{app_of_fields}
-use Rattle.clap.specs.Words.{app_of, with_rule}
+use Rattle.clap.specs.Words.{App, Rule, app_of, new_app, with_rule}
 use Rattle.kahn_program.specs.CommandLine.{kahnrun, with_version}
 use Rattle.kahn_program.proofs.words.command.Goals as goal
+
+-- one argument more, where there was a command line before
+next : {C E F : Type 0} (app : C → App) (before : Result C E) (after : Result C F) (known : App) (rule other : Rule) → other ≡ rule
+    → IfOk before (λ b. app b ≡ known) → IfOk after (λ c. IsOkAnd before (λ b. app c ≡ with_rule (app b) other))
+    → IfOk after (λ c. app c ≡ with_rule known rule)
+next app (Ok b) (Ok c) known rule other same is by = by ∙ ap₂ with_rule is same
+next app (Err e) (Ok c) known rule other same is by = absurd by
+next app before (Err e) known rule other same is by = tt
 
 pub returns : goal.returns
 unfolding kahnrun
 returns c =
-    let app : app_of c.after_help.result ≡ app_of c.version.result =
-    ap app_of_fields c.after_help.ensures ∙ ap app_of_fields c.about.ensures in
+    let texts : app_of c.after_help-start.result ≡ app_of c.version.result =
+    ap app_of_fields c.after_help-start.ensures ∙ ap app_of_fields c.about.ensures in
     let version : app_of c.version.result ≡ with_version (app_of c.new.result) = ap app_of_fields c.version.ensures in
+    let start : app_of c.after_help-start.result ≡ with_version (new_app (codes "kahnrun")) =
+    texts ∙ (version ∙ ap with_version c.new.ensures.app) in
     let net =
-    c.in_ok-arg.ensures.shape c.file.ensures.here
-    ∙ ap₂ with_rule (app ∙ version ∙ ap with_version c.new.ensures.app) c.file.ensures.rule in
-    let inputs = c.in_ok-arg-2.ensures.shape c.file-2.ensures.here ∙ ap₂ with_rule net c.file-2.ensures.rule in
+    next {E = AllocError} app_of (Ok c.after_help-start.result) c.and-net.result _ _ _ c.file.ensures.rule start (c.and-net.ensures c.file.ensures.here) in
+    let inputs =
+    next app_of c.and-net.result c.and-inputs.result _ _ _ c.file-2.ensures.rule net (c.and-inputs.ensures c.file-2.ensures.here) in
     let script =
-    c.in_ok-arg-3.ensures.shape c.file_option.ensures.here ∙ ap₂ with_rule inputs c.file_option.ensures.rule in
+    next app_of c.and-inputs.result c.and-script.result _ _ _ c.file_option.ensures.rule inputs (c.and-script.ensures c.file_option.ensures.here) in
     let state =
-    c.in_ok-arg-4.ensures.shape c.file_option-2.ensures.here ∙ ap₂ with_rule script c.file_option-2.ensures.rule in
-    let sync = c.in_ok-arg-5.ensures.shape c.flag.ensures.here ∙ ap₂ with_rule state c.flag.ensures.rule in
-    let rounds = c.in_ok-arg-6.ensures.shape c.rounds.ensures.here ∙ ap₂ with_rule sync c.rounds.ensures.rule in
-    let items = c.in_ok-arg-7.ensures.shape c.number.ensures.here ∙ ap₂ with_rule rounds c.number.ensures.rule in
-    let room = c.in_ok-arg-8.ensures.shape c.room.ensures.here ∙ ap₂ with_rule items c.room.ensures.rule in
-    let plain = c.in_ok-arg-9.ensures.shape c.flag-2.ensures.here ∙ ap₂ with_rule room c.flag-2.ensures.rule in
+    next app_of c.and-script.result c.and-state.result _ _ _ c.file_option-2.ensures.rule script (c.and-state.ensures c.file_option-2.ensures.here) in
+    let sync =
+    next app_of c.and-state.result c.and-sync.result _ _ _ c.flag.ensures.rule state (c.and-sync.ensures c.flag.ensures.here) in
+    let rounds =
+    next app_of c.and-sync.result c.and-to_round.result _ _ _ c.rounds.ensures.rule sync (c.and-to_round.ensures c.rounds.ensures.here) in
+    let items =
+    next app_of c.and-to_round.result c.and-items.result _ _ _ c.number.ensures.rule rounds (c.and-items.ensures c.number.ensures.here) in
+    let room =
+    next app_of c.and-items.result c.and-channels.result _ _ _ c.room.ensures.rule items (c.and-channels.ensures c.room.ensures.here) in
+    let plain =
+    next app_of c.and-channels.result c.and-plain.result _ _ _ c.flag-2.ensures.rule room (c.and-plain.ensures c.flag-2.ensures.here) in
     let approx =
-    c.in_ok-arg-10.ensures.shape c.number-2.ensures.here ∙ ap₂ with_rule plain c.number-2.ensures.rule in
+    next app_of c.and-plain.result c.and-approx.result _ _ _ c.number-2.ensures.rule plain (c.and-approx.ensures c.number-2.ensures.here) in
     let explain =
-    c.in_ok-arg-11.ensures.shape c.flag-3.ensures.here ∙ ap₂ with_rule approx c.flag-3.ensures.rule in
+    next app_of c.and-approx.result c.and-explain.result _ _ _ c.flag-3.ensures.rule approx (c.and-explain.ensures c.flag-3.ensures.here) in
     let history =
-    c.in_ok-arg-12.ensures.shape c.file_option-3.ensures.here ∙ ap₂ with_rule explain c.file_option-3.ensures.rule in
-    c.in_ok-command.ensures.shape c.flag-4.ensures.here ∙ ap₂ with_rule history c.flag-4.ensures.rule
+    next app_of c.and-explain.result c.and-history.result _ _ _ c.file_option-3.ensures.rule explain (c.and-history.ensures c.file_option-3.ensures.here) in
+    next app_of c.and-history.result c.and.result _ _ _ c.flag-4.ensures.rule history (c.and.ensures c.flag-4.ensures.here)
