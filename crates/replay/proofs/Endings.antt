@@ -1,5 +1,5 @@
 -- What an event leaves of that by which a run ends.
-use Rattle.std.proofs.Common.{◌≡◌, ◌∙◌, ◌≤◌, ◌+◌, ℕ, zero, suc, ℤ, Bool, true, false, ◌&&◌, if◌then◌else◌, List, [], ◌∷◌, Option}
+use Rattle.std.proofs.Common.{◌≡◌, ◌∙◌, ◌≤◌, ◌+◌, ℕ, zero, suc, ℤ, Bool, true, false, if◌then◌else◌, List, [], ◌∷◌, Option}
 use Rattle.std.proofs.Common.{Some, None, refl, sym, ap, subst, slice_get, arith}
 use Rattle.std.specs.Prelude.{◌==◌, find, nat_lt, slice_set}
 use Rattle.std.specs.List.{list_all}
@@ -16,8 +16,8 @@ use Rattle.protocol.specs.World.Steps.{IsActAt, are_done_with}
 use Rattle.protocol.specs.declared.event.Deed.TheVariants as event
 use Rattle.protocol.specs.declared.outcome.Outcome.{Outcome}
 use Rattle.protocol.specs.declared.reply.Reply.TheVariants as reply
-use Rattle.replay.specs.Armed.{ArmCrash, ArmedEvent, ArmedView, EndsWith, IsArmedStep, IsWorldStep, OfWorld, crash_after, crash_at}
-use Rattle.replay.specs.Armed.{delivered_to, has_come, with_crash}
+use Rattle.replay.specs.Armed.{ArmCrash, ArmedView, EndsWith, OfWorld, crash_after, crash_at}
+use Rattle.replay.specs.Armed.{delivered_to, has_come}
 use Rattle.replay.specs.Endings.{InstallsEndNothing, RoundsAreNext}
 use Rattle.replay.specs.declared.kept.ArmedCrash.{ArmedCrash}
 
@@ -152,11 +152,6 @@ next_within n = at (nat_lt n MAX_COUNT)
 after_idling : (done : Bool) (n : ℕ) → (if done then next_number n else n) ≤ n + 1
 after_idling true n = next_within n
 after_idling false n = omega arith
-
--- an answer that isn't that a turn passed
-abbrev is_idled : ReplyView → Bool
-is_idled reply.Idled = true
-is_idled answer = false
 
 within : (n m : ℕ) → m ≡ n → m ≤ n + 1
 within n m same = omega (arith, same)

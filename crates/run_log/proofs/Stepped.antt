@@ -1,5 +1,5 @@
 -- A node's event that was made in one step.
-use Rattle.std.proofs.Common.{◌≡◌, ◌∙◌, ◌⊎◌, ◌≤◌, inl, ℕ, Bool, true, false, List, Option, Some, refl, sym, ap, subst, eqb}
+use Rattle.std.proofs.Common.{◌≡◌, ◌∙◌, ◌⊎◌, ◌≤◌, inl, ℕ, Bool, true, false, List, Option, Some, refl, ap, subst, eqb}
 use Rattle.std.specs.Prelude.{IfSome}
 use Rattle.kahn_net.specs.declared.limits.TheConstants.{MAX_COUNT}
 use Rattle.protocol.specs.Node.Common.{RecordView}

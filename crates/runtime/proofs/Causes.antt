@@ -1,10 +1,10 @@
 -- Why a hub is stopped stays so, and no round begins behind the last one.
-use Rattle.std.proofs.Common.{◌≡◌, ◌∙◌, ◌+◌, ◌<◌, ◌≤◌, ◌||◌, ℕ, zero, suc, ℤ, Bool, true, false, not, List, [], ◌∷◌, length, map, max, Option}
+use Rattle.std.proofs.Common.{◌≡◌, ◌∙◌, ◌+◌, ◌<◌, ◌≤◌, ◌||◌, ℕ, zero, suc, ℤ, Bool, true, false, List, [], ◌∷◌, map, Option}
 use Rattle.std.proofs.Common.{Some, None, refl, sym, ap, subst, arith}
 use Rattle.std.specs.Prelude.{nat_le, IfOk, OnErr, OnOk, Result, Ok, Err}
 use Rattle.protocol.specs.Node.Common.{Channel, RecordView}
 use Rattle.protocol.specs.World.Common.{DoneView, Install, ReplyView, WorldView, are_quiet, output_channels, released_of}
-use Rattle.replay.specs.Armed.{ArmedView, IsArmedStep, OfWorld, armed_widened}
+use Rattle.replay.specs.Armed.{ArmedView, IsArmedStep, OfWorld}
 use Rattle.replay.specs.declared.kept.RunEvent.{RunEvent}
 use Rattle.replay.specs.declared.kept.ScriptedEvent.{ScriptedEvent}
 use Rattle.replay.specs.Plain.{run_view}
@@ -16,14 +16,12 @@ use Rattle.run_log.specs.declared.answer.TurnAnswer.{TurnAnswer}
 use Rattle.run_log.specs.declared.answer.TurnAnswer.TheVariants as turn
 use Rattle.station.specs.ReplyView.{Reply, reply_view}
 use Rattle.runtime.specs.Beginning.{first_lines}
-use Rattle.runtime.specs.Causes.{is_cause, is_caused, last_round}
-use Rattle.runtime.specs.Ending.{IsOver, goes_on, have_items, is_over}
-use Rattle.runtime.specs.Turning.{ArePassed, IsLinePassed, IsPassedBy, Progress, progress}
+use Rattle.runtime.specs.Causes.{is_caused, last_round}
+use Rattle.runtime.specs.Ending.{have_items, is_over}
+use Rattle.runtime.specs.Turning.{ArePassed, IsLinePassed, IsPassedBy, Progress}
 use Rattle.runtime.specs.declared.bounds.Bounds.{Bounds}
 use Rattle.runtime.specs.declared.cause.Cause.{Cause}
 use Rattle.runtime.specs.declared.cause.Cause.TheVariants.{Over, Refused, Asked}
-use Rattle.runtime.specs.declared.ending.RunEnd.{RunEnd}
-use Rattle.runtime.specs.declared.ending.RunEnd.TheVariants as ended
 
 -- ---- what nothing happens to
 
@@ -191,36 +189,6 @@ install_within fits limit done (Ok reply) old new step refused within =
     same_within limit old new (installs_end_nothing fits done old new (reply_view reply) step).0 within
 install_within fits limit done (Err error) old new step refused within =
     same_within limit old new (ap (λ (a : ArmedView). a.world.round) refused) within
-
--- ---- why a run is over
-
-or_left : (a b : Bool) → a ≡ true → (a || b) ≡ true
-or_left true b is = refl
-or_left false b is = absurd (cc)
-
-or_right : (a b : Bool) → b ≡ true → (a || b) ≡ true
-or_right true b is = refl
-or_right false b is = is
-
-pub over_if_quiet : (channels : List Channel) (bounds : Bounds) (world : WorldView) → are_quiet world ≡ true
-    → is_over channels bounds world ≡ true
-over_if_quiet channels bounds world quiet = or_left (are_quiet world) _ quiet
-
-pub over_by_rounds : (channels : List Channel) (bounds : Bounds) (world : WorldView) → bounds.rounds ≤ world.round
-    → is_over channels bounds world ≡ true
-over_by_rounds channels bounds world past =
-    or_right (are_quiet world) _ (or_left (nat_le bounds.rounds world.round) _ (grind (arith, past)))
-
-pub over_if_ended : (over goes : Bool) → goes ≡ not over → goes ≡ false → over ≡ true
-over_if_ended true goes is ends = refl
-over_if_ended false goes is ends = absurd (cc)
-
--- one that is over isn't told to be stopped
-pub not_stopped : (over may_stop : Bool) (end : RunEnd) → goes_on end ≡ not over → over ≡ true → end ≡ ended.Stopped → may_stop ≡ true
-not_stopped over may_stop end is ends stopped = absurd (clash (sym (ap goes_on stopped) ∙ (is ∙ ap not ends)))
-  where
-    clash : true ≡ false → ⊥
-    clash same = absurd (cc)
 
 -- ---- a call that is refused
 

@@ -1,9 +1,8 @@
 // A run by turns on one thread, from its world to its end.
-ghost use Rattle.std.specs.Prelude.{◌≡◌, ◌≢◌, ◌==◌, ◌≤◌, ◌+◌, ℕ, not, true, false, length, replicate, if◌then◌else◌, IfOk, OnErr, OnOk, Result};
+ghost use Rattle.std.specs.Prelude.{◌≡◌, ◌≢◌, ◌==◌, ◌≤◌, ◌+◌, ℕ, not, true, false, length, IfOk, OnOk, Result};
 ghost use Rattle.node_memory.specs.JobView.{shared_view};
 ghost use Rattle.protocol.specs.Node.Common.{MAX_CHANNELS, MAX_NODES, network_of};
 ghost use Rattle.protocol.specs.World.Common.{IsGrantedAt, node_in};
-ghost use Rattle.replay.specs.Armed.{IsArmedStep, OfWorld, armed_at_first};
 ghost use Rattle.replay.specs.Replay.{LeadsTo};
 ghost use Rattle.run_log.specs.Answers.{IsGrantedIn};
 ghost use Rattle.run_log.specs.ArmedWorlds.{armed_view};
