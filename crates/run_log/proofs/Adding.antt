@@ -3,7 +3,8 @@ use Rattle.std.proofs.Common.{◌≡◌, ◌∙◌, ◌⊎◌, ◌++◌, ◌∷�
 use Rattle.std.proofs.Common.{arith, inl, inr}
 use Rattle.std.proofs.Math.Logic.{∥∥₁_map, ∥∥₁_map₂}
 use Rattle.std.specs.Prelude.{if◌then◌else◌, nat_le}
-use Rattle.run_log.specs.Turns.{Due, Early, Over, next_line, next_line_by}
+use Rattle.replay.specs.declared.kept.RunEvent.{RunEvent}
+use Rattle.run_log.specs.Turns.{Due, Early, NextLine, Over, is_due, next_line, next_line_by}
 use Rattle.std.proofs.lemmas.Option.{slice_get_past, slice_get_read}
 use Rattle.std.proofs.lemmas.List.Concat.{flat_map-append}
 use Rattle.std.proofs.lemmas.List.Sums.{sum_by-append}
@@ -206,3 +207,12 @@ module _ (script : List ScriptedEvent) (passed round : ℕ) where
 
   pub no_line_is_left : length script ≤ passed → next_line script passed round ≡ Over
   no_line_is_left past = found_by None (slice_get_past script passed past)
+
+  due_by : (b : Bool) (event : RunEvent) → is_due (if b then Due event else Early) ≡ b
+  due_by true event = refl
+  due_by false event = refl
+
+  -- whether the line that is next is due
+  pub told_due : (line : ScriptedEvent) → slice_get script passed ≡ Some line
+      → is_due (next_line script passed round) ≡ nat_le line.round round
+  told_due line is = ap (λ (next : NextLine). is_due next) (found_by (Some line) is) ∙ due_by (nat_le line.round round) line.event

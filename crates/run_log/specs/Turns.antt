@@ -1,5 +1,5 @@
 -- What a call of a run's log does to its world, by what it answers.
-use Rattle.std.specs.Prelude.{◌≡◌, ◌+◌, ℕ, nat_le, Bool, if◌then◌else◌, List, Option, Some, None, slice_get}
+use Rattle.std.specs.Prelude.{◌≡◌, ◌+◌, ℕ, nat_le, Bool, true, false, if◌then◌else◌, List, Option, Some, None, slice_get}
 use Rattle.protocol.specs.Node.Common.{RecordView}
 use Rattle.protocol.specs.World.Common.{choice}
 use Rattle.replay.specs.Armed.{ArmedView, IsArmedStep, OfWorld, armed_widened}
@@ -34,6 +34,12 @@ pub data NextLine : Type 0 where
 abbrev pub next_line_by : ℕ → Option ScriptedEvent → NextLine
 next_line_by round None = Over
 next_line_by round (Some line) = if nat_le line.round round then Due line.event else Early
+
+-- a line is due
+abbrev pub is_due : NextLine → Bool
+is_due (Due event) = true
+is_due Early = false
+is_due Over = false
 
 abbrev pub next_line : List ScriptedEvent → ℕ → ℕ → NextLine
 next_line script passed round = next_line_by round (slice_get script passed)

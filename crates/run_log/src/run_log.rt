@@ -13,7 +13,7 @@ ghost use Rattle.replay.specs.declared.kept.Silence.TheVariants.{Nothing};
 ghost use Rattle.run_log.specs.Answers.{fault_kind, turn_kind, IsGrantedIn, IsReplyIn, IsSilentIn, IsStillIn, IsFaultWritten, IsTurnWritten, TellsFault, TellsTurn};
 ghost use Rattle.run_log.specs.Counts.{kind_of, numbers_in, IsCounted};
 ghost use Rattle.run_log.specs.Added.{IsAdded};
-ghost use Rattle.run_log.specs.Turns.{IsFault, IsTurn, passed_then};
+ghost use Rattle.run_log.specs.Turns.{IsFault, IsTurn, is_due, next_line, passed_then};
 ghost use Rattle.run_log.specs.Lines.{IsWidened, happenings};
 ghost use Rattle.run_log.specs.declared.answer.FaultAnswer.TheVariants as faults;
 ghost use Rattle.run_log.specs.declared.answer.HubFault.TheVariants.{PastNumber};
@@ -384,8 +384,9 @@ impl<C: SlotCell, O: Outlet, ThisRun: Run> RunLog<C, O, ThisRun> {
         Ok(())
     }
 
-    // Whether it is noted that a node rests, and no packet is due for it: then it has nothing to do, and the world need not be asked.
-    fn is_at_rest(&self, node: u8) -> bool
+    /// Whether it is known that a node has nothing to do, and the world need not be asked: it is noted that the node rests, and no packet is due
+    /// for it.
+    pub fn is_at_rest(&self, node: u8) -> bool
         ensures { IsTrue result → next_turn (world_of self.now.armed.world) node ≡ next.Rest }
     {
         if usize::from(node) >= NODES {
@@ -679,6 +680,18 @@ impl<C: SlotCell, O: Outlet, ThisRun: Run> RunLog<C, O, ThisRun> {
         ensures none { NODES ≤ node → result ≡ false }
     {
         self.armed.world.has_packet(node)
+    }
+
+    /// Whether the script's next line is due.
+    pub fn is_line_due(&self) -> bool
+        ensures { result ≡ is_due (next_line ThisRun.script self.now.passed (world_of self.now.armed.world).round) }
+    {
+        let passed = self.passed;
+        if passed >= self.script.len() {
+            return false;
+        }
+        let line = self.script[passed];
+        line.round <= self.armed.world.round()
     }
 
     /// The round of the script's next line.

@@ -10,7 +10,7 @@ use Rattle.replay.specs.Armed.{ArmedView, armed_widened}
 use Rattle.replay.specs.declared.kept.NextTurn.{NextTurn}
 use Rattle.replay.specs.declared.kept.ScriptedEvent.{ScriptedEvent}
 use Rattle.replay.specs.declared.kept.RunEvent.{RunEvent}
-use Rattle.run_log.specs.Turns.{Due, Early, IsFault, IsTurn, NextLine, Over, next_line, next_line_by, passed_then}
+use Rattle.run_log.specs.Turns.{Due, Early, IsFault, IsTurn, NextLine, Over, is_due as due, next_line, next_line_by, passed_then}
 use Rattle.run_log.specs.declared.answer.FaultAnswer.{FaultAnswer}
 use Rattle.run_log.specs.declared.answer.FaultAnswer.TheVariants as fault
 use Rattle.run_log.specs.declared.answer.TurnAnswer.{TurnAnswer}
@@ -72,6 +72,16 @@ line_passed fits script passed now old new fault.NoMore runs played count =
     subst (λ (next : NextLine). IsPassedBy next fits (progress old passed) (progress new now)) (sym played.0)
     (same_progress old new passed now played.1 count)
 line_passed fits script passed now old new fault.Stopped runs played count = absurd (runs refl)
+
+passed_none : (next : NextLine) (fits : List (RecordView → Bool)) (now : Progress) → due next ≡ false → IsPassedBy next fits now now
+passed_none (Due event) fits now none = absurd (cc)
+passed_none Early fits now none = refl
+passed_none Over fits now none = refl
+
+-- where no line is due
+pub none_passed : (fits : List (RecordView → Bool)) (script : List ScriptedEvent) (now : Progress)
+    → due (next_line script now.passed now.armed.world.round) ≡ false → IsLinePassed fits script now now
+none_passed fits script now none = passed_none (next_line script now.passed now.armed.world.round) fits now none
 
 -- ---- the lines of round 0
 

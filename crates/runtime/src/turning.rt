@@ -58,6 +58,10 @@ impl<C: SlotCell, O: Outlet, ThisRun: Run> Table<C, O, ThisRun> {
             (progress (armed_view self.new.log.armed) self.new.log.passed)) }
     {
         let Table { log, count, .. } = self;
+        // Where nothing comes of it nothing is asked, so that nothing is written.
+        if !log.is_line_due() {
+            return Ok(());
+        }
         let _answer = log.fault(alloc, count)?;
         Ok(())
     }
@@ -84,6 +88,9 @@ impl<C: SlotCell, O: Outlet, ThisRun: Run> Table<C, O, ThisRun> {
         ensures same { self.new.log.passed ≡ self.old.log.passed }
     {
         let Table { log, count, .. } = self;
+        if log.is_at_rest(node) {
+            return Ok(TurnAnswer::Nothing);
+        }
         log.turn(alloc, node, count)
     }
 

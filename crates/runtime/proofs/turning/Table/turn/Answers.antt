@@ -2,8 +2,8 @@ use Rattle.std.proofs.Common.{◌∙◌}
 use Rattle.runtime.proofs.Beginnings.{turned}
 use Rattle.runtime.proofs.turning.Table.turn.Goals as goal
 
-pub invariant_of-self : goal.invariant_of-self
-invariant_of-self g c = record {
+pub invariant_of-self-2 : goal.invariant_of-self-2
+invariant_of-self-2 g c = record {
   one_part = c.turn.ensures.parts ∙ c.args.self.now.one_part;
   running = c.turn.ensures.running ∙ c.args.self.now.running;
   begins = λ keeps.
