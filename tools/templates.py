@@ -100,7 +100,7 @@ MAIN = "fn main(rt: HostRuntime) -> ExitCode {\n"       # with which the main fu
 
 # What stands before it where other programs are one with it.
 TABLE_WORDS = """fn first_word(rt: &HostRuntime) -> Option<String> {
-    let mut words = env::args(rt).ok()?;
+    let mut words = std::env::args(rt).ok()?;
     words.nth(1)
 }
 
