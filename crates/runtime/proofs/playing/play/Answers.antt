@@ -1,5 +1,5 @@
 -- where the run didn't begin nothing is written, and the world is the one that was handed in
-use Rattle.std.proofs.Common.{rules, ◌≡◌, ℕ, true, ap, subst}
+use Rattle.std.proofs.Common.{rules, ◌≡◌, ◌∙◌, ℕ, true, sym, ap, subst}
 use Rattle.replay.specs.Armed.{ArmedView}
 use Rattle.run_log.specs.ArmedWorlds.{armed_view}
 use Rattle.run_log.specs.RunLogs.{happened_in}
@@ -61,3 +61,7 @@ over-hub-requires g c =
       in_rounds = begun_within rooms script g.ThisRun.HubRun.bounds lines g.ThisRun.Run.opening first begun are
           (ap (λ (a : ArmedView). a.world) c.open_log-log.ensures.first) passed;
     }
+
+-- who watches it may stop it where the run's name says so
+pub returns-clause-stopped : goal.returns-clause-stopped
+returns-clause-stopped g c = λ stopped. sym c.requires.watch ∙ c.close.ensures.stopped stopped
