@@ -1,4 +1,5 @@
 pub mod Turns
+mod Remaining
 pub mod Streams
 pub mod Named
 mod Filed

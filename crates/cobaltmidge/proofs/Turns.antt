@@ -20,6 +20,7 @@ use Rattle.std.specs.declared.alloc.Global.{Global}
 use Rattle.std.specs.declared.sync.Arc.{Arc}
 use Rattle.protocol.specs.World.Common.{opening_traffic, opening_world, output_channels, OutletView, WorldView}
 use Rattle.protocol.specs.World.Common.{with_room, ReplyView}
+use Rattle.protocol.specs.Node.Sharing.{IsRoom}
 use Rattle.protocol.specs.World.OpeningWorld.{opening_outlet, opening_stations}
 use Rattle.world.specs.OpeningWorld.{IsUnused}
 use Rattle.station.specs.StationView.{outlet_view, outlet_views}
@@ -44,7 +45,7 @@ use Rattle.runtime.specs.declared.ending.RunEnd.{RunEnd}
 use Rattle.runtime.specs.declared.ending.RunEnd.TheVariants.{Complete, Rounds, Items, Refused, Stopped}
 use Rattle.cobaltmidge.specs.FirstWorld.{first_world, HasNoFailures, IsRunRoom, nearest_room, run_rooms, unused_outlet}
 use Rattle.cobaltmidge.specs.Failing.{HasFailedAtOnce, IsRunFault, store_fault}
-use Rattle.cobaltmidge.specs.Runs.{IsEnd, bounds_of}
+use Rattle.cobaltmidge.specs.Runs.{HasCome, IsEnd, bounds_of}
 use Rattle.cobaltmidge.specs.declared.settings.Settings.{Settings}
 
 -- one more of which it holds
@@ -129,6 +130,10 @@ run_refused {D} threads sectors net number (d ∷ disks) fault valid all (inl re
     at Unsettled why failed = absurd why
     at Spent why failed = absurd why
 
+-- a run's room is one that a channel may be given
+pub nearest_is_room : (asked : ℕ) → IsRoom (nearest_room asked)
+nearest_is_room asked = (omega arith, omega arith)
+
 -- The first world
 
 module _ {O : Type 0} (taken : O → List ℤ) (failures : O → ℕ) where
@@ -191,6 +196,25 @@ until_over over nodes fits script first now Items unrefused ends = ends
 until_over over nodes fits script first now (Refused fault) unrefused ends = absurd (cc)
 until_over over nodes fits script first now Stopped unrefused ends = absurd ends
 
+-- How far a run came, of the network's own first world
+pub come_so : {C O : Type 0} {cell : CellWords C} {slots : SlotWords C} (taken : O → List ℤ) (failures : O → ℕ)
+    (stations : List (Station C O slots cell)) (settings : Settings) (net : Network) (inputs : List (List ℤ))
+    (script : List ScriptedEvent) (happened : List Happening) (first now : WorldView)
+    → AllByRecursion IsRunRoom (capacities stations) → first.stations ≡ map (station_view taken failures) stations
+    → first ≡ first_world net inputs settings.room → HasRun (rooms stations) script first now
+    → (settings.history ≡ true → LeadsTo (rooms stations) script first happened now)
+    → HasCome settings net inputs script happened now
+come_so taken failures stations settings net inputs script happened first now room same opened run leads =
+    record {
+      run = subst (λ (w : WorldView). HasRun (run_rooms w.stations) script w now) opened
+          (subst (λ (fits : List (RecordView → Bool)). HasRun fits script first now) fitting run);
+      history = λ yes. subst (λ (w : WorldView). LeadsTo (run_rooms w.stations) script w happened now) opened
+          (subst (λ (fits : List (RecordView → Bool)). LeadsTo fits script first happened now) fitting (leads yes));
+    }
+  where
+    fitting : rooms stations ≡ run_rooms first.stations
+    fitting = rooms_are taken failures stations room ∙ ap run_rooms (sym same)
+
 -- How a run comes to its end, of the network's own first world
 pub ended_so : {C O : Type 0} {cell : CellWords C} {slots : SlotWords C} (taken : O → List ℤ) (failures : O → ℕ)
     (stations : List (Station C O slots cell)) (settings : Settings) (net : Network) (inputs : List (List ℤ))
@@ -204,10 +228,8 @@ pub ended_so : {C O : Type 0} {cell : CellWords C} {slots : SlotWords C} (taken 
     → IsEnd settings net inputs script happened now
 ended_so taken failures stations settings net inputs script happened first now end nodes room same opened many unrefused run leads turns
     rounds = record {
-      run = subst (λ (w : WorldView). HasRun (run_rooms w.stations) script w now) opened
-          (subst (λ (fits : List (RecordView → Bool)). HasRun fits script first now) fitting run);
-      history = λ yes. subst (λ (w : WorldView). LeadsTo (run_rooms w.stations) script w happened now) opened
-          (subst (λ (fits : List (RecordView → Bool)). LeadsTo fits script first happened now) fitting (leads yes));
+      run = come.run;
+      history = come.history;
       turns = λ by_turns. subst (λ (w : WorldView). IsRunByTurns (is_over w.net.channels (bounds_of settings)) (node_count net)
           (run_rooms w.stations) script w now) opened
           (subst (λ (n : ℕ). IsRunByTurns (is_over first.net.channels (bounds_of settings)) n (run_rooms first.stations) script first now) many
@@ -218,6 +240,9 @@ ended_so taken failures stations settings net inputs script happened first now e
   where
     fitting : rooms stations ≡ run_rooms first.stations
     fitting = rooms_are taken failures stations room ∙ ap run_rooms (sym same)
+
+    come : HasCome settings net inputs script happened now
+    come = come_so taken failures stations settings net inputs script happened first now room same opened run leads
 
 pub if_ok_then : {T E : Type 0} (P Q : T → Type 0) (result : Result T E) → ((value : T) → P value → Q value)
     → IfOk result P → IfOk result Q

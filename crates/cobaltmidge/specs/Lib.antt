@@ -6,6 +6,7 @@ pub mod Names
 pub mod FirstWorld
 pub mod Reasons
 pub mod Runs
+pub mod Remaining
 pub mod Scripts
 pub mod Accepting
 pub mod FileNames

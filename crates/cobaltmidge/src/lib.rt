@@ -24,6 +24,7 @@ mod settings;
 mod state;
 mod state_error;
 mod texts;
+mod unfinished;
 
 pub use diagnosis::Explanation;
 pub use diagnosis::NeverDue;
@@ -111,6 +112,8 @@ pub use texts::Accepted;
 pub use texts::ReadTexts;
 pub use texts::Texts;
 pub use texts::read_texts;
+pub use unfinished::Left;
+pub use unfinished::Unfinished;
 pub use wire::Change;
 pub use wire::Rule;
 pub use world::DEFAULT_ROOM;

@@ -273,7 +273,7 @@ impl Network {
             DEFAULT_ROOM as u64,
         ) {
             Ok(world) => Ok(world),
-            Err(fault) => Err(run_error(fault)),
+            Err(unfinished) => Err(run_error(unfinished.fault)),
         }
     }
 }

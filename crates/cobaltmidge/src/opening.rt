@@ -7,17 +7,20 @@ ghost use Rattle.protocol.specs.World.Common.{output_channels};
 ghost use Rattle.world.specs.WholeView.{capacities_in, world_of};
 ghost use Rattle.world.specs.OpeningWorld.{IsUnused};
 ghost use Rattle.cobaltmidge.specs.Failing.{IsRunFault};
+ghost use Rattle.cobaltmidge.specs.Remaining.{HasOutputs};
+ghost use Rattle.cobaltmidge.specs.declared.unfinished.Left.TheVariants as left;
 ghost use Rattle.cobaltmidge.specs.FirstWorld.{HasNoFailures, IsRunRoom, first_world, nearest_room};
 
 use crate::disks::empty_disks;
 use crate::ending::RunWorld;
 use crate::fault::{RunFault, store_fault};
+use crate::unfinished::{Left, Unfinished};
 use ckpt_codec::MAX_RETAINED_ITEMS;
 use net_check::{Inputs, Net};
 use outlet::Outlet;
 use std::alloc::Global;
 use std::sync::Arc;
-use world::{MIN_ROOM, Output, World};
+use world::{MIN_ROOM, OpeningRefused, Output, World};
 
 /// The room of a channel that is nearest to the one asked for.
 fn nearest_room(asked: u64) -> usize
@@ -26,7 +29,17 @@ fn nearest_room(asked: u64) -> usize
     asked.max(MIN_ROOM as u64).min(MAX_RETAINED_ITEMS as u64) as usize
 }
 
-/// The world of a run before its first event, with the room that is asked for on its channels.
+/// The outlets of a run that didn't begin.
+fn unbegun<O: Outlet>(outputs: Vec<Output<O>>, fault: RunFault) -> Unfinished<O>
+    ensures { (result.fault ≡ fault) × (result.left ≡ left.Outputs outputs) }
+{
+    Unfinished {
+        fault,
+        left: Left::Outputs(outputs),
+    }
+}
+
+/// The world of a run before its first event, with the room that is asked for on its channels. A refusal hands back the outlets.
 pub(crate) fn open_world<O: Outlet>(
     alloc: Global,
     net: &Arc<Net>,
@@ -34,7 +47,7 @@ pub(crate) fn open_world<O: Outlet>(
     outputs: Vec<Output<O>>,
     nodes: usize,
     room: u64,
-) -> Result<RunWorld<O>, RunFault>
+) -> Result<RunWorld<O>, Unfinished<O>>
     requires fitting { Fits (network_of net.now.value.program) inputs }
     requires nodes { nodes ≡ node_count (network_of net.now.value.program) }
     requires listed { map (λ output. output.channel) outputs.items
@@ -46,24 +59,28 @@ pub(crate) fn open_world<O: Outlet>(
     ensures room { IfOk result
         (λ world. AllByRecursion IsRunRoom (capacities_in world)) }
     // A device failed (20), or memory is missing (1).
-    ensures err { (threads : Bool) → IfErr result (IsRunFault threads) }
+    ensures err { (threads : Bool) → IfErr result (λ unfinished. IsRunFault threads unfinished.fault) }
+    ensures handed_back { IfErr result (λ unfinished. HasOutputs outputs.items unfinished.left) }
 {
     let Ok(inputs) = Arc::new(alloc, inputs) else {
-        return Err(RunFault::NoMemory);
+        return Err(unbegun(outputs, RunFault::NoMemory));
     };
     let Ok(share) = Arc::try_clone(net) else {
-        return Err(RunFault::NoMemory);
+        return Err(unbegun(outputs, RunFault::NoMemory));
     };
     let Ok(disks) = empty_disks(alloc, nodes) else {
-        return Err(RunFault::NoMemory);
+        return Err(unbegun(outputs, RunFault::NoMemory));
     };
     let mut world = match World::new(alloc, share, inputs, disks, outputs) {
         Ok(world) => world,
-        Err(refused) => return Err(store_fault(refused.fault)),
+        Err(refused) => {
+            let OpeningRefused { outputs, fault, .. } = refused;
+            return Err(unbegun(outputs, store_fault(fault)));
+        }
     };
-    // (The room is within its bounds, so the error isn't met.)
-    let Ok(()) = world.set_room(nearest_room(room)) else {
-        return Err(RunFault::NoMemory);
-    };
-    Ok(world)
+    match world.set_room(nearest_room(room)) {
+        Ok(()) => Ok(world),
+        // The room is within its bounds.
+        Err(_) => unreachable!(),
+    }
 }

@@ -10,16 +10,18 @@ ghost use Rattle.runtime.specs.Ending.{IsOver};
 ghost use Rattle.runtime.specs.declared.ending.RunEnd.TheVariants.{Stopped};
 ghost use Rattle.world.specs.OpeningWorld.{IsUnused};
 ghost use Rattle.world.specs.WholeView.{world_of};
-ghost use Rattle.cobaltmidge.specs.Errors.{IsRunError};
+ghost use Rattle.cobaltmidge.specs.Failing.{IsRunFault};
 ghost use Rattle.cobaltmidge.specs.Names.{script_of};
 ghost use Rattle.cobaltmidge.specs.Runs.{IsEnd, IsRun, bounds_of, released_streams};
 ghost use Rattle.cobaltmidge.specs.FirstWorld.{HasNoFailures};
+ghost use Rattle.cobaltmidge.specs.Remaining.{IsLeft};
 
-use crate::error::{Error, run_error};
+use crate::fault::RunFault;
 use crate::finished::Finished;
 use crate::network::{Network, outputs_in_memory};
 use crate::running::run_network;
 use crate::settings::Settings;
+use crate::unfinished::{Left, Unfinished};
 use net_check::Inputs;
 use outlet::{ListOutlet, Outlet};
 use replay::ScriptedEvent;
@@ -158,12 +160,13 @@ impl<'a> Run<'a> {
         self.settings(settings)
     }
 
-    /// Runs it until nothing is left to do, the rounds are over, or each output has the items that are asked for.
+    /// Runs it until nothing is left to do, the rounds are over, or each output has the items that are asked for. Where it comes to no end,
+    /// what is left of it comes back with why; `?` makes an `Error` of that.
     pub fn run<R: Threads + Wait + Sync>(
         self,
         rt: &R,
         alloc: Global,
-    ) -> Result<Finished<'a, ListOutlet>, Error>
+    ) -> Result<Finished<'a, ListOutlet>, Unfinished<ListOutlet>>
         // What has left are prefixes of the outputs' histories in one approximation, and where the run is complete whole, in the
         // least solution.
         ensures run { IfOk result (λ finished. IsRun (network_of self.entry.network.now.net.value.program)
@@ -184,10 +187,13 @@ impl<'a> Run<'a> {
         ensures network { IfOk result (λ finished. finished.network ≡ self.entry.network) }
         ensures settings { IfOk result (λ finished. finished.settings ≡ self.entry.settings) }
         // A device failed (20), memory is missing (1), or what is counted would pass 2^63 - 1 (44).
-        ensures err { IfErr result (IsRunError true) }
+        ensures err { IfErr result (λ unfinished. IsRunFault true unfinished.fault) }
     {
         let Ok(outputs) = outputs_in_memory(alloc, &self.network.net) else {
-            return Err(Error::NoMemory);
+            return Err(Unfinished {
+                fault: RunFault::NoMemory,
+                left: Left::Outputs(Vec::new(alloc)),
+            });
         };
         self.run_into(rt, alloc, outputs)
     }
@@ -199,7 +205,7 @@ impl<'a> Run<'a> {
         rt: &R,
         alloc: Global,
         outputs: Vec<Output<O>>,
-    ) -> Result<Finished<'a, O>, Error>
+    ) -> Result<Finished<'a, O>, Unfinished<O>>
         requires listed { map (λ output. output.channel) outputs.items
             ≡ output_channels 0 (network_of self.network.now.net.value.program).channels }
         requires unused { AllByRecursion (IsUnused O.taken) outputs.items }
@@ -222,7 +228,11 @@ impl<'a> Run<'a> {
         ensures unstopped { IfOk result (λ finished. finished.end ≢ Stopped) }
         ensures network { IfOk result (λ finished. finished.network ≡ self.entry.network) }
         ensures settings { IfOk result (λ finished. finished.settings ≡ self.entry.settings) }
-        ensures err { IfErr result (IsRunError true) }
+        ensures err { IfErr result (λ unfinished. IsRunFault true unfinished.fault) }
+        // And then what is left of it: its outlets as they were, or the world to which it came, with what happened.
+        ensures left { IfErr result (λ unfinished. IsLeft self.entry.settings
+            (network_of self.entry.network.now.net.value.program) self.entry.inputs (script_of self.entry.script)
+            outputs.items unfinished.left) }
     {
         self.run_watched(rt, alloc, outputs, &mut NoWatch)
     }
@@ -235,7 +245,7 @@ impl<'a> Run<'a> {
         alloc: Global,
         outputs: Vec<Output<O>>,
         watch: &mut W,
-    ) -> Result<Finished<'a, O>, Error>
+    ) -> Result<Finished<'a, O>, Unfinished<O>>
         requires listed { map (λ output. output.channel) outputs.items
             ≡ output_channels 0 (network_of self.network.now.net.value.program).channels }
         requires unused { AllByRecursion (IsUnused O.taken) outputs.items }
@@ -258,7 +268,11 @@ impl<'a> Run<'a> {
         ensures stopped { IfOk result (λ finished. finished.end ≡ Stopped → W.may_stop ≡ true) }
         ensures network { IfOk result (λ finished. finished.network ≡ self.entry.network) }
         ensures settings { IfOk result (λ finished. finished.settings ≡ self.entry.settings) }
-        ensures err { IfErr result (IsRunError true) }
+        ensures err { IfErr result (λ unfinished. IsRunFault true unfinished.fault) }
+        // And then what is left of it: its outlets as they were, or the world to which it came, with what happened.
+        ensures left { IfErr result (λ unfinished. IsLeft self.entry.settings
+            (network_of self.entry.network.now.net.value.program) self.entry.inputs (script_of self.entry.script)
+            outputs.items unfinished.left) }
     {
         let Run {
             network,
@@ -284,7 +298,7 @@ impl<'a> Run<'a> {
                 end: ended.end,
                 settings,
             }),
-            Err(fault) => Err(run_error(fault)),
+            Err(unfinished) => Err(unfinished),
         }
     }
 }

@@ -16,28 +16,38 @@ ghost use Rattle.world.specs.OpeningWorld.{IsUnused};
 ghost use Rattle.cobaltmidge.specs.Failing.{IsRunFault};
 ghost use Rattle.cobaltmidge.specs.FirstWorld.{HasNoFailures};
 ghost use Rattle.cobaltmidge.specs.Runs.{IsEnd, IsRun, bounds_of, released_streams};
+ghost use Rattle.cobaltmidge.specs.Remaining.{IsLeft};
+ghost use Rattle.cobaltmidge.specs.declared.unfinished.Left.TheVariants as left;
 
 use crate::ending::{RunEnded, RunWorld};
-use crate::fault::{RunFault, hub_fault};
+use crate::fault::hub_fault;
 use crate::opening::open_world;
 use crate::settings::Settings;
+use crate::unfinished::{Left, Unfinished};
 use net_check::{Inputs, Net};
 use outlet::Outlet;
 use replay::ScriptedEvent;
-use runtime::{Bounds, RunEnd, RunWatch, TurnWatch, run_world, run_world_by_turns};
+use runtime::{Bounds, Ended, RunEnd, RunWatch, TurnWatch, run_world, run_world_by_turns};
 use std::alloc::Global;
 use std::sync::{Arc, Wait};
 use std::thread::Threads;
 use world::{Output, node_count};
 
-/// The end of a run, or why it was refused.
-fn came_to<O: Outlet>(ended: RunEnded<O>) -> Result<RunEnded<O>, RunFault>
+/// The end of a run, or why it was refused, and how far it came.
+fn came_to<O: Outlet>(ended: RunEnded<O>) -> Result<RunEnded<O>, Unfinished<O>>
     ensures same { IfOk result (λ now. now ≡ ended) }
     ensures unrefused { IfOk result (λ now. was_refused now.end ≡ false) }
-    ensures err { IfErr result (IsRunFault true) }
+    ensures err { IfErr result (λ unfinished. IsRunFault true unfinished.fault) }
+    ensures left { IfErr result (λ unfinished. unfinished.left ≡ left.World ended.world ended.history) }
 {
     match ended.end {
-        RunEnd::Refused(fault) => Err(hub_fault(fault)),
+        RunEnd::Refused(fault) => {
+            let Ended { world, history, .. } = ended;
+            Err(Unfinished {
+                fault: hub_fault(fault),
+                left: Left::World(world, history),
+            })
+        }
         RunEnd::Complete | RunEnd::Rounds | RunEnd::Items | RunEnd::Stopped => Ok(ended),
     }
 }
@@ -78,7 +88,7 @@ fn run_to_end<O: Outlet + Send, W: RunWatch + TurnWatch + Sync, R: Threads + Wai
 
 /// Runs a network on its inputs by the events of a script, as the settings say, until nothing is left to do, the rounds are over, or
 /// each output has the items that are asked for: by these outlets, each of which took nothing yet. Gives the world at its end, what
-/// happened, where that is to be kept, and why the run ended. `watch` looks at the run meanwhile (`&mut NoWatch` where nobody does).
+/// happened, where that is to be kept, and why the run ended. A run that comes to no end hands back what is left of it. `watch` looks at the run meanwhile (`&mut NoWatch` where nobody does).
 pub fn run_network<O: Outlet + Send, W: RunWatch + TurnWatch + Sync, R: Threads + Wait + Sync>(
     rt: &R,
     alloc: Global,
@@ -88,7 +98,7 @@ pub fn run_network<O: Outlet + Send, W: RunWatch + TurnWatch + Sync, R: Threads 
     outputs: Vec<Output<O>>,
     script: Vec<ScriptedEvent>,
     watch: &mut W,
-) -> Result<RunEnded<O>, RunFault>
+) -> Result<RunEnded<O>, Unfinished<O>>
     requires fitting { Fits (network_of net.now.value.program) inputs }
     requires listed { map (λ output. output.channel) outputs.items
         ≡ output_channels 0 (network_of net.now.value.program).channels }
@@ -113,7 +123,10 @@ pub fn run_network<O: Outlet + Send, W: RunWatch + TurnWatch + Sync, R: Threads 
     // It ends by a stop only where who watches it may stop it.
     ensures stopped { IfOk result (λ now. now.end ≡ Stopped → W.may_stop ≡ true) }
     // A device failed (20), memory is missing (1), or a count would pass 2^63 - 1 (44).
-    ensures err { IfErr result (IsRunFault true) }
+    ensures err { IfErr result (λ unfinished. IsRunFault true unfinished.fault) }
+    // And then all is handed back: the outlets as they were, or the world to which it came, with what happened.
+    ensures left { IfErr result (λ unfinished. IsLeft settings (network_of net.now.value.program) inputs script.items
+        outputs.items unfinished.left) }
 {
     let nodes = node_count(net);
     let world = open_world(alloc, net, inputs, outputs, nodes, settings.room)?;

@@ -8,6 +8,8 @@ ghost use Rattle.run_files.specs.Opening.{AreOpened, opened_names};
 ghost use Rattle.run_files.specs.Rules.{GoesOn, IsReady, rule};
 ghost use Rattle.run_files.specs.Wanted.{wanted_of};
 ghost use Rattle.world.specs.WholeView.{net_in, world_of};
+ghost use Rattle.cobaltmidge.specs.Errors.{run_error};
+ghost use Rattle.cobaltmidge.specs.declared.state_error.StateFault.TheVariants.{Refused as RefusedBy};
 ghost use Rattle.cobaltmidge.specs.Accepting.{IsAccepted};
 ghost use Rattle.cobaltmidge.specs.FileNames.{file_names};
 ghost use Rattle.cobaltmidge.specs.KeptOutlets.{AreInFiles, IsPutFault, IsRunStop};
@@ -18,6 +20,8 @@ ghost use Rattle.cobaltmidge.specs.Runs.{released_streams};
 ghost use Rattle.cobaltmidge.specs.Texts.{AreInputsOf, IsNetOf};
 
 use crate::ending::RunWorld;
+use crate::error::run_error;
+use crate::fault::RunFault;
 use crate::finished::Finished;
 use crate::kept_outlets::{KeepFault, NotKept, outlets_over, put_each};
 use crate::kept_run::{KeptRun, lists_of};
@@ -58,6 +62,16 @@ fn close_world<F: LineFile>(
     put_each(alloc, folder, outputs, outlets)
 }
 
+// A run that comes to no end, as what a run with a folder is refused for.
+fn run_refused(fault: RunFault) -> StateError
+    ensures { result.fault ≡ RefusedBy (run_error fault) }
+{
+    StateError {
+        fault: StateFault::Refused(run_error(fault)),
+        words: None,
+    }
+}
+
 // Runs it so that the items leave into these files, one for each output, which are added to `outlets`.
 fn run_over<'a, F: LineFile + Send, R: Threads + Wait + Sync>(
     run: Run<'a>,
@@ -82,7 +96,10 @@ fn run_over<'a, F: LineFile + Send, R: Threads + Wait + Sync>(
             });
         }
     };
-    let finished = run.run_into(rt, alloc, outputs)?;
+    let finished = match run.run_into(rt, alloc, outputs) {
+        Ok(finished) => finished,
+        Err(unfinished) => return Err(run_refused(unfinished.fault)),
+    };
     let complete = finished.complete();
     let Finished {
         network,

@@ -15,11 +15,6 @@ use Rattle.net_text.proofs.Lexemes.{digit_bounds, numeral_digits}
 use Rattle.net_text.specs.Numbers.{is_numeral, numeral_value}
 use Rattle.fail_script.specs.Reading.{without_zeros}
 
--- where no zero stands in front, nothing is left out
-pub none_in_front : (bs : List ℕ) → ((rest : List ℕ) → bs ≢ 48 ∷ rest) → without_zeros bs ≡ bs
-none_in_front [] none = refl
-none_in_front (b ∷ bs) none = rw (ne_eqb b 48 (λ e. none bs (ap (λ x. x ∷ bs) e))) refl
-
 shifted : (n d p v : ℕ) → (n * 10 + d) * p + v ≡ n * (p * 10) + ((0 + d) * p + v)
 shifted n d p v = omega arith
 

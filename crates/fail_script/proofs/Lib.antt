@@ -4,3 +4,4 @@ mod Forms
 mod LineLaws
 mod Numerals
 mod ScriptLaws
+mod WordLaws

@@ -1,47 +1,45 @@
--- What std reads of a numeral is the number that it writes, or the number is too large.
-use Rattle.std.proofs.Common.{◌≡◌, ℕ, ◌^◌, ◌<◌, ◌≤◌, ◌==◌, true, false, List, [], ◌∷◌, length, Err, inl, inr, rules}
-use Rattle.std.proofs.Common.{tests, refl, ap, nat_le, arith, Some, None}
-use Rattle.std.proofs.lemmas.Bool.{cases_lt}
+-- What is read of a numeral, digit by digit, is the number that it writes.
+use Rattle.std.proofs.Common.{◌≡◌, ℕ, ◌^◌, ◌<◌, ◌==◌, ◌+◌, ◌-◌, ◌*◌, ◌&&◌, Bool, true, false, List, [], ◌∷◌, length, take}
+use Rattle.std.proofs.Common.{refl, ap, sym, ◌∙◌, arith, min, get_or}
 use Rattle.std.specs.List.{list_all}
-use Rattle.std.specs.Char.{is_ascii_digit}
-use Rattle.std.specs.Str.Parse.{ParsesUnsigned, digits_value}
-use Rattle.std.proofs.lemmas.Str.Parse.{IsNumeralModel, numerals_by_value, parse_digits}
-use Rattle.std.proofs.Math.Nat.{min-eq_right}
+use Rattle.std.specs.Char.{is_ascii_digit, digit_value}
+use Rattle.std.proofs.lemmas.Int.Digits.{digits_value_more}
+use Rattle.std.proofs.lemmas.List.Folds.{list_all_more}
+use Rattle.std.proofs.lemmas.Str.{digit_value_digit}
+use Rattle.net_text.proofs.Lexemes.{digit_bounds}
 use Rattle.net_text.specs.Numbers.{is_numeral, numeral_value}
-use Rattle.fail_script.specs.Reading.{number_in, node_in}
 
--- digits, where there is one, are a numeral
-pub digits_are_numeral : (bs : List ℕ) → false ≡ (length bs == 0) → list_all is_ascii_digit bs ≡ is_numeral bs
-digits_are_numeral [] none = absurd cc
-digits_are_numeral (b ∷ bs) some = refl
+-- these are digits alone, and the number is what they write, as far as 32 bits hold it
+pub record AreDigitsOf (digits : List ℕ) (number : ℕ) : Type 0 where
+  pub all : list_all is_ascii_digit digits ≡ true
+  pub value : number ≡ min (numeral_value digits) (2 ^ 32 - 1)
 
-numeral_digits : (bs : List ℕ) → is_numeral bs ≡ true → list_all is_ascii_digit bs ≡ true
-numeral_digits [] numeral = refl
-numeral_digits (b ∷ bs) numeral = numeral
+pub no_digits : AreDigitsOf [] 0
+no_digits = record { all = refl; value = refl }
 
-numeral_some : (bs : List ℕ) → is_numeral bs ≡ true → 0 < length bs
-numeral_some [] numeral = absurd cc
-numeral_some (b ∷ bs) numeral = search rules
+-- a digit more, as far as 32 bits hold the number
+cut_at_once : (v d : ℕ)
+    → min (min (min v (2 ^ 32 - 1) * 10) (2 ^ 32 - 1) + d) (2 ^ 32 - 1) ≡ min (v * 10 + d) (2 ^ 32 - 1)
+cut_at_once v d = omega arith
 
-own : IsNumeralModel (λ ds. list_all is_ascii_digit ds ≡ true) (digits_value 10)
-own = numerals_by_value _ (search rules)
-
--- a numeral that isn't read is of a number with more bits
-pub numeral_too_large : {E : Type 0} → (bits : ℕ) (bs : List ℕ) (e : E) → ParsesUnsigned bits 10 bs (Err e)
-    → is_numeral bs ≡ true → 2 ^ bits ≤ numeral_value bs
-numeral_too_large bits bs e parsed numeral =
-    let h = parse_digits own bits bs (Err e) parsed (numeral_digits bs numeral) in
-    elim (cases_lt (numeral_value bs) (2 ^ bits)) as (λ _. 2 ^ bits ≤ numeral_value bs)
-    [ inl lt ↦ absurd (h (numeral_some bs numeral, lt)) | inr le ↦ le ]
-
--- a node that is no byte is read as the one beyond all
-pub node_beyond : (bs : List ℕ) → is_numeral bs ≡ true → 2 ^ 8 ≤ numeral_value bs → node_in bs ≡ Some 255
-node_beyond bs numeral large = rw numeral (ap Some (min-eq_right (omega (arith, large))))
-
--- a number of more bits is past any that has no more
-pub number_beyond : (least greatest : ℕ) (bs : List ℕ) → is_numeral bs ≡ true → greatest < 2 ^ 32
-    → 2 ^ 32 ≤ numeral_value bs → number_in least greatest bs ≡ None
-number_beyond least greatest bs numeral small large = rw (numeral, beyond) refl
+pub one_digit_more : (word : List ℕ) (i number product now : ℕ) → i < length word
+    → is_ascii_digit (get_or word i 0) ≡ true → AreDigitsOf (take i word) number
+    → product ≡ min (number * 10) (2 ^ 32 - 1) → now ≡ min (product + (get_or word i 0 - 48)) (2 ^ 32 - 1)
+    → AreDigitsOf (take (i + 1) word) now
+one_digit_more word i number product now within digit so_far product_is now_is =
+    record {
+      all = list_all_more is_ascii_digit word i 0 within ∙ both so_far.all digit;
+      value =
+          now_is
+          ∙ ap (λ p. min (p + (get_or word i 0 - 48)) (2 ^ 32 - 1))
+          (product_is ∙ ap (λ n. min (n * 10) (2 ^ 32 - 1)) so_far.value)
+          ∙ cut_at_once (numeral_value (take i word)) (get_or word i 0 - 48)
+          ∙ ap (λ d. min (numeral_value (take i word) * 10 + d) (2 ^ 32 - 1)) value
+          ∙ ap (λ v. min v (2 ^ 32 - 1)) (sym (digits_value_more 10 word i within));
+    }
   where
-    beyond : nat_le (numeral_value bs) greatest ≡ false
-    beyond = search (rules, tests)
+    both : {a b : Bool} → a ≡ true → b ≡ true → (a && b) ≡ true
+    both one other = rw (one, other) refl
+
+    value : get_or word i 0 - 48 ≡ digit_value (get_or word i 0)
+    value = let same = digit_value_digit (get_or word i 0) (digit_bounds (get_or word i 0) digit) in omega arith

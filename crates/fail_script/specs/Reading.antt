@@ -1,5 +1,5 @@
 -- What the code reads of a script, function by function; `Lines` says what it should be.
-use Rattle.std.specs.Prelude.{◌≡◌, ℕ, Bool, ◌&&◌, ◌==◌, if◌then◌else◌, nat_le, nat_lt, min, codes}
+use Rattle.std.specs.Prelude.{◌≡◌, ℕ, Bool, ◌&&◌, ◌==◌, if◌then◌else◌, nat_le, nat_lt, min, ◌^◌, ◌-◌, codes}
 use Rattle.std.specs.Prelude.{List, [], ◌∷◌, ◌++◌, length, Option, Some, None, get_or, option_and_then}
 use Rattle.std.specs.List.{slice_get}
 use Rattle.net_text.specs.Numbers.{is_numeral, numeral_value}
@@ -15,6 +15,10 @@ use Rattle.fail_script.specs.declared.fault.ScriptFault.{ScriptFault}
 use Rattle.fail_script.specs.declared.fault.ScriptFault.TheVariants.{NoMemory, BadLine, UnknownNode}
 use Rattle.fail_script.specs.declared.limits.TheConstants.{MAX_COUNT, MAX_FILL, MAX_ROUNDS, BEYOND_NODES}
 
+-- the number that digits write, as far as 32 bits hold it
+abbrev pub numeral_in : List ℕ → Option ℕ
+numeral_in word = if is_numeral word then Some (min (numeral_value word) (2 ^ 32 - 1)) else None
+
 -- a number from the least to the greatest
 abbrev pub number_in : (least greatest : ℕ) → List ℕ → Option ℕ
 number_in least greatest word =
@@ -29,6 +33,10 @@ node_in word = if is_numeral word then Some (min (numeral_value word) BEYOND_NOD
 abbrev pub without_zeros : List ℕ → List ℕ
 without_zeros [] = []
 without_zeros (b ∷ bs) = if b == 48 then without_zeros bs else b ∷ bs
+
+-- the word that stands between two spaces, if any does
+abbrev pub word_in : List ℕ → List (List ℕ)
+word_in part = if length part == 0 then [] else part ∷ []
 
 -- the words by which a form is told
 abbrev pub has_form : Form → List (List ℕ) → Type 0

@@ -1,34 +1,44 @@
 //! The numbers that words write.
 
-ghost use Rattle.std.specs.Prelude.{◌≡◌, not, ◌==◌, IsTrue};
+ghost use Rattle.std.specs.Prelude.{◌≡◌, ◌<◌, ◌-◌, ◌^◌, not, ◌==◌, IsTrue};
 ghost use Rattle.net_text.specs.Numbers.{is_numeral, numeral_value};
 ghost use Rattle.fail_script.specs.declared.limits.TheConstants.{MAX_FILL};
-ghost use Rattle.fail_script.specs.Reading.{number_in, node_in, without_zeros};
+ghost use Rattle.fail_script.specs.Reading.{numeral_in, number_in, node_in, without_zeros};
 
 use crate::limits::{BEYOND_NODES, MAX_FILL};
 
-// Whether these are decimal digits, one or more.
-fn is_numeral(bytes: &[u8]) -> bool
-    ensures { result ≡ is_numeral bytes.now }
+// The number that digits write, one or more and nothing else. One past 32 bits is read as the greatest that they hold.
+fn numeral(word: &[u8]) -> Option<u32>
+    ensures { result ≡ numeral_in word.now }
 {
-    !bytes.is_empty() && bytes.iter().all(|b| b.is_ascii_digit())
-}
-
-/// The number that a word writes, from the least to the greatest one.
-pub fn number_in(word: &str, least: u32, greatest: u32) -> Option<u32>
-    ensures { result ≡ number_in least greatest word.now }
-{
-    if !is_numeral(word.as_bytes()) {
+    if word.is_empty() {
         return None;
     }
-    match word.parse::<u32>() {
-        Ok(number) if number <= greatest && least <= number => Some(number),
+    let mut number: u32 = 0;
+    for digit in word {
+        if !digit.is_ascii_digit() {
+            return None;
+        }
+        number = number
+            .saturating_mul(10)
+            .saturating_add(u32::from(*digit - b'0'));
+    }
+    Some(number)
+}
+
+/// The number that a word writes, from the least to the greatest one, which has to be below the greatest of 32 bits.
+pub fn number_in(word: &[u8], least: u32, greatest: u32) -> Option<u32>
+    requires { greatest < 2 ^ 32 - 1 }
+    ensures { result ≡ number_in least greatest word.now }
+{
+    match numeral(word) {
+        Some(number) if number <= greatest && least <= number => Some(number),
         _ => None,
     }
 }
 
 /// The byte that a word writes.
-pub fn byte_in(word: &str) -> Option<u8>
+pub fn byte_in(word: &[u8]) -> Option<u8>
     ensures { result ≡ number_in 0 MAX_FILL word.now }
 {
     match number_in(word, 0, MAX_FILL) {
@@ -38,31 +48,28 @@ pub fn byte_in(word: &str) -> Option<u8>
 }
 
 /// The node that a word writes. One that is beyond all nodes is read as the greatest number there is.
-pub fn node_in(word: &str) -> Option<u8>
+pub fn node_in(word: &[u8]) -> Option<u8>
     ensures { result ≡ node_in word.now }
 {
-    if !is_numeral(word.as_bytes()) {
-        return None;
-    }
-    match word.parse::<u8>() {
-        Ok(node) => Some(node),
-        Err(_) => Some(BEYOND_NODES),
+    match numeral(word) {
+        Some(number) => Some(u8::try_from(number).unwrap_or(BEYOND_NODES)),
+        None => None,
     }
 }
 
 // What is left of a numeral without the zeros in front.
-fn without_zeros(numeral: &str) -> &str
+fn without_zeros(numeral: &[u8]) -> &[u8]
     ensures { result.now ≡ without_zeros numeral.now }
 {
     let mut rest = numeral;
-    while let Some(shorter) = rest.strip_prefix('0') {
+    while let [b'0', shorter @ ..] = rest {
         rest = shorter;
     }
     rest
 }
 
 /// Whether two numerals write different numbers, however long they are.
-pub fn are_apart(one: &str, other: &str) -> bool
+pub fn are_apart(one: &[u8], other: &[u8]) -> bool
     requires one { IsTrue (is_numeral one.now) }
     requires other { IsTrue (is_numeral other.now) }
     ensures { result ≡ not (numeral_value one.now == numeral_value other.now) }

@@ -11,24 +11,23 @@ use crate::act::{Act, ScriptLine};
 use crate::fault::ScriptFault;
 use crate::limits::{MAX_COUNT, MAX_ROUND, MAX_ROUNDS};
 use crate::numbers::{are_apart, byte_in, node_in, number_in};
-use crate::words::{Form, form_of, words_of};
-use std::alloc::Global;
+use crate::words::{Form, form_of, read_words};
 
 // The two nodes of a packet, which differ, and its count.
-fn packet_in(from: &str, to: &str, count: &str) -> Option<(u8, u8, u32)>
+fn packet_in(from: &[u8], to: &[u8], count: &[u8]) -> Option<(u8, u8, u32)>
     ensures { result ≡ packet_in from.now to.now count.now }
 {
     let sender = node_in(from)?;
     let receiver = node_in(to)?;
     let count = number_in(count, 1, MAX_COUNT)?;
-    if !are_apart(from, to) {
+    if sender == receiver && !are_apart(from, to) {
         return None;
     }
     Some((sender, receiver, count))
 }
 
 // The byte to fill with at a crash, and the rounds until the node may come back.
-fn crash_in(fill: &str, rounds: &str) -> Option<(u8, u32)>
+fn crash_in(fill: &[u8], rounds: &[u8]) -> Option<(u8, u32)>
     ensures { result ≡ crash_in fill.now rounds.now }
 {
     let fill = byte_in(fill)?;
@@ -37,7 +36,7 @@ fn crash_in(fill: &str, rounds: &str) -> Option<(u8, u32)>
 }
 
 // What words of a packet that is lost do.
-fn loss_of(words: &[&str]) -> Option<Act>
+fn loss_of(words: &[&[u8]]) -> Option<Act>
     requires { has_form form.Lose (map (λ w. w.now) words.now) }
     ensures { result ≡ act_in form.Lose (map (λ w. w.now) words.now) }
 {
@@ -46,7 +45,7 @@ fn loss_of(words: &[&str]) -> Option<Act>
 }
 
 // What words of a packet that comes twice do.
-fn repeat_of(words: &[&str]) -> Option<Act>
+fn repeat_of(words: &[&[u8]]) -> Option<Act>
     requires { has_form form.Repeat (map (λ w. w.now) words.now) }
     ensures { result ≡ act_in form.Repeat (map (λ w. w.now) words.now) }
 {
@@ -55,7 +54,7 @@ fn repeat_of(words: &[&str]) -> Option<Act>
 }
 
 // What words of a packet that is late do.
-fn delay_of(words: &[&str]) -> Option<Act>
+fn delay_of(words: &[&[u8]]) -> Option<Act>
     requires { has_form form.Delay (map (λ w. w.now) words.now) }
     ensures { result ≡ act_in form.Delay (map (λ w. w.now) words.now) }
 {
@@ -70,7 +69,7 @@ fn delay_of(words: &[&str]) -> Option<Act>
 }
 
 // What words of a crash at once do.
-fn crash_of(words: &[&str]) -> Option<Act>
+fn crash_of(words: &[&[u8]]) -> Option<Act>
     requires { has_form form.Crash (map (λ w. w.now) words.now) }
     ensures { result ≡ act_in form.Crash (map (λ w. w.now) words.now) }
 {
@@ -80,7 +79,7 @@ fn crash_of(words: &[&str]) -> Option<Act>
 }
 
 // What words of a crash at a delivery do.
-fn crash_at_delivery_of(words: &[&str]) -> Option<Act>
+fn crash_at_delivery_of(words: &[&[u8]]) -> Option<Act>
     requires { has_form form.CrashAtDelivery (map (λ w. w.now) words.now) }
     ensures { result ≡ act_in form.CrashAtDelivery (map (λ w. w.now) words.now) }
 {
@@ -96,7 +95,7 @@ fn crash_at_delivery_of(words: &[&str]) -> Option<Act>
 }
 
 // What words of a crash inside a device call do.
-fn stop_of(words: &[&str]) -> Option<Act>
+fn stop_of(words: &[&[u8]]) -> Option<Act>
     requires { has_form form.StopAtCall (map (λ w. w.now) words.now) }
     ensures { result ≡ act_in form.StopAtCall (map (λ w. w.now) words.now) }
 {
@@ -112,7 +111,7 @@ fn stop_of(words: &[&str]) -> Option<Act>
 }
 
 // What words of a device call that fails do.
-fn failure_of(words: &[&str]) -> Option<Act>
+fn failure_of(words: &[&[u8]]) -> Option<Act>
     requires { has_form form.FailCall (map (λ w. w.now) words.now) }
     ensures { result ≡ act_in form.FailCall (map (λ w. w.now) words.now) }
 {
@@ -122,7 +121,7 @@ fn failure_of(words: &[&str]) -> Option<Act>
 }
 
 // What words of a checkpoint do.
-fn start_of(words: &[&str]) -> Option<Act>
+fn start_of(words: &[&[u8]]) -> Option<Act>
     requires { has_form form.Start (map (λ w. w.now) words.now) }
     ensures { result ≡ act_in form.Start (map (λ w. w.now) words.now) }
 {
@@ -131,7 +130,7 @@ fn start_of(words: &[&str]) -> Option<Act>
 }
 
 /// What words of this form do.
-pub fn act_of(form: Form, words: &[&str]) -> Option<Act>
+pub fn act_of(form: Form, words: &[&[u8]]) -> Option<Act>
     requires { has_form form (map (λ w. w.now) words.now) }
     ensures { result ≡ act_in form (map (λ w. w.now) words.now) }
 {
@@ -164,7 +163,7 @@ fn is_in_network(act: &Act, nodes: u8) -> bool
 }
 
 // The line that a round and the words behind it write.
-fn line_with(round: &str, others: &[&str]) -> Option<ScriptLine>
+fn line_with(round: &[u8], others: &[&[u8]]) -> Option<ScriptLine>
     ensures { IsLineRead (round.now ∷ map (λ w. w.now) others.now) result }
 {
     let round = number_in(round, 0, MAX_ROUND)?;
@@ -174,7 +173,7 @@ fn line_with(round: &str, others: &[&str]) -> Option<ScriptLine>
 }
 
 // The line that words write.
-fn line_of(words: &[&str]) -> Option<ScriptLine>
+fn line_of(words: &[&[u8]]) -> Option<ScriptLine>
     ensures { IsLineRead (map (λ w. w.now) words.now) result }
 {
     match words {
@@ -200,10 +199,11 @@ fn is_blank(bytes: &[u8]) -> bool
     are_spaces(bytes) || bytes[0] == b'#'
 }
 
-/// What is read of the line of this number, behind a line of this round, in a network of so many nodes.
-pub fn read_line(
-    alloc: Global,
-    text: &str,
+/// What is read of the line of this number, behind a line of this round, in a network of so many nodes. Its words are left in
+/// `words`, so that the next line finds room for its own there.
+pub fn read_line<'a>(
+    words: &mut Vec<&'a [u8]>,
+    text: &'a [u8],
     number: usize,
     nodes: u8,
     round: u32,
@@ -211,11 +211,11 @@ pub fn read_line(
     ensures ok { IfOk result (IsTextRead nodes round text.now) }
     ensures err { IfErr result (IsTextFault nodes number round text.now) }
 {
-    if is_blank(text.as_bytes()) {
+    if is_blank(text) {
         return Ok(None);
     }
-    let words = words_of(alloc, text)?;
-    let Some(line) = line_of(&words) else {
+    read_words(words, text)?;
+    let Some(line) = line_of(words) else {
         return Err(ScriptFault::BadLine { line: number });
     };
     if line.round < round {

@@ -15,15 +15,13 @@ use crate::reading::read_line;
 use std::alloc::{AllocError, Global};
 
 // A line without the carriage return at its end.
-fn without_return(line: &str) -> &str
+fn without_return(line: &[u8]) -> &[u8]
     ensures { result.now ≡ strip_carriage_return line.now }
 {
-    let bytes = line.as_bytes();
-    if bytes.is_empty() || bytes[bytes.len() - 1] != b'\r' {
-        return line;
+    match line {
+        [content @ .., b'\r'] => content,
+        _ => line,
     }
-    let (content, _) = line.split_at(bytes.len() - 1);
-    content
 }
 
 // Adds a line, if there is one, and gives the round of the last line then.
@@ -45,7 +43,7 @@ fn add_line(
 }
 
 // The lines of these parts of a text, in a network of so many nodes.
-fn read_lines(alloc: Global, parts: &[&str], nodes: u8) -> Result<Vec<ScriptLine>, ScriptFault>
+fn read_lines(alloc: Global, parts: &[&[u8]], nodes: u8) -> Result<Vec<ScriptLine>, ScriptFault>
     requires { length parts.now < 2 ^ 63 }
     ensures ok { IfOk result (λ lines. AreScriptLines nodes 0
         (map (λ part. strip_carriage_return part.now) parts.now) lines.items) }
@@ -53,20 +51,21 @@ fn read_lines(alloc: Global, parts: &[&str], nodes: u8) -> Result<Vec<ScriptLine
         (map (λ part. strip_carriage_return part.now) parts.now)) }
 {
     let mut lines = Vec::new(alloc);
+    let mut words = Vec::new(alloc);
     let mut round = 0;
     for (i, part) in parts.iter().enumerate() {
-        let line = read_line(alloc, without_return(part), i + 1, nodes, round)?;
+        let line = read_line(&mut words, without_return(part), i + 1, nodes, round)?;
         round = add_line(&mut lines, line, round)?;
     }
     Ok(lines)
 }
 
 // The parts of a text between its line feeds.
-fn split_lines(alloc: Global, text: &str) -> Result<Vec<&str>, AllocError>
+fn split_lines(alloc: Global, text: &str) -> Result<Vec<&[u8]>, AllocError>
     ensures { IfOk result (λ parts. map (λ part. part.now) parts.items
         ≡ slice_split (λ b. b == 10) text.now) }
 {
-    text.split('\n').collect(alloc)
+    text.as_bytes().split(|b| *b == b'\n').collect(alloc)
 }
 
 /// The lines of a failure script for a network of so many nodes. Blank lines and lines that begin with `#` are passed over;

@@ -1,12 +1,12 @@
 //! The words of a line, and the form that they have.
 
-ghost use Rattle.std.specs.Prelude.{◌≡◌, map, MatchOption, IfOk, length, not, ◌==◌};
-ghost use Rattle.std.specs.List.{slice_split, filter};
-ghost use Rattle.net_text.specs.InputLines.{is_space};
+ghost use Rattle.std.specs.Prelude.{◌≡◌, ◌≤◌, ◌++◌, map, MatchOption, OnOk, length};
+ghost use Rattle.std.specs.List.{slice_range};
+ghost use Rattle.std.specs.Str.{bytes_eq};
 ghost use Rattle.fail_script.specs.Lines.{words_of};
-ghost use Rattle.fail_script.specs.Reading.{has_form};
+ghost use Rattle.fail_script.specs.Reading.{has_form, word_in};
 
-use std::alloc::{AllocError, Global};
+use std::alloc::AllocError;
 
 /// What a line's words are, behind its round.
 #[derive(Clone, Copy)]
@@ -21,50 +21,64 @@ pub enum Form {
     Start,
 }
 
+// Whether a word is this one.
+fn is(word: &[u8], wanted: &str) -> bool
+    ensures { result ≡ bytes_eq word.now wanted.now }
+{
+    word == wanted.as_bytes()
+}
+
 /// The form of these words, by how many there are and those that are no numbers.
-pub fn form_of(words: &[&str]) -> Option<Form>
+pub fn form_of(words: &[&[u8]]) -> Option<Form>
     ensures { MatchOption result ((f : Form) → has_form f (map (λ w. w.now) words.now) → ⊥)
         (λ f. has_form f (map (λ w. w.now) words.now)) }
 {
     match words {
-        ["lose", _, _, _] => Some(Form::Lose),
-        ["repeat", _, _, _] => Some(Form::Repeat),
-        ["delay", _, _, _, _] => Some(Form::Delay),
-        ["crash", _, "now", _, _] => Some(Form::Crash),
-        ["crash", _, "delivery", _, _, _] => Some(Form::CrashAtDelivery),
-        ["crash", _, "device", _, _, _] => Some(Form::StopAtCall),
-        ["fail", _, "device", _] => Some(Form::FailCall),
-        ["start", _] => Some(Form::Start),
+        [verb, _] if is(verb, "start") => Some(Form::Start),
+        [verb, _, _, _] if is(verb, "lose") => Some(Form::Lose),
+        [verb, _, _, _] if is(verb, "repeat") => Some(Form::Repeat),
+        [verb, _, word, _] if is(verb, "fail") && is(word, "device") => Some(Form::FailCall),
+        [verb, _, _, _, _] if is(verb, "delay") => Some(Form::Delay),
+        [verb, _, word, _, _] if is(verb, "crash") && is(word, "now") => Some(Form::Crash),
+        [verb, _, word, _, _, _] if is(verb, "crash") && is(word, "device") => {
+            Some(Form::StopAtCall)
+        }
+        [verb, _, word, _, _, _] if is(verb, "crash") && is(word, "delivery") => {
+            Some(Form::CrashAtDelivery)
+        }
         _ => None,
     }
 }
 
-// The parts of a line between its spaces.
-fn parts_of(alloc: Global, line: &str) -> Result<Vec<&str>, AllocError>
-    ensures { IfOk result (λ parts. map (λ part. part.now) parts.items
-        ≡ slice_split is_space line.now) }
+// Adds the word that stands between two places of a line, if any does.
+fn add_word<'a>(
+    words: &mut Vec<&'a [u8]>,
+    line: &'a [u8],
+    start: usize,
+    end: usize,
+) -> Result<(), AllocError>
+    requires order { start ≤ end }
+    requires within { end ≤ length line.now }
+    ensures { OnOk result (map (λ w. w.now) words.new.items
+        ≡ map (λ w. w.now) words.old.items ++ word_in (slice_range line.now start end)) }
 {
-    line.split(' ').collect(alloc)
+    if start < end {
+        words.push(&line[start..end])?;
+    }
+    Ok(())
 }
 
-// Those that aren't empty.
-fn without_empty<'a>(alloc: Global, parts: &[&'a str]) -> Result<Vec<&'a str>, AllocError>
-    ensures { IfOk result (λ words. map (λ w. w.now) words.items
-        ≡ filter (λ part. not (length part == 0)) (map (λ part. part.now) parts.now)) }
+/// Puts the words of a line into the place of others: what stands between its spaces.
+pub fn read_words<'a>(words: &mut Vec<&'a [u8]>, line: &'a [u8]) -> Result<(), AllocError>
+    ensures { OnOk result (map (λ w. w.now) words.new.items ≡ words_of line.now) }
 {
-    let mut words = Vec::new(alloc);
-    for part in parts.iter() {
-        if !part.is_empty() {
-            words.push(*part)?;
+    words.clear();
+    let mut start = 0;
+    for (at, byte) in line.iter().enumerate() {
+        if *byte == b' ' {
+            add_word(words, line, start, at)?;
+            start = at + 1;
         }
     }
-    Ok(words)
-}
-
-/// The words of a line: what stands between its spaces.
-pub fn words_of(alloc: Global, line: &str) -> Result<Vec<&str>, AllocError>
-    ensures { IfOk result (λ words. map (λ w. w.now) words.items ≡ words_of line.now) }
-{
-    let parts = parts_of(alloc, line)?;
-    without_empty(alloc, &parts)
+    add_word(words, line, start, line.len())
 }

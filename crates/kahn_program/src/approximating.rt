@@ -1,17 +1,19 @@
 //! An approximation of a network's histories, and its report.
 
 ghost use Rattle.std.specs.Prelude.{◌≡◌, ◌≤◌, ◌++◌, ◌∷◌, [], if◌then◌else◌, length, map, IfErr, IfOk, OnOk};
-ghost use Rattle.protocol.specs.Node.Common.{Fits, history_of, network_of, MAX_CHANNELS};
+ghost use Rattle.protocol.specs.Node.Common.{Fits, approximation, history_of, network_of, MAX_CHANNELS};
 ghost use Rattle.protocol.specs.World.Common.{goes_outside, output_channels};
 ghost use Rattle.kahn_program.specs.Runnable.{IsApproximationFailure};
 ghost use Rattle.kahn_program.specs.Runs.{IsApproximated};
 
 use crate::failure::Failure;
 use crate::reporting::{Stream, report};
+use approximations::approximate;
 use kahn_net::{Channel, History, Port};
 use net_check::{Inputs, Net};
 use std::alloc::{AllocError, Global};
-use stream_eq::{Fault, approx, is_solution};
+use std::sync::Arc;
+use stream_eq::{Fault, Histories, is_solution};
 
 /// A failure of the solver.
 fn solver_failure(fault: Fault) -> Failure
@@ -70,26 +72,22 @@ fn output_histories<'a>(
     Ok(streams)
 }
 
-/// The report of a network's n-th approximation on its inputs, and whether that is a solution: then it is the least
-/// one. Nothing is run.
-pub fn report_of_approximation(
+/// The report of these histories, which are a network's n-th approximation on its inputs, and whether that is a solution.
+fn report_on(
     alloc: Global,
     net: &Net,
     inputs: &Inputs,
     n: u64,
+    histories: &Histories,
 ) -> Result<(Vec<u8>, bool), Failure>
     requires fitting { Fits (network_of net.now.program) inputs.now }
+    requires value { histories.now ≡ approximation (network_of net.now.program) inputs.now n }
     ensures ok { IfOk result
         (λ report. IsApproximated net.now inputs.now n report.0.items report.1) }
-    // A history is too long, or memory is missing.
     ensures err { IfErr result
         (IsApproximationFailure (network_of net.now.program) inputs.now n) }
 {
-    let histories = match approx(alloc, net, inputs, n) {
-        Ok(histories) => histories,
-        Err(fault) => return Err(solver_failure(fault)),
-    };
-    let complete = match is_solution(alloc, net, inputs, &histories) {
+    let complete = match is_solution(alloc, net, inputs, histories) {
         Ok(complete) => complete,
         Err(fault) => return Err(solver_failure(fault)),
     };
@@ -99,5 +97,28 @@ pub fn report_of_approximation(
     match report(alloc, net, &streams, complete) {
         Ok(bytes) => Ok((bytes, complete)),
         Err(_) => Err(Failure::NoMemory),
+    }
+}
+
+/// The report of a network's n-th approximation on its inputs, and whether that is a solution: then it is the least
+/// one. Nothing is run.
+pub fn report_of_approximation(
+    alloc: Global,
+    net: Net,
+    inputs: &Inputs,
+    n: u64,
+) -> Result<(Vec<u8>, bool), Failure>
+    requires fitting { Fits (network_of net.program) inputs.now }
+    ensures ok { IfOk result
+        (λ report. IsApproximated net inputs.now n report.0.items report.1) }
+    // A history is too long, or memory is missing.
+    ensures err { IfErr result (IsApproximationFailure (network_of net.program) inputs.now n) }
+{
+    let Ok(shared) = Arc::new(alloc, net) else {
+        return Err(Failure::NoMemory);
+    };
+    match approximate(alloc, &shared, inputs, n) {
+        Ok(histories) => report_on(alloc, &shared, inputs, n, &histories),
+        Err(fault) => Err(solver_failure(fault)),
     }
 }

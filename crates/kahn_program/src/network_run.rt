@@ -249,7 +249,7 @@ pub fn report_of_run<
         watch,
     ) {
         Ok(ended) => ended,
-        Err(fault) => return Err(run_failure(fault)),
+        Err(unfinished) => return Err(run_failure(unfinished.fault)),
     };
     let Ended {
         world,

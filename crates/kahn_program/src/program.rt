@@ -626,7 +626,7 @@ fn report_asked<H: Host, P: RunWatch + TurnWatch + Sync, R: Threads + Wait + Syn
     let Some(n) = options.approx else {
         return run_asked(rt, alloc, host, options, names, all, watch);
     };
-    let (bytes, complete) = report_of_approximation(alloc, &all.net, &all.inputs, n)?;
+    let (bytes, complete) = report_of_approximation(alloc, all.net, &all.inputs, n)?;
     Ok(Report {
         bytes,
         complete,

@@ -1,5 +1,5 @@
 -- What happened in a run, and to which world it leads.
-use Rattle.std.specs.Prelude.{◌≡◌, ◌⊎◌, ◌≤◌, ◌<◌, ◌+◌, ℕ, Bool, true, false, List, [], ◌∷◌, ◌++◌, length, Option, Some, None}
+use Rattle.std.specs.Prelude.{◌≡◌, ◌⊎◌, ◌≤◌, ◌<◌, ◌+◌, ℕ, nat_lt, Bool, true, false, List, [], ◌∷◌, ◌++◌, length, Option, Some, None}
 use Rattle.std.specs.Prelude.{slice_get}
 use Rattle.protocol.specs.Node.Common.{RecordView, JobView}
 use Rattle.protocol.specs.World.Common.{choice, DoneView, EventView, ByNode, Install, event_node, ReplyView}
@@ -13,7 +13,7 @@ use Rattle.replay.specs.declared.kept.Maker.{Maker}
 use Rattle.replay.specs.declared.kept.Maker.TheVariants.{Node, Driver}
 use Rattle.replay.specs.declared.kept.ScriptedEvent.{ScriptedEvent}
 use Rattle.replay.specs.declared.kept.Silence.{Silence}
-use Rattle.replay.specs.declared.kept.Silence.TheVariants.{Nothing, NotYet, NoMore}
+use Rattle.replay.specs.declared.kept.Silence.TheVariants.{Nothing, Late, NotYet, NoMore}
 
 -- ---- what is kept
 
@@ -47,10 +47,20 @@ abbrev pub ComesBackTo : ℕ → ArmedEvent → Type 0
 ComesBackTo node event =
     (done : DoneView) × (event ≡ OfWorld (Install done)) × (event_node (Install done) ≡ node)
 
--- A node makes the event that is next for it, or brings back a turn of its own; the driver that of the script's next line,
--- so many lines having been passed.
+-- a line is of a round before this one
+abbrev pub is_before : ℕ → Option ScriptedEvent → Bool
+is_before round None = false
+is_before round (Some line) = nat_lt line.round round
+
+-- The script's next line is late, so many lines having been passed: it is of a round before this one.
+abbrev pub is_line_late : List ScriptedEvent → ℕ → ℕ → Bool
+is_line_late script passed round = is_before round (slice_get script passed)
+
+-- A node makes the event that is next for it, unless a line of the script is late, which comes first; or it brings back a turn of its own, at
+-- any time, since that was begun before. The driver makes the event of the script's next line, so many lines having been passed.
 abbrev pub IsEventOf : List ScriptedEvent → Maker → ℕ → WorldView → ArmedEvent → Type 0
-IsEventOf script (Node k) passed world event = (event ≡ OfWorld (choice world k)) ⊎ ComesBackTo k event
+IsEventOf script (Node k) passed world event =
+    ((is_line_late script passed world.round ≡ false) × (event ≡ OfWorld (choice world k))) ⊎ ComesBackTo k event
 IsEventOf script Driver passed world event = IsScripted (slice_get script passed) world.round event
 
 -- ---- why none was made
@@ -67,10 +77,11 @@ has_idled world node = idled_at world.round (slice_get world.stations node)
 abbrev pub IsIdle : EventView → Type 0
 IsIdle event = (node : ℕ) × (event ≡ ByNode node deed.Idle)
 
--- Why no event was made: the node could only let its turn pass, and has done so in this round; or the next line of
--- the script isn't due; or there is none.
+-- Why no event was made: the node could only let its turn pass, and has done so in this round; or a line of the script is late, and comes
+-- before the node's turn; or the next line of the script isn't due; or there is none.
 abbrev pub IsSilence : List ScriptedEvent → Silence → ℕ → WorldView → Type 0
 IsSilence script (Nothing k) passed world = (has_idled world k ≡ true) × IsIdle (choice world k)
+IsSilence script (Late k) passed world = is_line_late script passed world.round ≡ true
 IsSilence script NotYet passed world =
     (line : ScriptedEvent) × (slice_get script passed ≡ Some line) × (world.round < line.round)
 IsSilence script NoMore passed world = length script ≤ passed

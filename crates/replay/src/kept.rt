@@ -17,6 +17,8 @@ pub type KeptReply = Reply<(), Leaving>;
 pub enum Silence {
     /// To let its turn pass is all that the node could do, and it has done so in this round.
     Nothing(u8),
+    /// The next line of the script is of an earlier round, and comes before the node's turn.
+    Late(u8),
     /// The next line of the script isn't due yet.
     NotYet,
     /// The script has no line left.

@@ -5,13 +5,13 @@ use Rattle.std.proofs.Math.Logic.{∥∥₁_map, ∥∥₁_map₂}
 use Rattle.std.specs.Prelude.{if◌then◌else◌, nat_le}
 use Rattle.replay.specs.declared.kept.RunEvent.{RunEvent}
 use Rattle.run_log.specs.Turns.{Due, Early, NextLine, Over, is_due, next_line, next_line_by}
-use Rattle.std.proofs.lemmas.Option.{slice_get_past, slice_get_read}
+use Rattle.std.proofs.lemmas.Option.{slice_get_cases, slice_get_past}
 use Rattle.std.proofs.lemmas.List.Concat.{flat_map-append}
 use Rattle.std.proofs.lemmas.List.Sums.{sum_by-append}
 use Rattle.protocol.specs.Node.Common.{RecordView}
 use Rattle.protocol.specs.World.Common.{ReplyView, WorldView, stands_still}
 use Rattle.replay.specs.Armed.{ArmedEvent, ArmedView, IsArmedStep, armed_at_first, armed_widened}
-use Rattle.replay.specs.Replay.{Happening, Made, Silent, Widened, Happens, IsEventOf, IsReplay, IsScripted, IsSilence, LeadsTo}
+use Rattle.replay.specs.Replay.{Happening, Made, Silent, Widened, Happens, IsEventOf, IsReplay, IsScripted, IsSilence, LeadsTo, is_before, is_line_late}
 use Rattle.replay.specs.Replay.{at_first, and_then, passed_by}
 use Rattle.replay.specs.Plain.{run_view}
 use Rattle.replay.specs.Replies.{kept_reply}
@@ -175,12 +175,19 @@ pub due_line : (script : List ScriptedEvent) (passed round : ℕ) (line : Script
 due_line script passed round line event is due same =
     subst (λ (found : Option ScriptedEvent). IsScripted found round event) (sym is) (due, same)
 
--- a line that was read of the script
-pub line_read : (items script : List ScriptedEvent) (count passed : ℕ) (line : ScriptedEvent) → items ≡ script → count ≡ length items
-    → passed < count → line ≡ get_or items passed line → slice_get script passed ≡ Some line
-line_read items script count passed line same counted within read =
-    let P : List ScriptedEvent → Type 0 = λ all. slice_get all passed ≡ Some line in
-    subst P same (slice_get_read items count passed line counted within read)
+-- where no line is found, so many are passed
+pub none_is_left : (script : List ScriptedEvent) (passed : ℕ) → slice_get script passed ≡ None → length script ≤ passed
+none_is_left script passed none = by (slice_get_cases script passed).1
+  where
+    Found : Type 0
+    Found = (line : ScriptedEvent) × (passed < length script) × (slice_get script passed ≡ Some line) × (get_or script passed line ≡ line)
+
+    by : (Found ⊎ ((length script ≤ passed) × (slice_get script passed ≡ None))) → length script ≤ passed
+    by (inl found) = absurd (clash (sym found.2 ∙ none))
+      where
+        clash : {line : ScriptedEvent} → Some line ≡ None → ⊥
+        clash same = absurd (cc)
+    by (inr past) = past.0
 
 -- ---- what comes at the driver's turn
 
@@ -216,3 +223,12 @@ module _ (script : List ScriptedEvent) (passed round : ℕ) where
   pub told_due : (line : ScriptedEvent) → slice_get script passed ≡ Some line
       → is_due (next_line script passed round) ≡ nat_le line.round round
   told_due line is = ap (λ (next : NextLine). is_due next) (found_by (Some line) is) ∙ due_by (nat_le line.round round) line.event
+
+  -- where none is left none is due
+  pub none_due : slice_get script passed ≡ None → is_due (next_line script passed round) ≡ false
+  none_due none = ap (λ (next : NextLine). is_due next) (found_by None none)
+
+  -- whether it is late
+  pub told_late : (found : Option ScriptedEvent) → slice_get script passed ≡ found
+      → is_line_late script passed round ≡ is_before round found
+  told_late found is = ap (is_before round) is

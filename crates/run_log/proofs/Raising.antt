@@ -5,7 +5,7 @@ use Rattle.std.proofs.Math.Seq.{drop-cons}
 use Rattle.std.proofs.lemmas.List.Sums.{sum_by-set}
 use Rattle.std.proofs.lemmas.Option.{get_or_from_slice_get, slice_get_within}
 use Rattle.replay.specs.declared.kept.Silence.{Silence}
-use Rattle.replay.specs.declared.kept.Silence.TheVariants.{Nothing, NotYet, NoMore}
+use Rattle.replay.specs.declared.kept.Silence.TheVariants.{Nothing, Late, NotYet, NoMore}
 use Rattle.run_log.specs.Counts.{kind_of, numbers_in, events_in, nothings_in, not_yets_in, no_mores_in}
 use Rattle.replay.specs.Replay.{Happening}
 use Rattle.run_log.specs.Lines.{happenings, happenings_of}
@@ -82,6 +82,8 @@ numbers_raised lines place reason count stops there =
         ≡ sum_by no_mores_in lines + no_mores_in (Silent r (count + 1))
         → numbers_in (raised lines place r count) stops ≡ counted (kind_of r) (numbers_in lines stops)
     by (Nothing node) a b c d =
+        same_numbers _ _ _ _ _ _ _ _ _ _ (omega (arith, a)) (omega (arith, b)) (omega (arith, c)) (omega (arith, d)) refl
+    by (Late node) a b c d =
         same_numbers _ _ _ _ _ _ _ _ _ _ (omega (arith, a)) (omega (arith, b)) (omega (arith, c)) (omega (arith, d)) refl
     by NotYet a b c d =
         same_numbers _ _ _ _ _ _ _ _ _ _ (omega (arith, a)) (omega (arith, b)) (omega (arith, c)) (omega (arith, d)) refl

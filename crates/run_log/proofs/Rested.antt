@@ -19,13 +19,13 @@ world_event other (ArmCrash crash) = other
 node_of_own : (script : List ScriptedEvent) (node passed : ℕ) (world : WorldView) (event : EventView) → WorldInvariant world
     → IsEventOf script (Node node) passed world (OfWorld event) → event_node event ≡ node
 node_of_own script node passed world event inv (inl chosen) =
-    ap (λ (e : ArmedEvent). event_node (world_event event e)) chosen ∙ choice_at_home world inv node
+    ap (λ (e : ArmedEvent). event_node (world_event event e)) chosen.1 ∙ choice_at_home world inv node
 node_of_own script node passed world event inv (inr back) =
     ap (λ (e : ArmedEvent). event_node (world_event event e)) back.1 ∙ back.2
 
 chosen_idle : (script : List ScriptedEvent) (node passed : ℕ) (world : WorldView) (event : EventView) → is_idle event ≡ true
     → IsEventOf script (Node node) passed world (OfWorld event) → event ≡ choice world node
-chosen_idle script node passed world event idle (inl chosen) = ap (λ (e : ArmedEvent). world_event event e) chosen
+chosen_idle script node passed world event idle (inl chosen) = ap (λ (e : ArmedEvent). world_event event e) chosen.1
 chosen_idle script node passed world event idle (inr back) = absurd (no (sym idle ∙ ap (λ (e : ArmedEvent). is_idle (world_event event e)) back.1))
   where
     no : true ≡ false → ⊥

@@ -9,10 +9,11 @@ use Rattle.replay.specs.declared.kept.Maker.{Maker}
 use Rattle.replay.specs.declared.kept.Maker.TheVariants.{Node, Driver}
 use Rattle.replay.specs.declared.kept.ScriptedEvent.{ScriptedEvent}
 use Rattle.replay.specs.declared.kept.Silence.{Silence}
-use Rattle.replay.specs.declared.kept.Silence.TheVariants.{Nothing, NotYet, NoMore}
+use Rattle.replay.specs.declared.kept.Silence.TheVariants.{Nothing, Late, NotYet, NoMore}
 use Rattle.run_log.specs.Counts.{IsCounted}
 use Rattle.run_log.specs.Added.{IsAdded}
 use Rattle.run_log.specs.Lines.{IsWidened}
+use Rattle.run_log.specs.Numbers.{Numbers, counted as counted_as}
 use Rattle.run_log.specs.declared.history.Line.{Line}
 use Rattle.run_log.specs.declared.answer.FaultAnswer.{FaultAnswer}
 use Rattle.run_log.specs.declared.answer.FaultAnswer.TheVariants as fault
@@ -28,6 +29,7 @@ use Rattle.station.specs.ReplyView.{reply_view}
 abbrev pub turn_kind : TurnAnswer → Counted
 turn_kind (turn.Reply reply) = counted.Entry
 turn_kind turn.Nothing = counted.Nothing
+turn_kind turn.Late = counted.Nothing
 turn_kind turn.Widened = counted.Entry
 turn_kind turn.Stopped = counted.Stop
 
@@ -50,6 +52,7 @@ abbrev pub IsTurnWritten : Bool → ℕ → List Line → List Line → TurnAnsw
 IsTurnWritten keeps node before now (turn.Reply reply) =
     (event : ArmedEvent) × IsAdded keeps (Node node) event (reply_view reply) before now
 IsTurnWritten keeps node before now turn.Nothing = keeps ≡ true → IsCounted (Nothing node) before now
+IsTurnWritten keeps node before now turn.Late = keeps ≡ true → IsCounted (Late node) before now
 IsTurnWritten keeps node before now turn.Widened = keeps ≡ true → IsWidened before now
 IsTurnWritten keeps node before now turn.Stopped = now ≡ before
 
@@ -97,6 +100,7 @@ pub record IsStillIn (fits : List (RecordView → Bool)) (script : List Scripted
 abbrev pub TellsTurn : List (RecordView → Bool) → List ScriptedEvent → WorldView → ℕ → TurnAnswer → Type 0
 TellsTurn fits script opening node (turn.Reply reply) = ∥ IsReplyIn fits script opening (Node node) (reply_view reply) ∥₁
 TellsTurn fits script opening node turn.Nothing = ∥ IsSilentIn fits script opening (Nothing node) ∥₁
+TellsTurn fits script opening node turn.Late = ∥ IsSilentIn fits script opening (Late node) ∥₁
 TellsTurn fits script opening node turn.Widened = ∥ IsStillIn fits script opening ∥₁
 TellsTurn fits script opening node turn.Stopped = Unit {0}
 
@@ -107,6 +111,28 @@ TellsFault fits script opening (fault.Reply reply) = ∥ IsReplyIn fits script o
 TellsFault fits script opening fault.NotYet = ∥ IsSilentIn fits script opening NotYet ∥₁
 TellsFault fits script opening fault.NoMore = ∥ IsSilentIn fits script opening NoMore ∥₁
 TellsFault fits script opening fault.Stopped = Unit {0}
+
+-- ---- what a seat is told
+
+-- An event of this maker is answered so at its seat, whose numbers were these before and are these behind it. It is counted there, and the reply
+-- is so in a world to which a history of this run leads.
+pub record IsToldEvent (fits : List (RecordView → Bool)) (script : List ScriptedEvent) (opening : WorldView) (maker : Maker)
+    (reply : ReplyView) (before after : Numbers) : Type 0 where
+  pub counts : after ≡ counted_as counted.Entry before
+  pub told : ∥ IsReplyIn fits script opening maker reply ∥₁
+
+-- A node's turn is: the answer adds one to one number, to that of the events or to its own. A job that is granted is of a process of this node.
+pub record IsToldTurn (fits : List (RecordView → Bool)) (script : List ScriptedEvent) (opening : WorldView) (node : ℕ)
+    (answer : TurnAnswer) (before after : Numbers) : Type 0 where
+  pub counts : after ≡ counted_as (turn_kind answer) before
+  pub home : IsGrantedIn node answer
+  pub told : TellsTurn fits script opening node answer
+
+-- The driver's turn is.
+pub record IsToldFault (fits : List (RecordView → Bool)) (script : List ScriptedEvent) (opening : WorldView) (answer : FaultAnswer)
+    (before after : Numbers) : Type 0 where
+  pub counts : after ≡ counted_as (fault_kind answer) before
+  pub told : TellsFault fits script opening answer
 
 -- ---- refusals
 

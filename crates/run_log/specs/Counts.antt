@@ -3,7 +3,7 @@ use Rattle.std.specs.Prelude.{◌≡◌, ◌≤◌, ◌⊎◌, ℕ, List, [], �
 use Rattle.kahn_net.specs.declared.limits.TheConstants.{MAX_COUNT}
 use Rattle.replay.specs.Replay as happening
 use Rattle.replay.specs.declared.kept.Silence.{Silence}
-use Rattle.replay.specs.declared.kept.Silence.TheVariants.{Nothing, NotYet, NoMore}
+use Rattle.replay.specs.declared.kept.Silence.TheVariants.{Nothing, Late, NotYet, NoMore}
 use Rattle.run_log.specs.Lines.{happenings}
 use Rattle.run_log.specs.Numbers.{Numbers, numbers}
 use Rattle.run_log.specs.Numbers as number
@@ -15,6 +15,7 @@ use Rattle.run_log.specs.declared.seat_count.Counted.TheVariants as counted
 -- as what an answer without an event counts
 abbrev pub kind_of : Silence → Counted
 kind_of (Nothing node) = counted.Nothing
+kind_of (Late node) = counted.Nothing
 kind_of NotYet = counted.NotYet
 kind_of NoMore = counted.NoMore
 
@@ -27,6 +28,7 @@ events_in Widened = 1
 abbrev pub nothings_in : Line → ℕ
 nothings_in (Made entry times rises) = 0
 nothings_in (Silent (Nothing node) count) = count
+nothings_in (Silent (Late node) count) = count
 nothings_in (Silent NotYet count) = 0
 nothings_in (Silent NoMore count) = 0
 nothings_in Widened = 0
@@ -34,6 +36,7 @@ nothings_in Widened = 0
 abbrev pub not_yets_in : Line → ℕ
 not_yets_in (Made entry times rises) = 0
 not_yets_in (Silent (Nothing node) count) = 0
+not_yets_in (Silent (Late node) count) = 0
 not_yets_in (Silent NotYet count) = count
 not_yets_in (Silent NoMore count) = 0
 not_yets_in Widened = 0
@@ -41,6 +44,7 @@ not_yets_in Widened = 0
 abbrev pub no_mores_in : Line → ℕ
 no_mores_in (Made entry times rises) = 0
 no_mores_in (Silent (Nothing node) count) = 0
+no_mores_in (Silent (Late node) count) = 0
 no_mores_in (Silent NotYet count) = 0
 no_mores_in (Silent NoMore count) = count
 no_mores_in Widened = 0

@@ -11,3 +11,4 @@ pub mod Turns
 pub mod Firsts
 pub mod ArmedWorlds
 pub mod RunLogs
+pub mod Calls

@@ -4,6 +4,7 @@ use Rattle.protocol.specs.Node.Common.{RecordView}
 use Rattle.protocol.specs.World.Common.{choice}
 use Rattle.replay.specs.Armed.{ArmedView, IsArmedStep, OfWorld, armed_widened}
 use Rattle.replay.specs.Plain.{run_view}
+use Rattle.replay.specs.Replay.{is_line_late}
 use Rattle.replay.specs.Rests.{next_turn}
 use Rattle.replay.specs.declared.kept.NextTurn.TheVariants as next
 use Rattle.replay.specs.declared.kept.RunEvent.{RunEvent}
@@ -14,15 +15,19 @@ use Rattle.run_log.specs.declared.answer.TurnAnswer.{TurnAnswer}
 use Rattle.run_log.specs.declared.answer.TurnAnswer.TheVariants as turn
 use Rattle.station.specs.ReplyView.{reply_view}
 
--- A node's turn is what comes next there (`next_turn`): the event that is next for it; more room for the channels, where the world stands still
--- for want of it; or nothing, where all that the node could do is to let its turn pass, as it has done in this round. Where the run is stopped
--- it is nothing too.
-abbrev pub IsTurn : List (RecordView → Bool) → ℕ → TurnAnswer → ArmedView → ArmedView → Type 0
-IsTurn fits node (turn.Reply reply) old new =
-    (next_turn old.world node ≡ next.Make) × IsArmedStep fits (OfWorld (choice old.world node)) old (reply_view reply) new
-IsTurn fits node turn.Nothing old new = (next_turn old.world node ≡ next.Rest) × (new ≡ old)
-IsTurn fits node turn.Widened old new = (next_turn old.world node ≡ next.Widen) × (new ≡ armed_widened old)
-IsTurn fits node turn.Stopped old new = new ≡ old
+-- A node's turn is what comes next there: a line of the script that is late comes before it, so nothing is done; else the event that is next for
+-- the node, more room for the channels, where the world stands still for want of it, or nothing, where all that the node could do is to let
+-- its turn pass, as it has done in this round (`next_turn`). Where the run is stopped it is nothing too.
+abbrev pub IsTurn : List (RecordView → Bool) → List ScriptedEvent → ℕ → ℕ → TurnAnswer → ArmedView → ArmedView → Type 0
+IsTurn fits script passed node (turn.Reply reply) old new =
+    (is_line_late script passed old.world.round ≡ false) × (next_turn old.world node ≡ next.Make)
+    × IsArmedStep fits (OfWorld (choice old.world node)) old (reply_view reply) new
+IsTurn fits script passed node turn.Nothing old new =
+    (is_line_late script passed old.world.round ≡ false) × (next_turn old.world node ≡ next.Rest) × (new ≡ old)
+IsTurn fits script passed node turn.Widened old new =
+    (is_line_late script passed old.world.round ≡ false) × (next_turn old.world node ≡ next.Widen) × (new ≡ armed_widened old)
+IsTurn fits script passed node turn.Late old new = (is_line_late script passed old.world.round ≡ true) × (new ≡ old)
+IsTurn fits script passed node turn.Stopped old new = new ≡ old
 
 -- What comes at the driver's turn: the event of the script's next line, once its round has come; or nothing, where it hasn't, or where no line is
 -- left.

@@ -9,6 +9,8 @@ pub enum TurnAnswer {
     Reply(Reply),
     /// To let its turn pass is all that the node could do, and it has done so in this round.
     Nothing,
+    /// The script's next line is of an earlier round, and comes first.
+    Late,
     /// The world stood still for want of room, and channels have more now.
     Widened,
     /// The run is stopped: no turn and no line of the script makes an event any more, but a job that is out may come back.

@@ -1,22 +1,20 @@
 // The log of a run, with the world to which it leads.
-ghost use Rattle.std.specs.Prelude.{◌≡◌, ◌==◌, ◌≢◌, ◌+◌, ◌<◌, ◌≤◌, [], true, false, is_none, length, IfErr, IfOk, IfSome, IsNone, IsTrue, OnErr, OnOk};
+ghost use Rattle.std.specs.Prelude.{◌≡◌, ◌==◌, ◌≢◌, ◌+◌, ◌-◌, ◌<◌, ◌≤◌, [], true, false, is_none, length, IfErr, IfOk, IfSome, IsNone, IsTrue, OnOk, slice_get};
 ghost use Rattle.protocol.specs.World.Common.{choice, event_node, Install, are_quiet, released_of, stands_still, IsGrantedAt};
-ghost use Rattle.replay.specs.Armed.{IsArmedStep, OfWorld, armed_at_first, armed_widened};
+ghost use Rattle.replay.specs.Armed.{OfWorld, armed_at_first, armed_widened};
 ghost use Rattle.replay.specs.Plain.{run_view};
-ghost use Rattle.replay.specs.Replay.{IsEventOf, IsSilence, LeadsTo, has_idled};
+ghost use Rattle.replay.specs.Replay.{IsEventOf, IsSilence, LeadsTo, has_idled, is_line_late};
 ghost use Rattle.replay.specs.Rests.{AllRest, has_due, next_turn};
 ghost use Rattle.replay.specs.declared.kept.NextTurn.TheVariants as next;
 ghost use Rattle.run_log.specs.Happened.{HasHappened, HasRun};
 ghost use Rattle.replay.specs.declared.kept.Maker.TheVariants as who;
 ghost use Rattle.run_log.specs.ArmedWorlds.{armed_view};
 ghost use Rattle.replay.specs.declared.kept.Silence.TheVariants.{Nothing};
-ghost use Rattle.run_log.specs.Answers.{fault_kind, turn_kind, IsGrantedIn, IsReplyIn, IsSilentIn, IsStillIn, IsFaultWritten, IsTurnWritten, TellsFault, TellsTurn};
+ghost use Rattle.run_log.specs.Answers.{IsSilentIn, IsStillIn};
 ghost use Rattle.run_log.specs.Counts.{kind_of, numbers_in, IsCounted};
-ghost use Rattle.run_log.specs.Added.{IsAdded};
-ghost use Rattle.run_log.specs.Turns.{IsFault, IsTurn, is_due, next_line, passed_then};
+ghost use Rattle.run_log.specs.Turns.{is_due, next_line};
 ghost use Rattle.run_log.specs.Lines.{IsWidened, happenings};
 ghost use Rattle.run_log.specs.declared.answer.FaultAnswer.TheVariants as faults;
-ghost use Rattle.run_log.specs.declared.answer.HubFault.TheVariants.{PastNumber};
 ghost use Rattle.run_log.specs.declared.answer.TurnAnswer.TheVariants as turns;
 ghost use Rattle.run_log.specs.Numbers.{counted, no_numbers};
 ghost use Rattle.run_log.specs.SeatCounts.{run_numbers, seat_numbers, seat_parts};
@@ -92,7 +90,7 @@ fn counted_as(reason: Silence) -> Counted
     ensures { result ≡ kind_of reason }
 {
     match reason {
-        Silence::Nothing(_) => Counted::Nothing,
+        Silence::Nothing(_) | Silence::Late(_) => Counted::Nothing,
         Silence::NotYet => Counted::NotYet,
         Silence::NoMore => Counted::NoMore,
     }
@@ -150,7 +148,7 @@ fn is_complete<C: SlotCell, O: Outlet>(world: &World<C, O>, busy: &mut u8) -> bo
 }
 
 impl<C: SlotCell, O: Outlet, ThisRun: Run> RunLog<C, O, ThisRun> {
-    ghost use Rattle.run_log.specs.RunLogs.{IsFull, IsSameLog};
+    ghost use Rattle.run_log.specs.Calls.{IsEventMade, IsFaultAnswer, IsRefused, IsTurnAnswer, IsUntouched};
 
     /// A log in which nothing is written yet, and later only where it keeps what happens.
     pub fn new(
@@ -197,22 +195,13 @@ impl<C: SlotCell, O: Outlet, ThisRun: Run> RunLog<C, O, ThisRun> {
         requires own { IsEventOf ThisRun.script (who.Node node) self.old.passed
             (world_of self.old.armed.world) (OfWorld (event_view event)) }
         ensures parts { seat_parts count.new ≡ seat_parts count.old }
-        ensures counted { OnOk result
-            (seat_numbers count.new ≡ counted kind.Entry (seat_numbers count.old)) }
+        ensures made { IfOk result (λ reply. IsEventMade (who.Node node) (OfWorld (event_view event)) (reply_view reply)
+            self.old self.new (seat_numbers count.old) (seat_numbers count.new)) }
         ensures home { IfOk result
             (λ reply. IsGrantedAt (event_node (event_view event)) (reply_view reply)) }
-        ensures added { IfOk result (λ reply. IsAdded self.old.keeps (who.Node node) (OfWorld (event_view event))
-            (reply_view reply) self.old.lines.items self.new.lines.items) }
-        ensures told { IfOk result (λ reply. ∥ IsReplyIn ThisRun.rooms ThisRun.script ThisRun.opening (who.Node node)
-            (reply_view reply) ∥₁) }
-        ensures refused { OnErr result (seat_numbers count.new ≡ seat_numbers count.old) }
-        ensures unchanged { OnErr result (IsSameLog self.old self.new) }
-        ensures full { IfErr result (λ held. held.fault ≡ PastNumber → IsFull self.old) }
+        ensures refused { IfErr result (λ held. IsRefused held.fault self.old self.new (seat_numbers count.old)
+            (seat_numbers count.new)) }
         ensures handed_back { IfErr result (λ held. held.event ≡ event) }
-        ensures step { IfOk result (λ reply. IsArmedStep ThisRun.rooms (OfWorld (event_view event)) (armed_view self.old.armed)
-            (reply_view reply) (armed_view self.new.armed)) }
-        ensures passed { self.new.passed ≡ self.old.passed }
-        ensures running { self.new.stopped ≡ self.old.stopped }
     {
         if self.totals.made() >= MAX_COUNT {
             return Err(HeldBack {
@@ -259,19 +248,10 @@ impl<C: SlotCell, O: Outlet, ThisRun: Run> RunLog<C, O, ThisRun> {
             (world_of self.old.armed.world) (run_view event) }
         requires few { self.old.passed < length ThisRun.script }
         ensures parts { seat_parts count.new ≡ seat_parts count.old }
-        ensures counted { OnOk result
-            (seat_numbers count.new ≡ counted kind.Entry (seat_numbers count.old)) }
-        ensures added { IfOk result (λ reply. IsAdded self.old.keeps who.Driver (run_view event)
-            (reply_view reply) self.old.lines.items self.new.lines.items) }
-        ensures told { IfOk result (λ reply. ∥ IsReplyIn ThisRun.rooms ThisRun.script ThisRun.opening who.Driver
-            (reply_view reply) ∥₁) }
-        ensures refused { OnErr result (seat_numbers count.new ≡ seat_numbers count.old) }
-        ensures unchanged { OnErr result (IsSameLog self.old self.new) }
-        ensures full { IfErr result (λ fault. fault ≡ PastNumber → IsFull self.old) }
-        ensures step { IfOk result (λ reply. IsArmedStep ThisRun.rooms (run_view event) (armed_view self.old.armed)
-            (reply_view reply) (armed_view self.new.armed)) }
-        ensures passed { OnOk result (self.new.passed ≡ self.old.passed + 1) }
-        ensures running { self.new.stopped ≡ self.old.stopped }
+        ensures made { IfOk result (λ reply. IsEventMade who.Driver (run_view event) (reply_view reply) self.old self.new
+            (seat_numbers count.old) (seat_numbers count.new)) }
+        ensures refused { IfErr result (λ fault. IsRefused fault self.old self.new (seat_numbers count.old)
+            (seat_numbers count.new)) }
     {
         if self.totals.made() >= MAX_COUNT {
             return Err(HubFault::PastNumber);
@@ -301,16 +281,15 @@ impl<C: SlotCell, O: Outlet, ThisRun: Run> RunLog<C, O, ThisRun> {
         requires part { 0 < seat_parts count.old }
         requires still { stands_still (world_of self.old.armed.world) ≡ true }
         ensures parts { seat_parts count.new ≡ seat_parts count.old }
-        ensures counted { OnOk result
+        ensures counts { OnOk result
             (seat_numbers count.new ≡ counted kind.Entry (seat_numbers count.old)) }
         ensures added { OnOk result (self.old.keeps ≡ true → IsWidened self.old.lines.items self.new.lines.items) }
         ensures told { OnOk result (∥ IsStillIn ThisRun.rooms ThisRun.script ThisRun.opening ∥₁) }
-        ensures refused { OnErr result (seat_numbers count.new ≡ seat_numbers count.old) }
-        ensures unchanged { OnErr result (IsSameLog self.old self.new) }
-        ensures full { IfErr result (λ fault. fault ≡ PastNumber → IsFull self.old) }
         ensures wider { OnOk result (armed_view self.new.armed ≡ armed_widened (armed_view self.old.armed)) }
         ensures passed { self.new.passed ≡ self.old.passed }
         ensures running { self.new.stopped ≡ self.old.stopped }
+        ensures refused { IfErr result (λ fault. IsRefused fault self.old self.new (seat_numbers count.old)
+            (seat_numbers count.new)) }
     {
         if self.totals.made() >= MAX_COUNT {
             return Err(HubFault::PastNumber);
@@ -338,16 +317,15 @@ impl<C: SlotCell, O: Outlet, ThisRun: Run> RunLog<C, O, ThisRun> {
         requires own { ∥ IsSilence ThisRun.script reason self.old.passed
             (world_of self.old.armed.world) ∥₁ }
         ensures parts { seat_parts count.new ≡ seat_parts count.old }
-        ensures counted { OnOk result
+        ensures counts { OnOk result
             (seat_numbers count.new ≡ counted (kind_of reason) (seat_numbers count.old)) }
         ensures added { OnOk result (self.old.keeps ≡ true → IsCounted reason self.old.lines.items self.new.lines.items) }
         ensures told { OnOk result (∥ IsSilentIn ThisRun.rooms ThisRun.script ThisRun.opening reason ∥₁) }
-        ensures refused { OnErr result (seat_numbers count.new ≡ seat_numbers count.old) }
-        ensures unchanged { OnErr result (IsSameLog self.old self.new) }
-        ensures full { IfErr result (λ fault. fault ≡ PastNumber → IsFull self.old) }
         ensures world { armed_view self.new.armed ≡ armed_view self.old.armed }
         ensures passed { self.new.passed ≡ self.old.passed }
         ensures running { self.new.stopped ≡ self.old.stopped }
+        ensures refused { IfErr result (λ fault. IsRefused fault self.old self.new (seat_numbers count.old)
+            (seat_numbers count.new)) }
     {
         let RunLog {
             lines,
@@ -365,15 +343,14 @@ impl<C: SlotCell, O: Outlet, ThisRun: Run> RunLog<C, O, ThisRun> {
         requires part { 0 < seat_parts count.old }
         requires stopped { self.old.stopped ≡ true }
         ensures parts { seat_parts count.new ≡ seat_parts count.old }
-        ensures counted { OnOk result
+        ensures counts { OnOk result
             (seat_numbers count.new ≡ counted kind.Stop (seat_numbers count.old)) }
-        ensures same { self.new.lines.items ≡ self.old.lines.items }
-        ensures refused { OnErr result (seat_numbers count.new ≡ seat_numbers count.old) }
-        ensures unchanged { OnErr result (IsSameLog self.old self.new) }
-        ensures full { IfErr result (λ fault. fault ≡ PastNumber → IsFull self.old) }
+        ensures lines { self.new.lines.items ≡ self.old.lines.items }
         ensures world { armed_view self.new.armed ≡ armed_view self.old.armed }
         ensures passed { self.new.passed ≡ self.old.passed }
         ensures running { self.new.stopped ≡ self.old.stopped }
+        ensures refused { IfErr result (λ fault. IsRefused fault self.old self.new (seat_numbers count.old)
+            (seat_numbers count.new)) }
     {
         if self.stops >= MAX_COUNT {
             return Err(HubFault::PastNumber);
@@ -408,27 +385,38 @@ impl<C: SlotCell, O: Outlet, ThisRun: Run> RunLog<C, O, ThisRun> {
         count: &mut SeatCount<ThisRun>,
     ) -> Result<TurnAnswer, HubFault>
         requires part { 0 < seat_parts count.old }
+        requires in_time { is_line_late ThisRun.script self.old.passed (world_of self.old.armed.world).round ≡ false }
         requires rests { next_turn (world_of self.old.armed.world) node ≡ next.Rest }
         ensures parts { seat_parts count.new ≡ seat_parts count.old }
-        ensures counted { IfOk result (λ answer. seat_numbers count.new
-            ≡ counted (turn_kind answer) (seat_numbers count.old)) }
-        ensures home { IfOk result (IsGrantedIn node) }
-        ensures written { IfOk result
-            (IsTurnWritten self.old.keeps node self.old.lines.items self.new.lines.items) }
-        ensures told { IfOk result (TellsTurn ThisRun.rooms ThisRun.script ThisRun.opening node) }
+        ensures answered { IfOk result (λ answer. IsTurnAnswer node answer self.old self.new (seat_numbers count.old)
+            (seat_numbers count.new)) }
         ensures goes_on { IfOk result (λ answer. answer ≢ turns.Stopped) }
-        ensures refused { OnErr result (seat_numbers count.new ≡ seat_numbers count.old) }
-        ensures unchanged { OnErr result (IsSameLog self.old self.new) }
-        ensures full { IfErr result (λ fault. fault ≡ PastNumber → IsFull self.old) }
-        ensures turned { IfOk result (λ answer. IsTurn ThisRun.rooms node answer
-            (armed_view self.old.armed) (armed_view self.new.armed)) }
-        ensures passed { self.new.passed ≡ self.old.passed }
-        ensures running { self.new.stopped ≡ self.old.stopped }
+        ensures refused { IfErr result (λ fault. IsRefused fault self.old self.new (seat_numbers count.old)
+            (seat_numbers count.new)) }
     {
         self.be_silent(Silence::Nothing(node), count)?;
         let RunLog { resting, .. } = self;
         note_event(resting, true, node, true);
         Ok(TurnAnswer::Nothing)
+    }
+
+    // A line of the script is late, and comes before a node's turn, which is counted.
+    fn wait_for_line(
+        &mut self,
+        node: u8,
+        count: &mut SeatCount<ThisRun>,
+    ) -> Result<TurnAnswer, HubFault>
+        requires part { 0 < seat_parts count.old }
+        requires late { is_line_late ThisRun.script self.old.passed (world_of self.old.armed.world).round ≡ true }
+        ensures parts { seat_parts count.new ≡ seat_parts count.old }
+        ensures answered { IfOk result (λ answer. IsTurnAnswer node answer self.old self.new (seat_numbers count.old)
+            (seat_numbers count.new)) }
+        ensures goes_on { IfOk result (λ answer. answer ≢ turns.Stopped) }
+        ensures refused { IfErr result (λ fault. IsRefused fault self.old self.new (seat_numbers count.old)
+            (seat_numbers count.new)) }
+    {
+        self.be_silent(Silence::Late(node), count)?;
+        Ok(TurnAnswer::Late)
     }
 
     // The event that is next for a node, with its line and its count, unless that is to let its turn pass: then nothing is done.
@@ -439,30 +427,19 @@ impl<C: SlotCell, O: Outlet, ThisRun: Run> RunLog<C, O, ThisRun> {
         count: &mut SeatCount<ThisRun>,
     ) -> Result<Option<Reply>, HubFault>
         requires part { 0 < seat_parts count.old }
+        requires in_time { is_line_late ThisRun.script self.old.passed (world_of self.old.armed.world).round ≡ false }
         ensures parts { seat_parts count.new ≡ seat_parts count.old }
         ensures passes { IfOk result
             (λ made. is_none made ≡ is_idle (choice (world_of self.old.armed.world) node)) }
-        ensures none { IfOk result (λ made. IsNone made → IsSameLog self.old self.new
-            × (run_numbers self.new.totals ≡ run_numbers self.old.totals) × (self.new.stops ≡ self.old.stops)
-            × (seat_numbers count.new ≡ seat_numbers count.old)) }
-        ensures counted { IfOk result (λ made. IfSome made (λ reply. seat_numbers count.new
-            ≡ counted kind.Entry (seat_numbers count.old))) }
+        ensures none { IfOk result (λ made. IsNone made
+            → IsUntouched self.old self.new × (seat_numbers count.new ≡ seat_numbers count.old)) }
+        ensures made { IfOk result (λ made. IfSome made (λ reply. IsEventMade (who.Node node)
+            (OfWorld (choice (world_of self.old.armed.world) node)) (reply_view reply) self.old self.new
+            (seat_numbers count.old) (seat_numbers count.new))) }
         ensures home { IfOk result (λ made. IfSome made
             (λ reply. IsGrantedAt (event_node (choice (world_of self.old.armed.world) node)) (reply_view reply))) }
-        ensures added { IfOk result (λ made. IfSome made (λ reply. IsAdded self.old.keeps (who.Node node)
-            (OfWorld (choice (world_of self.old.armed.world) node)) (reply_view reply) self.old.lines.items
-            self.new.lines.items)) }
-        ensures told { IfOk result (λ made. IfSome made (λ reply. ∥ IsReplyIn ThisRun.rooms ThisRun.script ThisRun.opening
-            (who.Node node) (reply_view reply) ∥₁)) }
-        ensures refused { OnErr result (seat_numbers count.new ≡ seat_numbers count.old) }
-        ensures unchanged { OnErr result (IsSameLog self.old self.new) }
-        ensures full { IfErr result (λ fault. fault ≡ PastNumber → IsFull self.old) }
-        ensures step { IfOk result (λ made. IfSome made (λ reply. IsArmedStep ThisRun.rooms
-            (OfWorld (choice (world_of self.old.armed.world) node)) (armed_view self.old.armed) (reply_view reply)
-            (armed_view self.new.armed))) }
-        ensures keeps { self.new.keeps ≡ self.old.keeps }
-        ensures passed { self.new.passed ≡ self.old.passed }
-        ensures running { self.new.stopped ≡ self.old.stopped }
+        ensures refused { IfErr result (λ fault. IsRefused fault self.old self.new (seat_numbers count.old)
+            (seat_numbers count.new)) }
     {
         if self.totals.made() >= MAX_COUNT {
             return Err(HubFault::PastNumber);
@@ -499,21 +476,13 @@ impl<C: SlotCell, O: Outlet, ThisRun: Run> RunLog<C, O, ThisRun> {
         count: &mut SeatCount<ThisRun>,
     ) -> Result<TurnAnswer, HubFault>
         requires part { 0 < seat_parts count.old }
+        requires in_time { is_line_late ThisRun.script self.old.passed (world_of self.old.armed.world).round ≡ false }
         ensures parts { seat_parts count.new ≡ seat_parts count.old }
-        ensures counted { IfOk result (λ answer. seat_numbers count.new
-            ≡ counted (turn_kind answer) (seat_numbers count.old)) }
-        ensures home { IfOk result (IsGrantedIn node) }
-        ensures written { IfOk result
-            (IsTurnWritten self.old.keeps node self.old.lines.items self.new.lines.items) }
-        ensures told { IfOk result (TellsTurn ThisRun.rooms ThisRun.script ThisRun.opening node) }
+        ensures answered { IfOk result (λ answer. IsTurnAnswer node answer self.old self.new (seat_numbers count.old)
+            (seat_numbers count.new)) }
         ensures goes_on { IfOk result (λ answer. answer ≢ turns.Stopped) }
-        ensures refused { OnErr result (seat_numbers count.new ≡ seat_numbers count.old) }
-        ensures unchanged { OnErr result (IsSameLog self.old self.new) }
-        ensures full { IfErr result (λ fault. fault ≡ PastNumber → IsFull self.old) }
-        ensures turned { IfOk result (λ answer. IsTurn ThisRun.rooms node answer
-            (armed_view self.old.armed) (armed_view self.new.armed)) }
-        ensures passed { self.new.passed ≡ self.old.passed }
-        ensures running { self.new.stopped ≡ self.old.stopped }
+        ensures refused { IfErr result (λ fault. IsRefused fault self.old self.new (seat_numbers count.old)
+            (seat_numbers count.new)) }
     {
         let event = self.armed.world.pick(node);
         match next_turn(&self.armed.world, &event, node) {
@@ -530,7 +499,8 @@ impl<C: SlotCell, O: Outlet, ThisRun: Run> RunLog<C, O, ThisRun> {
     }
 
     /// The event that is next for a node; none where all that it could do is to let its turn pass, and it has done so in this
-    /// round. Before it does so first, channels get more room if the world stands still for want of it.
+    /// round. Before it does so first, channels get more room if the world stands still for want of it. A line of the script that is of
+    /// an earlier round comes before: until it is passed, no node makes an event by its turn.
     pub fn turn(
         &mut self,
         alloc: Global,
@@ -539,35 +509,24 @@ impl<C: SlotCell, O: Outlet, ThisRun: Run> RunLog<C, O, ThisRun> {
     ) -> Result<TurnAnswer, HubFault>
         requires part { 0 < seat_parts count.old }
         ensures parts { seat_parts count.new ≡ seat_parts count.old }
-        // It adds one to one number of its seat: to that of the events, or to that of the answer.
-        ensures counted { IfOk result (λ answer. seat_numbers count.new
-            ≡ counted (turn_kind answer) (seat_numbers count.old)) }
-        // A job that is granted is of a process of this node.
-        ensures home { IfOk result (IsGrantedIn node) }
-        // What is said behind all that had happened has the very answer that is given, or the answer was counted.
-        ensures written { IfOk result
-            (IsTurnWritten self.old.keeps node self.old.lines.items self.new.lines.items) }
-        // What is answered is so in a world to which a history of this run leads.
-        ensures told { IfOk result (TellsTurn ThisRun.rooms ThisRun.script ThisRun.opening node) }
+        // What is answered, and what is done.
+        ensures answered { IfOk result (λ answer. IsTurnAnswer node answer self.old self.new (seat_numbers count.old)
+            (seat_numbers count.new)) }
         // Where the run is stopped no event is made. `install` has no such clause: a job that is out comes back all the same.
         ensures stopped { self.old.stopped ≡ true
             → IfOk result (λ answer. answer ≡ turns.Stopped) }
         // And `Stopped` is answered nowhere else.
         ensures goes_on { self.old.stopped ≡ false
             → IfOk result (λ answer. answer ≢ turns.Stopped) }
-        ensures refused { OnErr result (seat_numbers count.new ≡ seat_numbers count.old) }
-        ensures unchanged { OnErr result (IsSameLog self.old self.new) }
-        // 44 only where a count stands at 2^63 - 1.
-        ensures full { IfErr result (λ fault. fault ≡ PastNumber → IsFull self.old) }
-        // What it does to the world, exactly.
-        ensures turned { IfOk result (λ answer. IsTurn ThisRun.rooms node answer
-            (armed_view self.old.armed) (armed_view self.new.armed)) }
-        ensures passed { self.new.passed ≡ self.old.passed }
-        ensures running { self.new.stopped ≡ self.old.stopped }
+        ensures refused { IfErr result (λ fault. IsRefused fault self.old self.new (seat_numbers count.old)
+            (seat_numbers count.new)) }
     {
         if self.stopped {
             self.be_stopped(count)?;
             return Ok(TurnAnswer::Stopped);
+        }
+        if self.is_line_late() {
+            return self.wait_for_line(node, count);
         }
         if self.is_at_rest(node) {
             return self.be_at_rest(node, count);
@@ -589,21 +548,12 @@ impl<C: SlotCell, O: Outlet, ThisRun: Run> RunLog<C, O, ThisRun> {
         requires part { 0 < seat_parts count.old }
         requires home { event_node (Install (done_view done)) ≡ node }
         ensures parts { seat_parts count.new ≡ seat_parts count.old }
-        ensures added { IfOk result (λ reply. IsAdded self.old.keeps (who.Node node)
-            (OfWorld (Install (done_view done))) (reply_view reply) self.old.lines.items self.new.lines.items) }
-        ensures told { IfOk result (λ reply. ∥ IsReplyIn ThisRun.rooms ThisRun.script ThisRun.opening (who.Node node)
-            (reply_view reply) ∥₁) }
-        ensures counted { OnOk result
-            (seat_numbers count.new ≡ counted kind.Entry (seat_numbers count.old)) }
-        ensures refused { OnErr result (seat_numbers count.new ≡ seat_numbers count.old) }
-        ensures unchanged { OnErr result (IsSameLog self.old self.new) }
-        ensures full { IfErr result (λ held. held.fault ≡ PastNumber → IsFull self.old) }
-        ensures handed_back { IfErr result (λ held. held.event ≡ event.Install done) }
         // What it does to the world, exactly.
-        ensures installed { IfOk result (λ reply. IsArmedStep ThisRun.rooms (OfWorld (Install (done_view done)))
-            (armed_view self.old.armed) (reply_view reply) (armed_view self.new.armed)) }
-        ensures passed { self.new.passed ≡ self.old.passed }
-        ensures running { self.new.stopped ≡ self.old.stopped }
+        ensures made { IfOk result (λ reply. IsEventMade (who.Node node) (OfWorld (Install (done_view done)))
+            (reply_view reply) self.old self.new (seat_numbers count.old) (seat_numbers count.new)) }
+        ensures refused { IfErr result (λ held. IsRefused held.fault self.old self.new (seat_numbers count.old)
+            (seat_numbers count.new)) }
+        ensures handed_back { IfErr result (λ held. held.event ≡ event.Install done) }
     {
         self.make(alloc, node, Event::Install(done), count)
     }
@@ -616,42 +566,33 @@ impl<C: SlotCell, O: Outlet, ThisRun: Run> RunLog<C, O, ThisRun> {
     ) -> Result<FaultAnswer, HubFault>
         requires part { 0 < seat_parts count.old }
         ensures parts { seat_parts count.new ≡ seat_parts count.old }
-        ensures counted { IfOk result (λ answer. seat_numbers count.new
-            ≡ counted (fault_kind answer) (seat_numbers count.old)) }
-        ensures written { IfOk result
-            (IsFaultWritten self.old.keeps self.old.lines.items self.new.lines.items) }
-        ensures told { IfOk result (TellsFault ThisRun.rooms ThisRun.script ThisRun.opening) }
+        // What is answered, and what is done.
+        ensures answered { IfOk result (λ answer. IsFaultAnswer answer self.old self.new (seat_numbers count.old)
+            (seat_numbers count.new)) }
         ensures stopped { self.old.stopped ≡ true
             → IfOk result (λ answer. answer ≡ faults.Stopped) }
         ensures goes_on { self.old.stopped ≡ false
             → IfOk result (λ answer. answer ≢ faults.Stopped) }
-        ensures refused { OnErr result (seat_numbers count.new ≡ seat_numbers count.old) }
-        ensures unchanged { OnErr result (IsSameLog self.old self.new) }
-        ensures full { IfErr result (λ fault. fault ≡ PastNumber → IsFull self.old) }
-        // What it does to the world, exactly.
-        ensures played { IfOk result (λ answer. IsFault ThisRun.rooms ThisRun.script self.old.passed answer
-            (armed_view self.old.armed) (armed_view self.new.armed)) }
-        ensures passed { IfOk result (λ answer. self.new.passed ≡ passed_then answer self.old.passed) }
-        ensures running { self.new.stopped ≡ self.old.stopped }
+        ensures refused { IfErr result (λ fault. IsRefused fault self.old self.new (seat_numbers count.old)
+            (seat_numbers count.new)) }
     {
         if self.stopped {
             self.be_stopped(count)?;
             return Ok(FaultAnswer::Stopped);
         }
-        let passed = self.passed;
-        if passed >= self.script.len() {
-            self.be_silent(Silence::NoMore, count)?;
-            return Ok(FaultAnswer::NoMore);
-        }
-        let line = self.script[passed];
+        let line = match self.next_line() {
+            Some(line) => line,
+            None => {
+                self.be_silent(Silence::NoMore, count)?;
+                return Ok(FaultAnswer::NoMore);
+            }
+        };
         if line.round > self.armed.world.round() {
             self.be_silent(Silence::NotYet, count)?;
             return Ok(FaultAnswer::NotYet);
         }
-        match self.play(alloc, line.event, count) {
-            Ok(reply) => Ok(FaultAnswer::Reply(reply)),
-            Err(fault) => Err(fault),
-        }
+        let reply = self.play(alloc, line.event, count)?;
+        Ok(FaultAnswer::Reply(reply))
     }
 
     /// What a node that has nothing to do waits for.
@@ -682,21 +623,43 @@ impl<C: SlotCell, O: Outlet, ThisRun: Run> RunLog<C, O, ThisRun> {
         self.armed.world.has_packet(node)
     }
 
+    // The script's next line.
+    fn next_line(&self) -> Option<ScriptedEvent>
+        ensures { result ≡ slice_get ThisRun.script self.now.passed }
+    {
+        self.script.get(self.passed).copied()
+    }
+
     /// Whether the script's next line is due.
     pub fn is_line_due(&self) -> bool
         ensures { result ≡ is_due (next_line ThisRun.script self.now.passed (world_of self.now.armed.world).round) }
     {
-        let passed = self.passed;
-        if passed >= self.script.len() {
-            return false;
+        match self.next_line() {
+            Some(line) => line.round <= self.armed.world.round(),
+            None => false,
         }
-        let line = self.script[passed];
-        line.round <= self.armed.world.round()
+    }
+
+    /// Whether the script's next line is of an earlier round. It comes before any turn of a node.
+    pub fn is_line_late(&self) -> bool
+        ensures { result ≡ is_line_late ThisRun.script self.now.passed (world_of self.now.armed.world).round }
+    {
+        match self.next_line() {
+            Some(line) => line.round < self.armed.world.round(),
+            None => false,
+        }
+    }
+
+    /// How many lines of the script aren't passed yet.
+    pub fn lines_left(&self) -> usize
+        ensures { result ≡ length ThisRun.script - self.now.passed }
+    {
+        self.script.len().saturating_sub(self.passed)
     }
 
     /// The round of the script's next line.
     pub fn line_round(&self) -> Option<u64> {
-        let line = self.script.get(self.passed)?;
+        let line = self.next_line()?;
         Some(line.round)
     }
 

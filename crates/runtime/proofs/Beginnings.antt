@@ -79,6 +79,7 @@ module _ (lines : ℕ) (before now : List Line) (begun : BeginsByDriver lines (h
   pub by_turn : (node : ℕ) (answer : TurnAnswer) → IsTurnWritten true node before now answer → BeginsByDriver lines (happenings now)
   by_turn node (turn.Reply reply) written = by_event _ written.0 _ written.1
   by_turn node turn.Nothing written = by_silence _ (written refl)
+  by_turn node turn.Late written = by_silence _ (written refl)
   by_turn node turn.Widened written =
       behind _ (ap happenings (written refl) ∙ flat_map-append happenings_of before (line.Widened ∷ []))
   by_turn node turn.Stopped written = subst (λ (all : List Line). BeginsByDriver lines (happenings all)) (sym written) begun

@@ -26,13 +26,13 @@ use Rattle.runtime.specs.declared.cause.Cause.TheVariants.{Over, Refused, Asked}
 -- ---- what nothing happens to
 
 -- where a run is stopped a turn leaves the world as it is, and so does one that is refused
-pub turn_keeps : {E : Type 0} (P : WorldView → Type 0) (fits : List (RecordView → Bool)) (node : ℕ) (result : Result TurnAnswer E)
-    (old new : ArmedView) → IfOk result (λ (answer : TurnAnswer). answer ≡ turn.Stopped)
-    → IfOk result (λ (answer : TurnAnswer). IsTurn fits node answer old new) → OnErr result (new ≡ old) → P old.world → P new.world
-turn_keeps P fits node (Ok answer) old new stopped turned refused holds =
-    let same : new ≡ old = subst (λ (a : TurnAnswer). IsTurn fits node a old new) stopped turned in
+pub turn_keeps : {E : Type 0} (P : WorldView → Type 0) (fits : List (RecordView → Bool)) (script : List ScriptedEvent) (passed node : ℕ)
+    (result : Result TurnAnswer E) (old new : ArmedView) → IfOk result (λ (answer : TurnAnswer). answer ≡ turn.Stopped)
+    → IfOk result (λ (answer : TurnAnswer). IsTurn fits script passed node answer old new) → OnErr result (new ≡ old) → P old.world → P new.world
+turn_keeps P fits script passed node (Ok answer) old new stopped turned refused holds =
+    let same : new ≡ old = subst (λ (a : TurnAnswer). IsTurn fits script passed node a old new) stopped turned in
     subst (λ (armed : ArmedView). P armed.world) (sym same) holds
-turn_keeps P fits node (Err error) old new stopped turned refused holds = subst (λ (armed : ArmedView). P armed.world) (sym refused) holds
+turn_keeps P fits script passed node (Err error) old new stopped turned refused holds = subst (λ (armed : ArmedView). P armed.world) (sym refused) holds
 
 pub fault_keeps : {E : Type 0} (P : WorldView → Type 0) (fits : List (RecordView → Bool)) (script : List ScriptedEvent) (passed : ℕ)
     (result : Result FaultAnswer E) (old new : ArmedView) → IfOk result (λ (answer : FaultAnswer). answer ≡ fault.Stopped)
@@ -52,27 +52,30 @@ next_within old new bound limit next few most = omega (arith, next, few, most)
 same_within : (limit : ℕ) (old new : ArmedView) → new.world.round ≡ old.world.round → old.world.round ≤ limit → new.world.round ≤ limit
 same_within limit old new same within = subst (λ (n : ℕ). n ≤ limit) (sym same) within
 
-turned_within : (fits : List (RecordView → Bool)) (node bound limit : ℕ) (answer : TurnAnswer) (old new : ArmedView)
-    → old.world.round < bound → bound ≤ limit → old.world.round ≤ limit → IsTurn fits node answer old new → new.world.round ≤ limit
-turned_within fits node bound limit (turn.Reply reply) old new few most within turned =
+turned_within : (fits : List (RecordView → Bool)) (script : List ScriptedEvent) (passed node bound limit : ℕ) (answer : TurnAnswer) (old new : ArmedView)
+    → old.world.round < bound → bound ≤ limit → old.world.round ≤ limit → IsTurn fits script passed node answer old new → new.world.round ≤ limit
+turned_within fits script passed node bound limit (turn.Reply reply) old new few most within turned =
     next_within old.world.round new.world.round bound limit
-    (rounds_are_next fits (OfWorld _) old new (reply_view reply) turned.1) few most
-turned_within fits node bound limit turn.Nothing old new few most within turned =
+    (rounds_are_next fits (OfWorld _) old new (reply_view reply) turned.2) few most
+turned_within fits script passed node bound limit turn.Nothing old new few most within turned =
+    same_within limit old new (ap (λ (a : ArmedView). a.world.round) turned.2) within
+turned_within fits script passed node bound limit turn.Widened old new few most within turned =
+    same_within limit old new (ap (λ (a : ArmedView). a.world.round) turned.2) within
+turned_within fits script passed node bound limit turn.Late old new few most within turned =
     same_within limit old new (ap (λ (a : ArmedView). a.world.round) turned.1) within
-turned_within fits node bound limit turn.Widened old new few most within turned =
-    same_within limit old new (ap (λ (a : ArmedView). a.world.round) turned.1) within
-turned_within fits node bound limit turn.Stopped old new few most within turned =
+turned_within fits script passed node bound limit turn.Stopped old new few most within turned =
     same_within limit old new (ap (λ (a : ArmedView). a.world.round) turned) within
 
-pub turn_within : {E : Type 0} (fits : List (RecordView → Bool)) (node bound limit : ℕ) (stopped : Bool) (result : Result TurnAnswer E)
+pub turn_within : {E : Type 0} (fits : List (RecordView → Bool)) (script : List ScriptedEvent) (passed node bound limit : ℕ) (stopped : Bool)
+    (result : Result TurnAnswer E)
     (old new : ArmedView) → (stopped ≡ false → old.world.round < bound) → bound ≤ limit → old.world.round ≤ limit
     → (stopped ≡ true → IfOk result (λ (answer : TurnAnswer). answer ≡ turn.Stopped))
-    → IfOk result (λ (answer : TurnAnswer). IsTurn fits node answer old new) → OnErr result (new ≡ old) → new.world.round ≤ limit
-turn_within fits node bound limit true result old new few most within stops turned refused =
-    turn_keeps (λ (w : WorldView). w.round ≤ limit) fits node result old new (stops refl) turned refused within
-turn_within fits node bound limit false (Ok answer) old new few most within stops turned refused =
-    turned_within fits node bound limit answer old new (few refl) most within turned
-turn_within fits node bound limit false (Err error) old new few most within stops turned refused =
+    → IfOk result (λ (answer : TurnAnswer). IsTurn fits script passed node answer old new) → OnErr result (new ≡ old) → new.world.round ≤ limit
+turn_within fits script passed node bound limit true result old new few most within stops turned refused =
+    turn_keeps (λ (w : WorldView). w.round ≤ limit) fits script passed node result old new (stops refl) turned refused within
+turn_within fits script passed node bound limit false (Ok answer) old new few most within stops turned refused =
+    turned_within fits script passed node bound limit answer old new (few refl) most within turned
+turn_within fits script passed node bound limit false (Err error) old new few most within stops turned refused =
     same_within limit old new (ap (λ (a : ArmedView). a.world.round) refused) within
 
 faulted_within : (fits : List (RecordView → Bool)) (script : List ScriptedEvent) (passed bound limit : ℕ) (answer : FaultAnswer)

@@ -1,6 +1,7 @@
 pub mod Sends
 mod Left
 mod Nowhere
+mod Calls
 mod Beginnings
 mod Completeness
 mod Turns

@@ -1,12 +1,14 @@
 -- Turns of a run by turns.
 use Rattle.std.proofs.Common.{◌≡◌, ◌≢◌, ◌+◌, ◌<◌, ◌≤◌, ◌%◌, ◌∙◌, ℕ, zero, suc, Bool, true, false, cond, not, List, [], ◌∷◌, length, Option, Some, None, slice_get}
 use Rattle.std.proofs.Common.{refl, sym, ap, subst, arith}
-use Rattle.std.specs.Prelude.{◌==◌, IfOk, OnOk, Result, Ok, Err, if◌then◌else◌, nat_le}
+use Rattle.std.specs.Prelude.{◌==◌, OnOk, Result, Ok, Err, if◌then◌else◌, nat_le}
 use Rattle.std.proofs.lemmas.Bool.{lt-ltb}
+use Rattle.std.proofs.lemmas.Option.{slice_get_past, slice_get_within}
 use Rattle.std.proofs.Math.Nat.{mod-eq_of_lt, mod-lt, mod_self, suc-mod, zero-lt-suc}
 use Rattle.protocol.specs.Node.Common.{RecordView}
-use Rattle.protocol.specs.World.Common.{ReplyView, WorldView}
-use Rattle.replay.specs.Armed.{ArmedView, armed_widened}
+use Rattle.protocol.specs.World.Common.{WorldView}
+use Rattle.replay.specs.Armed.{ArmedView}
+use Rattle.replay.specs.Replay.{is_before, is_line_late}
 use Rattle.replay.specs.declared.kept.NextTurn.{NextTurn}
 use Rattle.replay.specs.declared.kept.ScriptedEvent.{ScriptedEvent}
 use Rattle.replay.specs.declared.kept.RunEvent.{RunEvent}
@@ -18,8 +20,8 @@ use Rattle.run_log.specs.declared.answer.TurnAnswer.TheVariants as turn
 use Rattle.station.specs.ReplyView.{Reply, reply_view}
 use Rattle.runtime.specs.Beginning.{first_lines}
 use Rattle.runtime.specs.Ending.{goes_on}
-use Rattle.runtime.specs.Turning.{AreTaken, ArePassed, CameTo, EndsByTurns, Follows, IsLineBefore, IsLinePassed, IsNodeTurn, IsPassedBy, IsRunByTurns, IsTurnBy}
-use Rattle.runtime.specs.Turning.{Progress, TakesTurns, progress, turn_node, was_passed}
+use Rattle.runtime.specs.Turning.{AreLate, AreTaken, ArePassed, CameTo, EndsByTurns, Follows, IsLineBefore, IsLinePassed, IsNodeTurn, IsPassedBy, IsTurnBy}
+use Rattle.runtime.specs.Turning.{Progress, TakesTurns, is_late, progress, turn_node, was_passed}
 use Rattle.replay.specs.Armed.{armed_at_first}
 use Rattle.runtime.specs.declared.ending.RunEnd.{RunEnd}
 use Rattle.runtime.specs.declared.ending.RunEnd.TheVariants.{Complete, Rounds, Items, Refused, Stopped}
@@ -161,25 +163,66 @@ is_due fits script passed lines old new fault.Stopped at few runs played other =
 -- ---- a turn
 
 -- a turn with an event, and what follows it
-pub turn_made : (fits : List (RecordView → Bool)) (node : ℕ) (old between new : ArmedView) (answer : TurnAnswer) (reply : Reply)
-    → answer ≡ turn.Reply reply → IsTurn fits node answer old between → Follows fits (reply_view reply) between new
+pub turn_made : (fits : List (RecordView → Bool)) (script : List ScriptedEvent) (passed node : ℕ) (old between new : ArmedView) (answer : TurnAnswer) (reply : Reply)
+    → answer ≡ turn.Reply reply → IsTurn fits script passed node answer old between → Follows fits (reply_view reply) between new
     → IsNodeTurn fits node old new
-turn_made fits node old between new answer reply is turned follows =
-    let told = subst (λ (a : TurnAnswer). IsTurn fits node a old between) is turned in
-    subst (λ (next : NextTurn). IsTurnBy next fits node old new) (sym told.0)
-    (record { answer = reply_view reply; between = between; step = told.1; follows = follows })
+turn_made fits script passed node old between new answer reply is turned follows =
+    let told = subst (λ (a : TurnAnswer). IsTurn fits script passed node a old between) is turned in
+    subst (λ (next : NextTurn). IsTurnBy next fits node old new) (sym told.1)
+    (record { answer = reply_view reply; between = between; step = told.2; follows = follows })
 
-pub turn_widened : (fits : List (RecordView → Bool)) (node : ℕ) (old new : ArmedView) (answer : TurnAnswer) → answer ≡ turn.Widened
-    → IsTurn fits node answer old new → IsNodeTurn fits node old new
-turn_widened fits node old new answer is turned =
-    let told = subst (λ (a : TurnAnswer). IsTurn fits node a old new) is turned in
-    subst (λ (next : NextTurn). IsTurnBy next fits node old new) (sym told.0) told.1
+pub turn_widened : (fits : List (RecordView → Bool)) (script : List ScriptedEvent) (passed node : ℕ) (old new : ArmedView) (answer : TurnAnswer) → answer ≡ turn.Widened
+    → IsTurn fits script passed node answer old new → IsNodeTurn fits node old new
+turn_widened fits script passed node old new answer is turned =
+    let told = subst (λ (a : TurnAnswer). IsTurn fits script passed node a old new) is turned in
+    subst (λ (next : NextTurn). IsTurnBy next fits node old new) (sym told.1) told.2
 
-pub turn_rested : (fits : List (RecordView → Bool)) (node : ℕ) (old new : ArmedView) (answer : TurnAnswer) → answer ≡ turn.Nothing
-    → IsTurn fits node answer old new → IsNodeTurn fits node old new
-turn_rested fits node old new answer is turned =
-    let told = subst (λ (a : TurnAnswer). IsTurn fits node a old new) is turned in
-    subst (λ (next : NextTurn). IsTurnBy next fits node old new) (sym told.0) told.1
+pub turn_rested : (fits : List (RecordView → Bool)) (script : List ScriptedEvent) (passed node : ℕ) (old new : ArmedView) (answer : TurnAnswer) → answer ≡ turn.Nothing
+    → IsTurn fits script passed node answer old new → IsNodeTurn fits node old new
+turn_rested fits script passed node old new answer is turned =
+    let told = subst (λ (a : TurnAnswer). IsTurn fits script passed node a old new) is turned in
+    subst (λ (next : NextTurn). IsTurnBy next fits node old new) (sym told.1) told.2
+
+-- no turn is late where no line is
+pub not_late : (fits : List (RecordView → Bool)) (script : List ScriptedEvent) (passed node : ℕ) (old new : ArmedView) (answer : TurnAnswer)
+    → answer ≡ turn.Late → is_line_late script passed old.world.round ≡ false → IsTurn fits script passed node answer old new → ⊥
+not_late fits script passed node old new answer is in_time turned =
+    let told = subst (λ (a : TurnAnswer). IsTurn fits script passed node a old new) is turned in
+    let clash : true ≡ false = sym told.0 ∙ in_time in
+    cc
+
+-- ---- lines that are late
+
+late_by : (line : ScriptedEvent) (round : ℕ) → is_before round (Some line) ≡ true → next_line_by round (Some line) ≡ Due line.event
+late_by line round late = at (nat_le line.round round) refl
+  where
+    at : (b : Bool) → nat_le line.round round ≡ b → (if b then Due line.event else Early) ≡ Due line.event
+    at true asked = refl
+    at false asked = absurd (grind arith)
+
+-- a line that is late is passed, so many being left
+pub late_line : (fits : List (RecordView → Bool)) (script : List ScriptedEvent) (old new : Progress) → is_late script old ≡ true
+    → IsLinePassed fits script old new → (old.passed < length script) × (new.passed ≡ old.passed + 1)
+late_line fits script old new late passed = at (slice_get script old.passed) refl
+  where
+    at : (found : Option ScriptedEvent) → slice_get script old.passed ≡ found → (old.passed < length script) × (new.passed ≡ old.passed + 1)
+    at None is = let clash : false ≡ true = ap (is_before old.armed.world.round) (sym is) ∙ late in absurd (cc)
+    at (Some line) is =
+        let due = late_by line old.armed.world.round (ap (is_before old.armed.world.round) (sym is) ∙ late) in
+        let told = subst (λ (next : NextLine). IsPassedBy next fits old new) (ap (next_line_by old.armed.world.round) is ∙ due) passed in
+        (slice_get_within script old.passed line is, told.2)
+
+-- where all are passed none is late
+pub none_late : (script : List ScriptedEvent) (at : Progress) → length script ≤ at.passed → is_late script at ≡ false
+none_late script at past = ap (is_before at.armed.world.round) (slice_get_past script at.passed past)
+
+-- one late line more
+pub one_later : (fits : List (RecordView → Bool)) (script : List ScriptedEvent) (lines : ℕ) (first before now : Progress)
+    → AreLate fits script lines first before → is_late script before ≡ true → IsLinePassed fits script before now
+    → AreLate fits script (lines + 1) first now
+one_later fits script lines first before now came late passed =
+    let next : suc lines ≡ lines + 1 = omega arith in
+    subst (λ (n : ℕ). AreLate fits script n first now) next (before, came, late, passed)
 
 -- one turn more
 pub more_turns : (over : WorldView → Bool) (nodes : ℕ) (fits : List (RecordView → Bool)) (script : List ScriptedEvent) (turns : ℕ)

@@ -5,6 +5,7 @@ use Rattle.protocol.specs.World.Common.{choice, DoneView, Install, ReplyView, Wo
 use Rattle.protocol.specs.declared.reply.Reply.TheVariants.{Granted}
 use Rattle.replay.specs.Armed.{ArmedView, IsArmedStep, OfWorld, armed_at_first, armed_widened}
 use Rattle.replay.specs.Plain.{run_view}
+use Rattle.replay.specs.Replay.{is_line_late}
 use Rattle.replay.specs.Rests.{next_turn}
 use Rattle.replay.specs.declared.kept.NextTurn.{NextTurn}
 use Rattle.replay.specs.declared.kept.NextTurn.TheVariants as next
@@ -83,15 +84,33 @@ ArePassed fits script (suc lines) first now =
 abbrev pub turn_node : ℕ → ℕ → ℕ
 turn_node nodes turn = if nat_lt 0 nodes then turn % nodes else 0
 
--- before a turn of this node: a line of the script before each turn of node 0, if one is due
+-- the script's next line is late
+abbrev pub is_late : List ScriptedEvent → Progress → Bool
+is_late script at = is_line_late script at.passed at.armed.world.round
+
+-- so many late lines, one after another
+abbrev pub AreLate : List (RecordView → Bool) → List ScriptedEvent → ℕ → Progress → Progress → Type 0
+AreLate fits script zero first now = now ≡ first
+AreLate fits script (suc lines) first now =
+    (before : Progress) × AreLate fits script lines first before × (is_late script before ≡ true) × IsLinePassed fits script before now
+
+-- each line that is late, one after another, until none is
+pub record AreCaughtUp (fits : List (RecordView → Bool)) (script : List ScriptedEvent) (old new : Progress) : Type 0 where
+  pub lines : ℕ
+  pub late : AreLate fits script lines old new
+  pub none : is_late script new ≡ false
+
 abbrev pub IsLineBeforeBy : Bool → List (RecordView → Bool) → List ScriptedEvent → Progress → Progress → Type 0
 IsLineBeforeBy true fits script old new = IsLinePassed fits script old new
 IsLineBeforeBy false fits script old new = new ≡ old
 
-abbrev pub IsLineBefore : List (RecordView → Bool) → List ScriptedEvent → ℕ → Progress → Progress → Type 0
-IsLineBefore fits script node old new = IsLineBeforeBy (node == 0) fits script old new
+-- Before a turn of this node: a line of the script before each turn of node 0, if one is due; and then each that is late, before any turn.
+pub record IsLineBefore (fits : List (RecordView → Bool)) (script : List ScriptedEvent) (node : ℕ) (old new : Progress) : Type 0 where
+  pub between : Progress
+  pub line : IsLineBeforeBy (node == 0) fits script old between
+  pub caught_up : AreCaughtUp fits script between new
 
--- So many turns lead from one world of so many nodes to another, and the line before the next turn is passed; none is taken where a run is
+-- So many turns lead from one world of so many nodes to another, and the lines before the next turn are passed; none is taken where a run is
 -- over.
 abbrev pub CameTo : (WorldView → Bool) → ℕ → List (RecordView → Bool) → List ScriptedEvent → ℕ → Progress → Progress → Type 0
 CameTo over nodes fits script zero first now = IsLineBefore fits script (turn_node nodes 0) first now

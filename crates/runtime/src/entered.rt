@@ -1,11 +1,9 @@
 // A hub's lock, held for calls in a row.
-ghost use Rattle.std.specs.Prelude.{◌≡◌, IfErr, IfOk, OnErr, OnOk};
+ghost use Rattle.std.specs.Prelude.{◌≡◌, IfErr, IfOk, OnErr};
 ghost use Rattle.protocol.specs.World.Common.{event_node, Install};
 ghost use Rattle.replay.specs.declared.kept.Maker.TheVariants as who;
-ghost use Rattle.run_log.specs.Answers.{fault_kind, turn_kind, IsGrantedIn, IsReplyIn, TellsFault, TellsTurn};
-ghost use Rattle.run_log.specs.Numbers.{counted};
+ghost use Rattle.run_log.specs.Answers.{IsToldEvent, IsToldFault, IsToldTurn};
 ghost use Rattle.run_log.specs.SeatCounts.{seat_numbers};
-ghost use Rattle.run_log.specs.declared.seat_count.Counted.TheVariants as kind;
 ghost use Rattle.station.specs.DoneView.{done_view};
 ghost use Rattle.station.specs.ReplyView.{reply_view};
 ghost use Rattle.station.specs.declared.event.Event.TheVariants as event;
@@ -47,19 +45,17 @@ impl<'hub, C: SlotCell, O: Outlet, ThisRun: HubRun> Entered<'hub, C, O, ThisRun>
         }
     }
 
-    /// The event that is next for the seat's node, `Widened`, `Nothing` or `Stopped`.
+    /// The event that is next for the seat's node, `Late`, `Widened`, `Nothing` or `Stopped`.
     pub fn turn(
         &mut self,
         alloc: Global,
         seat: &mut NodeSeat<ThisRun>,
     ) -> Result<TurnAnswer, HubFault>
         ensures node { seat.new.node ≡ seat.old.node }
-        ensures counted { IfOk result (λ answer. seat_numbers seat.new.count
-            ≡ counted (turn_kind answer) (seat_numbers seat.old.count)) }
-        // A job that is granted is of a process of the seat's node.
-        ensures home { IfOk result (IsGrantedIn seat.old.node) }
-        // The reply is that of an event of this node, and a silence its own, in a world to which a history of this run leads.
-        ensures told { IfOk result (TellsTurn ThisRun.rooms ThisRun.script ThisRun.opening seat.old.node) }
+        // It is counted at the seat. A job that is granted is of a process of the seat's node. The reply is that of an event of this
+        // node, and a silence its own, in a world to which a history of this run leads.
+        ensures told { IfOk result (λ answer. IsToldTurn ThisRun.rooms ThisRun.script ThisRun.opening seat.old.node answer
+            (seat_numbers seat.old.count) (seat_numbers seat.new.count)) }
         ensures refused { OnErr result
             (seat_numbers seat.new.count ≡ seat_numbers seat.old.count) }
     {
@@ -76,7 +72,7 @@ impl<'hub, C: SlotCell, O: Outlet, ThisRun: HubRun> Entered<'hub, C, O, ThisRun>
                 }
             }
             TurnAnswer::Widened => *made += 1,
-            TurnAnswer::Nothing | TurnAnswer::Stopped => {}
+            TurnAnswer::Nothing | TurnAnswer::Late | TurnAnswer::Stopped => {}
         }
         Ok(answer)
     }
@@ -90,10 +86,8 @@ impl<'hub, C: SlotCell, O: Outlet, ThisRun: HubRun> Entered<'hub, C, O, ThisRun>
     ) -> Result<Reply, HeldBack>
         requires home { event_node (Install (done_view done)) ≡ seat.old.node }
         ensures node { seat.new.node ≡ seat.old.node }
-        ensures counted { OnOk result
-            (seat_numbers seat.new.count ≡ counted kind.Entry (seat_numbers seat.old.count)) }
-        ensures told { IfOk result (λ reply. ∥ IsReplyIn ThisRun.rooms ThisRun.script ThisRun.opening
-            (who.Node seat.old.node) (reply_view reply) ∥₁) }
+        ensures told { IfOk result (λ reply. IsToldEvent ThisRun.rooms ThisRun.script ThisRun.opening
+            (who.Node seat.old.node) (reply_view reply) (seat_numbers seat.old.count) (seat_numbers seat.new.count)) }
         ensures refused { OnErr result
             (seat_numbers seat.new.count ≡ seat_numbers seat.old.count) }
         ensures handed_back { IfErr result (λ held. held.event ≡ event.Install done) }
@@ -116,10 +110,10 @@ impl<'hub, C: SlotCell, O: Outlet, ThisRun: HubRun> Entered<'hub, C, O, ThisRun>
         alloc: Global,
         seat: &mut DriverSeat<ThisRun>,
     ) -> Result<FaultAnswer, HubFault>
-        ensures counted { IfOk result (λ answer. seat_numbers seat.new.count
-            ≡ counted (fault_kind answer) (seat_numbers seat.old.count)) }
-        // The reply is that of the script's next line, and a silence the driver's, in a world to which a history of this run leads.
-        ensures told { IfOk result (TellsFault ThisRun.rooms ThisRun.script ThisRun.opening) }
+        // It is counted at the seat. The reply is that of the script's next line, and a silence the driver's, in a world to which a
+        // history of this run leads.
+        ensures told { IfOk result (λ answer. IsToldFault ThisRun.rooms ThisRun.script ThisRun.opening answer
+            (seat_numbers seat.old.count) (seat_numbers seat.new.count)) }
         ensures refused { OnErr result
             (seat_numbers seat.new.count ≡ seat_numbers seat.old.count) }
     {

@@ -1,11 +1,11 @@
 // A world that threads share.
-ghost use Rattle.std.specs.Prelude.{◌≡◌, ◌+◌, ◌<◌, ◌≤◌, true, [], replicate, vec_len, IfErr, IfOk, OnErr, OnOk, false};
+ghost use Rattle.std.specs.Prelude.{◌≡◌, ◌+◌, ◌<◌, ◌≤◌, true, [], replicate, vec_len, IfErr, IfOk, OnErr, false};
 ghost use Rattle.std.specs.Vec.{vec_capacity};
 ghost use Rattle.protocol.specs.World.Common.{event_node, Install, WorldView};
 ghost use Rattle.replay.specs.Armed.{armed_at_first};
 ghost use Rattle.replay.specs.Replay.{LeadsTo};
 ghost use Rattle.replay.specs.declared.kept.Maker.TheVariants as who;
-ghost use Rattle.run_log.specs.Answers.{fault_kind, turn_kind, IsGrantedIn, IsReplyIn, TellsFault, TellsTurn};
+ghost use Rattle.run_log.specs.Answers.{IsToldEvent, IsToldFault, IsToldTurn};
 ghost use Rattle.run_log.specs.ArmedWorlds.{armed_view};
 ghost use Rattle.run_log.specs.LedgerNames.{HaveParts, names_of};
 ghost use Rattle.run_log.specs.Counts.{numbers_in};
@@ -13,12 +13,11 @@ ghost use Rattle.run_log.specs.Happened.{HasRun};
 ghost use Rattle.run_log.specs.Lines.{happenings};
 ghost use Rattle.run_log.specs.RunLogs.{happened_in};
 ghost use Rattle.runtime.specs.Beginning.{first_lines, BeginsByDriver};
-ghost use Rattle.run_log.specs.Numbers.{added, counted};
+ghost use Rattle.run_log.specs.Numbers.{added};
 ghost use Rattle.runtime.specs.Causes.{is_cause, is_caused, last_round};
 ghost use Rattle.runtime.specs.Ending.{HasBeenComplete, is_over};
 ghost use Rattle.runtime.specs.Seats.{AreOfNodes, numbers_of_seats};
 ghost use Rattle.run_log.specs.SeatCounts.{seat_numbers};
-ghost use Rattle.run_log.specs.declared.seat_count.Counted.TheVariants as kind;
 ghost use Rattle.station.specs.DoneView.{done_view};
 ghost use Rattle.station.specs.ReplyView.{reply_view};
 ghost use Rattle.world.specs.WholeView.{nodes_in, rooms_in, world_of};
@@ -271,7 +270,7 @@ impl<C: SlotCell, O: Outlet, ThisRun: HubRun> Hub<C, O, ThisRun> {
         Entered::new(locked, &self.sleepers)
     }
 
-    /// The event that is next for the seat's node, `Widened`, `Nothing` or `Stopped`.
+    /// The event that is next for the seat's node, `Late`, `Widened`, `Nothing` or `Stopped`.
     pub fn turn<R: Wait>(
         &self,
         rt: &R,
@@ -279,12 +278,10 @@ impl<C: SlotCell, O: Outlet, ThisRun: HubRun> Hub<C, O, ThisRun> {
         seat: &mut NodeSeat<ThisRun>,
     ) -> Result<TurnAnswer, HubFault>
         ensures node { seat.new.node ≡ seat.old.node }
-        ensures counted { IfOk result (λ answer. seat_numbers seat.new.count
-            ≡ counted (turn_kind answer) (seat_numbers seat.old.count)) }
-        // A job that is granted is of a process of the seat's node.
-        ensures home { IfOk result (IsGrantedIn seat.old.node) }
-        // The reply is that of an event of this node, and a silence its own, in a world to which a history of this run leads.
-        ensures told { IfOk result (TellsTurn ThisRun.rooms ThisRun.script ThisRun.opening seat.old.node) }
+        // It is counted at the seat. A job that is granted is of a process of the seat's node. The reply is that of an event of this
+        // node, and a silence its own, in a world to which a history of this run leads.
+        ensures told { IfOk result (λ answer. IsToldTurn ThisRun.rooms ThisRun.script ThisRun.opening seat.old.node answer
+            (seat_numbers seat.old.count) (seat_numbers seat.new.count)) }
         ensures refused { OnErr result
             (seat_numbers seat.new.count ≡ seat_numbers seat.old.count) }
     {
@@ -304,10 +301,8 @@ impl<C: SlotCell, O: Outlet, ThisRun: HubRun> Hub<C, O, ThisRun> {
     ) -> Result<Reply, HeldBack>
         requires home { event_node (Install (done_view done)) ≡ seat.old.node }
         ensures node { seat.new.node ≡ seat.old.node }
-        ensures counted { OnOk result
-            (seat_numbers seat.new.count ≡ counted kind.Entry (seat_numbers seat.old.count)) }
-        ensures told { IfOk result (λ reply. ∥ IsReplyIn ThisRun.rooms ThisRun.script ThisRun.opening
-            (who.Node seat.old.node) (reply_view reply) ∥₁) }
+        ensures told { IfOk result (λ reply. IsToldEvent ThisRun.rooms ThisRun.script ThisRun.opening
+            (who.Node seat.old.node) (reply_view reply) (seat_numbers seat.old.count) (seat_numbers seat.new.count)) }
         ensures refused { OnErr result
             (seat_numbers seat.new.count ≡ seat_numbers seat.old.count) }
         ensures handed_back { IfErr result (λ held. held.event ≡ event.Install done) }
@@ -325,10 +320,10 @@ impl<C: SlotCell, O: Outlet, ThisRun: HubRun> Hub<C, O, ThisRun> {
         alloc: Global,
         seat: &mut DriverSeat<ThisRun>,
     ) -> Result<FaultAnswer, HubFault>
-        ensures counted { IfOk result (λ answer. seat_numbers seat.new.count
-            ≡ counted (fault_kind answer) (seat_numbers seat.old.count)) }
-        // The reply is that of the script's next line, and a silence the driver's, in a world to which a history of this run leads.
-        ensures told { IfOk result (TellsFault ThisRun.rooms ThisRun.script ThisRun.opening) }
+        // It is counted at the seat. The reply is that of the script's next line, and a silence the driver's, in a world to which a
+        // history of this run leads.
+        ensures told { IfOk result (λ answer. IsToldFault ThisRun.rooms ThisRun.script ThisRun.opening answer
+            (seat_numbers seat.old.count) (seat_numbers seat.new.count)) }
         ensures refused { OnErr result
             (seat_numbers seat.new.count ≡ seat_numbers seat.old.count) }
     {

@@ -1,12 +1,10 @@
 // What is under a hub's lock.
-ghost use Rattle.std.specs.Prelude.{◌≡◌, ◌<◌, ◌≤◌, false, true, IfErr, IfOk, OnErr, OnOk};
+ghost use Rattle.std.specs.Prelude.{◌≡◌, ◌<◌, ◌≤◌, false, true, Some, IfErr, IfOk, OnErr, OnOk};
 ghost use Rattle.protocol.specs.World.Common.{are_quiet, event_node, Install};
 ghost use Rattle.replay.specs.declared.kept.Maker.TheVariants as who;
-ghost use Rattle.run_log.specs.Answers.{fault_kind, turn_kind, IsGrantedIn, IsReplyIn, TellsFault, TellsTurn};
-ghost use Rattle.run_log.specs.Numbers.{counted};
+ghost use Rattle.run_log.specs.Answers.{IsToldEvent, IsToldFault, IsToldTurn};
 ghost use Rattle.run_log.specs.RunLogs.{happened_in};
 ghost use Rattle.run_log.specs.SeatCounts.{seat_numbers, seat_parts};
-ghost use Rattle.run_log.specs.declared.seat_count.Counted.TheVariants as kind;
 ghost use Rattle.runtime.specs.Beginning.{first_lines, BeginsByDriver};
 ghost use Rattle.runtime.specs.Causes.{is_cause, is_caused, last_round};
 ghost use Rattle.runtime.specs.Ending.{is_over};
@@ -64,6 +62,9 @@ impl<C: SlotCell, O: Outlet, ThisRun: HubRun> Locked<C, O, ThisRun> {
             (world_of self.old.log.armed.world) cause ≡ true }
         ensures stopped { self.new.log.stopped ≡ true }
         ensures same { self.new.log.armed ≡ self.old.log.armed }
+        ensures noted { self.old.log.stopped ≡ false → self.new.cause ≡ Some cause }
+        // The first one stays.
+        ensures first { self.old.log.stopped ≡ true → self.new.cause ≡ self.old.cause }
     {
         if !self.log.is_stopped() {
             self.log.stop();
@@ -84,7 +85,8 @@ impl<C: SlotCell, O: Outlet, ThisRun: HubRun> Locked<C, O, ThisRun> {
 
     // The run is stopped where nothing is left to do. Whether that is so.
     pub fn end_if_complete(&mut self) -> bool
-        ensures { result ≡ are_quiet (world_of self.old.log.armed.world) }
+        ensures quiet { result ≡ are_quiet (world_of self.old.log.armed.world) }
+        ensures stops { result ≡ true → self.new.log.stopped ≡ true }
     {
         let complete = self.log.is_complete();
         if complete {
@@ -94,7 +96,10 @@ impl<C: SlotCell, O: Outlet, ThisRun: HubRun> Locked<C, O, ThisRun> {
     }
 
     /// The run is stopped where it is over.
-    pub fn end_if_over(&mut self, run: &RunBounds<'_, ThisRun>) {
+    pub fn end_if_over(&mut self, run: &RunBounds<'_, ThisRun>)
+        ensures { is_over ThisRun.channels ThisRun.bounds (world_of self.old.log.armed.world) ≡ true
+            → self.new.log.stopped ≡ true }
+    {
         let complete = self.log.is_complete();
         let end = end_by(run.channels, self.log.world(), run.bounds, complete);
         if !end.goes_on() {
@@ -102,7 +107,7 @@ impl<C: SlotCell, O: Outlet, ThisRun: HubRun> Locked<C, O, ThisRun> {
         }
     }
 
-    /// The event that is next for a node, `Widened`, `Nothing` or `Stopped`.
+    /// The event that is next for a node, `Late`, `Widened`, `Nothing` or `Stopped`.
     pub fn turn(
         &mut self,
         alloc: Global,
@@ -111,10 +116,8 @@ impl<C: SlotCell, O: Outlet, ThisRun: HubRun> Locked<C, O, ThisRun> {
     ) -> Result<TurnAnswer, HubFault>
         requires part { 0 < seat_parts count.old }
         ensures parts { seat_parts count.new ≡ seat_parts count.old }
-        ensures counted { IfOk result (λ answer. seat_numbers count.new
-            ≡ counted (turn_kind answer) (seat_numbers count.old)) }
-        ensures home { IfOk result (IsGrantedIn node) }
-        ensures told { IfOk result (TellsTurn ThisRun.rooms ThisRun.script ThisRun.opening node) }
+        ensures told { IfOk result (λ answer. IsToldTurn ThisRun.rooms ThisRun.script ThisRun.opening node answer
+            (seat_numbers count.old) (seat_numbers count.new)) }
         ensures refused { OnErr result (seat_numbers count.new ≡ seat_numbers count.old) }
     {
         self.end_by_rounds();
@@ -132,10 +135,8 @@ impl<C: SlotCell, O: Outlet, ThisRun: HubRun> Locked<C, O, ThisRun> {
         requires part { 0 < seat_parts count.old }
         requires home { event_node (Install (done_view done)) ≡ node }
         ensures parts { seat_parts count.new ≡ seat_parts count.old }
-        ensures told { IfOk result (λ reply. ∥ IsReplyIn ThisRun.rooms ThisRun.script ThisRun.opening
-            (who.Node node) (reply_view reply) ∥₁) }
-        ensures counted { OnOk result
-            (seat_numbers count.new ≡ counted kind.Entry (seat_numbers count.old)) }
+        ensures told { IfOk result (λ reply. IsToldEvent ThisRun.rooms ThisRun.script ThisRun.opening (who.Node node)
+            (reply_view reply) (seat_numbers count.old) (seat_numbers count.new)) }
         ensures refused { OnErr result (seat_numbers count.new ≡ seat_numbers count.old) }
         ensures handed_back { IfErr result (λ held. held.event ≡ event.Install done) }
     {
@@ -148,9 +149,8 @@ impl<C: SlotCell, O: Outlet, ThisRun: HubRun> Locked<C, O, ThisRun> {
         alloc: Global,
         seat: &mut DriverSeat<ThisRun>,
     ) -> Result<FaultAnswer, HubFault>
-        ensures counted { IfOk result (λ answer. seat_numbers seat.new.count
-            ≡ counted (fault_kind answer) (seat_numbers seat.old.count)) }
-        ensures told { IfOk result (TellsFault ThisRun.rooms ThisRun.script ThisRun.opening) }
+        ensures told { IfOk result (λ answer. IsToldFault ThisRun.rooms ThisRun.script ThisRun.opening answer
+            (seat_numbers seat.old.count) (seat_numbers seat.new.count)) }
         ensures refused { OnErr result
             (seat_numbers seat.new.count ≡ seat_numbers seat.old.count) }
     {
@@ -165,14 +165,6 @@ impl<C: SlotCell, O: Outlet, ThisRun: HubRun> Locked<C, O, ThisRun> {
         }
     }
 
-    // Whether a line of an earlier round isn't passed yet: then the driver goes first, so that no line comes more than a round late.
-    fn has_late_line(&self) -> bool {
-        match self.log.line_round() {
-            Some(round) => round < self.log.moment().round,
-            None => false,
-        }
-    }
-
     // Whether there may be something to do for a node whose seats are at its desk.
     fn is_due(&self, node: u8) -> bool {
         match self.workers.quiet(node) {
@@ -184,9 +176,9 @@ impl<C: SlotCell, O: Outlet, ThisRun: HubRun> Locked<C, O, ThisRun> {
 
     /// The first node for which there may be something to do, of those whose seats are at their desks. So what a node sends is heard by
     /// those before it at once. (A round is over once each node has let its turn pass, so no node waits longer.) Where the driver has
-    /// something to do it goes first, so there is none then.
+    /// something to do it goes first, so there is none then, nor where a line of the script is late.
     pub fn next_due(&self) -> Option<u8> {
-        if self.has_late_line() || self.wakes_driver() {
+        if self.log.is_line_late() || self.wakes_driver() {
             return None;
         }
         for node in 0..NODES as u8 {

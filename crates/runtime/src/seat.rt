@@ -1,11 +1,9 @@
 // Seats: the right to act for a node, or for the script.
 ghost use Rattle.std.specs.Prelude.{◌≡◌, ◌≢◌, ◌+◌, false, true, IfOk, OnErr, vec_len};
-ghost use Rattle.run_log.specs.Answers.{fault_kind, IsFaultWritten, TellsFault};
-ghost use Rattle.run_log.specs.ArmedWorlds.{armed_view};
+ghost use Rattle.run_log.specs.Calls.{IsFaultAnswer};
 ghost use Rattle.run_log.specs.RunLogs.{IsSameLog};
-ghost use Rattle.run_log.specs.Turns.{IsFault, passed_then};
 ghost use Rattle.run_log.specs.declared.answer.FaultAnswer.TheVariants as faults;
-ghost use Rattle.run_log.specs.Numbers.{added, counted, no_numbers};
+ghost use Rattle.run_log.specs.Numbers.{added, no_numbers};
 ghost use Rattle.run_log.specs.SeatCounts.{seat_numbers, seat_parts};
 
 use kahn_net::MAX_COUNT;
@@ -106,20 +104,13 @@ impl<ThisRun: Run> DriverSeat<ThisRun> {
         alloc: Global,
         log: &mut RunLog<C, O, ThisRun>,
     ) -> Result<FaultAnswer, HubFault>
-        ensures counted { IfOk result (λ answer. seat_numbers self.new.count
-            ≡ counted (fault_kind answer) (seat_numbers self.old.count)) }
-        ensures written { IfOk result
-            (IsFaultWritten log.old.keeps log.old.lines.items log.new.lines.items) }
-        ensures told { IfOk result (TellsFault ThisRun.rooms ThisRun.script ThisRun.opening) }
+        ensures answered { IfOk result (λ answer. IsFaultAnswer answer log.old log.new (seat_numbers self.old.count)
+            (seat_numbers self.new.count)) }
         ensures refused { OnErr result
             (seat_numbers self.new.count ≡ seat_numbers self.old.count) }
         ensures unchanged { OnErr result (IsSameLog log.old log.new) }
         ensures stopped { log.old.stopped ≡ true → IfOk result (λ answer. answer ≡ faults.Stopped) }
         ensures goes_on { log.old.stopped ≡ false → IfOk result (λ answer. answer ≢ faults.Stopped) }
-        ensures played { IfOk result (λ answer. IsFault ThisRun.rooms ThisRun.script log.old.passed answer
-            (armed_view log.old.armed) (armed_view log.new.armed)) }
-        ensures passed { IfOk result (λ answer. log.new.passed ≡ passed_then answer log.old.passed) }
-        ensures running { log.new.stopped ≡ log.old.stopped }
     {
         let DriverSeat { made, count } = self;
         if *made >= MAX_COUNT {

@@ -3,7 +3,7 @@ ghost use Rattle.std.specs.Prelude.{◌≡◌, ◌≢◌, ◌==◌, ◌≤◌, �
 ghost use Rattle.node_memory.specs.JobView.{shared_view};
 ghost use Rattle.protocol.specs.Node.Common.{MAX_CHANNELS, MAX_NODES, network_of};
 ghost use Rattle.protocol.specs.World.Common.{IsGrantedAt, node_in};
-ghost use Rattle.replay.specs.Replay.{LeadsTo};
+ghost use Rattle.replay.specs.Replay.{LeadsTo, is_line_late};
 ghost use Rattle.run_log.specs.Answers.{IsGrantedIn};
 ghost use Rattle.run_log.specs.ArmedWorlds.{armed_view};
 ghost use Rattle.run_log.specs.Happened.{HasRun};
@@ -14,7 +14,7 @@ ghost use Rattle.run_log.specs.SeatCounts.{seat_parts};
 ghost use Rattle.run_log.specs.Turns.{IsTurn};
 ghost use Rattle.runtime.specs.Beginning.{first_lines, BeginsByDriver, HasBegun};
 ghost use Rattle.runtime.specs.Ending.{IsOver, goes_on, is_over};
-ghost use Rattle.runtime.specs.Turning.{AreTaken, EndsByTurns, Follows, IsLineBefore, IsLinePassed, IsNodeTurn, TakesTurns, progress, turn_node};
+ghost use Rattle.runtime.specs.Turning.{AreTaken, EndsByTurns, Follows, IsLineBefore, IsLinePassed, IsNodeTurn, TakesTurns, AreCaughtUp, progress, turn_node};
 ghost use Rattle.station.specs.ReplyView.{reply_view};
 ghost use Rattle.world.specs.WholeView.{net_in, nodes_in, rooms_in, world_of};
 ghost use Rattle.world.specs.WorldView.{rooms};
@@ -66,24 +66,40 @@ impl<C: SlotCell, O: Outlet, ThisRun: Run> Table<C, O, ThisRun> {
         Ok(())
     }
 
-    // The same before a turn of node 0. Before those of the others nothing happens.
-    fn pass_line_before(&mut self, alloc: Global, node: u8) -> Result<(), HubFault>
+    // The events of the script's lines that are late, one after another.
+    fn catch_up(&mut self, alloc: Global) -> Result<(), HubFault>
+        ensures caught_up { OnOk result (AreCaughtUp ThisRun.rooms ThisRun.script
+            (progress (armed_view self.old.log.armed) self.old.log.passed)
+            (progress (armed_view self.new.log.armed) self.new.log.passed)) }
+    {
+        let left = self.log.lines_left();
+        for _line in 0..left {
+            if !self.log.is_line_late() {
+                return Ok(());
+            }
+            self.pass_line(alloc)?;
+        }
+        Ok(())
+    }
+
+    // What comes of the script before a node's turn: a line, if one is due, before each turn of node 0, and then each that is late.
+    fn pass_lines_before(&mut self, alloc: Global, node: u8) -> Result<(), HubFault>
         ensures passed { OnOk result (IsLineBefore ThisRun.rooms ThisRun.script node
             (progress (armed_view self.old.log.armed) self.old.log.passed)
             (progress (armed_view self.new.log.armed) self.new.log.passed)) }
     {
         if node == 0 {
-            self.pass_line(alloc)
-        } else {
-            Ok(())
+            self.pass_line(alloc)?;
         }
+        self.catch_up(alloc)
     }
 
-    // What comes at a node's turn.
+    // What comes at a node's turn, where no line of the script is late.
     fn turn(&mut self, alloc: Global, node: u8) -> Result<TurnAnswer, HubFault>
+        requires in_time { is_line_late ThisRun.script self.old.log.passed (world_of self.old.log.armed.world).round ≡ false }
         ensures home { IfOk result (IsGrantedIn node) }
         ensures goes_on { IfOk result (λ answer. answer ≢ turns.Stopped) }
-        ensures turned { IfOk result (λ answer. IsTurn ThisRun.rooms node answer
+        ensures turned { IfOk result (λ answer. IsTurn ThisRun.rooms ThisRun.script self.old.log.passed node answer
             (armed_view self.old.log.armed) (armed_view self.new.log.armed)) }
         ensures same { self.new.log.passed ≡ self.old.log.passed }
     {
@@ -124,8 +140,9 @@ impl<C: SlotCell, O: Outlet, ThisRun: Run> Table<C, O, ThisRun> {
         }
     }
 
-    // A turn of a node, with the job that it grants.
+    // A turn of a node, with the job that it grants, where no line of the script is late.
     fn take_turn(&mut self, alloc: Global, node: u8) -> Result<(), HubFault>
+        requires in_time { is_line_late ThisRun.script self.old.log.passed (world_of self.old.log.armed.world).round ≡ false }
         ensures turn { OnOk result (IsNodeTurn ThisRun.rooms node
             (armed_view self.old.log.armed) (armed_view self.new.log.armed)) }
         ensures same { self.new.log.passed ≡ self.old.log.passed }
@@ -135,6 +152,8 @@ impl<C: SlotCell, O: Outlet, ThisRun: Run> Table<C, O, ThisRun> {
             TurnAnswer::Reply(reply) => self.follow(alloc, node, reply),
             TurnAnswer::Widened => Ok(()),
             TurnAnswer::Nothing => Ok(()),
+            // The lines that were late were passed before.
+            TurnAnswer::Late => unreachable!(),
             // Nobody stops a run by turns.
             TurnAnswer::Stopped => unreachable!(),
         }
@@ -185,7 +204,8 @@ fn look_before<C: SlotCell, O: Outlet, W: TurnWatch>(watch: &mut W, world: &Worl
 // The most turns of a run, so many that nobody waits for them.
 const MAX_TURNS: u64 = u64::MAX;
 
-// Takes turns of the nodes, so many, one after another, with a line of the script before each of node 0's, until the run is over.
+// Takes turns of the nodes, so many, one after another, with a line of the script before each of node 0's, and those that are late before any,
+// until the run is over.
 fn take_turns<C: SlotCell, O: Outlet, ThisRun: Run, W: TurnWatch>(
     alloc: Global,
     table: &mut Table<C, O, ThisRun>,
@@ -202,7 +222,7 @@ fn take_turns<C: SlotCell, O: Outlet, ThisRun: Run, W: TurnWatch>(
         (progress (armed_view table.old.log.armed) table.old.log.passed) (armed_view table.new.log.armed)) }
 {
     let mut node: u8 = 0;
-    table.pass_line_before(alloc, node)?;
+    table.pass_lines_before(alloc, node)?;
     for _turn in 0..MAX_TURNS {
         look_before(watch, table.log.world(), node);
         let end = table.end(channels, bounds);
@@ -211,7 +231,7 @@ fn take_turns<C: SlotCell, O: Outlet, ThisRun: Run, W: TurnWatch>(
         }
         table.take_turn(alloc, node)?;
         node = node_after(nodes, node);
-        table.pass_line_before(alloc, node)?;
+        table.pass_lines_before(alloc, node)?;
     }
     Err(HubFault::PastNumber)
 }
@@ -299,7 +319,7 @@ fn play_by_turns<C: SlotCell, O: Outlet, ThisRun: Run, W: TurnWatch>(
 }
 
 /// Runs a world by turns, on the thread that calls: the nodes take theirs one after another, a job that is granted is run and comes back
-/// at once, and before each turn of node 0 comes a line of the script, if one is due. `watch` looks at it meanwhile (`&mut NoWatch` where
+/// at once, and before each turn of node 0 comes a line of the script, if one is due, and before any turn those that are late. `watch` looks at it meanwhile (`&mut NoWatch` where
 /// nobody does). The world comes back in each case, with the history that leads to it, if one is kept, and why the run ended. The run is
 /// refused for want of memory (1), and where a count would pass 2^63 - 1 (44).
 pub fn run_world_by_turns<C: SlotCell, O: Outlet, W: TurnWatch>(

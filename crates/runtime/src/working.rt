@@ -70,6 +70,7 @@ fn take_turns<C: SlotCell, O: Outlet, ThisRun: HubRun, ItsMarks: MarksName>(
             }
             TurnAnswer::Reply(_) | TurnAnswer::Widened => {}
             TurnAnswer::Nothing => return Ok(TurnAnswer::Nothing),
+            TurnAnswer::Late => return Ok(TurnAnswer::Late),
             TurnAnswer::Stopped => return Ok(TurnAnswer::Stopped),
         }
         if entered.has_moved_on() {
@@ -95,7 +96,9 @@ fn put_down<C: SlotCell, O: Outlet, ThisRun: HubRun, ItsMarks: MarksName>(
             return Some(Task { seats, nth, job });
         }
         TurnAnswer::Reply(_other) => entered.locked.workers.rests(node, None),
-        TurnAnswer::Widened | TurnAnswer::Stopped => entered.locked.workers.rests(node, None),
+        TurnAnswer::Late | TurnAnswer::Widened | TurnAnswer::Stopped => {
+            entered.locked.workers.rests(node, None)
+        }
         TurnAnswer::Nothing => entered.locked.rests(node),
     }
     desk.seats = Some(seats);

@@ -5,14 +5,15 @@ use Rattle.protocol.specs.World.Common.{with_room}
 use Rattle.world.specs.WholeView.{world_of}
 use Rattle.world.specs.WorldView.{capacities}
 use Rattle.cobaltmidge.specs.Failing.{IsRunFault}
-use Rattle.cobaltmidge.proofs.Turns.{opens_first, rooms_given, run_refused}
+use Rattle.protocol.specs.Node.Sharing.{IsRoom}
+use Rattle.cobaltmidge.proofs.Turns.{nearest_is_room, opens_first, rooms_given, run_refused}
 use Rattle.cobaltmidge.proofs.opening.open_world.Goals as goal
 
 pub returns-in-Err-clause-err : goal.returns-in-Err-clause-err
 returns-in-Err-clause-err g c = λ threads.
     let share = c.in-Ok-try_clone.share in
     let disks = c.in-Ok-empty_disks.disks.items in
-    subst (IsRunFault threads) (sym c.store_fault.ensures)
+    subst (IsRunFault threads) (sym (c.unbegun-in-Err.ensures.0 ∙ c.store_fault.ensures))
     (run_refused threads sectors_of (network_of share.value.program) 0 disks c.in-Err.refused.fault share.value.valid
     c.in-Ok-empty_disks.ensures.sectors c.in-Err.ensures.refused.why
     (λ is. record {
@@ -39,3 +40,12 @@ returns-clause-room g c =
     rooms_given sectors_of c.in-Ok-empty_disks.disks.items _
     (ap (λ stations. capacities stations) c.set_room.ensures.same.2 ∙ c.in-Ok-new.ensures.made.room)
     c.in-Ok-empty_disks.ensures.sectors
+
+-- the outlets are back as they were
+pub returns-in-Err-clause-handed_back : goal.returns-in-Err-clause-handed_back
+returns-in-Err-clause-handed_back g c = rw c.unbegun-in-Err.ensures.1 c.in-Err.ensures.refused.same_outputs
+
+-- the room is within its bounds
+pub unreachable-requires : goal.unreachable-requires
+unreachable-requires g c =
+    c.in-Err-set_room.ensures.refused (subst IsRoom (sym c.nearest_room.ensures) (nearest_is_room c.args.room))

@@ -7,7 +7,7 @@ pub returns-in_default-clause-err : goal.returns-in_default-clause-err
 returns-in_default-clause-err c = (
   refl,
   formless c.args.round c.args.text.now (shown_is c.args.text.now (search rules))
-      (subst (λ ws. IsLineRead ws None) (ap (map (λ w. w.now)) c.deref.ensures.value ∙ c.in_ok-words.ensures)
+      (subst (λ ws. IsLineRead ws None) (ap (map (λ w. w.now)) c.deref.ensures.value ∙ c.in_ok-read_words.ensures)
       c.in_default.ensures),
 )
 
@@ -17,7 +17,7 @@ returns-then-not-is_in_network-clause-err c = (
   no_node c.args.nodes c.args.round c.args.text.now c.in-Some.line (search rules)
       (shown_is c.args.text.now (search rules))
       (subst (λ ws. IsLineRead ws (Some c.in-Some.line))
-      (ap (map (λ w. w.now)) c.deref.ensures.value ∙ c.in_ok-words.ensures) c.in-Some.ensures)
+      (ap (map (λ w. w.now)) c.deref.ensures.value ∙ c.in_ok-read_words.ensures) c.in-Some.ensures)
       c.if-line-round.false (sym c.if-not-is_in_network.ensures),
 )
 
@@ -26,5 +26,5 @@ returns-clause-ok c =
     line_stands c.args.nodes c.args.round c.args.text.now c.in-Some.line (search rules)
     (shown_is c.args.text.now (search rules))
     (subst (λ ws. IsLineRead ws (Some c.in-Some.line))
-    (ap (map (λ w. w.now)) c.deref.ensures.value ∙ c.in_ok-words.ensures) c.in-Some.ensures)
+    (ap (map (λ w. w.now)) c.deref.ensures.value ∙ c.in_ok-read_words.ensures) c.in-Some.ensures)
     c.if-line-round.false (sym c.if-not-is_in_network.ensures)

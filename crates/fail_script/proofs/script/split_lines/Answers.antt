@@ -1,10 +1,10 @@
-use Rattle.std.proofs.Common.{lit<}
+use Rattle.std.proofs.Common.{◌∙◌, rules, tests}
 use Rattle.std.proofs.lemmas.Iterator.Consumers.{map_from_collect}
-use Rattle.std.proofs.lemmas.Iterator.Splits.{YieldsList-from_str_split}
+use Rattle.std.proofs.lemmas.Iterator.Splits.{YieldsList-from_slice_split}
 use Rattle.fail_script.proofs.script.split_lines.Goals as goal
 
 pub returns : goal.returns
 returns c =
     map_from_collect _ c.collect.ensures.ran
-    (YieldsList-from_str_split 10 c.args.text.now (lit< tt) c.split.ensures.text c.split.ensures.has_more
-    c.split.ensures.pattern)
+    (YieldsList-from_slice_split _ _ c.args.text.now (c.split.ensures.rest ∙ search rules) c.split.ensures.done
+    c.split.ensures.closure (λ x r q k. search (rules, tests)))

@@ -16,7 +16,7 @@ use Rattle.kahn_program.proofs.network_run.report_of_run.Goals as goal
 pub returns-in-Err-clause-err : goal.returns-in-Err-clause-err
 returns-in-Err-clause-err g c =
     subst (IsReportless g.K.Keeper.keeps) (sym c.run_failure.ensures)
-    (inl (fault_is true c.in-Err.fault c.in-Err.ensures.err))
+    (inl (fault_is true c.in-Err.unfinished.fault c.in-Err.ensures.err))
 
 pub returns-clause-ok : goal.returns-clause-ok
 returns-clause-ok g c =

@@ -1,4 +1,4 @@
-use Rattle.std.proofs.Common.{rules, ◌≡◌, ◌<◌, ◌∙◌, ◌+◌, ℕ, true, false, refl, sym, ap, subst, arith}
+use Rattle.std.proofs.Common.{rules, ◌≡◌, ◌<◌, ◌∙◌, ◌+◌, ℕ, true, sym, ap, subst, arith}
 use Rattle.run_log.specs.ArmedWorlds.{armed_view}
 use Rattle.run_log.specs.Turns.{passed_then}
 use Rattle.run_log.specs.declared.answer.FaultAnswer.{FaultAnswer}
@@ -22,16 +22,16 @@ loop-line-preserved g c =
     let line = c.loop-line._line in
     let replied : was_passed c.in_ok-answer.answer ≡ true = sym c.was_passed.ensures ∙ cc c.if-not-was_passed.false in
     let reply = reply_of c.in_ok-answer.answer replied in
-    let now : c.fault.new.log.passed ≡ passed_then c.in_ok-answer.answer c.loop-line.log.passed = c.in_ok-answer.ensures.passed in
+    let now : c.fault.new.log.passed ≡ passed_then c.in_ok-answer.answer c.loop-line.log.passed = c.in_ok-answer.ensures.answered.passed in
     let few : line < first_lines g.ThisRun.Run.script = omega (arith, c.requires.lines, c.loop-line-test.true) in
     record {
-      running = c.fault.ensures.running ∙ loop.running;
+      running = c.in_ok-answer.ensures.answered.running ∙ loop.running;
       at = now ∙ (ap (λ (a : FaultAnswer). passed_then a c.loop-line.log.passed) reply.1 ∙ ap (λ (n : ℕ). n + 1) loop.at);
       passed = one_passed g.ThisRun.Run.rooms g.ThisRun.Run.script line c.loop-line.log.passed c.fault.new.log.passed
           (progress (armed_view c.args.log.now.armed) 0) (armed_view c.loop-line.log.armed) (armed_view c.fault.new.log.armed)
-          c.in_ok-answer.answer reply.0 few loop.at loop.passed reply.1 c.in_ok-answer.ensures.played now;
+          c.in_ok-answer.answer reply.0 few loop.at loop.passed reply.1 c.in_ok-answer.ensures.answered.played now;
       begun = λ keeps.
-          passes _ line _ _ _ reply.0 (c.loop-line.log.same_keeps ∙ keeps) reply.1 c.in_ok-answer.ensures.written (loop.begun keeps);
+          passes _ line _ _ _ reply.0 (c.loop-line.log.same_keeps ∙ keeps) reply.1 c.in_ok-answer.ensures.answered.written (loop.begun keeps);
     }
 
 -- a line of round 0 is due
@@ -40,11 +40,11 @@ unreachable-requires g c =
     let few : c.loop-line._line < first_lines g.ThisRun.Run.script = omega (arith, c.requires.lines, c.loop-line-test.true) in
     is_due g.ThisRun.Run.rooms g.ThisRun.Run.script c.loop-line.log.passed c.loop-line._line (armed_view c.loop-line.log.armed)
     (armed_view c.fault.new.log.armed) c.in_ok-answer.answer c.loop-line.invariant.at few
-    (c.in_ok-answer.ensures.goes_on c.loop-line.invariant.running) c.in_ok-answer.ensures.played
+    (c.in_ok-answer.ensures.goes_on c.loop-line.invariant.running) c.in_ok-answer.ensures.answered.played
     (sym c.was_passed.ensures ∙ cc c.if-not-was_passed.true)
 
 pub returns-in_err-answer-clause-running : goal.returns-in_err-answer-clause-running
-returns-in_err-answer-clause-running g c = c.fault.ensures.running ∙ c.loop-line.invariant.running
+returns-in_err-answer-clause-running g c = c.in_err-answer.ensures.unchanged.stopped ∙ c.loop-line.invariant.running
 
 pub returns-clause-running : goal.returns-clause-running
 returns-clause-running g c = c.loop-line.invariant.running

@@ -1,12 +1,12 @@
 -- where the run didn't begin nothing is written, and the world is the one that was handed in
-use Rattle.std.proofs.Common.{rules, ◌≡◌, ◌∙◌, ℕ, sym, ap, subst, refl}
+use Rattle.std.proofs.Common.{rules, ◌≡◌, ℕ, sym, ap, subst}
 use Rattle.protocol.specs.World.Common.{WorldView}
 use Rattle.replay.specs.Armed.{ArmedView, armed_at_first}
 use Rattle.run_log.specs.ArmedWorlds.{armed_view}
 use Rattle.run_log.specs.Lines.{happenings}
 use Rattle.runtime.specs.Beginning.{first_lines}
 use Rattle.runtime.specs.Ending.{IsOver}
-use Rattle.runtime.specs.Turning.{ArePassed, Progress, progress}
+use Rattle.runtime.specs.Turning.{ArePassed, progress}
 use Rattle.world.specs.WholeView.{world_of}
 use Rattle.runtime.proofs.Beginnings.{begun_so}
 use Rattle.runtime.proofs.Nowhere.{leads_nowhere, runs_nowhere}

@@ -34,3 +34,14 @@ invariant_of-self g c =
           (noted log.resting world world c.args.node true true all (λ yes k other resting. resting)
           (λ yes passed. silence_is_rest world c.args.node log.armed.world.sound rests)));
     }
+
+pub returns-clause-answered : goal.returns-clause-answered
+returns-clause-answered g c =
+    let said = c.in_ok-be_silent.ensures in
+    record {
+      seat = record { counts = said.counts; home = tt; told = said.told };
+      written = said.added;
+      turned = (c.requires.in_time, c.requires.rests, said.world);
+      passed = said.passed;
+      running = said.running;
+    }

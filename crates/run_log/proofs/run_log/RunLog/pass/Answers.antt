@@ -1,12 +1,35 @@
-use Rattle.std.proofs.Common.{◌∙◌, ap}
+use Rattle.std.proofs.Common.{◌∙◌, ap, sym}
 use Rattle.protocol.specs.World.Common.{event_node}
 use Rattle.replay.proofs.Choices.{choice_at_home}
 use Rattle.world.specs.WholeView.{world_of}
 use Rattle.run_log.proofs.run_log.RunLog.pass.Goals as goal
 
+pub returns-in_ok-widen-in-Widen-clause-answered : goal.returns-in_ok-widen-in-Widen-clause-answered
+returns-in_ok-widen-in-Widen-clause-answered g c =
+    let wider = c.in_ok-widen-in-Widen.ensures in
+    record {
+      seat = record { counts = wider.counts; home = tt; told = wider.told };
+      written = wider.added;
+      turned = (c.requires.in_time, sym c.next_turn.ensures ∙ c.in-Widen.is, wider.wider);
+      passed = wider.passed;
+      running = wider.running;
+    }
+
 -- the event that was picked is one of the seat's node, and so is the job that it grants
-pub returns-in-Ok-clause-home : goal.returns-in-Ok-clause-home
-returns-in-Ok-clause-home g c = λ job granted.
-    c.in-Ok.ensures.home job granted
-    ∙ (ap event_node c.pick-event.ensures
-    ∙ choice_at_home (world_of c.args.self.now.armed.world) c.args.self.now.armed.world.sound c.args.node)
+pub returns-in-Ok-clause-answered : goal.returns-in-Ok-clause-answered
+returns-in-Ok-clause-answered g c =
+    let old = c.args.self.now in
+    let world = world_of old.armed.world in
+    let made = c.in-Ok.ensures.made in
+    record {
+      seat = record {
+        counts = made.seat.counts;
+        home = λ job granted. c.in-Ok.ensures.home job granted
+            ∙ (ap event_node c.pick-event.ensures ∙ choice_at_home world old.armed.world.sound c.args.node);
+        told = made.seat.told;
+      };
+      written = (_, made.added);
+      turned = (c.requires.in_time, sym c.next_turn.ensures ∙ c.in-Make.is, rw (sym c.pick-event.ensures) made.step);
+      passed = made.passed;
+      running = made.running;
+    }

@@ -20,11 +20,17 @@ invariant_of-self-2-clause-numbers g c = λ yes.
     c.in-Ok.ensures.added.counts (old.same_keeps ∙ yes) old.stops
     ∙ (ap (λ (n : Numbers). counted kind.Entry n) (old.numbers yes) ∙ sym c.add.ensures.total)
 
-pub returns-clause-told : goal.returns-clause-told
-returns-clause-told g c =
+pub returns-clause-made : goal.returns-clause-made
+returns-clause-made g c =
     let old = c.args.self.now in
-    tells _ _ _ _ _ old.keeps old.lines.items _ old.passed _ _ Driver _ _ old.replays c.requires.own c.in-Ok.ensures.added
-    c.in-Ok.ensures.step old.same_rooms
+    let made = c.in-Ok.ensures in
+    record {
+      seat = record { counts = c.add.ensures.own; told = tells _ _ _ _ _ old.keeps old.lines.items _ old.passed _ _ Driver _ _ old.replays c.requires.own made.added made.step old.same_rooms };
+      added = made.added;
+      step = rw (← old.same_rooms) made.step;
+      passed = refl;
+      running = refl;
+    }
 
 pub invariant_of-self-2-clause-rest : goal.invariant_of-self-2-clause-rest
 invariant_of-self-2-clause-rest g c =

@@ -10,7 +10,8 @@ use Rattle.run_log.proofs.run_log.RunLog.step.Goals as goal
 pub invariant_of-self-2-clause-replays : goal.invariant_of-self-2-clause-replays
 invariant_of-self-2-clause-replays g c =
     let old = c.args.self.now in
-    makes _ _ _ _ _ old.keeps old.lines.items _ old.passed _ _ _ (Node c.args.node) _ _ old.replays old.same_keeps (inl refl)
+    makes _ _ _ _ _ old.keeps old.lines.items _ old.passed _ _ _ (Node c.args.node) _ _ old.replays old.same_keeps
+    (inl (c.requires.in_time, refl))
     (some_so _ _ _ c.in-Some.is c.in-Ok.ensures.added) (some_so _ _ _ c.in-Some.is c.in-Ok.ensures.step) refl old.same_rooms
 
 pub invariant_of-self-2-clause-numbers : goal.invariant_of-self-2-clause-numbers
@@ -19,15 +20,27 @@ invariant_of-self-2-clause-numbers g c = λ yes.
     (some_so _ _ _ c.in-Some.is c.in-Ok.ensures.added).counts (old.same_keeps ∙ yes) old.stops
     ∙ (ap (λ (n : Numbers). counted kind.Entry n) (old.numbers yes) ∙ sym c.add.ensures.total)
 
-pub returns-clause-told : goal.returns-clause-told
-returns-clause-told g c =
+pub returns-clause-made : goal.returns-clause-made
+returns-clause-made g c =
     let old = c.args.self.now in
-    tells _ _ _ _ _ old.keeps old.lines.items _ old.passed _ _ (Node c.args.node) _ _ old.replays (inl refl) (some_so _ _ _ c.in-Some.is c.in-Ok.ensures.added)
-    (some_so _ _ _ c.in-Some.is c.in-Ok.ensures.step) old.same_rooms
+    let added = some_so _ _ _ c.in-Some.is c.in-Ok.ensures.added in
+    let step = some_so _ _ _ c.in-Some.is c.in-Ok.ensures.step in
+    record {
+      seat = record {
+        counts = c.add.ensures.own;
+        told = tells _ _ _ _ _ old.keeps old.lines.items _ old.passed _ _ (Node c.args.node) _ _ old.replays (inl (c.requires.in_time, refl)) added
+            step old.same_rooms;
+      };
+      added = added;
+      step = rw (← old.same_rooms) step;
+      passed = refl;
+      running = refl;
+    }
 
 pub invariant_of-self-2-clause-rest : goal.invariant_of-self-2-clause-rest
 invariant_of-self-2-clause-rest g c =
     let old = c.args.self.now in
     ∥∥₁_map old.rest (λ all.
-    noted_next _ g.ThisRun.Run.script c.args.node old.passed _ _ _ _ old.resting _ _ old.armed.world.sound (some_so _ _ _ c.in-Some.is c.in-Ok.ensures.step)
+    noted_next _ g.ThisRun.Run.script c.args.node old.passed _ _ _ _ old.resting _ _ old.armed.world.sound c.requires.in_time
+    (some_so _ _ _ c.in-Some.is c.in-Ok.ensures.step)
     c.round-round.ensures c.is_in_round-others_stay.ensures all c.note_event.ensures)

@@ -1,9 +1,14 @@
 use Rattle.std.proofs.Common.{◌≡◌, ◌∙◌, true, sym}
+use Rattle.std.proofs.lemmas.Result.{IfOk-weaker}
 use Rattle.protocol.specs.World.Common.{WorldView}
+use Rattle.run_log.specs.Answers.{IsFaultWritten}
 use Rattle.run_log.specs.ArmedWorlds.{armed_view}
+use Rattle.run_log.specs.Turns.{IsFault}
+use Rattle.run_log.specs.declared.answer.FaultAnswer.{FaultAnswer}
 use Rattle.runtime.specs.Causes.{is_caused, last_round}
 use Rattle.runtime.specs.Ending.{is_over}
 use Rattle.runtime.proofs.Beginnings.{faulted}
+use Rattle.runtime.proofs.Calls.{either_so}
 use Rattle.runtime.proofs.Causes.{bound_within, err_so, fault_keeps, fault_within}
 use Rattle.runtime.proofs.locked.Locked.fault.Goals as goal
 
@@ -17,16 +22,21 @@ invariant_of-self g c =
     let old = armed_view mid.log.armed in
     let new = armed_view c.fault.new.log.armed in
     let refused = err_so c.fault.result (λ same. same.world) c.fault.ensures.unchanged in
+    let played = IfOk-weaker c.fault.result _ (λ (answer : FaultAnswer). IsFault rooms script mid.log.passed answer old new)
+    (λ answer told. told.played) c.fault.ensures.answered in
     record {
       begins = λ begun keeps.
           faulted _ mid.log.lines.items c.fault.new.log.lines.items _ (mid.log.same_keeps ∙ keeps) (mid.begins begun keeps)
-          (λ same. same.lines) c.fault.result c.fault.ensures.written c.fault.ensures.unchanged;
+          (λ same. same.lines) c.fault.result
+          (IfOk-weaker c.fault.result _ (IsFaultWritten mid.log.keeps mid.log.lines.items c.fault.new.log.lines.items)
+          (λ answer told. told.written) c.fault.ensures.answered)
+          c.fault.ensures.unchanged;
       caused = λ stopped.
-          let was : mid.log.stopped ≡ true = sym c.fault.ensures.running ∙ stopped in
+          let was : mid.log.stopped ≡ true = sym (either_so c.fault.result (λ answer told. told.running) (λ same. same.stopped) c.fault.ensures.answered c.fault.ensures.unchanged) ∙ stopped in
           fault_keeps (λ (w : WorldView). is_caused (is_over run.channels run.bounds) run.may_stop w mid.cause ≡ true) rooms script
-          mid.log.passed c.fault.result old new (c.fault.ensures.stopped was) c.fault.ensures.played refused (mid.caused was);
+          mid.log.passed c.fault.result old new (c.fault.ensures.stopped was) played refused (mid.caused was);
       same_rounds = mid.same_rounds;
       in_rounds = fault_within rooms script mid.log.passed run.bounds.rounds (last_round opening script run.bounds) mid.log.stopped
           c.fault.result old new c.end_by_rounds.ensures.over (bound_within opening script run.bounds) mid.in_rounds c.fault.ensures.stopped
-          c.fault.ensures.played refused;
+          played refused;
     }

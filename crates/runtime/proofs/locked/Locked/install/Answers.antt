@@ -2,7 +2,14 @@ use Rattle.std.proofs.Common.{◌≡◌, ◌∙◌, true, sym}
 use Rattle.run_log.specs.ArmedWorlds.{armed_view}
 use Rattle.runtime.specs.Causes.{last_round}
 use Rattle.station.specs.DoneView.{done_view}
+use Rattle.station.specs.ReplyView.{Reply, reply_view}
+use Rattle.std.proofs.lemmas.Result.{IfOk-weaker}
+use Rattle.protocol.specs.World.Common.{Install}
+use Rattle.replay.specs.Armed.{IsArmedStep, OfWorld}
+use Rattle.replay.specs.declared.kept.Maker.TheVariants.{Node}
+use Rattle.run_log.specs.Added.{IsAdded}
 use Rattle.runtime.proofs.Beginnings.{installed}
+use Rattle.runtime.proofs.Calls.{either_so, refused_so}
 use Rattle.runtime.proofs.Causes.{err_so, install_keeps, install_within}
 use Rattle.runtime.proofs.locked.Locked.install.Goals as goal
 
@@ -14,16 +21,23 @@ invariant_of-self g c =
     let old = armed_view locked.log.armed in
     let new = armed_view c.install.new.self.armed in
     let done = done_view c.args.done in
-    let refused = err_so c.install.result (λ same. same.world) c.install.ensures.unchanged in
+    let held = refused_so c.install.result (λ held refused. refused.same) c.install.ensures.refused in
+    let refused = err_so c.install.result (λ same. same.world) held in
+    let installs = IfOk-weaker c.install.result _ (λ (reply : Reply). IsArmedStep rooms (OfWorld (Install done)) old (reply_view reply) new)
+    (λ reply made. made.step) c.install.ensures.made in
     record {
       begins = λ begun keeps.
           installed _ locked.log.lines.items c.install.new.self.lines.items _ (locked.log.same_keeps ∙ keeps) (locked.begins begun keeps)
-          (λ same. same.lines) _ _ c.install.result c.install.ensures.added c.install.ensures.unchanged;
+          (λ same. same.lines) _ _ c.install.result
+          (IfOk-weaker c.install.result _
+          (λ (reply : Reply). IsAdded locked.log.keeps (Node c.args.node) (OfWorld (Install done)) (reply_view reply) locked.log.lines.items
+          c.install.new.self.lines.items) (λ reply made. made.added) c.install.ensures.made)
+          held;
       caused = λ stopped.
-          let was : locked.log.stopped ≡ true = sym c.install.ensures.running ∙ stopped in
-          install_keeps rooms run.channels run.bounds run.may_stop done c.install.result old new locked.cause c.install.ensures.installed
+          let was : locked.log.stopped ≡ true = sym (either_so c.install.result (λ answer told. told.running) (λ same. same.stopped) c.install.ensures.made held) ∙ stopped in
+          install_keeps rooms run.channels run.bounds run.may_stop done c.install.result old new locked.cause installs
           refused (locked.caused was);
       same_rounds = locked.same_rounds;
       in_rounds = install_within rooms (last_round g.ThisRun.Run.opening g.ThisRun.Run.script run.bounds) done c.install.result old new
-          c.install.ensures.installed refused locked.in_rounds;
+          installs refused locked.in_rounds;
     }

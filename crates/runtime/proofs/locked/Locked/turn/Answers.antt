@@ -1,9 +1,14 @@
 use Rattle.std.proofs.Common.{◌≡◌, ◌∙◌, true, sym}
+use Rattle.std.proofs.lemmas.Result.{IfOk-weaker}
 use Rattle.protocol.specs.World.Common.{WorldView}
+use Rattle.run_log.specs.Answers.{IsTurnWritten}
 use Rattle.run_log.specs.ArmedWorlds.{armed_view}
+use Rattle.run_log.specs.Turns.{IsTurn}
+use Rattle.run_log.specs.declared.answer.TurnAnswer.{TurnAnswer}
 use Rattle.runtime.specs.Causes.{is_caused, last_round}
 use Rattle.runtime.specs.Ending.{is_over}
 use Rattle.runtime.proofs.Beginnings.{turned}
+use Rattle.runtime.proofs.Calls.{either_so, refused_so}
 use Rattle.runtime.proofs.Causes.{bound_within, err_so, turn_keeps, turn_within}
 use Rattle.runtime.proofs.locked.Locked.turn.Goals as goal
 
@@ -16,17 +21,23 @@ invariant_of-self g c =
     let mid = c.end_by_rounds.new.self in
     let old = armed_view mid.log.armed in
     let new = armed_view c.turn.new.self.armed in
-    let refused = err_so c.turn.result (λ same. same.world) c.turn.ensures.unchanged in
+    let held = refused_so c.turn.result (λ fault refused. refused.same) c.turn.ensures.refused in
+    let refused = err_so c.turn.result (λ same. same.world) held in
+    let done = IfOk-weaker c.turn.result _ (λ (answer : TurnAnswer). IsTurn rooms script mid.log.passed c.args.node answer old new)
+    (λ answer told. told.turned) c.turn.ensures.answered in
     record {
       begins = λ begun keeps.
           turned _ mid.log.lines.items c.turn.new.self.lines.items _ (mid.log.same_keeps ∙ keeps) (mid.begins begun keeps)
-          (λ same. same.lines) c.args.node c.turn.result c.turn.ensures.written c.turn.ensures.unchanged;
+          (λ same. same.lines) c.args.node c.turn.result
+          (IfOk-weaker c.turn.result _ (IsTurnWritten mid.log.keeps c.args.node mid.log.lines.items c.turn.new.self.lines.items)
+          (λ answer told. told.written) c.turn.ensures.answered)
+          held;
       caused = λ stopped.
-          let was : mid.log.stopped ≡ true = sym c.turn.ensures.running ∙ stopped in
-          turn_keeps (λ (w : WorldView). is_caused (is_over run.channels run.bounds) run.may_stop w mid.cause ≡ true) rooms c.args.node
-          c.turn.result old new (c.turn.ensures.stopped was) c.turn.ensures.turned refused (mid.caused was);
+          let was : mid.log.stopped ≡ true = sym (either_so c.turn.result (λ answer told. told.running) (λ same. same.stopped) c.turn.ensures.answered held) ∙ stopped in
+          turn_keeps (λ (w : WorldView). is_caused (is_over run.channels run.bounds) run.may_stop w mid.cause ≡ true) rooms script
+          mid.log.passed c.args.node c.turn.result old new (c.turn.ensures.stopped was) done refused (mid.caused was);
       same_rounds = mid.same_rounds;
-      in_rounds = turn_within rooms c.args.node run.bounds.rounds (last_round opening script run.bounds) mid.log.stopped c.turn.result old new
-          c.end_by_rounds.ensures.over (bound_within opening script run.bounds) mid.in_rounds c.turn.ensures.stopped c.turn.ensures.turned
+      in_rounds = turn_within rooms script mid.log.passed c.args.node run.bounds.rounds (last_round opening script run.bounds) mid.log.stopped c.turn.result old new
+          c.end_by_rounds.ensures.over (bound_within opening script run.bounds) mid.in_rounds c.turn.ensures.stopped done
           refused;
     }

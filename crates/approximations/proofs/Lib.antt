@@ -1,0 +1,11 @@
+pub mod Slices
+pub mod Own
+pub mod Hands
+pub mod Turning
+pub mod Rests
+pub mod Rounds
+pub mod Beginnings
+pub mod Limits
+pub mod Within
+pub mod Stopping
+pub mod Lefts

@@ -1,0 +1,3 @@
+pub mod AtHand
+pub mod Adding
+pub mod Progress

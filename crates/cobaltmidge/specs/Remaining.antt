@@ -1,0 +1,27 @@
+-- What is left of a run that came to no end.
+use Rattle.std.specs.Prelude.{◌≡◌, ℤ, List}
+use Rattle.protocol.specs.Node.Common.{Network}
+use Rattle.protocol.specs.World.Common.{are_quiet}
+use Rattle.outlet.specs.declared.outlet.Outlet.{Ghosts as OutletWords}
+use Rattle.replay.specs.declared.kept.ScriptedEvent.{ScriptedEvent}
+use Rattle.runtime.specs.Logs.{happenings}
+use Rattle.station.specs.declared.output.Output.{Output}
+use Rattle.world.specs.WholeView.{world_of}
+use Rattle.cobaltmidge.specs.Runs.{HasCome, IsRun, released_streams}
+use Rattle.cobaltmidge.specs.declared.settings.Settings.{Settings}
+use Rattle.cobaltmidge.specs.declared.unfinished.Left.{Left}
+use Rattle.cobaltmidge.specs.declared.unfinished.Left.TheVariants as left
+
+module _ {O : Type 0} {outlet : OutletWords O} where
+  -- these outlets, of a run that didn't begin
+  abbrev pub HasOutputs : List (Output O) → Left O outlet → Type 0
+  HasOutputs outputs (left.Outputs back) = back.items ≡ outputs
+  HasOutputs outputs (left.World world history) = ⊥
+
+  -- Where the run didn't begin its outlets come back as they were handed in. Else what has left are prefixes of the outputs' histories in one
+  -- approximation, and a history of the run leads to its world.
+  abbrev pub IsLeft : Settings → Network → List (List ℤ) → List ScriptedEvent → List (Output O) → Left O outlet → Type 0
+  IsLeft settings net inputs script outputs (left.Outputs back) = back.items ≡ outputs
+  IsLeft settings net inputs script outputs (left.World world history) =
+      IsRun net inputs (released_streams net (world_of world).stations) (are_quiet (world_of world))
+      × HasCome settings net inputs script (happenings history.lines.items) (world_of world)
