@@ -2,7 +2,7 @@
 use Rattle.std.proofs.Common.{◌≡◌, ℕ, ◌+◌, List, [], ◌∷◌, ◌++◌, length, set, drop, sym, ap, ◌∙◌, arith}
 use Rattle.std.proofs.Common.{append_assoc, length-append, Vec, Box, Global}
 use Rattle.std.proofs.Math.Seq.{set-append_seam}
-use Rattle.kahn_net.specs.Common.{Tree, Block, IfThen, RepeatThen, links_of, tree_of, then_of, block_of, sites_of}
+use Rattle.kahn_net.specs.Common.{Tree, Chain, Block, IfThen, RepeatThen, links_of, tree_of, then_of, block_of, sites_of}
 use Rattle.kahn_net.specs.Laws.Syntax.{chain_of, if_of, repeat_of}
 use Rattle.kahn_net.specs.declared.program.Link.{Link}
 use Rattle.kahn_net.specs.declared.program.Expr.{Expr}
@@ -10,22 +10,30 @@ use Rattle.kahn_net.specs.declared.program.Expr.TheViews as view
 use Rattle.kahn_net.specs.declared.program.Statement.{Statement}
 use Rattle.kahn_net.specs.declared.program.Statement.TheViews as statement
 use Rattle.proc_code.specs.declared.instruction.Instruction.{Instruction}
+use Rattle.proc_code.specs.declared.instruction.Operand.{Operand}
 use Rattle.proc_code.specs.declared.instruction.Site.{Site}
 use Rattle.proc_code.specs.declared.instruction.Instruction.TheVariants.{Jump, JumpIfZero, Repeat, Again}
-use Rattle.proc_code.specs.Translation.{expr_code, links_code, if_code, repeat_code, block_code, sites_at}
+use Rattle.proc_code.specs.Translation.{expr_code, links_code, if_code, operand_behind, operand_of, repeat_code, block_code, sites_at}
 use Rattle.proc_code.specs.Laws.Sites.{length_sites}
 use Rattle.proc_code.specs.Emitting.{Emits}
 
 -- a chain, before its links are reached
 pub chain_starts : (e : Expr) (first : Box Expr Global) (links : Vec Link Global) (items : List Link)
-    (code code' : List Instruction) → e ≡ view.Chain first links → items ≡ links.items
-    → code' ≡ code ++ expr_code (tree_of first.value)
-    → code' ++ links_code (links_of (drop 0 items)) ≡ code ++ expr_code (tree_of e)
-chain_starts e first links items code code' h k t =
-    ap (λ (l : List Instruction). l ++ links_code (links_of items)) t
-    ∙ append_assoc code (expr_code (tree_of first.value)) (links_code (links_of items))
-    ∙ ap (λ (is : List Link). code ++ (expr_code (tree_of first.value) ++ links_code (links_of is))) k
-    ∙ sym (ap (λ (x : Tree). code ++ expr_code x) (ap tree_of h ∙ chain_of first links))
+    (code code' : List Instruction) (left : Operand) → e ≡ view.Chain first links → items ≡ links.items
+    → left ≡ operand_of (tree_of first.value) → code' ≡ code ++ expr_code (tree_of first.value)
+    → (code' ++ links_code left (links_of (drop 0 items)) ≡ code ++ expr_code (tree_of e))
+    × (operand_behind left (links_of (drop 0 items)) ≡ operand_of (tree_of e))
+chain_starts e first links items code code' left h k o t =
+    let f = tree_of first.value in
+    let whole : tree_of e ≡ Chain f (links_of links.items) = ap tree_of h ∙ chain_of first links in (
+      ap (λ (l : List Instruction). l ++ links_code left (links_of items)) t
+          ∙ append_assoc code (expr_code f) (links_code left (links_of items))
+          ∙ ap (λ (l : Operand). code ++ (expr_code f ++ links_code l (links_of items))) o
+          ∙ ap (λ (is : List Link). code ++ (expr_code f ++ links_code (operand_of f) (links_of is))) k
+          ∙ sym (ap (λ (x : Tree). code ++ expr_code x) whole),
+      ap (λ (l : Operand). operand_behind l (links_of items)) o
+          ∙ ap (λ (is : List Link). operand_behind (operand_of f) (links_of is)) k ∙ sym (ap operand_of whole),
+    )
 
 -- something written behind
 pub emits : (code : List Instruction) (table : List Site) (code' : List Instruction) (table' : List Site)
@@ -72,12 +80,12 @@ emits_as code table code' table' s t e h = record {
 jump_written : (c b : List Instruction) (x i : Instruction) (n : ℕ) → n ≡ length c → set (c ++ x ∷ b) n i ≡ c ++ i ∷ b
 jump_written c b x i n e = ap (λ (k : ℕ). set (c ++ x ∷ b) k i) e ∙ set-append_seam c x b i
 
-if_written : (base test c1 c2 c3 c4 c5 : List Instruction) (first second : ℕ → List Instruction) (x y : Instruction)
+if_written : (base test c1 c2 c3 c4 c5 : List Instruction) (value : Operand) (first second : ℕ → List Instruction) (x y : Instruction)
     (n1 n2 n3 : ℕ) → c1 ≡ base ++ test → n1 ≡ length c1 → c2 ≡ c1 ++ x ∷ [] → c3 ≡ c2 ++ first (length c2)
     → n2 ≡ length c3
     → c4 ≡ c3 ++ y ∷ [] → c5 ≡ c4 ++ second (length c4) → n3 ≡ length c5
-    → set (set c5 n1 (JumpIfZero (n2 + 1))) n2 (Jump n3) ≡ base ++ if_code (length base) test first second
-if_written base test c1 c2 c3 c4 c5 first second x y n1 n2 n3 e1 m1 e2 e3 m2 e4 e5 m3 =
+    → set (set c5 n1 (JumpIfZero (n2 + 1) value)) n2 (Jump n3) ≡ base ++ if_code (length base) test value first second
+if_written base test c1 c2 c3 c4 c5 value first second x y n1 n2 n3 e1 m1 e2 e3 m2 e4 e5 m3 =
     let one = length base + length test + 1 in
     let l1 = ap length e1 ∙ length-append base test in
     let at1 : length c2 ≡ one =
@@ -93,7 +101,7 @@ if_written base test c1 c2 c3 c4 c5 first second x y n1 n2 n3 e1 m1 e2 e3 m2 e4 
     let l5 = ap length e5' ∙ length-append c4 b in
     let to1 : n2 + 1 ≡ two = omega (arith, m2, l3, at1) in
     let to2 : n3 ≡ two + length b = omega (arith, m3, l5, at2) in
-    let i = JumpIfZero (n2 + 1) in
+    let i = JumpIfZero (n2 + 1) value in
     let j = Jump n3 in
     let at : n2 ≡ length (c1 ++ i ∷ a) = omega (arith, m2, l3, at1, l1, length-append c1 (i ∷ a)) in
     let all : c5 ≡ c1 ++ x ∷ (a ++ y ∷ b) =
@@ -110,22 +118,22 @@ if_written base test c1 c2 c3 c4 c5 first second x y n1 n2 n3 e1 m1 e2 e3 m2 e4 
     append_assoc c1 (i ∷ a) (j ∷ b) ∙ ap (λ (l : List Instruction). l ++ i ∷ (a ++ j ∷ b)) e1
     ∙ append_assoc base test (i ∷ (a ++ j ∷ b)) in
     both ∙ (placed
-    ∙ (ap (λ (k : Instruction). base ++ (test ++ k ∷ (a ++ j ∷ b))) (ap JumpIfZero to1)
-    ∙ ap (λ (k : Instruction). base ++ (test ++ JumpIfZero two ∷ (a ++ k ∷ b))) (ap Jump to2)))
+    ∙ (ap (λ (k : Instruction). base ++ (test ++ k ∷ (a ++ j ∷ b))) (ap (λ (n : ℕ). JumpIfZero n value) to1)
+    ∙ ap (λ (k : Instruction). base ++ (test ++ JumpIfZero two value ∷ (a ++ k ∷ b))) (ap Jump to2)))
 
 pub if_emits : (s : Statement) (test : Expr) (first second : Vec Statement Global)
     (one_block two_block : List Statement) (code c1 c2 c3 c4 c5 : List Instruction) (table es3 es5 : List Site)
-    (x y : Instruction) (n1 n2 n3 : ℕ) → s ≡ statement.If test first second → one_block ≡ first.items
-    → two_block ≡ second.items
+    (x y : Instruction) (value : Operand) (n1 n2 n3 : ℕ) → s ≡ statement.If test first second → one_block ≡ first.items
+    → two_block ≡ second.items → value ≡ operand_of (tree_of test)
     → c1 ≡ code ++ expr_code (tree_of test) → n1 ≡ length c1 → c2 ≡ c1 ++ x ∷ []
     → c3 ≡ c2 ++ block_code (length c2) (length table) (block_of one_block)
     → es3 ≡ table ++ sites_at (length c2) (length table) (block_of one_block) → n2 ≡ length c3
     → c4 ≡ c3 ++ y ∷ []
     → c5 ≡ c4 ++ block_code (length c4) (length es3) (block_of two_block)
     → es5 ≡ es3 ++ sites_at (length c4) (length es3) (block_of two_block) → n3 ≡ length c5
-    → Emits code table (set (set c5 n1 (JumpIfZero (n2 + 1))) n2 (Jump n3)) es5 (then_of s)
-if_emits s test first second one_block two_block code c1 c2 c3 c4 c5 table es3 es5 x y n1 n2 n3 is one_is two_is e1 m1
-    e2 e3 f3 m2 e4 e5 f5 m3 =
+    → Emits code table (set (set c5 n1 (JumpIfZero (n2 + 1) value)) n2 (Jump n3)) es5 (then_of s)
+if_emits s test first second one_block two_block code c1 c2 c3 c4 c5 table es3 es5 x y value n1 n2 n3 is one_is two_is
+    there e1 m1 e2 e3 f3 m2 e4 e5 f5 m3 =
     let tc = expr_code (tree_of test) in
     let p = block_of one_block in
     let q = block_of two_block in
@@ -135,7 +143,7 @@ if_emits s test first second one_block two_block code c1 c2 c3 c4 c5 table es3 e
     let one_code = λ (n : ℕ). block_code n number p in
     let two_code = λ (n : ℕ). block_code n number2 q in
     let two = one + length (one_code one) + 1 in
-    let choice = if_code (length code) tc one_code two_code in
+    let choice = if_code (length code) tc (operand_of (tree_of test)) one_code two_code in
     let first_sites = sites_at one number p in
     let second_sites = sites_at two number2 q in
     let l1 = ap length e1 ∙ length-append code tc in
@@ -161,10 +169,12 @@ if_emits s test first second one_block two_block code c1 c2 c3 c4 c5 table es3 e
     ∙ ap (λ (l : List Statement). IfThen (tree_of test) (block_of l) (block_of second.items) rest) (sym one_is)
     ∙ ap (λ (l : List Statement). IfThen (tree_of test) p (block_of l) rest) (sym two_is) in
     let sum : number + sites_of p + sites_of q ≡ number + sites = omega arith in
-    let written = if_written code tc c1 c2 c3 c4 c5 one_code two_code x y n1 n2 n3 e1 m1 e2 e3 m2 e4 e5' m3 in
-    emits_as code table (set (set c5 n1 (JumpIfZero (n2 + 1))) n2 (Jump n3)) es5 s (statement.If test first second) is
-    (emits code table (set (set c5 n1 (JumpIfZero (n2 + 1))) n2 (Jump n3)) es5 choice (first_sites ++ second_sites)
-    sites (then_of (statement.If test first second)) written f5' counted
+    let done = set (set c5 n1 (JumpIfZero (n2 + 1) value)) n2 (Jump n3) in
+    let written : done ≡ code ++ choice =
+    if_written code tc c1 c2 c3 c4 c5 value one_code two_code x y n1 n2 n3 e1 m1 e2 e3 m2 e4 e5' m3
+    ∙ ap (λ (o : Operand). code ++ if_code (length code) tc o one_code two_code) there in
+    emits_as code table done es5 s (statement.If test first second) is
+    (emits code table done es5 choice (first_sites ++ second_sites) sites (then_of (statement.If test first second)) written f5' counted
     (λ rest. ap (block_code (length code) number) (whole rest)
     ∙ ap (λ (n : ℕ). choice ++ block_code (length code + length choice) n rest) sum)
     (λ rest. ap (sites_at (length code) number) (whole rest)

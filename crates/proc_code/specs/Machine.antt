@@ -6,9 +6,11 @@ use Rattle.std.specs.Ordering.{int_eq}
 use Rattle.kahn_net.specs.Common.{history_of, Sent, Ended, Stopped, Trace, no_steps, on_get, point_at}
 use Rattle.kahn_net.specs.Statements.{after_step, apply}
 use Rattle.proc_code.specs.declared.instruction.Instruction.{Instruction}
-use Rattle.proc_code.specs.declared.instruction.Instruction.TheVariants.{Constant, Load, Store, Negate, Apply, Get, Put}
+use Rattle.proc_code.specs.declared.instruction.Instruction.TheVariants.{Store, Negate, Apply, Get, Put}
 use Rattle.proc_code.specs.declared.instruction.Instruction.TheVariants.{Jump, JumpIfZero, Repeat, Again, Stop}
 use Rattle.proc_code.specs.declared.instruction.Instruction.TheVariants.{End}
+use Rattle.proc_code.specs.declared.instruction.Operand.{Operand}
+use Rattle.proc_code.specs.declared.instruction.Operand.TheVariants.{Top, Variable, Literal}
 
 -- The trace of a machine from a state on: the place of its next instruction, its stack of values (the topmost first),
 -- the passes that remain of each repetition round the place (the outermost first), its variables, and what is unread of
@@ -26,6 +28,18 @@ abbrev pub below : List ℤ → List ℤ
 below [] = []
 below (value ∷ stack) = stack
 
+-- an operand's value, on this stack and with these variables
+abbrev pub value_in : Operand → List ℤ → List ℤ → ℤ
+value_in Top stack vars = top stack
+value_in (Variable x) stack vars = slice_index_or vars x (pos 0)
+value_in (Literal n) stack vars = n
+
+-- the stack once it was taken
+abbrev pub behind_value : Operand → List ℤ → List ℤ
+behind_value Top stack = below stack
+behind_value (Variable x) stack = stack
+behind_value (Literal n) stack = stack
+
 -- the passes that remain of the innermost repetition; where there is none, none
 abbrev pub innermost : List ℕ → ℕ
 innermost [] = 0
@@ -42,25 +56,24 @@ round_it (k ∷ j ∷ deeper) = k ∷ round_it (j ∷ deeper)
 -- the last instruction the process has ended.
 abbrev pub perform : Option Instruction → Continuation → Continuation
 perform None go place stack left vars unread = no_steps (Ended vars unread)
-perform (Some (Constant value)) go place stack left vars unread = go (place + 1) (value ∷ stack) left vars unread
-perform (Some (Load x)) go place stack left vars unread =
-    go (place + 1) (slice_index_or vars x (pos 0) ∷ stack) left vars unread
-perform (Some (Store x)) go place stack left vars unread =
-    go (place + 1) (below stack) left (slice_set vars x (top stack)) unread
-perform (Some Negate) go place stack left vars unread =
-    go (place + 1) (int_wrapping_neg w64 (top stack) ∷ below stack) left vars unread
-perform (Some (Apply operator)) go place stack left vars unread =
-    go (place + 1) (apply operator (top (below stack)) (top stack) ∷ below (below stack)) left vars unread
+perform (Some (Store x value)) go place stack left vars unread =
+    go (place + 1) (behind_value value stack) left (slice_set vars x (value_in value stack vars)) unread
+perform (Some (Negate value)) go place stack left vars unread =
+    go (place + 1) (int_wrapping_neg w64 (value_in value stack vars) ∷ behind_value value stack) left vars unread
+perform (Some (Apply operator first second)) go place stack left vars unread =
+    go (place + 1)
+    (apply operator (value_in first (behind_value second stack) vars) (value_in second stack vars)
+    ∷ behind_value first (behind_value second stack)) left vars unread
 perform (Some (Get x channel site)) go place stack left vars unread =
     on_get (history_of unread channel) (point_at site left) channel vars
     (λ item later. go (place + 1) stack left (slice_set vars x item) (slice_set unread channel later))
-perform (Some (Put channel site)) go place stack left vars unread =
-    after_step (record { point = point_at site left; vars = vars; act = Sent channel (top stack) })
-    (go (place + 1) (below stack) left vars unread)
+perform (Some (Put channel site value)) go place stack left vars unread =
+    after_step (record { point = point_at site left; vars = vars; act = Sent channel (value_in value stack vars) })
+    (go (place + 1) (behind_value value stack) left vars unread)
 perform (Some (Jump target)) go place stack left vars unread = go target stack left vars unread
-perform (Some (JumpIfZero target)) go place stack left vars unread =
-    cond (int_eq (top stack) (pos 0)) (go target (below stack) left vars unread)
-    (go (place + 1) (below stack) left vars unread)
+perform (Some (JumpIfZero target value)) go place stack left vars unread =
+    cond (int_eq (value_in value stack vars) (pos 0)) (go target (behind_value value stack) left vars unread)
+    (go (place + 1) (behind_value value stack) left vars unread)
 perform (Some (Repeat times behind)) go place stack left vars unread =
     cond (times == 0) (go behind stack left vars unread) (go (place + 1) stack (left ++ times ∷ []) vars unread)
 perform (Some (Again target)) go place stack left vars unread =

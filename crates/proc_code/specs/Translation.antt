@@ -5,32 +5,51 @@ use Rattle.std.specs.Prelude.{max}
 use Rattle.kahn_net.specs.Common.{Tree, Number, Name, Minus, Chain, Links, NoLinks, LinkThen, Block, Nothing, GetThen}
 use Rattle.kahn_net.specs.Common.{AssignThen, PutThen, StopThen, IfThen, RepeatThen, Code, Next, Gets, Puts, sites_of}
 use Rattle.proc_code.specs.declared.instruction.Instruction.{Instruction}
-use Rattle.proc_code.specs.declared.instruction.Instruction.TheVariants.{Constant, Load, Store, Negate, Apply, Get, Put}
+use Rattle.proc_code.specs.declared.instruction.Instruction.TheVariants.{Store, Negate, Apply, Get, Put}
 use Rattle.proc_code.specs.declared.instruction.Instruction.TheVariants.{Jump, JumpIfZero, Repeat, Again, Stop}
 use Rattle.proc_code.specs.declared.instruction.Instruction.TheVariants.{End}
+use Rattle.proc_code.specs.declared.instruction.Operand.{Operand}
+use Rattle.proc_code.specs.declared.instruction.Operand.TheVariants.{Top, Variable, Literal}
 use Rattle.proc_code.specs.declared.instruction.Site.{Site}
 use Rattle.proc_code.specs.declared.instruction.SiteAct.{SiteAct}
 use Rattle.proc_code.specs.declared.instruction.SiteAct.TheVariants.{Get as GetAct, Put as PutAct}
 
--- puts an expression's value on the stack
+-- Where the value of an expression is behind its code: a variable's and a number stand where they are, and any other is
+-- on the stack.
+abbrev mutual
+  pub operand_of : Tree → Operand
+  operand_of (Number n) = Literal n
+  operand_of (Name x) = Variable x
+  operand_of (Minus value) = Top
+  operand_of (Chain first links) = operand_behind (operand_of first) links
+
+  -- and behind links, where it was there before them
+  pub operand_behind : Operand → Links → Operand
+  operand_behind value NoLinks = value
+  operand_behind value (LinkThen operator right rest) = Top
+
+-- The code of an expression. Behind it its value is where `operand_of` says.
 abbrev mutual
   pub expr_code : Tree → List Instruction
-  expr_code (Number n) = Constant n ∷ []
-  expr_code (Name x) = Load x ∷ []
-  expr_code (Minus value) = expr_code value ++ Negate ∷ []
-  expr_code (Chain first links) = expr_code first ++ links_code links
+  expr_code (Number n) = []
+  expr_code (Name x) = []
+  expr_code (Minus value) = expr_code value ++ Negate (operand_of value) ∷ []
+  expr_code (Chain first links) = expr_code first ++ links_code (operand_of first) links
 
-  pub links_code : Links → List Instruction
-  links_code NoLinks = []
-  links_code (LinkThen operator value rest) = expr_code value ++ Apply operator ∷ links_code rest
+  -- and of links, where the value before them is there
+  pub links_code : Operand → Links → List Instruction
+  links_code left NoLinks = []
+  links_code left (LinkThen operator right rest) =
+      expr_code right ++ Apply operator left (operand_of right) ∷ links_code Top rest
 
--- An if whose code begins at this place: its test, a jump to the second block where that gives 0, the first block, a
+-- An if whose code begins at this place: its test, whose value is then there, a jump to the second block where that is 0, the first block, a
 -- jump behind the second one, and the second block. Where a block's code begins, it says what it is.
-abbrev pub if_code : ℕ → List Instruction → (ℕ → List Instruction) → (ℕ → List Instruction) → List Instruction
-if_code at test first second =
+abbrev pub if_code : ℕ → List Instruction → Operand → (ℕ → List Instruction) → (ℕ → List Instruction)
+    → List Instruction
+if_code at test value first second =
     let one = at + length test + 1 in
     let two = one + length (first one) + 1 in
-    test ++ JumpIfZero two ∷ (first one ++ Jump (two + length (second two)) ∷ second two)
+    test ++ JumpIfZero two value ∷ (first one ++ Jump (two + length (second two)) ∷ second two)
 
 -- A repetition whose code begins at this place: it is opened, and behind its block it goes back there or on. Where its
 -- block's code begins, it says what it is.
@@ -44,14 +63,14 @@ abbrev pub block_code : ℕ → ℕ → Block → List Instruction
 block_code at site Nothing = []
 block_code at site (GetThen x channel rest) = Get x channel site ∷ block_code (at + 1) (site + 1) rest
 block_code at site (AssignThen x e rest) =
-    let assign = expr_code e ++ Store x ∷ [] in
+    let assign = expr_code e ++ Store x (operand_of e) ∷ [] in
     assign ++ block_code (at + length assign) site rest
 block_code at site (PutThen e channel rest) =
-    let put = expr_code e ++ Put channel site ∷ [] in
+    let put = expr_code e ++ Put channel site (operand_of e) ∷ [] in
     put ++ block_code (at + length put) (site + 1) rest
 block_code at site (StopThen rest) = Stop ∷ block_code (at + 1) site rest
 block_code at site (IfThen test first second rest) =
-    let choice = if_code at (expr_code test) (λ n. block_code n site first)
+    let choice = if_code at (expr_code test) (operand_of test) (λ n. block_code n site first)
     (λ n. block_code n (site + sites_of first) second) in
     choice ++ block_code (at + length choice) (site + sites_of first + sites_of second) rest
 block_code at site (RepeatThen times body rest) =
@@ -74,15 +93,15 @@ abbrev pub entry_at : ℕ → ℕ → Block → ℕ → ℕ
 entry_at at number Nothing site = at
 entry_at at number (GetThen x channel rest) site =
     cond (number == site) at (entry_at (at + 1) (number + 1) rest site)
-entry_at at number (AssignThen x e rest) site = entry_at (at + length (expr_code e ++ Store x ∷ [])) number rest site
+entry_at at number (AssignThen x e rest) site = entry_at (at + length (expr_code e ++ Store x (operand_of e) ∷ [])) number rest site
 entry_at at number (PutThen e channel rest) site =
     cond (number == site) at
-    (entry_at (at + length (expr_code e ++ Put channel number ∷ [])) (number + 1) rest site)
+    (entry_at (at + length (expr_code e ++ Put channel number (operand_of e) ∷ [])) (number + 1) rest site)
 entry_at at number (StopThen rest) site = entry_at (at + 1) number rest site
 entry_at at number (IfThen test first second rest) site =
     let one = at + length (expr_code test) + 1 in
     let two = one + length (block_code one number first) + 1 in
-    let choice = if_code at (expr_code test) (λ n. block_code n number first)
+    let choice = if_code at (expr_code test) (operand_of test) (λ n. block_code n number first)
     (λ n. block_code n (number + sites_of first) second) in
     cond (nat_lt site (number + sites_of first)) (entry_at one number first site)
     (cond (nat_lt site (number + sites_of first + sites_of second)) (entry_at two (number + sites_of first) second site)
@@ -112,14 +131,14 @@ put_site channel entry = record { act = PutAct channel; entry = entry }
 abbrev pub sites_at : ℕ → ℕ → Block → List Site
 sites_at at number Nothing = []
 sites_at at number (GetThen x channel rest) = get_site channel at ∷ sites_at (at + 1) (number + 1) rest
-sites_at at number (AssignThen x e rest) = sites_at (at + length (expr_code e ++ Store x ∷ [])) number rest
+sites_at at number (AssignThen x e rest) = sites_at (at + length (expr_code e ++ Store x (operand_of e) ∷ [])) number rest
 sites_at at number (PutThen e channel rest) =
-    put_site channel at ∷ sites_at (at + length (expr_code e ++ Put channel number ∷ [])) (number + 1) rest
+    put_site channel at ∷ sites_at (at + length (expr_code e ++ Put channel number (operand_of e) ∷ [])) (number + 1) rest
 sites_at at number (StopThen rest) = sites_at (at + 1) number rest
 sites_at at number (IfThen test first second rest) =
     let one = at + length (expr_code test) + 1 in
     let two = one + length (block_code one number first) + 1 in
-    let choice = if_code at (expr_code test) (λ n. block_code n number first)
+    let choice = if_code at (expr_code test) (operand_of test) (λ n. block_code n number first)
     (λ n. block_code n (number + sites_of first) second) in
     (sites_at one number first ++ sites_at two (number + sites_of first) second)
     ++ sites_at (at + length choice) (number + sites_of first + sites_of second) rest
@@ -141,17 +160,21 @@ abbrev pub next_by : SiteAct → Next
 next_by (GetAct channel) = Gets channel
 next_by (PutAct channel) = Puts channel
 
+-- how many values are on the stack once this one was taken, where so many were before
+abbrev pub height_behind : Operand → ℕ → ℕ
+height_behind Top height = height - 1
+height_behind (Variable x) height = height
+height_behind (Literal n) height = height
+
 -- how many values are on the stack behind an instruction, where so many were before it
 abbrev pub height_after : Instruction → ℕ → ℕ
-height_after (Constant value) height = height + 1
-height_after (Load x) height = height + 1
-height_after (Store x) height = height - 1
-height_after Negate height = height
-height_after (Apply operator) height = height - 1
+height_after (Store x value) height = height_behind value height
+height_after (Negate value) height = height_behind value height + 1
+height_after (Apply operator left right) height = height_behind left (height_behind right height) + 1
 height_after (Get x channel site) height = height
-height_after (Put channel site) height = height - 1
+height_after (Put channel site value) height = height_behind value height
 height_after (Jump target) height = height
-height_after (JumpIfZero target) height = height - 1
+height_after (JumpIfZero target value) height = height_behind value height
 height_after (Repeat times behind) height = height
 height_after (Again target) height = height
 height_after Stop height = height
@@ -168,15 +191,13 @@ greatest_height greatest height (i ∷ code) =
 abbrev pub nesting_after : Instruction → ℕ → ℕ
 nesting_after (Repeat times behind) nesting = nesting + 1
 nesting_after (Again target) nesting = nesting - 1
-nesting_after (Constant value) nesting = nesting
-nesting_after (Load x) nesting = nesting
-nesting_after (Store x) nesting = nesting
-nesting_after Negate nesting = nesting
-nesting_after (Apply operator) nesting = nesting
+nesting_after (Store x value) nesting = nesting
+nesting_after (Negate value) nesting = nesting
+nesting_after (Apply operator left right) nesting = nesting
 nesting_after (Get x channel site) nesting = nesting
-nesting_after (Put channel site) nesting = nesting
+nesting_after (Put channel site value) nesting = nesting
 nesting_after (Jump target) nesting = nesting
-nesting_after (JumpIfZero target) nesting = nesting
+nesting_after (JumpIfZero target value) nesting = nesting
 nesting_after Stop nesting = nesting
 nesting_after End nesting = nesting
 

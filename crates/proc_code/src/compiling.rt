@@ -3,14 +3,24 @@
 ghost use Rattle.std.specs.Prelude.{◌≡◌, ◌+◌, ◌<◌, ◌^◌, map, IfOk};
 ghost use Rattle.kahn_net.specs.Common.{code_of};
 ghost use Rattle.proc_code.specs.CodeView.{code_view};
-ghost use Rattle.proc_code.specs.Translation.{flat_code, greatest_height, height_after, greatest_nesting, nesting_after};
+ghost use Rattle.proc_code.specs.Translation.{flat_code, greatest_height, height_after, height_behind, greatest_nesting, nesting_after};
 
 use crate::code::Code;
 use crate::emitting::{emit_loop, emit_statements};
 use crate::fault::Fault;
-use crate::instruction::Instruction;
+use crate::instruction::{Instruction, Operand};
 use kahn_net::Process;
 use std::alloc::Global;
+
+/// How many values are on the stack once this one was taken, where so many were before.
+fn height_behind(value: Operand, height: usize) -> usize
+    ensures { result ≡ height_behind value height }
+{
+    match value {
+        Operand::Top => height.saturating_sub(1),
+        Operand::Variable(_) | Operand::Literal(_) => height,
+    }
+}
 
 /// How many values are on the stack behind an instruction, where so many were before it.
 fn height_after(instruction: Instruction, height: usize) -> usize
@@ -18,13 +28,14 @@ fn height_after(instruction: Instruction, height: usize) -> usize
     ensures { result ≡ height_after instruction height }
 {
     match instruction {
-        Instruction::Constant { .. } | Instruction::Load { .. } => height + 1,
-        Instruction::Store { .. }
-        | Instruction::Apply { .. }
-        | Instruction::Put { .. }
-        | Instruction::JumpIfZero { .. } => height.saturating_sub(1),
-        Instruction::Negate
-        | Instruction::Get { .. }
+        Instruction::Negate { value } => height_behind(value, height) + 1,
+        Instruction::Apply { left, right, .. } => {
+            height_behind(left, height_behind(right, height)) + 1
+        }
+        Instruction::Store { value, .. }
+        | Instruction::Put { value, .. }
+        | Instruction::JumpIfZero { value, .. } => height_behind(value, height),
+        Instruction::Get { .. }
         | Instruction::Jump { .. }
         | Instruction::Repeat { .. }
         | Instruction::Again { .. }

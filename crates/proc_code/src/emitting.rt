@@ -1,12 +1,12 @@
 //! The code of expressions and statements, behind what was written so far.
 
-ghost use Rattle.std.specs.Prelude.{◌≡◌, [], ◌∷◌, ◌++◌, OnOk, length};
+ghost use Rattle.std.specs.Prelude.{◌≡◌, [], ◌∷◌, ◌++◌, IfOk, OnOk, length};
 ghost use Rattle.kahn_net.specs.Common.{tree_of, then_of, block_of};
 ghost use Rattle.kahn_net.specs.Syntax.{body_of};
-ghost use Rattle.proc_code.specs.Translation.{expr_code, block_code, sites_at, loop_code, loop_sites};
+ghost use Rattle.proc_code.specs.Translation.{expr_code, operand_of, block_code, sites_at, loop_code, loop_sites};
 ghost use Rattle.proc_code.specs.Emitting.{Emits};
 
-use crate::instruction::{Instruction, Site, SiteAct};
+use crate::instruction::{Instruction, Operand, Site, SiteAct};
 use kahn_net::{Expr, Statement};
 use std::alloc::AllocError;
 
@@ -27,34 +27,34 @@ fn enter(sites: &mut Vec<Site>, act: SiteAct, entry: usize) -> Result<(), AllocE
     Ok(())
 }
 
-/// The code of an expression.
-fn emit_expr(code: &mut Vec<Instruction>, expr: &Expr) -> Result<(), AllocError>
-    ensures { OnOk result (code.new.items ≡ code.old.items ++ expr_code (tree_of expr.now)) }
+/// The code of an expression, and where its value is behind that. A variable and a number take no code.
+fn emit_expr(code: &mut Vec<Instruction>, expr: &Expr) -> Result<Operand, AllocError>
+    ensures code { OnOk result (code.new.items ≡ code.old.items ++ expr_code (tree_of expr.now)) }
+    ensures value { IfOk result (λ value. value ≡ operand_of (tree_of expr.now)) }
 {
     match expr {
-        Expr::Literal(value) => emit(code, Instruction::Constant { value: *value }),
-        Expr::Variable(variable) => emit(
-            code,
-            Instruction::Load {
-                variable: *variable,
-            },
-        ),
+        Expr::Literal(value) => Ok(Operand::Literal(*value)),
+        Expr::Variable(variable) => Ok(Operand::Variable(*variable)),
         Expr::Negate(value) => {
-            emit_expr(code, value)?;
-            emit(code, Instruction::Negate)
+            let value = emit_expr(code, value)?;
+            emit(code, Instruction::Negate { value })?;
+            Ok(Operand::Top)
         }
         Expr::Chain { first, links } => {
-            emit_expr(code, first)?;
+            let mut left = emit_expr(code, first)?;
             for link in links {
-                emit_expr(code, &link.value)?;
+                let right = emit_expr(code, &link.value)?;
                 emit(
                     code,
                     Instruction::Apply {
                         operator: link.operator,
+                        left,
+                        right,
                     },
                 )?;
+                left = Operand::Top;
             }
-            Ok(())
+            Ok(left)
         }
     }
 }
@@ -83,23 +83,25 @@ fn emit_statement(
             )
         }
         Statement::Assign { variable, value } => {
-            emit_expr(code, value)?;
+            let value = emit_expr(code, value)?;
             emit(
                 code,
                 Instruction::Store {
                     variable: *variable,
+                    value,
                 },
             )
         }
         Statement::Put { value, channel } => {
             let site = sites.len();
             enter(sites, SiteAct::Put { channel: *channel }, code.len())?;
-            emit_expr(code, value)?;
+            let value = emit_expr(code, value)?;
             emit(
                 code,
                 Instruction::Put {
                     channel: *channel,
                     site,
+                    value,
                 },
             )
         }
@@ -109,9 +111,9 @@ fn emit_statement(
             first,
             second,
         } => {
-            emit_expr(code, test)?;
+            let value = emit_expr(code, test)?;
             let test_end = code.len();
-            emit(code, Instruction::JumpIfZero { target: 0 })?;
+            emit(code, Instruction::JumpIfZero { target: 0, value })?;
             emit_statements(code, sites, first)?;
             let first_end = code.len();
             emit(code, Instruction::Jump { target: 0 })?;
@@ -119,6 +121,7 @@ fn emit_statement(
             // Only now is it known where the blocks begin and end.
             code[test_end] = Instruction::JumpIfZero {
                 target: first_end + 1,
+                value,
             };
             code[first_end] = Instruction::Jump { target: code.len() };
             Ok(())

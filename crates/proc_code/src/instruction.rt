@@ -2,27 +2,35 @@
 
 use kahn_net::Operator;
 
-/// An instruction of a process's code. Expressions are worked out on a stack of values; jumps name the index of the
-/// instruction that comes next.
+/// Where an instruction finds a value that it works on. Of the values of expressions only those stand on the stack that an
+/// instruction has made: variables and numbers are read where they stand.
+#[derive(Clone, Copy, Debug, PartialEq, Eq)]
+pub enum Operand {
+    /// It takes the topmost value off the stack.
+    Top,
+    /// A variable's value; 0 where there is no such variable.
+    Variable(usize),
+    Literal(i64),
+}
+
+/// An instruction of a process's code. What is made within an expression is kept on a stack of values; jumps name the index of
+/// the instruction that comes next.
 #[derive(Clone, Copy, Debug, PartialEq, Eq)]
 pub enum Instruction {
-    /// Puts a value on the stack.
-    Constant {
-        value: i64,
-    },
-    /// Puts a variable's value on the stack; 0 where there is no such variable.
-    Load {
-        variable: usize,
-    },
-    /// Takes the topmost value into a variable.
+    /// Takes a value into a variable.
     Store {
         variable: usize,
+        value: Operand,
     },
-    /// Takes the topmost value, and puts 0 less it there, modulo 2^64.
-    Negate,
-    /// Takes the two topmost values, and puts there what the operator makes of them: the topmost is its right one.
+    /// Puts 0 less a value on the stack, modulo 2^64.
+    Negate {
+        value: Operand,
+    },
+    /// Puts on the stack what the operator makes of two values. The right one is taken first.
     Apply {
         operator: Operator,
+        left: Operand,
+        right: Operand,
     },
     /// Takes the channel's next item into a variable. With no item at hand the process stands at this site.
     Get {
@@ -30,18 +38,19 @@ pub enum Instruction {
         channel: usize,
         site: usize,
     },
-    /// Takes the topmost value and puts it on the channel. With no room there the process stands at this site, which is
-    /// before its expression.
+    /// Puts a value on the channel. With no room there the process stands at this site, which is before its expression.
     Put {
         channel: usize,
         site: usize,
+        value: Operand,
     },
     Jump {
         target: usize,
     },
-    /// Takes the topmost value, and jumps where it is 0.
+    /// Jumps where a value is 0.
     JumpIfZero {
         target: usize,
+        value: Operand,
     },
     /// Opens a repetition: puts its number on the stack of passes and goes on with its block. One of no
     /// passes is through, and goes on behind it.

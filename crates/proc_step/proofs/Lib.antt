@@ -6,5 +6,4 @@ pub mod Machines
 pub mod Rounds
 pub mod Coded
 pub mod Weights
-pub mod Stacks
 pub mod Straight

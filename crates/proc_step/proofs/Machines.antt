@@ -9,7 +9,8 @@ use Rattle.kahn_net.specs.Statements.{after_step}
 use Rattle.kahn_net.specs.Laws.Puts.{length-put_after}
 use Rattle.proc_code.specs.declared.instruction.Instruction.{Instruction}
 use Rattle.proc_code.specs.declared.instruction.Instruction.TheVariants.{Get, Put}
-use Rattle.proc_code.specs.Machine.{Continuation, top, below, innermost, round_it, perform, run}
+use Rattle.proc_code.specs.declared.instruction.Operand.{Operand}
+use Rattle.proc_code.specs.Machine.{behind_value, Continuation, innermost, round_it, perform, run, value_in}
 use Rattle.proc_code.specs.Laws.Blocks.{innermost_is, round_it_is}
 use Rattle.proc_step.specs.declared.machine.Flow.{Flow}
 use Rattle.proc_step.specs.declared.machine.Flow.TheVariants.{RanOut}
@@ -167,17 +168,17 @@ get_moves i x channel site room m item later v u is here e f =
     (ap (λ (h : List ℤ). slice_get h 0) here)
     (e ∙ ap (λ (h : List ℤ). set m.unread.items channel (drop 1 h)) (sym here)) refl
 
-pub put_moves : (i : Instruction) (channel site : ℕ) (room : List ℕ) (m : Machine) (s : List ℤ)
-    (sent : Vec (List ℤ) Global) → i ≡ Put channel site
+pub put_moves : (i : Instruction) (channel site : ℕ) (value : Operand) (room : List ℕ) (m : Machine) (s : List ℤ)
+    (sent : Vec (List ℤ) Global) → i ≡ Put channel site value
     → length (history_of m.sent.items channel) < slice_index room channel
-    → sent.items ≡ set m.sent.items channel (history_of m.sent.items channel ++ top m.stack ∷ [])
-    → s ≡ below m.stack
+    → sent.items ≡ set m.sent.items channel (history_of m.sent.items channel ++ value_in value m.stack m.variables.items ∷ [])
+    → s ≡ behind_value value m.stack
     → Moved i room m (record m { place = m.place + 1; stack = s; sent = sent })
-put_moves i channel site room m s sent is can e f =
+put_moves i channel site value room m s sent is can e f =
     let act : Step = record {
       point = point_at site m.left.items;
       vars = m.variables.items;
-      act = Sent channel (top m.stack);
+      act = Sent channel (value_in value m.stack m.variables.items);
     } in
     Acting act
     (λ go. ap (λ (j : Instruction). trace_at (perform (Some j) go) m) is

@@ -9,7 +9,7 @@ use Rattle.kahn_net.specs.Common.{sites_of, is_repeat_within, code_repeats_withi
 use Rattle.kahn_net.specs.Repeats.{repeats_within, body_repeats_within}
 use Rattle.kahn_net.specs.declared.limits.TheConstants.{MAX_TIMES, MAX_NESTED_TIMES, MAX_REPEATS}
 use Rattle.proc_code.specs.declared.instruction.Instruction.TheVariants.{Store, Put, JumpIfZero, Jump, Again}
-use Rattle.proc_code.specs.Translation.{expr_code, if_code, repeat_code, block_code, loop_code, process_code}
+use Rattle.proc_code.specs.Translation.{expr_code, operand_of, if_code, repeat_code, block_code, loop_code, process_code}
 use Rattle.proc_code.specs.Laws.Blocks.{most_of}
 use Rattle.proc_code.specs.Laws.Resuming.{times_monotone}
 use Rattle.proc_code.specs.Laws.Processes.{loop_most, process_most}
@@ -32,7 +32,7 @@ block_few (GetThen x c rest) at site o m h few =
     let split : m * (1 + most_of rest) ≡ m + m * most_of rest = omega arith in
     omega (arith, r, split, few)
 block_few (AssignThen x e rest) at site o m h few =
-    let c = expr_code e ++ Store x ∷ [] in
+    let c = expr_code e ++ Store x (operand_of e) ∷ [] in
     let r = block_few rest (at + length c) site o m h few in
     let n = length (expr_code e) in
     let mine : n * m ≤ n * MOST = (let a = times_monotone m MOST n few in
@@ -40,10 +40,10 @@ block_few (AssignThen x e rest) at site o m h few =
     let split : m * (n + 1 + most_of rest) ≡ n * m + m + m * most_of rest = omega arith in
     let later = block_code (at + length c) site rest in
     let long : length (c ++ later) ≡ length c + length later = length-append c later in
-    let short : length c ≡ n + 1 = length-append (expr_code e) (Store x ∷ []) in
+    let short : length c ≡ n + 1 = length-append (expr_code e) (Store x (operand_of e) ∷ []) in
     omega (arith, r, mine, split, long, short, few)
 block_few (PutThen e d rest) at site o m h few =
-    let c = expr_code e ++ Put d site ∷ [] in
+    let c = expr_code e ++ Put d site (operand_of e) ∷ [] in
     let r = block_few rest (at + length c) (site + 1) o m h few in
     let n = length (expr_code e) in
     let mine : n * m ≤ n * MOST = (let a = times_monotone m MOST n few in
@@ -51,7 +51,7 @@ block_few (PutThen e d rest) at site o m h few =
     let split : m * (n + 1 + most_of rest) ≡ n * m + m + m * most_of rest = omega arith in
     let later = block_code (at + length c) (site + 1) rest in
     let long : length (c ++ later) ≡ length c + length later = length-append c later in
-    let short : length c ≡ n + 1 = length-append (expr_code e) (Put d site ∷ []) in
+    let short : length c ≡ n + 1 = length-append (expr_code e) (Put d site (operand_of e) ∷ []) in
     omega (arith, r, mine, split, long, short, few)
 block_few (StopThen rest) at site o m h few =
     let r = block_few rest (at + 1) site o m h few in
@@ -66,7 +66,7 @@ block_few (IfThen test first second rest) at site o m h few =
     let a = block_code one site first in
     let two = one + length a + 1 in
     let b = block_code two (site + sites_of first) second in
-    let c = if_code at tc (λ n. block_code n site first) (λ n. block_code n (site + sites_of first) second) in
+    let c = if_code at tc (operand_of test) (λ n. block_code n site first) (λ n. block_code n (site + sites_of first) second) in
     let later = block_code (at + length c) (site + sites_of first + sites_of second) rest in
     let r1 = block_few first one site o m p.0 few in
     let r2 = block_few second two (site + sites_of first) o m q.0 few in
@@ -76,7 +76,7 @@ block_few (IfThen test first second rest) at site o m h few =
     let split : m * (n + (1 + (most_of first + (1 + most_of second))) + most_of rest)
     ≡ n * m + m + m * most_of first + m + m * most_of second + m * most_of rest = omega arith in
     let long : length (c ++ later) ≡ length c + length later = length-append c later in
-    let l1 = length-append tc (JumpIfZero two ∷ (a ++ Jump (two + length b) ∷ b)) in
+    let l1 = length-append tc (JumpIfZero two (operand_of test) ∷ (a ++ Jump (two + length b) ∷ b)) in
     let l2 = length-append a (Jump (two + length b) ∷ b) in
     omega (arith, r1, r2, r3, mine, split, long, l1, l2, few)
 block_few (RepeatThen times body rest) at site o m h few =

@@ -11,7 +11,7 @@ ghost use Rattle.std.specs.Prelude.{IfOk, OnOk};
 ghost use Rattle.kahn_net.specs.Common.{Trace, total};
 ghost use Rattle.kahn_net.specs.Syntax.{Code as Syntax};
 ghost use Rattle.proc_code.specs.CodeView.{code_view};
-ghost use Rattle.proc_code.specs.Machine.{innermost, round_it};
+ghost use Rattle.proc_code.specs.Machine.{behind_value, innermost, round_it, value_in};
 ghost use Rattle.proc_code.specs.Translation.{flat_code};
 ghost use Rattle.proc_step.specs.Parts.{Part, passes_in, place_in};
 ghost use Rattle.proc_step.specs.Stepping.{Performed, RunsTo, WentOn, held};
@@ -20,10 +20,10 @@ ghost use Rattle.proc_step.specs.Turns.{nothing_sent};
 use crate::room::{empty_histories, has_room, send};
 use crate::stack::Stack;
 use kahn_net::{History, MAX_NESTED_TIMES, Mode, ProcState};
-use proc_code::{Code, Instruction};
+use proc_code::{Code, Instruction, Operand};
 use std::alloc::{AllocError, Global};
 use std::mem;
-use stream_eq::{Unread, all_unread, set_variable, take_item};
+use stream_eq::{Unread, all_unread, operate, set_variable, take_item};
 
 /// How a process stopped.
 #[derive(Clone, Copy)]
@@ -53,7 +53,7 @@ pub enum Next {
 pub struct Machine<'a> {
     /// The place of the next instruction.
     pub place: usize,
-    /// The values that expressions left.
+    /// The values that instructions made within an expression.
     pub stack: Stack,
     /// The passes that remain of each repetition round the place.
     pub left: Vec<u16>,
@@ -62,6 +62,18 @@ pub struct Machine<'a> {
     pub unread: Vec<Unread<'a>>,
     /// What was sent on each channel.
     pub sent: Vec<History>,
+}
+
+/// The value on which an instruction works. One on the stack is taken off it.
+fn take_value(stack: &mut Stack, variables: &[i64], value: Operand) -> i64
+    ensures value { result ≡ value_in value stack.old variables.now }
+    ensures rest { stack.new ≡ behind_value value stack.old }
+{
+    match value {
+        Operand::Top => stack.pop(),
+        Operand::Variable(variable) => variables.get(variable).copied().unwrap_or(0),
+        Operand::Literal(number) => number,
+    }
 }
 
 /// Opens a repetition of so many passes.
@@ -156,26 +168,24 @@ impl<'a> Machine<'a> {
             (held self.old place stack.old) next (held self.new place stack.new)) }
     {
         match instruction {
-            Instruction::Constant { value } => {
-                stack.push(value)?;
-                Ok(Next::Behind)
-            }
-            Instruction::Load { variable } => {
-                let value = self.variables.get(variable).copied().unwrap_or(0);
-                stack.push(value)?;
-                Ok(Next::Behind)
-            }
-            Instruction::Store { variable } => {
-                let value = stack.pop();
+            Instruction::Store { variable, value } => {
+                let value = take_value(stack, &self.variables, value);
                 set_variable(&mut self.variables, variable, value);
                 Ok(Next::Behind)
             }
-            Instruction::Negate => {
-                stack.negate()?;
+            Instruction::Negate { value } => {
+                let value = take_value(stack, &self.variables, value);
+                stack.push(value.wrapping_neg())?;
                 Ok(Next::Behind)
             }
-            Instruction::Apply { operator } => {
-                stack.apply(operator)?;
+            Instruction::Apply {
+                operator,
+                left,
+                right,
+            } => {
+                let right = take_value(stack, &self.variables, right);
+                let left = take_value(stack, &self.variables, left);
+                stack.push(operate(operator, left, right))?;
                 Ok(Next::Behind)
             }
             Instruction::Get {
@@ -189,17 +199,21 @@ impl<'a> Machine<'a> {
                 set_variable(&mut self.variables, variable, item);
                 Ok(Next::Behind)
             }
-            Instruction::Put { channel, site } => {
+            Instruction::Put {
+                channel,
+                site,
+                value,
+            } => {
                 if !has_room(&self.sent, room, channel) {
                     return Ok(Next::Stop(Flow::Stands(site)));
                 }
-                let item = stack.pop();
+                let item = take_value(stack, &self.variables, value);
                 send(&mut self.sent, channel, item)?;
                 Ok(Next::Behind)
             }
             Instruction::Jump { target } => Ok(Next::To(target)),
-            Instruction::JumpIfZero { target } => {
-                if stack.pop() == 0 {
+            Instruction::JumpIfZero { target, value } => {
+                if take_value(stack, &self.variables, value) == 0 {
                     return Ok(Next::To(target));
                 }
                 Ok(Next::Behind)

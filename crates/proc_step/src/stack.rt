@@ -1,15 +1,11 @@
 //! The stack of values that expressions left.
 
 ghost use Rattle.std.specs.Prelude.{◌≡◌, [], ◌∷◌, IfOk, OnOk, OnErr};
-ghost use Rattle.std.specs.Int.{int_wrapping_neg, w64};
 ghost use mathlib.Core.List.{reverse};
-ghost use Rattle.kahn_net.specs.Statements.{apply};
 ghost use Rattle.proc_code.specs.Machine.{top, below};
 
-use kahn_net::Operator;
 use std::alloc::{AllocError, Global};
 use std::marker::Model;
-use stream_eq::operate;
 
 /// A stack of values. Its topmost value is a number by itself, which a processor can hold in a register: so what one
 /// instruction leaves there the next one needn't fetch from memory.
@@ -102,34 +98,6 @@ impl Stack {
         let highest = self.highest;
         put_last(&mut self.under, highest)?;
         self.highest = value;
-        Ok(())
-    }
-
-    /// Puts 0 less the topmost value in its place, modulo 2^64.
-    pub fn negate(&mut self) -> Result<(), AllocError>
-        ensures { OnOk result (self.new ≡ int_wrapping_neg w64 (top self.old) ∷ below self.old) }
-    {
-        if self.under.is_empty() {
-            let value = self.pop();
-            return self.push(value.wrapping_neg());
-        }
-        self.highest = self.highest.wrapping_neg();
-        Ok(())
-    }
-
-    /// Puts in the place of the two topmost values what the operator makes of them: the topmost is its right one.
-    pub fn apply(&mut self, operator: Operator) -> Result<(), AllocError>
-        ensures { OnOk result (self.new
-            ≡ apply operator (top (below self.old)) (top self.old) ∷ below (below self.old)) }
-    {
-        if self.under.len() < 2 {
-            let right = self.pop();
-            let left = self.pop();
-            return self.push(operate(operator, left, right));
-        }
-        let right = self.highest;
-        let left = take_last(&mut self.under);
-        self.highest = operate(operator, left, right);
         Ok(())
     }
 }

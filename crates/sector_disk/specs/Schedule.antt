@@ -1,5 +1,6 @@
 -- Which device calls of a disk in memory fail, and by which byte a crash fills.
-use Rattle.std.specs.Prelude.{ℕ, ◌+◌, ◌==◌, min, nat_lt, if◌then◌else◌, List, [], ◌∷◌, ◌++◌, Option, Some, None, find}
+use Rattle.std.specs.Prelude.{◌≡◌, ◌||◌, ℕ, ◌+◌, ◌==◌, true, min, nat_le, nat_lt, if◌then◌else◌, List, [], ◌∷◌, ◌++◌, Option, Some, None, find}
+use Rattle.std.specs.List.{list_all}
 use Rattle.sector_disk.specs.declared.TheConstants.{GREATEST_COUNT}
 use Rattle.sector_disk.specs.declared.disk.ArmedFault.{ArmedFault}
 
@@ -15,6 +16,10 @@ pub record FaultState : Type 0 where
 -- nothing is armed or counted
 abbrev pub no_faults : FaultState
 no_faults = record { armed = []; calls = 0; failures = 0; failed_call = 0; fill = 0 }
+
+-- no fault is armed for a call behind so many calls and before the next one
+abbrev pub IsNoneBefore : ℕ → ℕ → List ArmedFault → Type 0
+IsNoneBefore next calls armed = list_all (λ (fault : ArmedFault). nat_le fault.call calls || nat_le next fault.call) armed ≡ true
 
 abbrev pub next_count : ℕ → ℕ
 next_count calls = min (calls + 1) GREATEST_COUNT

@@ -1,7 +1,7 @@
 //! The counts of a disk's calls and failures, and the failures that are to come.
 ghost use Rattle.std.specs.Prelude.{◌≡◌, ◌<◌, ◌≤◌, ◌↔◌, false, IsTrue, IsSome, OnOk, OnErr, find, ◌==◌};
 ghost use Rattle.sector_disk.specs.declared.TheConstants.{GREATEST_COUNT};
-ghost use Rattle.sector_disk.specs.Schedule.{fault_at};
+ghost use Rattle.sector_disk.specs.Schedule.{fault_at, IsNoneBefore};
 
 use crate::GREATEST_COUNT;
 use crate::disk::ArmedFault;
@@ -20,6 +20,9 @@ pub struct FaultSchedule {
     pub failed_call: u64,
     /// The byte by which a crash fills, unless it is given one: that of the last fault met since the last crash, or 0.
     pub fill: u8,
+    // No fault is armed for a call that comes before this one. So a call looks at what is armed only where that may be for it.
+    next: u64,
+    pub ghost none_before: { IsNoneBefore next calls armed.items },
     ghost calls_countable: { calls ≤ GREATEST_COUNT },
     ghost failures_countable: { failures ≤ GREATEST_COUNT },
 }
@@ -34,6 +37,19 @@ fn armed_for(armed: &[ArmedFault], call: u64) -> Option<ArmedFault>
         }
     }
     None
+}
+
+// The first call behind so many for which a fault is armed; where there is none, one that never comes.
+fn next_armed(armed: &[ArmedFault], calls: u64) -> u64
+    ensures { IsNoneBefore result calls armed.now }
+{
+    let mut next = u64::MAX;
+    for fault in armed {
+        if fault.call > calls {
+            next = next.min(fault.call);
+        }
+    }
+    next
 }
 
 // The fault that the call with this count meets, where so many calls have failed.
@@ -61,6 +77,7 @@ impl FaultSchedule {
             failures: 0,
             failed_call: 0,
             fill: 0,
+            next: u64::MAX,
         }
     }
 
@@ -70,6 +87,7 @@ impl FaultSchedule {
         ensures err { OnErr result (state_of self.new ≡ state_of self.old) }
     {
         self.armed.push(fault)?;
+        self.next = self.next.min(fault.call);
         Ok(())
     }
 
@@ -80,6 +98,10 @@ impl FaultSchedule {
     {
         if self.calls < GREATEST_COUNT {
             self.calls += 1;
+            if self.calls < self.next {
+                return false;
+            }
+            self.next = next_armed(&self.armed, self.calls);
         }
         match fault_due(&self.armed, self.calls, self.failures) {
             Some(fault) => {
@@ -112,6 +134,7 @@ impl FaultSchedule {
     pub fn recount(&mut self)
         ensures { state_of self.new ≡ after_recount (state_of self.old) }
     {
+        self.next = next_armed(&self.armed, 0);
         self.calls = 0;
         self.failed_call = 0;
     }

@@ -7,16 +7,18 @@ use Rattle.std.specs.Ordering.{int_eq}
 use Rattle.std.specs.Int.{int_wrapping_neg, w64}
 use Rattle.kahn_net.specs.Common.{history_of, Tree, Number, Name, Minus, Chain, Links, NoLinks, LinkThen, Block}
 use Rattle.kahn_net.specs.Common.{Nothing, GetThen, AssignThen, PutThen, StopThen, IfThen, RepeatThen, Got, Sent}
-use Rattle.kahn_net.specs.Common.{Trace, Ended, no_steps, point_at, on_get, then_do, trace_of, rounds, value_of}
+use Rattle.kahn_net.specs.Common.{Step, Trace, Ended, no_steps, point_at, on_get, then_do, trace_of, rounds, value_of}
 use Rattle.kahn_net.specs.Common.{sites_of}
 use Rattle.kahn_net.specs.Statements.{after_step}
 use Rattle.kahn_net.specs.Statements.{choose, value_along, apply}
 use Rattle.kahn_net.specs.Laws.Traces.{then_do_then}
 use Rattle.proc_code.specs.declared.instruction.Instruction.{Instruction}
-use Rattle.proc_code.specs.declared.instruction.Instruction.TheVariants.{Constant, Load, Store, Negate, Apply, Get, Put}
+use Rattle.proc_code.specs.declared.instruction.Instruction.TheVariants.{Store, Negate, Apply, Get, Put}
 use Rattle.proc_code.specs.declared.instruction.Instruction.TheVariants.{Jump, JumpIfZero, Repeat, Again, Stop}
-use Rattle.proc_code.specs.Machine.{Continuation, innermost, round_it, perform, Runs}
-use Rattle.proc_code.specs.Translation.{expr_code, links_code, if_code, repeat_code, block_code}
+use Rattle.proc_code.specs.declared.instruction.Operand.{Operand}
+use Rattle.proc_code.specs.declared.instruction.Operand.TheVariants.{Top, Variable, Literal}
+use Rattle.proc_code.specs.Machine.{Continuation, behind_value, innermost, round_it, perform, Runs, value_in}
+use Rattle.proc_code.specs.Translation.{expr_code, links_code, if_code, operand_behind, operand_of, repeat_code, block_code}
 use Rattle.proc_code.specs.Laws.Running.{IsCodeAt, first_part, later_part, rephrased, in_more_steps, single_step}
 use Rattle.proc_code.specs.Laws.Running.{not_moved, first_moves, first_makes, ends_at}
 
@@ -42,6 +44,49 @@ pub round_it_is : (left : List ℕ) (k : ℕ) → round_it (left ++ k ∷ []) �
 round_it_is [] k = refl
 round_it_is (j ∷ []) k = refl
 round_it_is (j ∷ i ∷ deeper) k = ap (λ (l : List ℕ). j ∷ l) (round_it_is (i ∷ deeper) k)
+
+-- the stack of a machine that has this value there
+abbrev pub with_value : Operand → ℤ → List ℤ → List ℤ
+with_value Top x stack = x ∷ stack
+with_value (Variable y) x stack = stack
+with_value (Literal n) x stack = stack
+
+-- behind the value the stack is as it was
+stack_behind : (o : Operand) (x : ℤ) (s : List ℤ) → behind_value o (with_value o x s) ≡ s
+stack_behind Top x s = refl
+stack_behind (Variable y) x s = refl
+stack_behind (Literal n) x s = refl
+
+-- a value that is found there, whatever the stack is like else
+abbrev IsThere : Operand → ℤ → List ℤ → Type 0
+IsThere o x v = (s : List ℤ) → value_in o (with_value o x s) v ≡ x
+
+mutual
+  expr_is_there : (e : Tree) (v : List ℤ) → IsThere (operand_of e) (value_of e v) v
+  expr_is_there (Number n) v s = refl
+  expr_is_there (Name x) v s = refl
+  expr_is_there (Minus e) v s = refl
+  expr_is_there (Chain first links) v s =
+      links_are_there links (operand_of first) (value_of first v) v (expr_is_there first v) s
+
+  links_are_there : (links : Links) (o : Operand) (x : ℤ) (v : List ℤ) → IsThere o x v
+      → IsThere (operand_behind o links) (value_along links v x) v
+  links_are_there NoLinks o x v there s = there s
+  links_are_there (LinkThen operator e rest) o x v there s = refl
+
+-- behind a link the value is on the stack
+on_top : (links : Links) → operand_behind Top links ≡ Top
+on_top NoLinks = refl
+on_top (LinkThen operator e rest) = refl
+
+-- what takes an expression's value takes that of the expression, and leaves the stack as it was before its code
+value_taken : {A : Type 0} (e : Tree) (v s : List ℤ) (f : ℤ → List ℤ → A)
+    → f (value_in (operand_of e) (with_value (operand_of e) (value_of e v) s) v)
+    (behind_value (operand_of e) (with_value (operand_of e) (value_of e v) s))
+    ≡ f (value_of e v) s
+value_taken e v s f =
+    ap (λ (x : ℤ). f x (behind_value (operand_of e) (with_value (operand_of e) (value_of e v) s))) (expr_is_there e v s)
+    ∙ ap (f (value_of e v)) (stack_behind (operand_of e) (value_of e v) s)
 
 module _ (code : List Instruction) where
   -- the machine comes to another place, with another stack, in at most so many steps
@@ -69,61 +114,76 @@ module _ (code : List Instruction) where
       (reaches_same 1 1 at1 (at1 + 1) at2 s1 s2 left v u e (omega arith)
       (rephrased code at1 s1 left v u _ _ same (single_step code at1 s1 left v u i h)))
 
+  nothing_done : (at : ℕ) (s : List ℤ) (left : List ℕ) (v : List ℤ) (u : List (List ℤ))
+      → Reaches 0 at s left v u (at + 0) s
+  nothing_done at s left v u =
+      reaches_same 0 0 at at (at + 0) s s left v u (let e : at ≡ at + 0 = omega arith in e) (omega arith)
+      (not_moved code at s left v u)
+
   mutual
     pub expr_reached : (e : Tree) (at : ℕ) (s : List ℤ) (left : List ℕ) (v : List ℤ) (u : List (List ℤ))
         → IsCodeAt code at (expr_code e)
-        → Reaches (length (expr_code e)) at s left v u (at + length (expr_code e)) (value_of e v ∷ s)
-    expr_reached (Number n) at s left v u h = single_step code at s left v u (Constant n) h.0
-    expr_reached (Name x) at s left v u h = single_step code at s left v u (Load x) h.0
+        → Reaches (length (expr_code e)) at s left v u (at + length (expr_code e))
+        (with_value (operand_of e) (value_of e v) s)
+    expr_reached (Number n) at s left v u h = nothing_done at s left v u
+    expr_reached (Name x) at s left v u h = nothing_done at s left v u
     expr_reached (Minus e) at s left v u h =
+        let o = operand_of e in
         let m = length (expr_code e) in
         let here = at + m in
-        let whole = length (expr_code e ++ Negate ∷ []) in
-        let last = later_part code at (expr_code e) (Negate ∷ []) h in
-        let long : whole ≡ m + 1 = length-append (expr_code e) (Negate ∷ []) in
+        let whole = length (expr_code e ++ Negate o ∷ []) in
+        let last = later_part code at (expr_code e) (Negate o ∷ []) h in
+        let long : whole ≡ m + 1 = length-append (expr_code e) (Negate o ∷ []) in
         reaches_same (m + 1) whole at (here + 1) (at + whole) s (int_wrapping_neg w64 (value_of e v) ∷ s) left v u
         (omega (arith, long)) (omega (arith, long))
-        (reaches_past m at here (here + 1) s (value_of e v ∷ s) (int_wrapping_neg w64 (value_of e v) ∷ s) left v u
-        Negate
-        (expr_reached e at s left v u (first_part code at (expr_code e) (Negate ∷ []) h)) last.0 (λ go. refl) refl)
+        (reaches_past m at here (here + 1) s (with_value o (value_of e v) s) (int_wrapping_neg w64 (value_of e v) ∷ s)
+        left v u (Negate o)
+        (expr_reached e at s left v u (first_part code at (expr_code e) (Negate o ∷ []) h)) last.0
+        (λ go. value_taken e v s (λ x r. go (here + 1) (int_wrapping_neg w64 x ∷ r) left v u)) refl)
     expr_reached (Chain first links) at s left v u h =
+        let o = operand_of first in
         let m = length (expr_code first) in
-        let n = length (links_code links) in
+        let n = length (links_code o links) in
         let here = at + m in
-        let whole = length (expr_code first ++ links_code links) in
-        let long : whole ≡ m + n = length-append (expr_code first) (links_code links) in
-        reaches_same (m + n) whole at (here + n) (at + whole) s (value_along links v (value_of first v) ∷ s) left v u
-        (omega (arith, long)) (omega (arith, long))
-        (reaches_further m n at here (here + n) s (value_of first v ∷ s) (value_along links v (value_of first v) ∷ s)
-        left v u
-        (expr_reached first at s left v u (first_part code at (expr_code first) (links_code links) h))
-        (links_reached links here (value_of first v) s left v u
-        (later_part code at (expr_code first) (links_code links) h)))
+        let whole = length (expr_code first ++ links_code o links) in
+        let long : whole ≡ m + n = length-append (expr_code first) (links_code o links) in
+        let to = with_value (operand_behind o links) (value_along links v (value_of first v)) s in
+        reaches_same (m + n) whole at (here + n) (at + whole) s to left v u (omega (arith, long)) (omega (arith, long))
+        (reaches_further m n at here (here + n) s (with_value o (value_of first v) s) to left v u
+        (expr_reached first at s left v u (first_part code at (expr_code first) (links_code o links) h))
+        (links_reached links o here (value_of first v) s left v u (expr_is_there first v)
+        (later_part code at (expr_code first) (links_code o links) h)))
 
-    pub links_reached : (links : Links) (at : ℕ) (x : ℤ) (s : List ℤ) (left : List ℕ) (v : List ℤ) (u : List (List ℤ))
-        → IsCodeAt code at (links_code links)
-        → Reaches (length (links_code links)) at (x ∷ s) left v u (at + length (links_code links))
-        (value_along links v x ∷ s)
-    links_reached NoLinks at x s left v u h =
-        reaches_same 0 0 at at (at + 0) (x ∷ s) (x ∷ s) left v u (let e : at ≡ at + 0 = omega arith in e) (omega arith)
-        (not_moved code at (x ∷ s) left v u)
-    links_reached (LinkThen operator e rest) at x s left v u h =
+    pub links_reached : (links : Links) (o : Operand) (at : ℕ) (x : ℤ) (s : List ℤ) (left : List ℕ) (v : List ℤ)
+        (u : List (List ℤ)) → IsThere o x v → IsCodeAt code at (links_code o links)
+        → Reaches (length (links_code o links)) at (with_value o x s) left v u (at + length (links_code o links))
+        (with_value (operand_behind o links) (value_along links v x) s)
+    links_reached NoLinks o at x s left v u there h = nothing_done at (with_value o x s) left v u
+    links_reached (LinkThen operator e rest) o at x s left v u there h =
+        let i = Apply operator o (operand_of e) in
         let m = length (expr_code e) in
-        let n = length (links_code rest) in
+        let n = length (links_code Top rest) in
         let here = at + m in
-        let later = later_part code at (expr_code e) (Apply operator ∷ links_code rest) h in
+        let later = later_part code at (expr_code e) (i ∷ links_code Top rest) h in
         let y = apply operator x (value_of e v) in
-        let whole = length (expr_code e ++ Apply operator ∷ links_code rest) in
+        let whole = length (expr_code e ++ i ∷ links_code Top rest) in
         let long : whole ≡ m + (n + 1) =
-        length-append (expr_code e) (Apply operator ∷ links_code rest)
+        length-append (expr_code e) (i ∷ links_code Top rest)
         ∙ (let k : m + suc n ≡ m + (n + 1) = omega arith in k) in
-        reaches_same (m + 1 + n) whole at (here + 1 + n) (at + whole) (x ∷ s) (value_along rest v y ∷ s) left v u
+        let from = with_value o x s in
+        let to = with_value (operand_behind Top rest) (value_along rest v y) s in
+        let same : operand_behind Top rest ≡ Top = on_top rest in
+        reaches_same (m + 1 + n) whole at (here + 1 + n) (at + whole) from (value_along rest v y ∷ s) left v u
         (omega (arith, long)) (omega (arith, long))
-        (reaches_further (m + 1) n at (here + 1) (here + 1 + n) (x ∷ s) (y ∷ s) (value_along rest v y ∷ s) left v u
-        (reaches_past m at here (here + 1) (x ∷ s) (value_of e v ∷ x ∷ s) (y ∷ s) left v u (Apply operator)
-        (expr_reached e at (x ∷ s) left v u (first_part code at (expr_code e) (Apply operator ∷ links_code rest) h))
-        later.0 (λ go. refl) refl)
-        (links_reached rest (here + 1) y s left v u later.1))
+        (subst (λ (p : Operand). Reaches (m + 1 + n) at from left v u (here + 1 + n) (with_value p (value_along rest v y) s))
+        same
+        (reaches_further (m + 1) n at (here + 1) (here + 1 + n) from (y ∷ s) to left v u
+        (reaches_past m at here (here + 1) from (with_value (operand_of e) (value_of e v) from) (y ∷ s) left v u i
+        (expr_reached e at from left v u (first_part code at (expr_code e) (i ∷ links_code Top rest) h)) later.0
+        (λ go. value_taken e v from (λ z r. go (here + 1) (apply operator (value_in o r v) z ∷ behind_value o r) left v u)
+        ∙ (ap (λ (w : ℤ). go (here + 1) (apply operator w (value_of e v) ∷ behind_value o from) left v u) (there s)
+        ∙ ap (λ (r : List ℤ). go (here + 1) (y ∷ r) left v u) (stack_behind o x s))) refl)
+        (links_reached rest Top (here + 1) y s left v u (λ r. refl) later.1)))
 
   -- What statements do, and then what stands at this place. Where it begins, other repetitions may be open.
   abbrev pub MakesFrom : ℕ → ℕ → List ℤ → List ℕ → List ℕ → List ℤ → List (List ℤ) → Trace → ℕ → Type 0
@@ -151,7 +211,7 @@ module _ (code : List Instruction) where
       (λ v' u' e. single_step code at1 s left v' u' (Jump to) h)
 
   -- a choice: its parts, and where they stand
-  module _ (at : ℕ) (test : List Instruction) (first second : ℕ → List Instruction) where
+  module _ (at : ℕ) (test : List Instruction) (value : Operand) (first second : ℕ → List Instruction) where
     abbrev one_at : ℕ
     one_at = at + length test + 1
 
@@ -164,45 +224,50 @@ module _ (code : List Instruction) where
     abbrev end_at : ℕ
     end_at = two_at + length (second two_at)
 
-    pub at_end : end_at ≡ at + length (if_code at test first second)
+    pub at_end : end_at ≡ at + length (if_code at test value first second)
     at_end =
         omega (
           arith,
-          length-append test (JumpIfZero two_at ∷ (first one_at ++ Jump end_at ∷ second two_at)),
+          length-append test (JumpIfZero two_at value ∷ (first one_at ++ Jump end_at ∷ second two_at)),
           length-append (first one_at) (Jump end_at ∷ second two_at),
         )
 
-    behind_test : IsCodeAt code at (if_code at test first second)
-        → IsCodeAt code (at + length test) (JumpIfZero two_at ∷ (first one_at ++ Jump end_at ∷ second two_at))
-    behind_test h = later_part code at test (JumpIfZero two_at ∷ (first one_at ++ Jump end_at ∷ second two_at)) h
+    behind_test : IsCodeAt code at (if_code at test value first second)
+        → IsCodeAt code (at + length test) (JumpIfZero two_at value ∷ (first one_at ++ Jump end_at ∷ second two_at))
+    behind_test h = later_part code at test (JumpIfZero two_at value ∷ (first one_at ++ Jump end_at ∷ second two_at)) h
 
-    pub first_stands : IsCodeAt code at (if_code at test first second) → IsCodeAt code one_at (first one_at)
+    pub first_stands : IsCodeAt code at (if_code at test value first second) → IsCodeAt code one_at (first one_at)
     first_stands h = first_part code one_at (first one_at) (Jump end_at ∷ second two_at) (behind_test h).1
 
     -- the jump past the second block, and that block
-    pub second_stands : IsCodeAt code at (if_code at test first second)
+    pub second_stands : IsCodeAt code at (if_code at test value first second)
         → IsCodeAt code jump_at (Jump end_at ∷ second two_at)
     second_stands h = later_part code one_at (first one_at) (Jump end_at ∷ second two_at) (behind_test h).1
 
     abbrev if_length : ℕ
-    if_length = length (if_code at test first second)
+    if_length = length (if_code at test value first second)
 
     choice_made : (m1 m2 : ℕ) (x : ℤ) (a b : Trace) (s : List ℤ) (left : List ℕ) (v : List ℤ) (u : List (List ℤ))
-        → IsCodeAt code at (if_code at test first second)
-        → Reaches (length test) at s left v u (at + length test) (x ∷ s)
+        → IsCodeAt code at (if_code at test value first second)
+        → Reaches (length test) at s left v u (at + length test) (with_value value x s) → IsThere value x v
         → (IsCodeAt code one_at (first one_at) → Makes m1 one_at s left v u a jump_at)
         → (IsCodeAt code two_at (second two_at) → Makes m2 two_at s left v u b end_at)
         → Makes (length test + (1 + (m1 + (1 + m2)))) at s left v u (choose x a b) (at + if_length)
-    choice_made m1 m2 x a b s left v u h tested p q =
+    choice_made m1 m2 x a b s left v u h tested there p q =
         ends_at code (length test + (1 + (m1 + (1 + m2)))) (length test + (1 + (m1 + (1 + m2)))) at end_at
         (at + if_length) s s left v u (choose x a b) at_end (omega arith)
         (by (int_eq x (pos 0)) refl)
       where
         tests : Runs code (length test + 1) at s left v u
             (λ go. cond (int_eq x (pos 0)) (go two_at s left v u) (go one_at s left v u))
-        tests = first_moves code (λ t. t) at (at + length test) s (x ∷ s) left left v v u u
+        tests = first_moves code (λ t. t) at (at + length test) s (with_value value x s) left left v v u u
             (λ go. cond (int_eq x (pos 0)) (go two_at s left v u) (go one_at s left v u)) tested
-            (single_step code (at + length test) (x ∷ s) left v u (JumpIfZero two_at) (behind_test h).0)
+            (rephrased code (at + length test) (with_value value x s) left v u _ _
+            (λ go. ap (λ (y : ℤ). cond (int_eq y (pos 0)) (go two_at (behind_value value (with_value value x s)) left v u)
+            (go one_at (behind_value value (with_value value x s)) left v u)) (there s)
+            ∙ ap (λ (r : List ℤ). cond (int_eq x (pos 0)) (go two_at r left v u) (go one_at r left v u))
+            (stack_behind value x s))
+            (single_step code (at + length test) (with_value value x s) left v u (JumpIfZero two_at value) (behind_test h).0))
 
         by : (zero_is : Bool) → int_eq x (pos 0) ≡ zero_is
             → Makes (length test + (1 + (m1 + (1 + m2)))) at s left v u (cond (int_eq x (pos 0)) b a) end_at
@@ -359,42 +424,49 @@ module _ (code : List Instruction) where
           (more (set v x item) (set u c later)))
   block_made (AssignThen x e rest) at site s left v u h =
       let m = length (expr_code e) in
-      let c = expr_code e ++ Store x ∷ [] in
+      let c = expr_code e ++ Store x (operand_of e) ∷ [] in
       let r = block_code (at + length c) site rest in
       let mine = first_part code at c r h in
       let w = set v x (value_of e v) in
       let here = at + m in
-      let c_long : length c ≡ m + 1 = length-append (expr_code e) (Store x ∷ []) in
+      let reached = with_value (operand_of e) (value_of e v) s in
+      let c_long : length c ≡ m + 1 = length-append (expr_code e) (Store x (operand_of e) ∷ []) in
       let all_long : length (c ++ r) ≡ length c + length r = length-append c r in
       (first_moves code (λ t. t) at (at + length c) s s left left v w u u
       (λ go. then_do (trace_of site left rest w u) (λ v' u'. go (at + length (c ++ r)) s left v' u'))
-      (first_moves code (λ t. t) at here s (value_of e v ∷ s) left left v v u u (λ go. go (at + length c) s left w u)
-      (expr_reached e at s left v u (first_part code at (expr_code e) (Store x ∷ []) mine))
-      (subst (λ (n : ℕ). Runs code 1 here (value_of e v ∷ s) left v u (λ go. go n s left w u))
+      (first_moves code (λ t. t) at here s reached left left v v u u (λ go. go (at + length c) s left w u)
+      (expr_reached e at s left v u (first_part code at (expr_code e) (Store x (operand_of e) ∷ []) mine))
+      (subst (λ (n : ℕ). Runs code 1 here reached left v u (λ go. go n s left w u))
       (let e1 : here + 1 ≡ at + length c = omega (arith, c_long) in e1)
-      (single_step code here (value_of e v ∷ s) left v u (Store x)
-      (later_part code at (expr_code e) (Store x ∷ []) mine).0)))
+      (rephrased code here reached left v u _ _
+      (λ go. value_taken e v s (λ y r. go (here + 1) r left (set v x y) u))
+      (single_step code here reached left v u (Store x (operand_of e))
+      (later_part code at (expr_code e) (Store x (operand_of e) ∷ []) mine).0))))
       (ends_at code (most_of rest) (most_of rest) (at + length c) (at + length c + length r) (at + length (c ++ r)) s s left w
       u (trace_of site left rest w u) (omega (arith, all_long)) (omega arith)
       (block_made rest (at + length c) site s left w u (later_part code at c r h))))
   block_made (PutThen e d rest) at site s left v u h =
       let m = length (expr_code e) in
-      let c = expr_code e ++ Put d site ∷ [] in
+      let c = expr_code e ++ Put d site (operand_of e) ∷ [] in
       let r = block_code (at + length c) (site + 1) rest in
       let mine = first_part code at c r h in
       let here = at + m in
-      let puts = after_step (record { point = point_at site left; vars = v; act = Sent d (value_of e v) }) in
-      let c_long : length c ≡ m + 1 = length-append (expr_code e) (Put d site ∷ []) in
+      let reached = with_value (operand_of e) (value_of e v) s in
+      let step : ℤ → Step = λ y. record { point = point_at site left; vars = v; act = Sent d y } in
+      let puts = after_step (step (value_of e v)) in
+      let c_long : length c ≡ m + 1 = length-append (expr_code e) (Put d site (operand_of e) ∷ []) in
       let all_long : length (c ++ r) ≡ length c + length r = length-append c r in
       (first_moves code puts at (at + length c) s s left left v v u u
       (λ go. then_do (trace_of (site + 1) left rest v u) (λ v' u'. go (at + length (c ++ r)) s left v' u'))
-      (first_moves code (λ t. t) at here s (value_of e v ∷ s) left left v v u u
+      (first_moves code (λ t. t) at here s reached left left v v u u
       (λ go. puts (go (at + length c) s left v u))
-      (expr_reached e at s left v u (first_part code at (expr_code e) (Put d site ∷ []) mine))
-      (subst (λ (n : ℕ). Runs code 1 here (value_of e v ∷ s) left v u (λ go. puts (go n s left v u)))
+      (expr_reached e at s left v u (first_part code at (expr_code e) (Put d site (operand_of e) ∷ []) mine))
+      (subst (λ (n : ℕ). Runs code 1 here reached left v u (λ go. puts (go n s left v u)))
       (let e1 : here + 1 ≡ at + length c = omega (arith, c_long) in e1)
-      (single_step code here (value_of e v ∷ s) left v u (Put d site)
-      (later_part code at (expr_code e) (Put d site ∷ []) mine).0)))
+      (rephrased code here reached left v u _ _
+      (λ go. value_taken e v s (λ y r. after_step (step y) (go (here + 1) r left v u)))
+      (single_step code here reached left v u (Put d site (operand_of e))
+      (later_part code at (expr_code e) (Put d site (operand_of e) ∷ []) mine).0))))
       (ends_at code (most_of rest) (most_of rest) (at + length c) (at + length c + length r) (at + length (c ++ r)) s s left v
       u (trace_of (site + 1) left rest v u) (omega (arith, all_long)) (omega arith)
       (block_made rest (at + length c) (site + 1) s left v u (later_part code at c r h))))
@@ -404,7 +476,7 @@ module _ (code : List Instruction) where
   block_made (IfThen test first second rest) at site s left v u h =
       let one = λ (n : ℕ). block_code n site first in
       let two = λ (n : ℕ). block_code n (site + sites_of first) second in
-      let c = if_code at (expr_code test) one two in
+      let c = if_code at (expr_code test) (operand_of test) one two in
       let r = block_code (at + length c) (site + sites_of first + sites_of second) rest in
       let x = value_of test v in
       let mine = first_part code at c r h in
@@ -420,11 +492,13 @@ module _ (code : List Instruction) where
       (choose x (trace_of site left first v u) (trace_of (site + sites_of first) left second v u))
       (trace_of (site + sites_of first + sites_of second) left rest)
       at (at + length c) (at + length c + length r) s left left v u
-      (choice_made at (expr_code test) one two (most_of first) (most_of second) x (trace_of site left first v u)
+      (choice_made at (expr_code test) (operand_of test) one two (most_of first) (most_of second) x (trace_of site left first v u)
       (trace_of (site + sites_of first) left second v u) s left v u mine
       (expr_reached test at s left v u
       (first_part code at (expr_code test)
-      (JumpIfZero two_place ∷ (one one_place ++ Jump (two_place + length (two two_place)) ∷ two two_place)) mine))
+      (JumpIfZero two_place (operand_of test) ∷ (one one_place ++ Jump (two_place + length (two two_place)) ∷ two two_place))
+      mine))
+      (expr_is_there test v)
       (λ k. block_made first one_place site s left v u k)
       (λ k. block_made second two_place (site + sites_of first) s left v u k))
       (λ v' u'. block_made rest (at + length c) (site + sites_of first + sites_of second) s left v' u'

@@ -11,7 +11,7 @@ use Rattle.kahn_net.specs.Resuming.{trace_on, passes_left}
 use Rattle.kahn_net.specs.Laws.Traces.{then_do_then}
 use Rattle.proc_code.specs.declared.instruction.Instruction.{Instruction}
 use Rattle.proc_code.specs.declared.instruction.Instruction.TheVariants.{Store, Put, Again}
-use Rattle.proc_code.specs.Translation.{expr_code, if_code, repeat_code, block_code, entry_at}
+use Rattle.proc_code.specs.Translation.{expr_code, operand_of, if_code, repeat_code, block_code, entry_at}
 use Rattle.proc_code.specs.Laws.Running.{IsCodeAt, first_part, later_part, not_moved, in_more_steps, ends_at_from, rephrased}
 use Rattle.proc_code.specs.Laws.Running.{first_makes}
 use Rattle.proc_code.specs.Laws.Blocks.{MakesFrom, makes_both, makes_and_jumps, most_of, block_made, at_end}
@@ -68,7 +68,7 @@ module _ (code : List Instruction) where
       (trace_on (number + 1) left rest site inner v u) (omega arith) (omega arith)
       (block_resumed rest (at + 1) (number + 1) site s left inner v u h.1 f))
   block_resumed (AssignThen x e rest) at number site s left inner v u h fits =
-      let c = expr_code e ++ Store x ∷ [] in
+      let c = expr_code e ++ Store x (operand_of e) ∷ [] in
       let r = block_code (at + length c) number rest in
       let long : length (c ++ r) ≡ length c + length r = length-append c r in
       ends_at_from code (most_of rest) (most_of (AssignThen x e rest)) (entry_at (at + length c) number rest site)
@@ -77,7 +77,7 @@ module _ (code : List Instruction) where
       (omega (arith, long)) (omega arith)
       (block_resumed rest (at + length c) number site s left inner v u (later_part code at c r h) fits)
   block_resumed (PutThen e d rest) at number site s left inner v u h fits =
-      let c = expr_code e ++ Put d number ∷ [] in
+      let c = expr_code e ++ Put d number (operand_of e) ∷ [] in
       let r = block_code (at + length c) (number + 1) rest in
       let long : length (c ++ r) ≡ length c + length r = length-append c r in
       let most = most_of (PutThen e d rest) in
@@ -102,7 +102,7 @@ module _ (code : List Instruction) where
       let past_second = number + sites_of first + sites_of second in
       let one = λ (n : ℕ). block_code n number first in
       let two = λ (n : ℕ). block_code n past_first second in
-      let c = if_code at (expr_code test) one two in
+      let c = if_code at (expr_code test) (operand_of test) one two in
       let r = block_code (at + length c) past_second rest in
       let mine = first_part code at c r h in
       let one_place = at + length (expr_code test) + 1 in
@@ -117,7 +117,7 @@ module _ (code : List Instruction) where
       let same : at + length c + length r ≡ to = omega (arith, all_long) in
       let in_first = trace_on number left first site inner v u in
       let in_second = trace_on past_first left second site inner v u in
-      let ends : end_place ≡ at + length c = at_end code at (expr_code test) one two in
+      let ends : end_place ≡ at + length c = at_end code at (expr_code test) (operand_of test) one two in
       let most = most_of (IfThen test first second rest) in
       from_either most (nat_lt site past_first) (entry_at one_place number first site)
       (cond (nat_lt site past_second) (entry_at two_place past_first second site) rest_at)
@@ -134,9 +134,9 @@ module _ (code : List Instruction) where
       (at + length c) s s from left v u in_first ends (omega arith)
       (makes_and_jumps code (most_of first) in_first (entry_at one_place number first site)
       (one_place + length (one one_place)) end_place s from left v u
-      (second_stands code at (expr_code test) one two mine).0
+      (second_stands code at (expr_code test) (operand_of test) one two mine).0
       (block_resumed first one_place number site s left inner v u
-      (first_stands code at (expr_code test) one two mine) f)))
+      (first_stands code at (expr_code test) (operand_of test) one two mine) f)))
       (λ v' u'. block_made code rest (at + length c) past_second s left v' u' stands)))
       (λ g. from_either most (nat_lt site past_second) (entry_at two_place past_first second site) rest_at
       (then_do in_second behind) (trace_on past_second left rest site inner v u) (repeats_on past_first second site)
@@ -149,7 +149,7 @@ module _ (code : List Instruction) where
       (at + length c) s s from left v u
       in_second ends (omega arith)
       (block_resumed second two_place past_first site s left inner v u
-      (second_stands code at (expr_code test) one two mine).1 f))
+      (second_stands code at (expr_code test) (operand_of test) one two mine).1 f))
       (λ v' u'. block_made code rest (at + length c) past_second s left v' u' stands)))
       (λ f. ends_at_from code (most_of rest) most rest_at (at + length c + length r) to s s from left v u
       (trace_on past_second left rest site inner v u) same (omega arith)

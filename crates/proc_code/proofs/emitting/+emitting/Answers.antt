@@ -8,9 +8,9 @@ emit_statement-returns-in_ok-emit_statements-in-If-2 t c =
     c.args.code.now.items c.emit_expr-in-If.new.code.items c.emit-in-If.new.code.items c.emit_statements.new.code.items
     c.emit-in-If-2.new.code.items c.emit_statements-in-If.new.code.items
     c.args.sites.now.items c.emit_statements.new.sites.items c.emit_statements-in-If.new.sites.items
-    _ _ c.len-test_end.result c.len-first_end.result c.len-in-If.result
+    _ _ c.in_ok-value-in-If.value c.len-test_end.result c.len-first_end.result c.len-in-If.result
     c.in-If.is c.deref.ensures.value c.deref-in-If.ensures.value
-    c.in_ok-emit_expr-in-If.ensures (c.len-test_end.ensures ∙ c.emit_expr-in-If.new.code.ok.0)
+    c.in_ok-value-in-If.ensures.value c.in_ok-value-in-If.ensures.code (c.len-test_end.ensures ∙ c.emit_expr-in-If.new.code.ok.0)
     c.in_ok-emit-in-If.ensures
     c.in_ok-emit_statements-in-If.ensures.code c.in_ok-emit_statements-in-If.ensures.sites
     (c.len-first_end.ensures ∙ c.emit_statements.new.code.ok.0)

@@ -5,7 +5,7 @@ use Rattle.std.specs.Vec.{with_items}
 use Rattle.std.proofs.lemmas.Int.{to_z-of_z}
 use Rattle.std.proofs.lemmas.List.{with_items_is}
 use Rattle.kahn_net.specs.Common.{history_of}
-use Rattle.proc_code.specs.Machine.{top}
+use Rattle.proc_code.specs.Machine.{value_in}
 use Rattle.proc_step.specs.Stepping.{held}
 use Rattle.proc_step.proofs.Machines.{get_moves, put_moves}
 use Rattle.proc_step.proofs.machine.Machine.perform.Goals as goal
@@ -33,15 +33,18 @@ pub returns-in_ok-send-in-Put : goal.returns-in_ok-send-in-Put
 returns-in_ok-send-in-Put c place =
     let m = held c.args.self.now place c.args.stack.now in
     let channel = c.in-Put.channel in
-    let f : FitsSigned w64 c.pop-item.result = search rules in
-    let same = to_z-of_z w64 _ f ∙ c.pop-item.ensures.value in
+    let value = c.in-Put.value in
+    let f : FitsSigned w64 c.take_value-item.result = search rules in
+    let same =
+    to_z-of_z w64 _ f ∙ c.take_value-item.ensures.value
+    ∙ ap (value_in value m.stack) c.deref-in-Put-2.ensures.value in
     let before = c.deref_mut-in-Put.result.now in
-    put_moves c.args.instruction channel c.in-Put.site c.args.room.now m c.pop-item.new.self
+    put_moves c.args.instruction channel c.in-Put.site value c.args.room.now m c.take_value-item.new.stack
     (with_items m.sent c.send.new.sent) c.in-Put.is
     (subst (λ (l : List (List ℤ)). length (history_of l channel) < slice_index c.args.room.now channel)
     c.deref-in-Put.ensures.value (c.has_room.ensures.0 c.if-not-has_room.false))
     (with_items_is m.sent _ (omega (arith, c.send.auto.sent, c.deref_mut-in-Put.ensures.len))
     ∙ c.in_ok-send-in-Put.ensures
     ∙ (ap (λ (v : ℤ). set before channel (history_of before channel ++ v ∷ [])) same
-    ∙ ap (λ (l : List (List ℤ)). set l channel (history_of l channel ++ top m.stack ∷ []))
-    c.deref_mut-in-Put.ensures.value)) c.pop-item.ensures.rest
+    ∙ ap (λ (l : List (List ℤ)). set l channel (history_of l channel ++ value_in value m.stack m.variables.items ∷ []))
+    c.deref_mut-in-Put.ensures.value)) c.take_value-item.ensures.rest
