@@ -79,7 +79,7 @@ noted_in round turns =
 -- ---- the choice
 
 -- what a node does by itself, by what is remembered of the round
-abbrev own_by : Network → List (List ℤ) → ℕ → ℕ → ℕ → StationView → RoundTurns → EventView
+abbrev own_by : Network → List (List ℤ) → List ℕ → ℕ → ℕ → StationView → RoundTurns → EventView
 own_by net inputs rooms nodes round station turns =
     cond (is_some (next_release round station)) (Release station.number)
     (cond (nat_lt turns.granted MAX_GRANTS && is_some (node_job net inputs rooms station.node)) (ByNode station.number
@@ -190,7 +190,7 @@ left_by setting place node None station event came old new answer act other = re
   count = ap (λ (list : List StationView). length list) act.1;
 }
 
--- the same in another world, of the same network, inputs, room and nodes, in the same round
+-- the same in another world, of the same network, inputs, rooms and nodes, in the same round
 moved_rest : (old new : WorldView) (node : ℕ) (station : Option StationView) → new.net ≡ old.net
     → new.inputs ≡ old.inputs → new.rooms ≡ old.rooms → length new.stations ≡ length old.stations
     → new.round ≡ old.round
