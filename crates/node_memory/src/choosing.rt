@@ -76,7 +76,10 @@ fn has_room(
     ensures { result ≡ has_room (share_in rooms.now share) image.now channel (slice_get channels.now channel) }
 {
     channel < channels.len()
-        && places(share_in(rooms, share, channel as u8), image.log(channel as u8)) > 0
+        && places(
+            share_in(rooms, share, channel as u8),
+            image.log(channel as u8),
+        ) > 0
 }
 
 // Whether a process can go on.
@@ -98,7 +101,13 @@ fn is_ready(
             NextAct::Get { channel } => {
                 has_item(&net.program.channels, inputs, image, inboxes, channel)
             },
-            NextAct::Put { channel } => has_room(&net.program.channels, rooms, share, image, channel),
+            NextAct::Put { channel } => has_room(
+                &net.program.channels,
+                rooms,
+                share,
+                image,
+                channel,
+            ),
             NextAct::Nothing => false,
         },
         None => false,
@@ -151,7 +160,9 @@ fn ready_from<'a>(
 {
     let mut found: Option<&SavedProcess> = None;
     for saved in &image.processes {
-        if comes_first(net, inputs, rooms, share, image, inboxes, start, found, saved) {
+        if comes_first(
+            net, inputs, rooms, share, image, inboxes, start, found, saved,
+        ) {
             found = Some(saved);
         }
     }
