@@ -10,6 +10,7 @@ mod limits;
 mod links;
 mod outcome;
 mod reply;
+mod rooms;
 mod round_turns;
 
 pub use armed_restart::ArmedRestart;
@@ -19,4 +20,5 @@ pub use limits::{DEFAULT_ROOM, MAX_GRANTS, MAX_INBOX_ITEMS, MAX_JOB_ITEMS, MIN_R
 pub use links::{Inbox, Outbox};
 pub use outcome::{Outcome, Refusal};
 pub use reply::{Leaving, Reply};
+pub use rooms::Rooms;
 pub use round_turns::RoundTurns;

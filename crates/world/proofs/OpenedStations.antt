@@ -35,6 +35,7 @@ use Rattle.station.specs.StationView.{outlet_view, outlet_views}
 use Rattle.station.specs.StationView.{station_view}
 use Rattle.world.proofs.Openings.{fresh_views, opened_listed, opened_nothing, opened_station}
 use Rattle.protocol.specs.World.Turns.{no_turns}
+use Rattle.protocol.specs.Node.Sharing.{even_rooms}
 use Rattle.protocol.specs.declared.limits.TheConstants.{DEFAULT_ROOM}
 use Rattle.station.specs.declared.output.Output.{Output}
 use Rattle.station.specs.declared.station.Station.{Station}
@@ -345,7 +346,7 @@ module _ {D O : Type 0} {disk : DiskWords D} {cell : CellWords (SplitCell D disk
         traffic =
             traffic;
         round = 0;
-        room = DEFAULT_ROOM;
+        rooms = even_rooms DEFAULT_ROOM;
       }
       ≡ opening_world (network_of net.program) inputs (map (λ (d : D). disk.failure_count d) disks)
       (outlet_views taken failures outputs)
@@ -367,7 +368,7 @@ module _ {D O : Type 0} {disk : DiskWords D} {cell : CellWords (SplitCell D disk
             stations = list;
             traffic = traffic;
             round = 0;
-            room = DEFAULT_ROOM;
+            rooms = even_rooms DEFAULT_ROOM;
           }
 
   -- and so the world is sound
@@ -384,7 +385,7 @@ module _ {D O : Type 0} {disk : DiskWords D} {cell : CellWords (SplitCell D disk
             map (station_view taken failures) stations;
         traffic = traffic;
         round = 0;
-        room = DEFAULT_ROOM;
+        rooms = even_rooms DEFAULT_ROOM;
       })
   opened_sound inputs traffic none fits each listed empty =
       subst WorldInvariant (sym (opened_world inputs traffic none))

@@ -18,6 +18,7 @@ use Rattle.protocol.specs.World.Common.{is_output, opening_traffic, outputs_of, 
 use Rattle.protocol.specs.World.Common.{records_of, StationView, Traffic, WorldInvariant, WorldView}
 use Rattle.protocol.specs.World.OpeningWorld.{opening_outlet, outlets_on}
 use Rattle.protocol.specs.World.Turns.{no_turns}
+use Rattle.protocol.specs.Node.Sharing.{even_rooms}
 use Rattle.protocol.specs.declared.limits.TheConstants.{DEFAULT_ROOM}
 use Rattle.protocol.specs.declared.round_turns.RoundTurns.{RoundTurns}
 use Rattle.starting_again.proofs.Again.{nothing_opened}
@@ -388,7 +389,7 @@ world_at net inputs stations traffic =
       stations = stations;
       traffic = traffic;
       round = 0;
-      room = DEFAULT_ROOM;
+      rooms = even_rooms DEFAULT_ROOM;
     }
 
 module _ {D O : Type 0} {disk : DiskWords D} {cell : CellWords (SplitCell D disk)}
