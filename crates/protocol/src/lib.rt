@@ -11,6 +11,7 @@ mod links;
 mod outcome;
 mod reply;
 mod round_turns;
+mod stance;
 
 pub use armed_restart::ArmedRestart;
 pub use delivery::Delivery;
@@ -20,3 +21,4 @@ pub use links::{Inbox, Outbox};
 pub use outcome::{Outcome, Refusal};
 pub use reply::{Leaving, Reply};
 pub use round_turns::RoundTurns;
+pub use stance::Stance;
