@@ -10,6 +10,7 @@ mod limits;
 mod links;
 mod outcome;
 mod reply;
+mod rooms;
 mod round_turns;
 mod stance;
 
@@ -20,5 +21,6 @@ pub use limits::{DEFAULT_ROOM, MAX_GRANTS, MAX_INBOX_ITEMS, MAX_JOB_ITEMS, MIN_R
 pub use links::{Inbox, Outbox};
 pub use outcome::{Outcome, Refusal};
 pub use reply::{Leaving, Reply};
+pub use rooms::Rooms;
 pub use round_turns::RoundTurns;
 pub use stance::Stance;

@@ -59,16 +59,16 @@ room_in share (Some log) = min MAX_JOB_ITEMS (min (share - length log.items) (MA
 abbrev pub room_of : ℕ → ImageView → ℕ → ℕ
 room_of share image channel = room_in share (log_of image channel)
 
--- the room that a process has on each channel from this number on: at most 64 places on one on which it puts, and
--- none on any other
-abbrev pub room_from : ℕ → ImageView → ℕ → ℕ → List Channel → List ℕ
+-- the room that a process has on each channel from this number on, where the log of each has places up to its share: at
+-- most 64 places on one on which it puts, and none on any other
+abbrev pub room_from : (ℕ → ℕ) → ImageView → ℕ → ℕ → List Channel → List ℕ
 room_from share image process number [] = []
 room_from share image process number (channel ∷ channels) =
-    (if is_process process channel.producer then room_of share image number else 0)
+    (if is_process process channel.producer then room_of (share number) image number else 0)
     ∷ room_from share image process (suc number) channels
 
--- the job of a process that stands there, where each log has places up to this share
-abbrev pub job_for : ℕ → Network → List (List ℤ) → ImageView → List Inbox → ℕ → Standing → ℕ → JobView
+-- the job of a process that stands there, where the log of each channel has places up to its share
+abbrev pub job_for : (ℕ → ℕ) → Network → List (List ℤ) → ImageView → List Inbox → ℕ → Standing → ℕ → JobView
 job_for share net inputs image inboxes process standing version = record {
   process = process;
   code = slice_get net.codes process;

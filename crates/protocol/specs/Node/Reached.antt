@@ -15,7 +15,7 @@ use Rattle.window_link.specs.Laws.Holding.{HoldsOf}
 use Rattle.protocol.specs.Node.JobView.{JobView}
 use Rattle.protocol.specs.Node.Layout.{role_here, processes_on, ends_on, incoming_on, outgoing_on}
 use Rattle.protocol.specs.Node.NodeView.{RunningNode}
-use Rattle.protocol.specs.Node.Sharing.{log_share, IsWithinShare}
+use Rattle.protocol.specs.Node.Sharing.{log_share, full_share, IsWithinShare}
 use Rattle.protocol.specs.Node.Granting.{items_from, room_from}
 use Rattle.record.specs.declared.image.End.{End}
 use Rattle.record.specs.declared.image.End.TheVariants.{Both}
@@ -139,7 +139,7 @@ pub record IsJobOf (net : Network) (inputs : List (List ℤ)) (image : ImageView
   pub items : (c : ℕ)
       → IsPrefix (history_of job.items c) (history_of (items_from inputs image inboxes job.process 0 net.channels) c)
   pub room : (c : ℕ)
-      → slice_index job.room c ≤ slice_index (room_from (log_share image) image job.process 0 net.channels) c
+      → slice_index job.room c ≤ slice_index (room_from (full_share image) image job.process 0 net.channels) c
 
 -- what came back is a turn of the job's process, from where the job says that it stands
 abbrev pub IsTurnOf : Network → JobView → Standing → List ℕ → List (List ℤ) → Type 0

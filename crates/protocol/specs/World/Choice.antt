@@ -61,10 +61,10 @@ deliver_or number (Some place) other = ByNode number (event.Deliver place)
 
 -- the first that is due where no packet is: an item leaves, a job is granted (64 at most a round), a checkpoint is
 -- decided or begun, the node sends, or its turn passes
-abbrev pub own_choice : Network → List (List ℤ) → ℕ → ℕ → ℕ → StationView → EventView
-own_choice net inputs room nodes round station =
+abbrev pub own_choice : Network → List (List ℤ) → List ℕ → ℕ → ℕ → StationView → EventView
+own_choice net inputs rooms nodes round station =
     if is_some (next_release round station) then Release station.number
-    else (if nat_lt (turns_of round station.turns).granted MAX_GRANTS && is_some (node_job net inputs room station.node)
+    else (if nat_lt (turns_of round station.turns).granted MAX_GRANTS && is_some (node_job net inputs rooms station.node)
     then ByNode station.number event.Grant
     else (if may_decide station.number station.node.kept (live_in station.node.mode) then ByNode station.number
     event.Decide
@@ -73,15 +73,15 @@ own_choice net inputs room nodes round station =
     else ByNode station.number event.Idle))))
 
 -- the first that is due: the node is recovered, a packet comes to it, or one of those
-abbrev pub station_choice : Network → List (List ℤ) → ℕ → Traffic → ℕ → ℕ → StationView → EventView
-station_choice net inputs room traffic nodes round station =
+abbrev pub station_choice : Network → List (List ℤ) → List ℕ → Traffic → ℕ → ℕ → StationView → EventView
+station_choice net inputs rooms traffic nodes round station =
     if may_recover round station then ByNode station.number event.Recover
-    else deliver_or station.number (due_place traffic round station) (own_choice net inputs room nodes round station)
+    else deliver_or station.number (due_place traffic round station) (own_choice net inputs rooms nodes round station)
 
 abbrev pub choice_of : WorldView → ℕ → Option StationView → EventView
 choice_of world node None = ByNode node event.Idle
 choice_of world node (Some station) =
-    station_choice world.net world.inputs world.room world.traffic (length world.stations) world.round station
+    station_choice world.net world.inputs world.rooms world.traffic (length world.stations) world.round station
 
 -- the event that is next for this node
 abbrev pub choice : WorldView → ℕ → EventView

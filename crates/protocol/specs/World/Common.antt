@@ -27,7 +27,7 @@ pub use Rattle.protocol.specs.World.Steps.{IsAct, IsActOf, IsInstalled, IsPlanne
 pub use Rattle.protocol.specs.World.Steps.{Setting, StationPlan, WorldView, can_act, deliver_plan, due_bytes}
 pub use Rattle.protocol.specs.World.Steps.{first_waiting, flight_at, moved_to, next_release, plan_of, round_after}
 pub use Rattle.protocol.specs.World.Steps.{sending_of, setting_of, traffic_acted, traffic_after, traffic_left}
-pub use Rattle.protocol.specs.World.Steps.{turns_by, with_room}
+pub use Rattle.protocol.specs.World.Steps.{turns_by, with_rooms}
 pub use Rattle.protocol.specs.World.Still.{stands_still}
 pub use Rattle.protocol.specs.World.Traffic.{BytesAreSound, TrafficIsSound}
 pub use Rattle.protocol.specs.World.Turns.{turns_of}

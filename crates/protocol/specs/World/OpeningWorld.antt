@@ -2,6 +2,7 @@
 use Rattle.std.specs.Prelude.{ℕ, suc, ℤ, List, [], ◌∷◌, map, filter, None}
 use Rattle.ckpt_codec.specs.Common.{node_count, Network}
 use Rattle.protocol.specs.Node.Opening.{opening_node}
+use Rattle.protocol.specs.Node.Sharing.{even_rooms}
 use Rattle.protocol.specs.World.Sound.{is_output}
 use Rattle.protocol.specs.World.StationView.{OutletView, StationView}
 use Rattle.protocol.specs.World.Steps.{WorldView}
@@ -43,7 +44,7 @@ abbrev pub opening_stations : Network → List ℕ → List OutletView → List 
 opening_stations net failures outlets = stations_from net (node_count net) 0 failures outlets
 
 -- The world before its first event: these stations, with the outlets of the network's outputs as they were given;
--- nothing in flight; and the room of a channel that holds unless it is set.
+-- nothing in flight; and the room that each channel has unless it is set.
 abbrev pub opening_world : Network → List (List ℤ) → List ℕ → List OutletView → WorldView
 opening_world net inputs failures outlets =
     record {
@@ -53,5 +54,5 @@ opening_world net inputs failures outlets =
           opening_stations net failures (map opening_outlet outlets);
       traffic = opening_traffic;
       round = 0;
-      room = DEFAULT_ROOM;
+      rooms = even_rooms DEFAULT_ROOM;
     }

@@ -48,34 +48,34 @@ use Rattle.protocol.specs.World.Turns.{turns_of, count_grant, count_start, count
 -- ---- what an event finds
 
 -- a network that runs on these inputs: its stations by node number, what is in flight between them, the round, and the
--- room of a channel, which is how many items a job may leave its log with
+-- room of each channel by its number, which is how many items a job may leave its log with
 pub record WorldView : Type 0 where
   pub net : Network
   pub inputs : List (List ℤ)
   pub stations : List StationView
   pub traffic : Traffic
   pub round : ℕ
-  pub room : ℕ
+  pub rooms : List ℕ
 
--- the same world, where a channel has so much room
-abbrev pub with_room : ℕ → WorldView → WorldView
-with_room room world = record world { room = room }
+-- the same world, where its channels have these rooms
+abbrev pub with_rooms : List ℕ → WorldView → WorldView
+with_rooms rooms world = record world { rooms = rooms }
 
--- what a station's event finds around it: the network and its inputs, what is in flight, the round, and the room of a
+-- what a station's event finds around it: the network and its inputs, what is in flight, the round, and the room of each
 -- channel
 pub record Setting : Type 0 where
   pub net : Network
   pub inputs : List (List ℤ)
   pub traffic : Traffic
   pub round : ℕ
-  pub room : ℕ
+  pub rooms : List ℕ
 
-abbrev pub setting_in : Network → List (List ℤ) → Traffic → ℕ → ℕ → Setting
-setting_in net inputs traffic round room =
-    record { net = net; inputs = inputs; traffic = traffic; round = round; room = room }
+abbrev pub setting_in : Network → List (List ℤ) → Traffic → ℕ → List ℕ → Setting
+setting_in net inputs traffic round rooms =
+    record { net = net; inputs = inputs; traffic = traffic; round = round; rooms = rooms }
 
 abbrev pub setting_of : WorldView → Setting
-setting_of world = setting_in world.net world.inputs world.traffic world.round world.room
+setting_of world = setting_in world.net world.inputs world.traffic world.round world.rooms
 
 -- the packet at a place of those in flight to a node
 abbrev pub flight_at : Setting → ℕ → ℕ → Option Flight
@@ -168,7 +168,7 @@ abbrev pub plan_of : Setting → ℕ → Deed → StationView → StationPlan
 plan_of setting k (event.Deliver place) station =
     deliver_plan setting.net place (due_bytes setting.round (flight_at setting k place)) station
 plan_of setting k event.Grant station =
-    grant_plan (node_job setting.net setting.inputs setting.room station.node) setting.round station
+    grant_plan (node_job setting.net setting.inputs setting.rooms station.node) setting.round station
 plan_of setting k event.Send station = send_plan setting.net setting.round station
 plan_of setting k event.Start station = start_plan setting.net setting.round station
 plan_of setting k event.Decide station = decide_plan station
@@ -383,4 +383,4 @@ pub record IsStep (fits : List (RecordView → Bool)) (event : EventView) (old :
   pub traffic : new.traffic
       ≡ traffic_after (setting_of old) event came answer (slice_get old.stations (event_node event))
   pub round : new.round ≡ round_after answer old.round new.stations
-  pub room : new.room ≡ old.room
+  pub rooms : new.rooms ≡ old.rooms

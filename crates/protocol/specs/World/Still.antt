@@ -1,5 +1,5 @@
 -- A world that stands still, and would go on if channels had more room.
-use Rattle.std.specs.Prelude.{◌==◌, ◌*◌, ℕ, nat_le, Bool, false, ◌&&◌, not, if◌then◌else◌, min, ℤ, List, length, Option}
+use Rattle.std.specs.Prelude.{◌==◌, ℕ, nat_le, Bool, false, ◌&&◌, not, if◌then◌else◌, ℤ, List, length, map, Option}
 use Rattle.std.specs.Prelude.{Some, None, is_some, slice_get}
 use Rattle.std.specs.List.{list_all, list_any}
 use Rattle.ckpt_codec.specs.Common.{Network, received_of, ImageView}
@@ -10,12 +10,13 @@ use Rattle.protocol.specs.Node.Choosing.{node_job}
 use Rattle.protocol.specs.Node.Modes.{is_none}
 use Rattle.protocol.specs.Node.NodeView.{RunningNode, running_of}
 use Rattle.protocol.specs.Node.Popping.{has_place}
+use Rattle.protocol.specs.Node.Sharing.{even_rooms, wider}
 use Rattle.protocol.specs.World.Choice.{has_more}
 use Rattle.protocol.specs.World.Invariant.{outputs_of}
 use Rattle.protocol.specs.World.OutputView.{OutputView}
 use Rattle.protocol.specs.World.Quiet.{have_all_left, sent_at}
 use Rattle.protocol.specs.World.StationView.{StationView}
-use Rattle.protocol.specs.World.Steps.{WorldView, with_room}
+use Rattle.protocol.specs.World.Steps.{WorldView, with_rooms}
 use Rattle.protocol.specs.declared.links.Inbox.{Inbox}
 use Rattle.protocol.specs.declared.links.Outbox.{Outbox}
 
@@ -63,31 +64,27 @@ abbrev pub is_settled_at : Network → List StationView → Option RunningNode �
 is_settled_at net stations None outputs = false
 is_settled_at net stations (Some node) outputs = is_settled net stations node outputs
 
--- a station's node runs, all of it is settled, and it can grant no job where a channel has so much room
-abbrev pub is_still : Network → List (List ℤ) → ℕ → List StationView → StationView → Bool
-is_still net inputs room stations station =
+-- a station's node runs, all of it is settled, and it can grant no job where channels have these rooms
+abbrev pub is_still : Network → List (List ℤ) → List ℕ → List StationView → StationView → Bool
+is_still net inputs rooms stations station =
     is_settled_at net stations (running_of station.node) (outputs_of station.outlets) && not
-    (is_some (node_job net inputs room station.node))
+    (is_some (node_job net inputs rooms station.node))
 
--- a station's node could grant a job where channels had as much room as a record has
+-- a station's node could grant a job where each channel had as much room as a record has
 abbrev pub wants_room : Network → List (List ℤ) → StationView → Bool
-wants_room net inputs station = is_some (node_job net inputs MAX_RETAINED_ITEMS station.node)
+wants_room net inputs station = is_some (node_job net inputs (even_rooms MAX_RETAINED_ITEMS) station.node)
 
 -- ---- all of them
 
 -- A world stands still for want of room: so do all its nodes, and one of them could go on with more.
 abbrev pub stands_still : WorldView → Bool
 stands_still world =
-    list_all (is_still world.net world.inputs world.room world.stations) world.stations &&
+    list_all (is_still world.net world.inputs world.rooms world.stations) world.stations &&
     list_any (wants_room world.net world.inputs) world.stations
 
--- twice the room of a channel, and no more than a record has
-abbrev pub wider : ℕ → ℕ
-wider room = min (room * 2) MAX_RETAINED_ITEMS
-
--- a world in which a channel has twice the room, and no more than a record has
+-- a world in which each channel has twice the room, and no more than a record has
 abbrev pub widened : WorldView → WorldView
-widened world = with_room (wider world.room) world
+widened world = with_rooms (map wider world.rooms) world
 
 -- a world that gets more room for its channels where it stands still for want of it, and else stays as it is
 abbrev pub given_room : WorldView → WorldView
