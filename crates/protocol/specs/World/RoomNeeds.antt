@@ -6,13 +6,14 @@
 -- nobody on it goes on, nobody on it ever will, whatever the others do, unless a channel gets more room: the last one at
 -- which a process on the way is held for want of it. Where that way goes round, this channel lies on the round. Where it
 -- ends, no other on the rest of the way would help.
-use Rattle.std.specs.Prelude.{ℕ, zero, suc, Bool, true, false, if◌then◌else◌, ℤ, List, [], ◌∷◌, length, Option, Some, None}
-use Rattle.std.specs.Prelude.{slice_get}
+use Rattle.std.specs.Prelude.{ℕ, zero, suc, Bool, true, false, if◌then◌else◌, List, [], ◌∷◌, length, Option, Some, None}
+use Rattle.std.specs.Prelude.{slice_get, slice_index, slice_set}
 use Rattle.std.specs.List.{list_any}
 use Rattle.ckpt_codec.specs.Common.{Network, Channel, Port, Outside, Process}
 use Rattle.turns.specs.Turns.{or_else}
-use Rattle.protocol.specs.World.StationView.{StationView}
+use Rattle.protocol.specs.Node.Sharing.{wider}
 use Rattle.protocol.specs.World.Stances.{stance_of}
+use Rattle.protocol.specs.World.Steps.{WorldView, with_rooms}
 use Rattle.protocol.specs.declared.stance.Stance.{Stance}
 use Rattle.protocol.specs.declared.stance.Stance.TheVariants.{GoesOn, Ended, Waits, Held, Full}
 
@@ -88,6 +89,11 @@ abbrev pub need_by : Network → (ℕ → Stance) → Option ℕ
 need_by net stance =
     first_of_any (λ (process : ℕ). need_on stance (way_from net stance process)) 0 (length net.codes)
 
--- the channel that needs more room in such a world, where channels have these rooms
-abbrev pub needed_at : Network → List (List ℤ) → List ℕ → List StationView → Option ℕ
-needed_at net inputs rooms stations = need_by net (stance_of net inputs rooms stations)
+-- the channel of a world that needs more room
+abbrev pub needed_at : WorldView → Option ℕ
+needed_at world = need_by world.net (stance_of world.net world.inputs world.rooms world.stations)
+
+-- a world in which this channel has twice the room, and no more than a record has
+abbrev pub widened_at : ℕ → WorldView → WorldView
+widened_at channel world =
+    with_rooms (slice_set world.rooms channel (wider (slice_index world.rooms channel))) world

@@ -2,8 +2,8 @@
 --
 -- What is said of a process speaks of its own next act, and of the one channel of that act, so that it is the same whatever
 -- goes on elsewhere, on its node too.
-use Rattle.std.specs.Prelude.{◌==◌, ℕ, nat_lt, Bool, false, ◌||◌, not, if◌then◌else◌, min, ℤ, List, length, find}
-use Rattle.std.specs.Prelude.{Option, Some, None, slice_get, slice_index}
+use Rattle.std.specs.Prelude.{◌==◌, ℕ, nat_lt, Bool, false, ◌||◌, not, if◌then◌else◌, ℤ, List, length, find}
+use Rattle.std.specs.Prelude.{Option, Some, None, slice_get}
 use Rattle.ckpt_codec.specs.Common.{Code, Network, MAX_COUNT, SavedProcessView, ImageView, received_of, sent_of}
 use Rattle.kahn_net.specs.Common.{Next, Gets, Puts, NoNext}
 use Rattle.kahn_net.specs.NextActs.{Begins}
@@ -12,7 +12,7 @@ use Rattle.protocol.specs.Node.Addresses.{consumer_node}
 use Rattle.protocol.specs.Node.Choosing.{has_item, has_room, next_at}
 use Rattle.protocol.specs.Node.JobView.{JobView}
 use Rattle.protocol.specs.Node.NodeView.{RunningNode, running_of}
-use Rattle.protocol.specs.Node.Sharing.{log_share}
+use Rattle.protocol.specs.Node.Sharing.{full_share, retained_share}
 use Rattle.protocol.specs.World.Invariant.{outputs_of}
 use Rattle.protocol.specs.World.OutputView.{OutputView}
 use Rattle.protocol.specs.World.StationView.{StationView}
@@ -70,26 +70,22 @@ abbrev pub is_of : ℕ → Option JobView → Bool
 is_of process None = false
 is_of process (Some job) = job.process == process
 
--- how far a job may fill the log of a channel, where the channels have these rooms
-abbrev pub share_on : List ℕ → ImageView → ℕ → ℕ
-share_on rooms image channel = min (slice_index rooms channel) (log_share image)
-
 module _ (net : Network) (inputs : List (List ℤ)) (rooms : List ℕ) (stations : List StationView) where
   -- where it puts on a channel whose log has no place: what it would be if the channel had all the room that it may have
   abbrev pub stance_at_put : ImageView → ℕ → Stance
   stance_at_put image channel =
-      if has_room (log_share image) image channel (slice_get net.channels channel) then Held channel else Full channel
+      if has_room (full_share image) image channel (slice_get net.channels channel) then Held channel else Full channel
 
   -- where this comes next
   abbrev pub stance_before : RunningNode → List OutputView → Next → Stance
   stance_before node outputs Begins = GoesOn
   stance_before node outputs (Gets channel) =
       if has_item inputs node.current node.inboxes channel (slice_get net.channels channel) ||
-          is_coming net stations node.inboxes channel
+      is_coming net stations node.inboxes channel
       then GoesOn else Waits channel
   stance_before node outputs (Puts channel) =
-      if has_room (share_on rooms node.current channel) node.current channel (slice_get net.channels channel) ||
-          is_leaving net stations node outputs channel
+      if has_room (retained_share rooms node.current) node.current channel (slice_get net.channels channel) ||
+      is_leaving net stations node outputs channel
       then GoesOn else stance_at_put node.current channel
   stance_before node outputs NoNext = Ended
 
