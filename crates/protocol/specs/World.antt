@@ -21,6 +21,8 @@ pub mod Agreeing
 pub mod Choice
 pub mod Quiet
 pub mod Still
+pub mod Stances
+pub mod RoomNeeds
 pub mod RecoveryLine
 pub mod InLine
 pub mod Coordination

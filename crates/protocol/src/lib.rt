@@ -12,6 +12,7 @@ mod outcome;
 mod reply;
 mod rooms;
 mod round_turns;
+mod stance;
 
 pub use armed_restart::ArmedRestart;
 pub use delivery::Delivery;
@@ -22,3 +23,4 @@ pub use outcome::{Outcome, Refusal};
 pub use reply::{Leaving, Reply};
 pub use rooms::Rooms;
 pub use round_turns::RoundTurns;
+pub use stance::Stance;

@@ -35,3 +35,5 @@ pub mod TrafficLaws
 pub mod HearLaws
 pub mod SendLaws
 pub mod AgreeLaws
+pub mod WayLaws
+pub mod RoomNeedLaws

@@ -72,7 +72,7 @@ put_there net stations image (x ∷ ends) (suc k) saved put is =
     (have_been_put net stations image ends) put).1 is
 
 -- each outlet has as many items as were put
-left_at : (image : ImageView) (outputs : List OutputView) (j : ℕ) (output : OutputView)
+pub left_at : (image : ImageView) (outputs : List OutputView) (j : ℕ) (output : OutputView)
     → IsTrue (have_all_left image outputs) → slice_get outputs j ≡ Some output
     → length output.taken ≡ sent_of image output.channel
 left_at image [] j output all is = absurd (cc)
@@ -114,7 +114,7 @@ runs_there net inputs stations (Some node) outputs quiet =
     (node, refl, end_of_quiet net inputs stations node outputs quiet)
 
 -- so it is at each station
-all_at : {A : Type 0} (test : A → Bool) (xs : List A) (k : ℕ) (x : A) → IsTrue (list_all test xs)
+pub all_at : {A : Type 0} (test : A → Bool) (xs : List A) (k : ℕ) (x : A) → IsTrue (list_all test xs)
     → slice_get xs k ≡ Some x → IsTrue (test x)
 all_at test [] k x all is = absurd (cc)
 all_at test (y ∷ xs) zero x all is = let same : y ≡ x = cc in

@@ -1,0 +1,99 @@
+-- Which channel needs more room.
+--
+-- A process that is held at a put waits for the consumer of that channel, and one that gets where nothing is at hand waits
+-- for the channel's producer. So one way leads on from each process, from one that waits to the one for which it waits. It
+-- ends where a process has finished, an input is exhausted, or what is put goes outside; or it goes round and round. Where
+-- nobody on it goes on, nobody on it ever will, whatever the others do, unless a channel gets more room: the last one at
+-- which a process on the way is held for want of it. Where that way goes round, this channel lies on the round. Where it
+-- ends, no other on the rest of the way would help.
+use Rattle.std.specs.Prelude.{ℕ, zero, suc, Bool, true, false, if◌then◌else◌, List, [], ◌∷◌, length, Option, Some, None}
+use Rattle.std.specs.Prelude.{slice_get, slice_index, slice_set}
+use Rattle.std.specs.List.{list_any}
+use Rattle.ckpt_codec.specs.Common.{Network, Channel, Port, Outside, Process}
+use Rattle.turns.specs.Turns.{or_else}
+use Rattle.protocol.specs.Node.Sharing.{wider}
+use Rattle.protocol.specs.World.Stances.{stance_of}
+use Rattle.protocol.specs.World.Steps.{WorldView, with_rooms}
+use Rattle.protocol.specs.declared.stance.Stance.{Stance}
+use Rattle.protocol.specs.declared.stance.Stance.TheVariants.{GoesOn, Ended, Waits, Held, Full}
+
+abbrev pub is_going : Stance → Bool
+is_going GoesOn = true
+is_going Ended = false
+is_going (Waits channel) = false
+is_going (Held channel) = false
+is_going (Full channel) = false
+
+-- the channel at which a process that stands so is held for want of room
+abbrev pub held_on : Stance → Option ℕ
+held_on GoesOn = None
+held_on Ended = None
+held_on (Waits channel) = None
+held_on (Held channel) = Some channel
+held_on (Full channel) = None
+
+-- ---- the way on
+
+-- the process at an end of a channel, if one is there
+abbrev pub process_on : Port → Option ℕ
+process_on Outside = None
+process_on (Process process) = Some process
+
+abbrev pub putter_of : Option Channel → Option ℕ
+putter_of None = None
+putter_of (Some channel) = process_on channel.producer
+
+abbrev pub getter_of : Option Channel → Option ℕ
+getter_of None = None
+getter_of (Some channel) = process_on channel.consumer
+
+-- the process for which one waits that stands so
+abbrev pub awaited : Network → Stance → Option ℕ
+awaited net GoesOn = None
+awaited net Ended = None
+awaited net (Waits channel) = putter_of (slice_get net.channels channel)
+awaited net (Held channel) = getter_of (slice_get net.channels channel)
+awaited net (Full channel) = getter_of (slice_get net.channels channel)
+
+-- the processes on a way from this one on, at most so many
+abbrev pub way : (ℕ → Option ℕ) → ℕ → Option ℕ → List ℕ
+way next zero from = []
+way next (suc count) None = []
+way next (suc count) (Some process) = process ∷ way next count (next process)
+
+-- the channel at which the last one of these is held that is held for want of room
+abbrev pub last_held : (ℕ → Stance) → List ℕ → Option ℕ
+last_held stance [] = None
+last_held stance (process ∷ processes) = or_else (last_held stance processes) (held_on (stance process))
+
+-- what the processes on a way need that nobody goes on
+abbrev pub need_on : (ℕ → Stance) → List ℕ → Option ℕ
+need_on stance processes =
+    if list_any (λ (process : ℕ). is_going (stance process)) processes then None else last_held stance processes
+
+-- The whole way from a process: one process more than there are, so that each one on it is there, and behind that the one
+-- with which it goes round, if it does.
+abbrev pub way_from : Network → (ℕ → Stance) → ℕ → List ℕ
+way_from net stance process =
+    way (λ (other : ℕ). awaited net (stance other)) (suc (length net.codes)) (Some process)
+
+-- ---- the channel that gets more
+
+-- the first of so many numbers from this one on of which there is something
+abbrev pub first_of_any : (ℕ → Option ℕ) → ℕ → ℕ → Option ℕ
+first_of_any found first zero = None
+first_of_any found first (suc count) = or_else (found first) (first_of_any found (suc first) count)
+
+-- the channel that needs more room, by the first process that needs it
+abbrev pub need_by : Network → (ℕ → Stance) → Option ℕ
+need_by net stance =
+    first_of_any (λ (process : ℕ). need_on stance (way_from net stance process)) 0 (length net.codes)
+
+-- the channel of a world that needs more room
+abbrev pub needed_at : WorldView → Option ℕ
+needed_at world = need_by world.net (stance_of world.net world.inputs world.rooms world.stations)
+
+-- a world in which this channel has twice the room, and no more than a record has
+abbrev pub widened_at : ℕ → WorldView → WorldView
+widened_at channel world =
+    with_rooms (slice_set world.rooms channel (wider (slice_index world.rooms channel))) world

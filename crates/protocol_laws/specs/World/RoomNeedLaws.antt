@@ -1,0 +1,657 @@
+-- Where a world stands still for want of room, some channel needs more; and a channel that needs more is one at which a put
+-- is held for want of it.
+use Rattle.std.proofs.Common.{◌≡◌, ◌⊎◌, inl, inr, ℕ, zero, suc, ◌+◌, ◌<◌, ◌≤◌, Bool, true, false, ◌&&◌, ◌||◌, ◌==◌, not}
+use Rattle.std.proofs.Common.{cond, ltb, eqb, ℤ, List, [], ◌∷◌, length, map, drop, get_or, Option, Some, None, is_some}
+use Rattle.std.proofs.Common.{option_map, refl, sym, ap, subst, ◌∙◌, arith}
+use Rattle.std.specs.Prelude.{slice_get, slice_index, find, IsTrue, min, nat_lt, nat_le}
+use Rattle.std.specs.List.{list_all, list_any, range_with_len}
+use Rattle.std.proofs.Math.Nat.{min-le_right}
+use Rattle.std.proofs.lemmas.Bool.{and_parts, or_parts, eqb-true, leb-true, ltb-true, ltb-false, le-ltb, lt-ltb, cases_Bool}
+use Rattle.std.proofs.lemmas.Bool.{not-true, and_from, or_from, cases_lt}
+use Rattle.std.proofs.lemmas.List.{get_or-drop, get_or_past}
+use Rattle.std.proofs.lemmas.List.Folds.{Any-from_list_any}
+use Rattle.std.proofs.lemmas.List.FromFn.{length-map-range_with_len, get_or-map-range_with_len}
+use Rattle.std.proofs.lemmas.Option.{slice_get_cases, slice_get_within, slice_get-get_or}
+use Rattle.turns.specs.Turns.{first_ready, least_from, next_in_turn, or_else, start_after}
+use Rattle.kahn_net.specs.Common.{Next, Gets, Puts, NoNext}
+use Rattle.kahn_net.specs.NextActs.{Begins}
+use Rattle.protocol.specs.Node.Common.{Network, Code, Channel, ImageView, SavedProcessView, SavedEnd, RunningNode, JobView}
+use Rattle.protocol.specs.Node.Common.{running_in, running_node, running_of, ModeView, Down, InDoubt, Runs, RecordView, received_of, sent_of, base_of, is_none, may_grant, MAX_COUNT, NodeView}
+use Rattle.protocol.specs.Node.Common.{log_share, log_of, LogState, has_process, is_on, End, received_at}
+use Rattle.protocol.specs.Node.Addresses.{consumer_node}
+use Rattle.protocol.specs.Node.Choosing.{has_item, has_room, can_go, next_at, is_ready, ready_process, ready_processes}
+use Rattle.protocol.specs.Node.Choosing.{process_at, next_process, job_at, job_of, job_up_to, next_job}
+use Rattle.protocol.specs.Node.Granting.{room_in, room_of}
+use Rattle.protocol.specs.Node.Sharing.{even_rooms, full_share, retained_share}
+use Rattle.protocol.specs.Node.Layout.{is_node}
+use Rattle.protocol.specs.declared.links.Inbox.{Inbox}
+use Rattle.protocol.specs.declared.links.Outbox.{Outbox}
+use Rattle.protocol.specs.declared.stance.Stance.{Stance}
+use Rattle.protocol.specs.declared.stance.Stance.TheVariants.{GoesOn, Ended, Waits, Held, Full}
+use Rattle.ckpt_codec.specs.declared.lengths.TheConstants.{MAX_RETAINED_ITEMS}
+use Rattle.protocol.specs.World.Common.{AreSound, IsNumbered, StationView, WorldView, OutputView, WorldInvariant, outputs_of, stands_still}
+use Rattle.protocol.specs.World.Choice.{counts_rose, has_more}
+use Rattle.protocol.specs.World.Quiet.{have_all_left}
+use Rattle.protocol.specs.World.Stances.{comes_to, is_coming, got_by, got_at, has_what_was_got, lacks_items, is_leaving}
+use Rattle.protocol.specs.World.Stances.{is_of, stance_at_put, stance_before, stance_in, stance_there, stance_on, stance_at}
+use Rattle.protocol.specs.World.Stances.{stance_with, stance_of}
+use Rattle.protocol.specs.World.Still.{has_come_from, has_let_go, kept_by, kept_at, keeps_all, is_settled, is_settled_at}
+use Rattle.protocol.specs.World.Still.{is_still, wants_room}
+use Rattle.protocol.specs.World.RoomNeeds.{is_going, held_on, need_by, needed_at}
+use Rattle.protocol_laws.specs.Node.GrantLaws.{fewer_places}
+use Rattle.protocol_laws.specs.Node.ImageLaws.{find_within, found_is}
+use Rattle.protocol_laws.specs.Node.NumberedLaws.{where_mark, where_find}
+use Rattle.protocol_laws.specs.World.QuietLaws.{all_at, left_at}
+use Rattle.protocol_laws.specs.World.WayLaws.{held_needs}
+
+-- ---- what is found
+
+-- something is found where a test holds
+passes_found : {A : Type 0} (test : A → Bool) (xs : List A) (k : ℕ) (x : A) → slice_get xs k ≡ Some x
+    → test x ≡ true → is_some (find test xs) ≡ true
+passes_found test [] k x is passes = absurd (cc)
+passes_found {A} test (y ∷ xs) k x is passes =
+    at (test y) refl k is (λ j there. passes_found test xs j x there passes)
+  where
+    at : (b : Bool) → test y ≡ b → (k : ℕ) → slice_get (y ∷ xs) k ≡ Some x
+        → ((j : ℕ) → slice_get xs j ≡ Some x → is_some (find test xs) ≡ true)
+        → is_some (cond (test y) (Some y) (find test xs)) ≡ true
+    at true here k there further = ap (λ (b : Bool). is_some (cond b (Some y) (find test xs))) here
+    at false here zero there further =
+        let same : y ≡ x = cc in
+        let bad : true ≡ false = sym passes ∙ (ap test (sym same) ∙ here) in
+        absurd (cc)
+    at false here (suc k) there further =
+        ap (λ (b : Bool). is_some (cond b (Some y) (find test xs))) here ∙ further k there
+
+-- and the test holds of what is found
+found_passes : {A : Type 0} (test : A → Bool) (xs : List A) (x : A) → find test xs ≡ Some x → test x ≡ true
+found_passes test [] x is = absurd (cc)
+found_passes {A} test (y ∷ xs) x is = at (test y) refl (λ there. found_passes test xs x there)
+  where
+    at : (b : Bool) → test y ≡ b → (find test xs ≡ Some x → test x ≡ true) → test x ≡ true
+    at true here further =
+        let it : Some y ≡ Some x = sym (ap (λ (b : Bool). cond b (Some y) (find test xs)) here) ∙ is in
+        let same : y ≡ x = cc in
+        ap test (sym same) ∙ here
+    at false here further = further (sym (ap (λ (b : Bool). cond b (Some y) (find test xs)) here) ∙ is)
+
+some_of : {A : Type 0} (o : Option A) → is_some o ≡ true → (x : A) × (o ≡ Some x)
+some_of None is = absurd (cc)
+some_of (Some x) is = (x, refl)
+
+-- ---- whose turn it is
+
+-- the first one that is ready is ready
+first_is : (number : ℕ) (ready : List Bool) (q : ℕ) → first_ready number ready ≡ Some q
+    → (j : ℕ) × (q ≡ number + j) × (get_or ready j false ≡ true)
+first_is number [] q is = absurd (cc)
+first_is number (b ∷ ready) q is = at b refl (λ there. first_is (suc number) ready q there)
+  where
+    at : (c : Bool) → b ≡ c
+        → (first_ready (suc number) ready ≡ Some q
+        → (j : ℕ) × (q ≡ suc number + j) × (get_or ready j false ≡ true))
+        → (j : ℕ) × (q ≡ number + j) × (get_or (b ∷ ready) j false ≡ true)
+    at true here further =
+        let it : Some number ≡ Some q =
+        sym (ap (λ (c : Bool). cond c (Some number) (first_ready (suc number) ready)) here) ∙ is in
+        let same : number ≡ q = cc in
+        (0, omega (arith, same), here)
+    at false here further =
+        (let rest =
+        further (sym (ap (λ (c : Bool). cond c (Some number) (first_ready (suc number) ready)) here) ∙ is) in
+        let place : q ≡ suc number + rest.0 = rest.1 in
+        (suc rest.0, omega (arith, place), rest.2))
+
+-- where one is ready there is a first one
+first_there : (number : ℕ) (ready : List Bool) (k : ℕ) → get_or ready k false ≡ true
+    → (q : ℕ) × (first_ready number ready ≡ Some q)
+first_there number [] k is = absurd (cc)
+first_there number (b ∷ ready) k is = at b refl k is (λ j there. first_there (suc number) ready j there)
+  where
+    at : (c : Bool) → b ≡ c → (k : ℕ) → get_or (b ∷ ready) k false ≡ true
+        → ((j : ℕ) → get_or ready j false ≡ true → (q : ℕ) × (first_ready (suc number) ready ≡ Some q))
+        → (q : ℕ) × (cond b (Some number) (first_ready (suc number) ready) ≡ Some q)
+    at true here k there further =
+        (number, ap (λ (c : Bool). cond c (Some number) (first_ready (suc number) ready)) here)
+    at false here zero there further = let bad : true ≡ false = sym there ∙ here in absurd (cc)
+    at false here (suc k) there further =
+        (let rest = further k there in
+        (rest.0, ap (λ (c : Bool). cond c (Some number) (first_ready (suc number) ready)) here ∙ rest.1))
+
+-- where one is ready, one that is has its turn
+turn_there : (last : Option ℕ) (ready : List Bool) (k : ℕ) → get_or ready k false ≡ true
+    → (q : ℕ) × (next_in_turn last ready ≡ Some q) × (get_or ready q false ≡ true)
+turn_there last ready k is = at (least_from (start_after last) ready) refl
+  where
+    at : (o : Option ℕ) → least_from (start_after last) ready ≡ o
+        → (q : ℕ) × (or_else (least_from (start_after last) ready) (least_from 0 ready) ≡ Some q)
+        × (get_or ready q false ≡ true)
+    at (Some q) here =
+        let place = first_is (start_after last) (drop (start_after last) ready) q here in
+        (q, ap (λ (o : Option ℕ). or_else o (least_from 0 ready)) here,
+        ap (λ (n : ℕ). get_or ready n false) place.1
+        ∙ (sym (get_or-drop (start_after last) ready place.0 false) ∙ place.2))
+    at None here =
+        let first = first_there 0 ready k is in
+        let place = first_is 0 ready first.0 first.1 in
+        let same : first.0 ≡ place.0 = omega (arith, place.1) in
+        (first.0, ap (λ (o : Option ℕ). or_else o (least_from 0 ready)) here ∙ first.1,
+        ap (λ (n : ℕ). get_or ready n false) same ∙ place.2)
+
+-- ---- the job of a node
+
+module _ (net : Network) (inputs : List (List ℤ)) (share : ℕ → ℕ) (node : RunningNode) where
+  ready_at : (n : ℕ)
+      → get_or (ready_processes net inputs share node.current node.inboxes) n false ≡ true
+      → is_some (ready_process net inputs share node.current node.inboxes n) ≡ true
+  unfolding ready_processes
+  ready_at n is = at (cases_lt n (length net.codes))
+    where
+      goes : ℕ → Bool
+      goes m = is_some (ready_process net inputs share node.current node.inboxes m)
+
+      at : (n < length net.codes) ⊎ (length net.codes ≤ n) → goes n ≡ true
+      at (inl below) =
+          sym (get_or-map-range_with_len goes 0 (length net.codes) n n false below (omega arith)) ∙ is
+      at (inr past) =
+          let long = length-map-range_with_len goes 0 (length net.codes) in
+          let none : get_or (map goes (range_with_len 0 (length net.codes))) n false ≡ false =
+          get_or_past (map goes (range_with_len 0 (length net.codes))) n false (omega (arith, long, past)) in
+          let bad : true ≡ false = sym is ∙ none in
+          absurd (cc)
+
+  at_ready : (n : ℕ) → n < length net.codes
+      → is_some (ready_process net inputs share node.current node.inboxes n) ≡ true
+      → get_or (ready_processes net inputs share node.current node.inboxes) n false ≡ true
+  unfolding ready_processes
+  at_ready n below is =
+      get_or-map-range_with_len
+      (λ (m : ℕ). is_some (ready_process net inputs share node.current node.inboxes m)) 0 (length net.codes) n n false
+      below (omega arith)
+      ∙ is
+
+  -- a process of the node that is ready has it grant a job
+  job_there : (k : ℕ) (saved : SavedProcessView) → may_grant node ≡ true → slice_get node.current.processes k ≡ Some saved
+      → saved.number < length net.codes → is_ready net inputs share node.current node.inboxes saved ≡ true
+      → is_some (job_up_to net inputs share node) ≡ true
+  job_there k saved may is below ready =
+      let found =
+      passes_found
+      (λ (s : SavedProcessView). (s.number == saved.number) && is_ready net inputs share node.current node.inboxes s)
+      node.current.processes k saved is
+      (ap (λ (b : Bool). b && is_ready net inputs share node.current node.inboxes saved) (same saved.number) ∙ ready) in
+      let turn =
+      turn_there node.last (ready_processes net inputs share node.current node.inboxes) saved.number
+      (at_ready saved.number below found) in
+      let chosen = some_of (ready_process net inputs share node.current node.inboxes turn.0) (ready_at turn.0 turn.2) in
+      ap (λ (b : Bool). is_some (cond b (job_of net inputs share node
+      (next_process net inputs share node.current node.inboxes node.last)) None)) may
+      ∙ (ap (λ (o : Option ℕ). is_some (job_of net inputs share node
+      (process_at net inputs share node.current node.inboxes o))) turn.1
+      ∙ ap (λ (o : Option SavedProcessView). is_some (job_of net inputs share node o)) chosen.1)
+    where
+      same : (n : ℕ) → (n == n) ≡ true
+      same n = grind (arith)
+
+  -- and where it grants one, it has a process that is ready
+  job_says : is_some (job_up_to net inputs share node) ≡ true
+      → (may_grant node ≡ true) × (k : ℕ) × (saved : SavedProcessView)
+      × (slice_get node.current.processes k ≡ Some saved)
+      × (is_ready net inputs share node.current node.inboxes saved ≡ true)
+  job_says is = at (may_grant node) refl
+    where
+      next : Option SavedProcessView
+      next = next_process net inputs share node.current node.inboxes node.last
+
+      at : (b : Bool) → may_grant node ≡ b
+          → (may_grant node ≡ true) × (k : ℕ) × (saved : SavedProcessView)
+          × (slice_get node.current.processes k ≡ Some saved)
+          × (is_ready net inputs share node.current node.inboxes saved ≡ true)
+      at false may =
+          (let bad : true ≡ false =
+          sym is ∙ ap (λ (b : Bool). is_some (cond b (job_of net inputs share node next) None)) may in
+          absurd (cc))
+      at true may =
+          by (next_in_turn node.last (ready_processes net inputs share node.current node.inboxes))
+          (sym (ap (λ (b : Bool). is_some (cond b (job_of net inputs share node next) None)) may) ∙ is)
+        where
+          by : (o : Option ℕ)
+              → is_some (job_of net inputs share node (process_at net inputs share node.current node.inboxes o)) ≡ true
+              → (may_grant node ≡ true) × (k : ℕ) × (saved : SavedProcessView)
+              × (slice_get node.current.processes k ≡ Some saved)
+              × (is_ready net inputs share node.current node.inboxes saved ≡ true)
+          by None job = absurd (cc)
+          by (Some number) job = of (ready_process net inputs share node.current node.inboxes number) refl job
+            where
+              of : (o : Option SavedProcessView)
+                  → ready_process net inputs share node.current node.inboxes number ≡ o
+                  → is_some (job_of net inputs share node o) ≡ true
+                  → (may_grant node ≡ true) × (k : ℕ) × (saved : SavedProcessView)
+                  × (slice_get node.current.processes k ≡ Some saved)
+                  × (is_ready net inputs share node.current node.inboxes saved ≡ true)
+              of None there job = absurd (cc)
+              of (Some saved) there job =
+                  let test : SavedProcessView → Bool = λ (s : SavedProcessView).
+                  (s.number == number) && is_ready net inputs share node.current node.inboxes s in
+                  let place = find_within test node.current.processes saved there in
+                  let passes = found_passes test node.current.processes saved there in
+                  (may, place.0, saved, place.1,
+                  (and_parts (saved.number == number)
+                  (is_ready net inputs share node.current node.inboxes saved) passes).1)
+
+-- ---- a station that stands still
+
+-- what its tests say of the node, beside these stations
+record IsAtRest (net : Network) (inputs : List (List ℤ)) (rooms : List ℕ) (stations : List StationView)
+    (outputs : List OutputView) (node : RunningNode) : Type 0 where
+  pub free : is_none node.kept.tentative ≡ true
+  pub idle : is_none node.out ≡ true
+  pub rose : counts_rose node.current node.kept.permanent node.current.ends ≡ false
+  pub left : have_all_left node.current outputs ≡ true
+  pub come : list_all (has_come_from net stations) node.inboxes ≡ true
+  pub gone : list_all (has_let_go net stations node.current) node.outboxes ≡ true
+  pub none : is_some (next_job net inputs rooms node) ≡ false
+
+rest_of : (net : Network) (inputs : List (List ℤ)) (rooms : List ℕ) (stations : List StationView)
+    (station : StationView) → is_still net inputs rooms stations station ≡ true
+    → (node : RunningNode) × (running_of station.node ≡ Some node)
+    × IsAtRest net inputs rooms stations (outputs_of station.outlets) node
+rest_of net inputs rooms stations station still = at (running_of station.node) refl still
+  where
+    at : (o : Option RunningNode) → running_of station.node ≡ o
+        → (is_settled_at net stations o (outputs_of station.outlets) && not
+        (is_some (job_at net inputs rooms o))) ≡ true
+        → (node : RunningNode) × (running_of station.node ≡ Some node)
+        × IsAtRest net inputs rooms stations (outputs_of station.outlets) node
+    at None is tests = absurd (cc)
+    at (Some node) is tests =
+        (let outputs = outputs_of station.outlets in
+        let none = not (is_some (next_job net inputs rooms node)) in
+        let left = have_all_left node.current outputs in
+        let come = list_all (has_come_from net stations) node.inboxes in
+        let gone = list_all (has_let_go net stations node.current) node.outboxes in
+        let parts = and_parts (is_settled net stations node outputs) none tests in
+        let first = and_parts (keeps_all node) (left && (come && gone)) parts.0 in
+        let rest = and_parts left (come && gone) first.1 in
+        let last = and_parts come gone rest.1 in
+        let more = not (has_more (Some node)) in
+        let settled = length node.kept.decisions == 0 in
+        let free = and_parts (is_none node.kept.tentative) (settled && (is_none node.out && more)) first.0 in
+        let late = and_parts settled (is_none node.out && more) free.1 in
+        let idle = and_parts (is_none node.out) more late.1 in
+        (node, is, record {
+          free = free.0;
+          idle = idle.0;
+          rose = not-true (has_more (Some node)) idle.1;
+          left = rest.0;
+          come = last.0;
+          gone = last.1;
+          none = not-true (is_some (next_job net inputs rooms node)) parts.1;
+        }))
+
+-- where no count rose, no more was received of any channel than is kept for good
+rose_at : (now earlier : ImageView) (ends : List SavedEnd) (k : ℕ) (saved : SavedEnd)
+    → counts_rose now earlier ends ≡ false → slice_get ends k ≡ Some saved
+    → received_of now saved.channel ≤ received_of earlier saved.channel
+rose_at now earlier [] k saved none is = absurd (cc)
+rose_at now earlier (x ∷ ends) zero saved none is =
+    let same : x ≡ saved = cc in
+    let got = nat_lt (received_of earlier x.channel) (received_of now x.channel) in
+    let put = nat_lt (sent_of earlier x.channel) (sent_of now x.channel) in
+    let parts = or_parts (got || put) (counts_rose now earlier ends) none in
+    subst (λ (s : SavedEnd). received_of now s.channel ≤ received_of earlier s.channel) same
+    (ltb-false (received_of earlier x.channel) (received_of now x.channel) (or_parts got put parts.0).0)
+rose_at now earlier (x ∷ ends) (suc k) saved none is =
+    let got = nat_lt (received_of earlier x.channel) (received_of now x.channel) in
+    let put = nat_lt (sent_of earlier x.channel) (sent_of now x.channel) in
+    rose_at now earlier ends k saved (or_parts (got || put) (counts_rose now earlier ends) none).1 is
+
+got_is_kept : (now earlier : ImageView) → counts_rose now earlier now.ends ≡ false → (channel : ℕ)
+    → received_of now channel ≤ received_of earlier channel
+got_is_kept now earlier none channel =
+    at (find (λ (saved : SavedEnd). eqb saved.channel channel) now.ends) refl
+  where
+    at : (o : Option SavedEnd) → find (λ (saved : SavedEnd). eqb saved.channel channel) now.ends ≡ o
+        → received_of now channel ≤ received_of earlier channel
+    at None is =
+        let nothing : received_of now channel ≡ 0 =
+        ap (λ (o : Option SavedEnd). received_at (option_map (λ (saved : SavedEnd). saved.end) o)) is in
+        omega (arith, nothing)
+    at (Some saved) is =
+        let place = find_within (λ (s : SavedEnd). eqb s.channel channel) now.ends saved is in
+        let number : saved.channel ≡ channel =
+        found_is (λ (s : SavedEnd). s.channel) now.ends channel saved is in
+        subst (λ (n : ℕ). received_of now n ≤ received_of earlier n) number
+        (rose_at now earlier now.ends place.0 saved none place.1)
+
+module _ (net : Network) (inputs : List (List ℤ)) (rooms : List ℕ) (stations : List StationView)
+    (all : list_all (is_still net inputs rooms stations) stations ≡ true) where
+  still_at : (k : ℕ) (station : StationView) → slice_get stations k ≡ Some station
+      → (node : RunningNode) × (running_of station.node ≡ Some node)
+      × IsAtRest net inputs rooms stations (outputs_of station.outlets) node
+  still_at k station is =
+      rest_of net inputs rooms stations station
+      (all_at (is_still net inputs rooms stations) stations k station all is)
+
+  -- what a node has got is kept for good there
+  got_within : (channel k : ℕ) → got_at channel (slice_get stations k) ≤ kept_at channel (slice_get stations k)
+  got_within channel k = at (slice_get stations k) refl
+    where
+      at : (o : Option StationView) → slice_get stations k ≡ o → got_at channel o ≤ kept_at channel o
+      at None is = omega arith
+      at (Some station) is =
+          (let node = still_at k station is in
+          subst (λ (o : Option RunningNode). got_by channel o ≤ kept_by channel o) (sym node.1)
+          (got_is_kept node.0.current node.0.kept.permanent node.2.rose channel))
+
+  -- nothing is under way on its channels
+  none_comes : (outputs : List OutputView) (node : RunningNode) → IsAtRest net inputs rooms stations outputs node
+      → (channel : ℕ) → is_coming net stations node.inboxes channel ≡ false
+  none_comes outputs node rest channel =
+      at (find (λ (inbox : Inbox). inbox.channel == channel) node.inboxes) refl
+    where
+      at : (o : Option Inbox) → find (λ (inbox : Inbox). inbox.channel == channel) node.inboxes ≡ o
+          → is_coming net stations node.inboxes channel ≡ false
+      at None is = ap (comes_to net stations) is
+      at (Some inbox) is =
+          (let place = find_within (λ (i : Inbox). i.channel == channel) node.inboxes inbox is in
+          let come = all_at (has_come_from net stations) node.inboxes place.0 inbox rest.come place.1 in
+          ap (comes_to net stations) is ∙ ap not come)
+
+  none_leaves : (outputs : List OutputView) (node : RunningNode) → IsAtRest net inputs rooms stations outputs node
+      → (channel : ℕ) → is_leaving net stations node outputs channel ≡ false
+  none_leaves outputs node rest channel =
+      or_from
+      (has_what_was_got net stations node.current (find (λ (o : Outbox). o.channel == channel) node.outboxes))
+      (lacks_items node.current (find (λ (o : OutputView). o.channel == channel) outputs))
+      (log (find (λ (o : Outbox). o.channel == channel) node.outboxes) refl)
+      (outlet (find (λ (o : OutputView). o.channel == channel) outputs) refl)
+    where
+      log : (o : Option Outbox) → find (λ (o : Outbox). o.channel == channel) node.outboxes ≡ o
+          → has_what_was_got net stations node.current (find (λ (o : Outbox). o.channel == channel) node.outboxes)
+          ≡ false
+      log None is = ap (has_what_was_got net stations node.current) is
+      log (Some outbox) is =
+          (let place = find_within (λ (o : Outbox). o.channel == channel) node.outboxes outbox is in
+          let gone = all_at (has_let_go net stations node.current) node.outboxes place.0 outbox rest.gone place.1 in
+          let to = consumer_node net outbox.channel in
+          let kept = leb-true (kept_at outbox.channel (slice_get stations to))
+          (base_of node.current outbox.channel) gone in
+          let got = got_within outbox.channel to in
+          ap (has_what_was_got net stations node.current) is
+          ∙ le-ltb (base_of node.current outbox.channel) (got_at outbox.channel (slice_get stations to))
+          (omega (arith, kept, got)))
+
+      outlet : (o : Option OutputView) → find (λ (o : OutputView). o.channel == channel) outputs ≡ o
+          → lacks_items node.current (find (λ (o : OutputView). o.channel == channel) outputs) ≡ false
+      outlet None is = ap (lacks_items node.current) is
+      outlet (Some output) is =
+          (let place = find_within (λ (o : OutputView). o.channel == channel) outputs output is in
+          let left = left_at node.current outputs place.0 output rest.left place.1 in
+          ap (lacks_items node.current) is
+          ∙ le-ltb (length output.taken) (sent_of node.current output.channel) (omega (arith, left)))
+
+  -- ---- a process at such a station
+
+  -- It doesn't go on; and where its node may grant a job, and it could go on if channels had all the room that they may
+  -- have, it is held for want of it.
+  record StaysPut (node : RunningNode) (could : Bool) (stance : Stance) : Type 0 where
+    pub stays : is_going stance ≡ false
+    pub held : may_grant node ≡ true → could ≡ true → (c : ℕ) × (stance ≡ Held c)
+
+  stays_put : (c : ℕ) (b : Bool) → is_going (cond b (Held c) (Full c)) ≡ false
+  stays_put c true = refl
+  stays_put c false = refl
+
+  none_out : (n : ℕ) (o : Option JobView) → is_none o ≡ true → is_of n o ≡ false
+  none_out n None is = refl
+  none_out n (Some job) is = absurd (cc)
+
+  module _ (outputs : List OutputView) (node : RunningNode) (rest : IsAtRest net inputs rooms stations outputs node)
+      (k : ℕ) (saved : SavedProcessView) (is : slice_get node.current.processes k ≡ Some saved)
+      (below : saved.number < length net.codes) where
+    -- what it does next can't be done
+    not_ready : may_grant node ≡ true → (next : Next)
+        → next_at (slice_get net.codes saved.number) saved.standing ≡ next
+        → can_go net inputs (retained_share rooms node.current) node.current node.inboxes next ≡ true → ⊥
+    not_ready may next comes can =
+        let ready : is_ready net inputs (retained_share rooms node.current) node.current node.inboxes saved ≡ true =
+        ap (can_go net inputs (retained_share rooms node.current) node.current node.inboxes) comes ∙ can in
+        let job = job_there net inputs (retained_share rooms node.current) node k saved may is below ready in
+        let bad : true ≡ false = sym job ∙ rest.none in
+        absurd (cc)
+
+    before_still : may_grant node ≡ true → (next : Next)
+        → next_at (slice_get net.codes saved.number) saved.standing ≡ next
+        → StaysPut node (can_go net inputs (full_share node.current) node.current node.inboxes next)
+        (stance_before net inputs rooms stations node outputs next)
+    before_still may Begins comes = absurd (not_ready may Begins comes refl)
+    before_still may NoNext comes = record { stays = refl; held = λ grants could. absurd (cc) }
+    before_still may (Gets c) comes =
+        at (has_item inputs node.current node.inboxes c (slice_get net.channels c)) refl (not_ready may (Gets c) comes)
+      where
+        at : (b : Bool) → has_item inputs node.current node.inboxes c (slice_get net.channels c) ≡ b
+            → (has_item inputs node.current node.inboxes c (slice_get net.channels c) ≡ true → ⊥)
+            → StaysPut node (has_item inputs node.current node.inboxes c (slice_get net.channels c))
+            (stance_before net inputs rooms stations node outputs (Gets c))
+        at true has never = absurd (never has)
+        at false has never = record {
+          stays =
+              ap (λ (b : Bool). is_going (cond b GoesOn (Waits c)))
+              (or_from (has_item inputs node.current node.inboxes c (slice_get net.channels c))
+              (is_coming net stations node.inboxes c) has (none_comes outputs node rest c));
+          held = λ grants could. absurd (never could);
+        }
+    before_still may (Puts c) comes =
+        at (has_room (retained_share rooms node.current) node.current c (slice_get net.channels c)) refl
+        (not_ready may (Puts c) comes)
+      where
+        full : Bool
+        full = has_room (full_share node.current) node.current c (slice_get net.channels c)
+
+        at : (b : Bool) → has_room (retained_share rooms node.current) node.current c (slice_get net.channels c) ≡ b
+            → (has_room (retained_share rooms node.current) node.current c (slice_get net.channels c) ≡ true → ⊥)
+            → StaysPut node full (stance_before net inputs rooms stations node outputs (Puts c))
+        at true has never = absurd (never has)
+        at false has never =
+            (let none : (has_room (retained_share rooms node.current) node.current c (slice_get net.channels c) ||
+            is_leaving net stations node outputs c) ≡ false =
+            or_from (has_room (retained_share rooms node.current) node.current c (slice_get net.channels c))
+            (is_leaving net stations node outputs c) has (none_leaves outputs node rest c) in
+            let put : stance_before net inputs rooms stations node outputs (Puts c) ≡ cond full (Held c) (Full c) =
+            ap (λ (b : Bool). cond b GoesOn (cond full (Held c) (Full c))) none in
+            record {
+              stays = ap is_going put ∙ stays_put c full;
+              held = λ grants could. (c, put ∙ ap (λ (b : Bool). cond b (Held c) (Full c)) could);
+            })
+
+    in_still : StaysPut node
+        (can_go net inputs (full_share node.current) node.current node.inboxes
+        (next_at (slice_get net.codes saved.number) saved.standing))
+        (stance_in net inputs rooms stations node outputs saved)
+    in_still = at (nat_lt node.version MAX_COUNT) refl
+      where
+        next : Next
+        next = next_at (slice_get net.codes saved.number) saved.standing
+
+        before : Stance
+        before = stance_before net inputs rooms stations node outputs next
+
+        could : Bool
+        could = can_go net inputs (full_share node.current) node.current node.inboxes next
+
+        free : stance_in net inputs rooms stations node outputs saved
+            ≡ cond (nat_lt node.version MAX_COUNT) before Ended
+        free =
+            ap (λ (b : Bool). cond b GoesOn (cond (nat_lt node.version MAX_COUNT) before Ended))
+            (none_out saved.number node.out rest.idle)
+
+        at : (b : Bool) → nat_lt node.version MAX_COUNT ≡ b
+            → StaysPut node could (stance_in net inputs rooms stations node outputs saved)
+        at true early =
+            let may =
+            and_from (is_none node.kept.tentative) (is_none node.out && nat_lt node.version MAX_COUNT) rest.free
+            (and_from (is_none node.out) (nat_lt node.version MAX_COUNT) rest.idle early) in
+            let found = before_still may next refl in
+            let same = free ∙ ap (λ (b : Bool). cond b before Ended) early in
+            record {
+              stays = ap is_going same ∙ found.stays;
+              held = λ grants can. (let one = found.held grants can in (one.0, same ∙ one.1));
+            }
+        at false late =
+            (let same = free ∙ ap (λ (b : Bool). cond b before Ended) late in
+            record {
+              stays = ap is_going same;
+              held = λ grants can. (let bad : true ≡ false =
+              sym (and_parts (is_none node.out) (nat_lt node.version MAX_COUNT)
+              (and_parts (is_none node.kept.tentative) (is_none node.out && nat_lt node.version MAX_COUNT) grants).1).1
+              ∙ late in absurd (cc));
+            })
+
+  -- ---- nobody goes on
+
+  -- how a process stands, by what is there
+  stance_is : (p : ℕ) (code : Code) (station : StationView) (node : RunningNode) (saved : SavedProcessView)
+      → slice_get net.codes p ≡ Some code → slice_get stations code.node ≡ Some station
+      → running_of station.node ≡ Some node
+      → find (λ (s : SavedProcessView). s.number == p) node.current.processes ≡ Some saved
+      → stance_of net inputs rooms stations p
+      ≡ stance_in net inputs rooms stations node (outputs_of station.outlets) saved
+  stance_is p code station node saved coded there runs found =
+      ap (stance_with net inputs rooms stations p) coded
+      ∙ (ap (stance_at net inputs rooms stations p) there
+      ∙ (ap (stance_on net inputs rooms stations p (outputs_of station.outlets)) runs
+      ∙ ap (stance_there net inputs rooms stations node (outputs_of station.outlets)) found))
+
+  nobody_goes : (p : ℕ) → is_going (stance_of net inputs rooms stations p) ≡ false
+  nobody_goes p = coded (slice_get net.codes p) refl
+    where
+      coded : (o : Option Code) → slice_get net.codes p ≡ o → is_going (stance_of net inputs rooms stations p) ≡ false
+      coded None is = ap (λ (o : Option Code). is_going (stance_with net inputs rooms stations p o)) is
+      coded (Some code) is = there (slice_get stations code.node) refl
+        where
+          there : (o : Option StationView) → slice_get stations code.node ≡ o
+              → is_going (stance_of net inputs rooms stations p) ≡ false
+          there None at =
+              ap (λ (o : Option Code). is_going (stance_with net inputs rooms stations p o)) is
+              ∙ ap (λ (o : Option StationView). is_going (stance_at net inputs rooms stations p o)) at
+          there (Some station) at =
+              found (still_at code.node station at).0 (still_at code.node station at).1 (still_at code.node station at).2
+              (find (λ (s : SavedProcessView). s.number == p) (still_at code.node station at).0.current.processes) refl
+            where
+              found : (node : RunningNode) → running_of station.node ≡ Some node
+                  → IsAtRest net inputs rooms stations (outputs_of station.outlets) node
+                  → (o : Option SavedProcessView)
+                  → find (λ (s : SavedProcessView). s.number == p) node.current.processes ≡ o
+                  → is_going (stance_of net inputs rooms stations p) ≡ false
+              found node runs rest None here =
+                  ap is_going
+                  (ap (stance_with net inputs rooms stations p) is
+                  ∙ (ap (stance_at net inputs rooms stations p) at
+                  ∙ (ap (stance_on net inputs rooms stations p (outputs_of station.outlets)) runs
+                  ∙ ap (stance_there net inputs rooms stations node (outputs_of station.outlets)) here)))
+              found node runs rest (Some saved) here =
+                  (let place = find_within (λ (s : SavedProcessView). s.number == p) node.current.processes saved here in
+                  let number : saved.number ≡ p =
+                  found_is (λ (s : SavedProcessView). s.number) node.current.processes p saved here in
+                  let within = slice_get_within net.codes p code is in
+                  ap is_going (stance_is p code station node saved is at runs here)
+                  ∙ (in_still (outputs_of station.outlets) node rest place.0 saved place.1
+                  (omega (arith, number, within))).stays)
+
+-- ---- and one is held
+
+-- where there is room at all, there is with all the room that channels may have
+fuller : (net : Network) (inputs : List (List ℤ)) (rooms : List ℕ) (image : ImageView) (inboxes : List Inbox)
+    (next : Next) → can_go net inputs (retained_share rooms image) image inboxes next ≡ true
+    → can_go net inputs (full_share image) image inboxes next ≡ true
+fuller net inputs rooms image inboxes Begins can = can
+fuller net inputs rooms image inboxes (Gets c) can = can
+fuller net inputs rooms image inboxes NoNext can = can
+fuller net inputs rooms image inboxes (Puts c) can = at (slice_get net.channels c) can
+  where
+    at : (o : Option Channel) → has_room (retained_share rooms image) image c o ≡ true
+        → has_room (full_share image) image c o ≡ true
+    at None can = can
+    at (Some ends) can =
+        (let some = ltb-true 0 (room_of (retained_share rooms image c) image c) can in
+        let few = fewer_places (retained_share rooms image c) (log_share image) (log_of image c)
+        (min-le_right (slice_index rooms c) (log_share image)) in
+        lt-ltb 0 (room_of (log_share image) image c) (omega (arith, some, few)))
+
+-- a node that runs has its record
+kept_there : (node : NodeView) (running : RunningNode) → running_of node ≡ Some running → running.kept ≡ node.kept
+kept_there node running is = at node.mode is
+  where
+    at : (mode : ModeView) → running_in node.kept node.version mode ≡ Some running → running.kept ≡ node.kept
+    at Down is = absurd (cc)
+    at InDoubt is = absurd (cc)
+    at (Runs r) is =
+        (let same : running_node node.kept node.version r ≡ running = cc in
+        sym (ap (λ (n : RunningNode). n.kept) same))
+
+-- a process on a node has its code there
+code_there : (net : Network) (home p : ℕ) → has_process net home p ≡ true
+    → (code : Code) × (slice_get net.codes p ≡ Some code) × (code.node ≡ home)
+code_there net home p has = at (slice_get net.codes p) refl has
+  where
+    at : (o : Option Code) → slice_get net.codes p ≡ o → is_on home o ≡ true
+        → (code : Code) × (slice_get net.codes p ≡ Some code) × (code.node ≡ home)
+    at None is on = absurd (cc)
+    at (Some code) is on = (code, is, eqb-true code.node home on)
+
+-- one of the stations that stand still has a process that is held, where it could grant a job with more room
+one_is_held : (net : Network) (inputs : List (List ℤ)) (rooms : List ℕ) (stations : List StationView)
+    → list_all (is_still net inputs rooms stations) stations ≡ true → IsNumbered stations → AreSound net inputs stations
+    → (k : ℕ) (station : StationView) → slice_get stations k ≡ Some station
+    → wants_room net inputs station ≡ true
+    → (p c : ℕ) × (p < length net.codes) × (stance_of net inputs rooms stations p ≡ Held c)
+one_is_held net inputs rooms stations all numbered sound k station is wants =
+    at (still_at net inputs rooms stations all k station is)
+  where
+    at : ((node : RunningNode) × (running_of station.node ≡ Some node)
+        × IsAtRest net inputs rooms stations (outputs_of station.outlets) node)
+        → (p c : ℕ) × (p < length net.codes) × (stance_of net inputs rooms stations p ≡ Held c)
+    at (node, runs, rest) =
+        let even = even_rooms MAX_RETAINED_ITEMS in
+        let share = retained_share even node.current in
+        let job : is_some (job_up_to net inputs share node) ≡ true =
+        sym (ap (λ (o : Option RunningNode). is_some (job_at net inputs even o)) runs) ∙ wants in
+        let says = job_says net inputs share node job in
+        let saved = says.2 in
+        let laid = (sound k station is).runs node runs in
+        let home = node.kept.node in
+        let mark = where_mark (λ (s : SavedProcessView). s.number) (has_process net home) 0 (length net.codes)
+        node.current.processes says.1 saved laid.sound.kept.laid_out.processes says.3 in
+        let found = where_find (λ (s : SavedProcessView). s.number) (has_process net home) 0 (length net.codes)
+        node.current.processes says.1 saved laid.sound.kept.laid_out.processes says.3 in
+        let below : saved.number < length net.codes = omega (arith, mark.2) in
+        let code = code_there net home saved.number mark.0 in
+        let here : code.0.node ≡ k =
+        code.2 ∙ (ap (λ (r : RecordView). r.node) (kept_there station.node node runs) ∙ (numbered k station is).1) in
+        let put = in_still net inputs rooms stations all (outputs_of station.outlets) node rest says.1 saved says.3
+        below in
+        let held = put.held says.0
+        (fuller net inputs even node.current node.inboxes (next_at (slice_get net.codes saved.number) saved.standing)
+        says.4) in
+        (saved.number, held.0, below,
+        stance_is net inputs rooms stations all saved.number code.0 station node saved code.1
+        (ap (slice_get stations) here ∙ is) runs found
+        ∙ held.1)
+
+-- Where a world stands still for want of room, a channel needs more.
+pub some_need : (world : WorldView) → WorldInvariant world → stands_still world ≡ true
+    → (c : ℕ) × (needed_at world ≡ Some c)
+some_need world inv still =
+    let all = list_all (is_still world.net world.inputs world.rooms world.stations) world.stations in
+    let any = list_any (wants_room world.net world.inputs) world.stations in
+    let parts = and_parts all any still in
+    let one = Any-from_list_any (wants_room world.net world.inputs) world.stations parts.1 in
+    let there : slice_get world.stations one.0 ≡ Some one.1 =
+    slice_get-get_or world.stations one.0 one.1 one.2 ∙ ap Some one.3 in
+    let held =
+    one_is_held world.net world.inputs world.rooms world.stations parts.0 inv.numbered inv.stations one.0 one.1 there
+    one.4 in
+    held_needs world.net (stance_of world.net world.inputs world.rooms world.stations) held.0 held.1
+    (nobody_goes world.net world.inputs world.rooms world.stations parts.0) held.2 held.3
