@@ -4,7 +4,7 @@ use Rattle.outlet.specs.declared.outlet.Outlet.{Ghosts as OutletWords}
 use Rattle.protocol.specs.Node.Common.{Network}
 use Rattle.replay.specs.declared.kept.ScriptedEvent.{ScriptedEvent}
 use Rattle.station.specs.declared.output.Output.{Output}
-use Rattle.cobaltmidge.specs.Remaining.{HasOutputs, IsLeft}
+use Rattle.cobaltmidge.specs.Remaining.{HasOutputs, IsFar, IsLeft}
 use Rattle.cobaltmidge.specs.declared.settings.Settings.{Settings}
 use Rattle.cobaltmidge.specs.declared.unfinished.Left.{Left}
 use Rattle.cobaltmidge.specs.declared.unfinished.Left.TheVariants as left
@@ -15,3 +15,10 @@ pub left_outputs : {O : Type 0} {outlet : OutletWords O} (settings : Settings) (
     → IsLeft settings net inputs script outputs it
 left_outputs settings net inputs script outputs (left.Outputs back) has = has
 left_outputs settings net inputs script outputs (left.World world history) has = absurd has
+
+-- of one that began how far it came
+pub far_of : {O : Type 0} {outlet : OutletWords O} (settings : Settings) (net : Network) (inputs : List (List ℤ))
+    (script : List ScriptedEvent) (outputs : List (Output O)) (it : Left O outlet) → IsLeft settings net inputs script outputs it
+    → IsFar settings net inputs script it
+far_of settings net inputs script outputs (left.Outputs back) is = tt
+far_of settings net inputs script outputs (left.World world history) is = is

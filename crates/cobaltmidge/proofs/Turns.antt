@@ -44,7 +44,8 @@ use Rattle.runtime.specs.Turning.{EndsByTurns, IsRunByTurns}
 use Rattle.runtime.specs.declared.ending.RunEnd.{RunEnd}
 use Rattle.runtime.specs.declared.ending.RunEnd.TheVariants.{Complete, Rounds, Items, Refused, Stopped}
 use Rattle.cobaltmidge.specs.FirstWorld.{first_world, HasNoFailures, IsRunRoom, nearest_room, run_rooms, unused_outlet}
-use Rattle.cobaltmidge.specs.Failing.{HasFailedAtOnce, IsRunFault, store_fault}
+use Rattle.runtime.specs.Logs.{HubFault}
+use Rattle.cobaltmidge.specs.Failing.{HasFailedAtOnce, hub_fault, IsRunFault, store_fault}
 use Rattle.cobaltmidge.specs.Runs.{HasCome, IsEnd, bounds_of}
 use Rattle.cobaltmidge.specs.declared.settings.Settings.{Settings}
 
@@ -228,8 +229,7 @@ pub ended_so : {C O : Type 0} {cell : CellWords C} {slots : SlotWords C} (taken 
     → IsEnd settings net inputs script happened now
 ended_so taken failures stations settings net inputs script happened first now end nodes room same opened many unrefused run leads turns
     rounds = record {
-      run = come.run;
-      history = come.history;
+      come = come_so taken failures stations settings net inputs script happened first now room same opened run leads;
       turns = λ by_turns. subst (λ (w : WorldView). IsRunByTurns (is_over w.net.channels (bounds_of settings)) (node_count net)
           (run_rooms w.stations) script w now) opened
           (subst (λ (n : ℕ). IsRunByTurns (is_over first.net.channels (bounds_of settings)) n (run_rooms first.stations) script first now) many
@@ -241,13 +241,15 @@ ended_so taken failures stations settings net inputs script happened first now e
     fitting : rooms stations ≡ run_rooms first.stations
     fitting = rooms_are taken failures stations room ∙ ap run_rooms (sym same)
 
-    come : HasCome settings net inputs script happened now
-    come = come_so taken failures stations settings net inputs script happened first now room same opened run leads
-
 pub if_ok_then : {T E : Type 0} (P Q : T → Type 0) (result : Result T E) → ((value : T) → P value → Q value)
     → IfOk result P → IfOk result Q
 if_ok_then P Q (Err e) go holds = tt
 if_ok_then P Q (Ok value) go holds = go value holds
+
+-- what a hub refuses is a run's fault
+pub of_hub : (fault : HubFault) → IsRunFault true (hub_fault fault)
+of_hub hub.NoMemory = tt
+of_hub hub.PastNumber = refl
 
 -- what holds of an end that was told, where no call was refused
 pub of_end : {T E : Type 0} (P Q : T → Type 0) (result : Result T E) (ended : T) → IfOk result (λ now. now ≡ ended) → IfOk result P

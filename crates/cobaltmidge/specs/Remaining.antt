@@ -18,10 +18,15 @@ module _ {O : Type 0} {outlet : OutletWords O} where
   HasOutputs outputs (left.Outputs back) = back.items ≡ outputs
   HasOutputs outputs (left.World world history) = ⊥
 
+  -- of a run that began, what have left are prefixes of the outputs' histories in one approximation, and a history of the run leads to its world
+  abbrev pub IsFar : Settings → Network → List (List ℤ) → List ScriptedEvent → Left O outlet → Type 0
+  IsFar settings net inputs script (left.Outputs back) = Unit {0}
+  IsFar settings net inputs script (left.World world history) =
+      IsRun net inputs (released_streams net (world_of world).stations) (are_quiet (world_of world))
+      × HasCome settings net inputs script (happenings history.lines.items) (world_of world)
+
   -- Where the run didn't begin its outlets come back as they were handed in. Else what has left are prefixes of the outputs' histories in one
   -- approximation, and a history of the run leads to its world.
   abbrev pub IsLeft : Settings → Network → List (List ℤ) → List ScriptedEvent → List (Output O) → Left O outlet → Type 0
   IsLeft settings net inputs script outputs (left.Outputs back) = back.items ≡ outputs
-  IsLeft settings net inputs script outputs (left.World world history) =
-      IsRun net inputs (released_streams net (world_of world).stations) (are_quiet (world_of world))
-      × HasCome settings net inputs script (happenings history.lines.items) (world_of world)
+  IsLeft settings net inputs script outputs (left.World world history) = IsFar settings net inputs script (left.World world history)

@@ -59,16 +59,12 @@ pub record HasCome (settings : Settings) (net : Network) (inputs : List (List �
     pub history : settings.history ≡ true
         → LeadsTo (run_rooms (first_world net inputs settings.room).stations) script (first_world net inputs settings.room) happened now
 
--- How a run comes to its end. A history leads there from the opening world: each event of it is one that was next for its node, a turn that came
--- back to its node, or the event of the script's next line. Where the history is kept, it is that one. By turns it is also fixed which event
--- comes when, the same whether the history is kept or not, and that turns were taken until the run was over. By threads no round begins behind
--- the last one.
+-- How a run comes to its end. By turns it is also fixed which event comes when, the same whether the history is kept or not, and that turns were
+-- taken until the run was over. By threads no round begins behind the last one.
 pub record IsEnd (settings : Settings) (net : Network) (inputs : List (List ℤ)) (script : List ScriptedEvent) (happened : List Happening)
     (now : WorldView) : Type 0
   where
-    pub run : HasRun (run_rooms (first_world net inputs settings.room).stations) script (first_world net inputs settings.room) now
-    pub history : settings.history ≡ true
-        → LeadsTo (run_rooms (first_world net inputs settings.room).stations) script (first_world net inputs settings.room) happened now
+    pub come : HasCome settings net inputs script happened now
     pub turns : settings.threads ≡ false
         → IsRunByTurns (is_over net.channels (bounds_of settings)) (node_count net)
         (run_rooms (first_world net inputs settings.room).stations) script (first_world net inputs settings.room) now

@@ -14,7 +14,7 @@ ghost use Rattle.cobaltmidge.specs.Failing.{IsRunFault};
 ghost use Rattle.cobaltmidge.specs.Names.{script_of};
 ghost use Rattle.cobaltmidge.specs.Runs.{IsEnd, IsRun, bounds_of, released_streams};
 ghost use Rattle.cobaltmidge.specs.FirstWorld.{HasNoFailures};
-ghost use Rattle.cobaltmidge.specs.Remaining.{IsLeft};
+ghost use Rattle.cobaltmidge.specs.Remaining.{IsFar, IsLeft};
 
 use crate::fault::RunFault;
 use crate::finished::Finished;
@@ -188,6 +188,10 @@ impl<'a> Run<'a> {
         ensures settings { IfOk result (λ finished. finished.settings ≡ self.entry.settings) }
         // A device failed (20), memory is missing (1), or what is counted would pass 2^63 - 1 (44).
         ensures err { IfErr result (λ unfinished. IsRunFault true unfinished.fault) }
+        // And then, where it began, the world to which it came, with what happened.
+        ensures left { IfErr result (λ unfinished. IsFar self.entry.settings
+            (network_of self.entry.network.now.net.value.program) self.entry.inputs (script_of self.entry.script)
+            unfinished.left) }
     {
         let Ok(outputs) = outputs_in_memory(alloc, &self.network.net) else {
             return Err(Unfinished {

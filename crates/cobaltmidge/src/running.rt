@@ -5,15 +5,15 @@ ghost use Rattle.std.specs.List.{AllByRecursion};
 ghost use Rattle.protocol.specs.Node.Common.{Fits, network_of};
 ghost use Rattle.protocol.specs.World.Common.{are_quiet, output_channels};
 ghost use Rattle.replay.specs.Replay.{LeadsTo};
-ghost use Rattle.runtime.specs.Logs.{HasRun, happenings};
+ghost use Rattle.runtime.specs.Logs.{HasRun, HubFault, happenings};
 ghost use Rattle.runtime.specs.Beginning.{HasBegun};
 ghost use Rattle.runtime.specs.Causes.{last_round};
 ghost use Rattle.runtime.specs.Ending.{IsOver, is_over, was_refused};
 ghost use Rattle.runtime.specs.Turning.{EndsByTurns};
-ghost use Rattle.runtime.specs.declared.ending.RunEnd.TheVariants.{Stopped};
+ghost use Rattle.runtime.specs.declared.ending.RunEnd.TheVariants.{Refused, Stopped};
 ghost use Rattle.world.specs.WholeView.{net_in, nodes_in, rooms_in, world_of};
 ghost use Rattle.world.specs.OpeningWorld.{IsUnused};
-ghost use Rattle.cobaltmidge.specs.Failing.{IsRunFault};
+ghost use Rattle.cobaltmidge.specs.Failing.{hub_fault, IsRunFault};
 ghost use Rattle.cobaltmidge.specs.FirstWorld.{HasNoFailures};
 ghost use Rattle.cobaltmidge.specs.Runs.{IsEnd, IsRun, bounds_of, released_streams};
 ghost use Rattle.cobaltmidge.specs.Remaining.{IsLeft};
@@ -37,7 +37,8 @@ use world::{Output, node_count};
 fn came_to<O: Outlet>(ended: RunEnded<O>) -> Result<RunEnded<O>, Unfinished<O>>
     ensures same { IfOk result (λ now. now ≡ ended) }
     ensures unrefused { IfOk result (λ now. was_refused now.end ≡ false) }
-    ensures err { IfErr result (λ unfinished. IsRunFault true unfinished.fault) }
+    ensures err { IfErr result (λ unfinished. (fault : HubFault) × (ended.end ≡ Refused fault)
+        × (unfinished.fault ≡ hub_fault fault)) }
     ensures left { IfErr result (λ unfinished. unfinished.left ≡ left.World ended.world ended.history) }
 {
     match ended.end {
@@ -88,7 +89,8 @@ fn run_to_end<O: Outlet + Send, W: RunWatch + TurnWatch + Sync, R: Threads + Wai
 
 /// Runs a network on its inputs by the events of a script, as the settings say, until nothing is left to do, the rounds are over, or
 /// each output has the items that are asked for: by these outlets, each of which took nothing yet. Gives the world at its end, what
-/// happened, where that is to be kept, and why the run ended. A run that comes to no end hands back what is left of it. `watch` looks at the run meanwhile (`&mut NoWatch` where nobody does).
+/// happened, where that is to be kept, and why the run ended. A run that comes to no end hands back what is left of it. `watch` looks at the
+/// run meanwhile (`&mut NoWatch` where nobody does).
 pub fn run_network<O: Outlet + Send, W: RunWatch + TurnWatch + Sync, R: Threads + Wait + Sync>(
     rt: &R,
     alloc: Global,

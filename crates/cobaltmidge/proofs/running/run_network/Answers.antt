@@ -1,4 +1,4 @@
-use Rattle.std.proofs.Common.{true, false, ◌≡◌, ◌∙◌, ℕ, length, ap, sym, refl}
+use Rattle.std.proofs.Common.{true, false, ◌≡◌, ◌∙◌, ℕ, length, ap, sym, refl, subst}
 use Rattle.std.proofs.Math.Logic.{∥∥₁_map}
 use Rattle.std.proofs.lemmas.List.{length-map}
 use Rattle.std.proofs.lemmas.Result.{IfErr-weaker, err_from_is_err_and}
@@ -8,13 +8,14 @@ use Rattle.runtime.specs.Ending.{was_refused}
 use Rattle.station.specs.StationView.{station_view}
 use Rattle.world.specs.WholeView.{nodes_in, world_of}
 use Rattle.runtime.specs.Logs.{happenings}
+use Rattle.cobaltmidge.specs.Failing.{IsRunFault}
 use Rattle.cobaltmidge.specs.Runs.{IsEnd, IsRun, released_streams}
 use Rattle.cobaltmidge.proofs.Streams.{run_at_end}
 use Rattle.cobaltmidge.specs.Remaining.{IsLeft}
 use Rattle.cobaltmidge.specs.declared.unfinished.Left.TheVariants as left
 use Rattle.cobaltmidge.specs.declared.unfinished.Unfinished.{Unfinished}
 use Rattle.cobaltmidge.proofs.Remaining.{left_outputs}
-use Rattle.cobaltmidge.proofs.Turns.{come_so, ended_so, of_end, run_stays}
+use Rattle.cobaltmidge.proofs.Turns.{come_so, ended_so, of_end, of_hub, run_stays}
 use Rattle.cobaltmidge.proofs.running.run_network.Goals as goal
 
 pub returns-in_err-world-clause-err : goal.returns-in_err-world-clause-err
@@ -27,6 +28,11 @@ returns-in_err-world-clause-left g c =
     let p = err_from_is_err_and c.from_residual.result c.from_residual.ensures.1 in
     rw (p.1, p.2) (left_outputs c.args.settings (network_of c.args.net.now.value.program) c.args.inputs c.args.script.items c.args.outputs.items
     _ c.in_err-world.ensures.handed_back)
+
+pub returns-clause-err : goal.returns-clause-err
+returns-clause-err g c =
+    IfErr-weaker c.came_to.result _ (λ (unfinished : Unfinished _ _). IsRunFault true unfinished.fault)
+    (λ unfinished is. subst (IsRunFault true) (sym is.2) (of_hub is.0)) c.came_to.ensures.err
 
 -- how far a run came that was refused
 pub returns-clause-left : goal.returns-clause-left
