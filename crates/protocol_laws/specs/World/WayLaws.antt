@@ -1,13 +1,17 @@
 -- Laws of the ways on which processes wait for others: where nobody goes on, one that is held for want of room shows which
 -- channel needs it.
-use Rattle.std.proofs.Common.{◌≡◌, ◌≢◌, ◌⊎◌, inl, inr, ℕ, zero, suc, ◌+◌, ◌<◌, ◌≤◌, Bool, true, false, ◌||◌, cond, List, [], ◌∷◌}
+use Rattle.std.proofs.Common.{◌≡◌, ◌≢◌, ◌⊎◌, inl, inr, ℕ, zero, suc, ◌+◌, ◌<◌, ◌≤◌, Bool, true, false, ◌||◌, cond, eqb, List, [], ◌∷◌}
 use Rattle.std.proofs.Common.{length, Option, Some, None, refl, sym, ap, ◌∙◌, arith}
-use Rattle.std.proofs.lemmas.Bool.{cases_eq}
-use Rattle.std.specs.List.{list_any}
+use Rattle.std.proofs.lemmas.Bool.{cases_eq, cases_Bool, eqb-true, or_parts}
+use Rattle.std.proofs.lemmas.List.Folds.{Any-from_list_any}
+use Rattle.std.proofs.lemmas.Map.Steps.{length-le_from_distinct_below}
+use Rattle.std.proofs.lemmas.Option.{slice_get_cases, slice_get_within, slice_get-get_or}
+use Rattle.std.specs.List.{AllByRecursion, IsDistinct, list_any}
+use Rattle.std.specs.Prelude.{slice_get}
 use Rattle.protocol.specs.Node.Common.{Network}
 use Rattle.turns.specs.Turns.{or_else}
 use Rattle.protocol.specs.World.RoomNeeds.{is_going, held_on, awaited, way, last_held, need_on, way_from, first_of_any}
-use Rattle.protocol.specs.World.RoomNeeds.{need_by}
+use Rattle.protocol.specs.World.RoomNeeds.{IsLastHeld, NeedsRoom, need_by, onward}
 use Rattle.protocol.specs.declared.stance.Stance.{Stance}
 use Rattle.protocol.specs.declared.stance.Stance.TheVariants.{Held}
 
@@ -89,3 +93,61 @@ held_needs net stance p c none below is =
     ∙ last.1 in
     found_there (λ (q : ℕ). need_on stance (way_from net stance q)) 0 (length net.codes) p last.0 (omega arith)
     (omega (arith, below)) here
+
+-- ---- how far a way leads
+
+module _ (next : ℕ → Option ℕ) where
+  onward_none : (steps : ℕ) → onward next steps None ≡ None
+  onward_none zero = refl
+  onward_none (suc steps) = refl
+
+  -- so many steps, and so many more
+  onward_on : (steps more : ℕ) (from : Option ℕ)
+      → onward next (steps + more) from ≡ onward next more (onward next steps from)
+  onward_on zero more from = ap (λ (n : ℕ). onward next n from) (omega arith)
+  onward_on (suc steps) more None =
+      ap (λ (n : ℕ). onward next n None) (let e : suc steps + more ≡ suc (steps + more) = omega arith in e)
+      ∙ sym (onward_none more)
+  onward_on (suc steps) more (Some p) =
+      ap (λ (n : ℕ). onward next n (Some p)) (let e : suc steps + more ≡ suc (steps + more) = omega arith in e)
+      ∙ onward_on steps more (next p)
+
+  -- the list of a way has, in order, to whom it leads
+  way_at : (count steps : ℕ) (from : Option ℕ) → steps < count
+      → slice_get (way next count from) steps ≡ onward next steps from
+  way_at zero steps from below = absurd (omega (arith, below))
+  way_at (suc count) zero None below = refl
+  way_at (suc count) (suc steps) None below = refl
+  way_at (suc count) zero (Some p) below = refl
+  way_at (suc count) (suc steps) (Some p) below = way_at count steps (next p) (omega (arith, below))
+
+  way_length : (count : ℕ) (from : Option ℕ) → length (way next count from) ≤ count
+  way_length zero from = omega arith
+  way_length (suc count) None = omega arith
+  way_length (suc count) (Some p) = let few = way_length count (next p) in omega (arith, few)
+
+-- ---- numbers that come twice
+
+AreTwice : List ℕ → Type 0
+AreTwice xs = (i j x : ℕ) × (i < j) × (slice_get xs i ≡ Some x) × (slice_get xs j ≡ Some x)
+
+twice_or_distinct : (xs : List ℕ) → IsDistinct eqb xs ⊎ AreTwice xs
+unfolding AreTwice IsDistinct
+twice_or_distinct [] = inl tt
+twice_or_distinct (x ∷ xs) = at (cases_Bool (list_any (eqb x) xs)) (twice_or_distinct xs)
+  where
+    at : (list_any (eqb x) xs ≡ true) ⊎ (list_any (eqb x) xs ≡ false) → IsDistinct eqb xs ⊎ AreTwice xs
+        → IsDistinct eqb (x ∷ xs) ⊎ AreTwice (x ∷ xs)
+    at (inl again) rest =
+        let one = Any-from_list_any (eqb x) xs again in
+        let same : x ≡ one.1 = eqb-true x one.1 one.4 in
+        inr (0, suc one.0, x, omega arith, refl,
+        slice_get-get_or xs one.0 one.1 one.2 ∙ ap Some (one.3 ∙ sym same))
+    at (inr none) (inl distinct) = inl (all_apart xs none, distinct)
+      where
+        all_apart : (ys : List ℕ) → list_any (eqb x) ys ≡ false → AllByRecursion (λ (y : ℕ). eqb x y ≡ false) ys
+        all_apart [] other = tt
+        all_apart (y ∷ ys) other =
+            let parts = or_parts (eqb x y) (list_any (eqb x) ys) other in
+            (parts.0, all_apart ys parts.1)
+    at (inr none) (inr (i, j, y, less, first, second)) = inr (suc i, suc j, y, omega (arith, less), first, second)
