@@ -1,6 +1,6 @@
 -- Where a world stands still for want of room, some channel needs more; and a channel that needs more is one at which a put
 -- is held for want of it.
-use Rattle.std.proofs.Common.{◌≡◌, ◌⊎◌, inl, inr, ℕ, zero, suc, ◌+◌, ◌<◌, ◌≤◌, Bool, true, false, ◌&&◌, ◌||◌, ◌==◌, not}
+use Rattle.std.proofs.Common.{◌≡◌, ◌⊎◌, inl, inr, ℕ, zero, suc, ◌+◌, ◌-◌, ◌<◌, ◌≤◌, Bool, true, false, ◌&&◌, ◌||◌, ◌==◌, not}
 use Rattle.std.proofs.Common.{cond, ltb, eqb, ℤ, List, [], ◌∷◌, length, map, drop, get_or, Option, Some, None, is_some}
 use Rattle.std.proofs.Common.{option_map, refl, sym, ap, subst, ◌∙◌, arith}
 use Rattle.std.specs.Prelude.{slice_get, slice_index, find, IsTrue, min, nat_lt, nat_le}
@@ -17,13 +17,14 @@ use Rattle.kahn_net.specs.Common.{Next, Gets, Puts, NoNext}
 use Rattle.kahn_net.specs.NextActs.{Begins}
 use Rattle.protocol.specs.Node.Common.{Network, Code, Channel, ImageView, SavedProcessView, SavedEnd, RunningNode, JobView}
 use Rattle.protocol.specs.Node.Common.{running_in, running_node, running_of, ModeView, Down, InDoubt, Runs, RecordView, received_of, sent_of, base_of, is_none, may_grant, MAX_COUNT, NodeView}
-use Rattle.protocol.specs.Node.Common.{log_share, log_of, LogState, has_process, is_on, End, received_at}
+use Rattle.protocol.specs.Node.Common.{log_end, log_share, log_of, LogState, has_process, is_on, End, received_at}
 use Rattle.protocol.specs.Node.Addresses.{consumer_node}
 use Rattle.protocol.specs.Node.Choosing.{has_item, has_room, can_go, next_at, is_ready, ready_process, ready_processes}
 use Rattle.protocol.specs.Node.Choosing.{process_at, next_process, job_at, job_of, job_up_to, next_job}
 use Rattle.protocol.specs.Node.Granting.{room_in, room_of}
 use Rattle.protocol.specs.Node.Sharing.{even_rooms, full_share, retained_share}
 use Rattle.protocol.specs.Node.Layout.{is_node}
+use Rattle.protocol.specs.declared.limits.TheConstants.{MAX_JOB_ITEMS}
 use Rattle.protocol.specs.declared.links.Inbox.{Inbox}
 use Rattle.protocol.specs.declared.links.Outbox.{Outbox}
 use Rattle.protocol.specs.declared.stance.Stance.{Stance}
@@ -655,3 +656,195 @@ some_need world inv still =
     one.4 in
     held_needs world.net (stance_of world.net world.inputs world.rooms world.stations) held.0 held.1
     (nobody_goes world.net world.inputs world.rooms world.stations parts.0) held.2 held.3
+
+-- ---- what is held
+
+-- A process is held at a put on a channel for want of room: nothing is on its way out of the channel's log, there is no
+-- place in it, and there would be one if the channel had all the room that it may have.
+pub record PutIsHeld (world : WorldView) (p c : ℕ) : Type 0 where
+  pub code : Code
+  pub station : StationView
+  pub node : RunningNode
+  pub saved : SavedProcessView
+  pub coded : slice_get world.net.codes p ≡ Some code
+  pub there : slice_get world.stations code.node ≡ Some station
+  pub runs : running_of station.node ≡ Some node
+  pub found : find (λ (s : SavedProcessView). s.number == p) node.current.processes ≡ Some saved
+  pub next : next_at (slice_get world.net.codes saved.number) saved.standing ≡ Puts c
+  pub settled : is_leaving world.net world.stations node (outputs_of station.outlets) c ≡ false
+  pub no_place : has_room (retained_share world.rooms node.current) node.current c (slice_get world.net.channels c)
+      ≡ false
+  pub place : has_room (full_share node.current) node.current c (slice_get world.net.channels c) ≡ true
+
+-- what a process comes to that is held
+held_before : (world : WorldView) (node : RunningNode) (outputs : List OutputView) (c : ℕ) (next : Next)
+    → stance_before world.net world.inputs world.rooms world.stations node outputs next ≡ Held c
+    → (next ≡ Puts c)
+    × (is_leaving world.net world.stations node outputs c ≡ false)
+    × (has_room (retained_share world.rooms node.current) node.current c (slice_get world.net.channels c) ≡ false)
+    × (has_room (full_share node.current) node.current c (slice_get world.net.channels c) ≡ true)
+held_before world node outputs c Begins is = absurd (cc)
+held_before world node outputs c NoNext is = absurd (cc)
+held_before world node outputs c (Gets d) is =
+    at
+    (has_item world.inputs node.current node.inboxes d (slice_get world.net.channels d) ||
+    is_coming world.net world.stations node.inboxes d) is
+  where
+    at : (b : Bool) → cond b GoesOn (Waits d) ≡ Held c
+        → (Gets d ≡ Puts c)
+        × (is_leaving world.net world.stations node outputs c ≡ false)
+        × (has_room (retained_share world.rooms node.current) node.current c (slice_get world.net.channels c) ≡ false)
+        × (has_room (full_share node.current) node.current c (slice_get world.net.channels c) ≡ true)
+    at true bad = absurd (cc)
+    at false bad = absurd (cc)
+held_before world node outputs c (Puts d) is = at (now || leaves) refl full refl
+  where
+    now : Bool
+    now = has_room (retained_share world.rooms node.current) node.current d (slice_get world.net.channels d)
+
+    leaves : Bool
+    leaves = is_leaving world.net world.stations node outputs d
+
+    full : Bool
+    full = has_room (full_share node.current) node.current d (slice_get world.net.channels d)
+
+    stance : stance_before world.net world.inputs world.rooms world.stations node outputs (Puts d)
+        ≡ cond (now || leaves) GoesOn (cond full (Held d) (Full d))
+    stance = refl
+
+    at : (b : Bool) → (now || leaves) ≡ b → (f : Bool) → full ≡ f
+        → (Puts d ≡ Puts c)
+        × (is_leaving world.net world.stations node outputs c ≡ false)
+        × (has_room (retained_share world.rooms node.current) node.current c (slice_get world.net.channels c) ≡ false)
+        × (has_room (full_share node.current) node.current c (slice_get world.net.channels c) ≡ true)
+    at true some f fully =
+        let bad : GoesOn ≡ Held c =
+        sym (ap (λ (b : Bool). cond b GoesOn (cond full (Held d) (Full d))) some) ∙ is in
+        absurd (cc)
+    at false none false fully =
+        let bad : Full d ≡ Held c =
+        sym (ap (λ (b : Bool). cond b GoesOn (cond full (Held d) (Full d))) none
+        ∙ ap (λ (b : Bool). cond b (Held d) (Full d)) fully)
+        ∙ is in
+        absurd (cc)
+    at false none true fully =
+        let same_stance : Held d ≡ Held c =
+        sym (ap (λ (b : Bool). cond b GoesOn (cond full (Held d) (Full d))) none
+        ∙ ap (λ (b : Bool). cond b (Held d) (Full d)) fully)
+        ∙ is in
+        let same : d ≡ c = cc in
+        let parts = or_parts now leaves none in
+        (ap Puts same,
+        subst (λ (e : ℕ). is_leaving world.net world.stations node outputs e ≡ false) same parts.1,
+        subst (λ (e : ℕ). has_room (retained_share world.rooms node.current) node.current e
+        (slice_get world.net.channels e) ≡ false) same parts.0,
+        subst (λ (e : ℕ). has_room (full_share node.current) node.current e (slice_get world.net.channels e) ≡ true)
+        same fully)
+
+pub put_is_held : (world : WorldView) (p c : ℕ)
+    → stance_of world.net world.inputs world.rooms world.stations p ≡ Held c → PutIsHeld world p c
+put_is_held world p c is = coded (slice_get world.net.codes p) refl is
+  where
+    with_code : Option Code → Stance
+    with_code o = stance_with world.net world.inputs world.rooms world.stations p o
+
+    at_station : Option StationView → Stance
+    at_station o = stance_at world.net world.inputs world.rooms world.stations p o
+
+    coded : (o : Option Code) → slice_get world.net.codes p ≡ o → with_code o ≡ Held c → PutIsHeld world p c
+    coded None coded_is stance = absurd (cc)
+    coded (Some code) coded_is stance = there (slice_get world.stations code.node) refl stance
+      where
+        there : (o : Option StationView) → slice_get world.stations code.node ≡ o → at_station o ≡ Held c
+            → PutIsHeld world p c
+        there None there_is stance = absurd (cc)
+        there (Some station) there_is stance = runs (running_of station.node) refl stance
+          where
+            outputs : List OutputView
+            outputs = outputs_of station.outlets
+
+            runs : (o : Option RunningNode) → running_of station.node ≡ o
+                → stance_on world.net world.inputs world.rooms world.stations p outputs o ≡ Held c
+                → PutIsHeld world p c
+            runs None runs_is stance = absurd (cc)
+            runs (Some node) runs_is stance =
+                found (find (λ (s : SavedProcessView). s.number == p) node.current.processes) refl stance
+              where
+                found : (o : Option SavedProcessView)
+                    → find (λ (s : SavedProcessView). s.number == p) node.current.processes ≡ o
+                    → stance_there world.net world.inputs world.rooms world.stations node outputs o ≡ Held c
+                    → PutIsHeld world p c
+                found None found_is stance = absurd (cc)
+                found (Some saved) found_is stance =
+                    out (is_of saved.number node.out) (nat_lt node.version MAX_COUNT) stance
+                  where
+                    next : Next
+                    next = next_at (slice_get world.net.codes saved.number) saved.standing
+
+                    before : Stance
+                    before = stance_before world.net world.inputs world.rooms world.stations node outputs next
+
+                    out : (own early : Bool) → cond own GoesOn (cond early before Ended) ≡ Held c
+                        → PutIsHeld world p c
+                    out true early bad = absurd (cc)
+                    out false false bad = absurd (cc)
+                    out false true held =
+                        (let put = held_before world node outputs c next held in
+                        record {
+                          code = code;
+                          station = station;
+                          node = node;
+                          saved = saved;
+                          coded = coded_is;
+                          there = there_is;
+                          runs = runs_is;
+                          found = found_is;
+                          next = put.0;
+                          settled = put.1;
+                          no_place = put.2;
+                          place = put.3;
+                        })
+
+-- ---- more room makes a place
+
+-- a channel on which there is room at all is one of the network
+channel_there : (share : ℕ → ℕ) (image : ImageView) (channels : List Channel) (c : ℕ)
+    → has_room share image c (slice_get channels c) ≡ true → c < length channels
+channel_there share image channels c has = at (slice_get channels c) refl has
+  where
+    at : (o : Option Channel) → slice_get channels c ≡ o → has_room share image c o ≡ true → c < length channels
+    at None is bad = absurd (cc)
+    at (Some ends) is some = slice_get_within channels c ends is
+
+-- where a put is held for want of room, the channel hasn't all the room that it may have
+pub below_share : (world : WorldView) (p c : ℕ) (held : PutIsHeld world p c)
+    → slice_index world.rooms c < log_share held.node.current
+below_share world p c held =
+    at (slice_get world.net.channels c) (log_of held.node.current c) refl held.no_place held.place
+  where
+    room : ℕ
+    room = slice_index world.rooms c
+
+    share : ℕ
+    share = log_share held.node.current
+
+    at : (o : Option Channel) (log : Option LogState) → log_of held.node.current c ≡ log
+        → has_room (retained_share world.rooms held.node.current) held.node.current c o ≡ false
+        → has_room (full_share held.node.current) held.node.current c o ≡ true → room < share
+    at None log is none some = absurd (cc)
+    at (Some ends) None is none some =
+        (let places : room_of share held.node.current c ≡ 0 = ap (room_in share) is in
+        let one = ltb-true 0 (room_of share held.node.current c) some in
+        absurd (omega (arith, places, one)))
+    at (Some ends) (Some log) is none some =
+        (let places : room_of share held.node.current c ≡ room_in share (Some log) = ap (room_in share) is in
+        let one = ltb-true 0 (room_of share held.node.current c) some in
+        let nothing : room_of (min room share) held.node.current c ≡ room_in (min room share) (Some log) =
+        ap (room_in (min room share)) is in
+        let no_one = ltb-false 0 (room_of (min room share) held.node.current c) none in
+        lower room share (length log.items) (MAX_COUNT - log_end log) (omega (arith, places, one))
+        (omega (arith, nothing, no_one)))
+      where
+        lower : (room share items counts : ℕ) → 0 < min MAX_JOB_ITEMS (min (share - items) counts)
+            → min MAX_JOB_ITEMS (min (min room share - items) counts) ≤ 0 → room < share
+        lower room share items counts some none = omega (arith, some, none)

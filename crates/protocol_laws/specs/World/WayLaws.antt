@@ -444,3 +444,25 @@ need_is_need net stance c bound is =
         (last.process,
         process_below stance (λ (q : ℕ). awaited net (stance q)) (length net.codes) bound p c below stuck last,
         record { held = last.held; stuck = needs.stays; last = needs.last_one }))
+
+-- and where none is found, nobody needs any
+pub none_in_need : (net : Network) (stance : ℕ → Stance) (p c : ℕ) → p < length net.codes
+    → NeedsRoom net stance p c → (d : ℕ) × (need_by net stance ≡ Some d)
+none_in_need net stance p c below needs =
+    let next : ℕ → Option ℕ = λ (q : ℕ). awaited net (stance q) in
+    let last = last_there stance p c (way next (length net.codes) (next p)) needs.held in
+    let going : list_any (λ (q : ℕ). is_going (stance q)) (way_from net stance p) ≡ false =
+    none_goes next (suc (length net.codes)) (Some p) needs.stuck in
+    let here : need_on stance (way_from net stance p) ≡ Some last.0 =
+    ap (λ (b : Bool). cond b None (last_held stance (way_from net stance p))) going ∙ last.1 in
+    found_there (λ (q : ℕ). need_on stance (way_from net stance q)) 0 (length net.codes) p last.0 (omega arith)
+    (omega (arith, below)) here
+  where
+    none_goes : (next : ℕ → Option ℕ) (count : ℕ) (from : Option ℕ)
+        → ((steps q : ℕ) → onward next steps from ≡ Some q → is_going (stance q) ≡ false)
+        → list_any (λ (q : ℕ). is_going (stance q)) (way next count from) ≡ false
+    none_goes next zero from none = refl
+    none_goes next (suc count) None none = refl
+    none_goes next (suc count) (Some q) none =
+        ap (λ (b : Bool). b || list_any (λ (r : ℕ). is_going (stance r)) (way next count (next q))) (none 0 q refl)
+        ∙ none_goes next count (next q) (λ steps r comes. none (suc steps) r comes)
