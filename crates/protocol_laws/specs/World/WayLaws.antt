@@ -141,8 +141,14 @@ twice_or_distinct (x ∷ xs) = at (cases_Bool (list_any (eqb x) xs)) (twice_or_d
     at (inl again) rest =
         let one = Any-from_list_any (eqb x) xs again in
         let same : x ≡ one.1 = eqb-true x one.1 one.4 in
-        inr (0, suc one.0, x, omega arith, refl,
-        slice_get-get_or xs one.0 one.1 one.2 ∙ ap Some (one.3 ∙ sym same))
+        inr (
+          0,
+          suc one.0,
+          x,
+          omega arith,
+          refl,
+          slice_get-get_or xs one.0 one.1 one.2 ∙ ap Some (one.3 ∙ sym same),
+        )
     at (inr none) (inl distinct) = inl (all_apart xs none, distinct)
       where
         all_apart : (ys : List ℕ) → list_any (eqb x) ys ≡ false → AllByRecursion (λ (y : ℕ). eqb x y ≡ false) ys
@@ -192,9 +198,12 @@ module _ (next : ℕ → Option ℕ) (from : Option ℕ) (n i j r : ℕ) (less :
       at (inl beyond) further =
           let more : ℕ = t - j in
           let whole : j + more ≡ t = omega (arith, few, beyond) in
-          let rest = further (i + more) (omega (arith, whole, less, enough)) (omega (arith, under)) in
-          (rest.0, rest.1, rest.2,
-          rest.3 ∙ (sym (again more) ∙ ap (λ (s : ℕ). onward next s from) whole))
+          let rest = further (i + more) (omega (arith, whole, less, enough)) (omega (arith, under)) in (
+            rest.0,
+            rest.1,
+            rest.2,
+            rest.3 ∙ (sym (again more) ∙ ap (λ (s : ℕ). onward next s from) whole),
+          )
 
 -- ---- the last one that is held needs room
 
@@ -283,7 +292,6 @@ last_of stance (p ∷ processes) c is =
             → held_on (stance q) ≡ None
         last_here none zero q behind there = absurd (omega (arith, behind))
         last_here none (suc k) q behind there = none_held stance processes k q none there
-
 
 -- whom a list of a way has is one of the numbers below n, where each leads to such a one
 below_on : (next : ℕ → Option ℕ) (n : ℕ) → ((p q : ℕ) → next p ≡ Some q → q < n) → (count k x : ℕ)
@@ -382,10 +390,13 @@ module _ (stance : ℕ → Stance) (next : ℕ → Option ℕ) (n : ℕ) (bound 
           let whole : suc (last.place + round) ≡ j + more = omega (arith, less, on) in
           let place : i + more ≡ last.place = omega (arith, on) in
           let turned : last.place + suc round ≡ j + more = omega (arith, whole) in
-          inl (round, sym (comes_on (suc round)) ∙
-          (ap (λ (s : ℕ). onward next s (Some start)) turned ∙
-          (again next (Some start) n i j r less few first second more ∙
-          (ap (λ (s : ℕ). onward next s (Some start)) place ∙ comes_there)))))
+          inl (
+            round,
+            sym (comes_on (suc round)) ∙
+                (ap (λ (s : ℕ). onward next s (Some start)) turned ∙
+                (again next (Some start) n i j r less few first second more ∙
+                (ap (λ (s : ℕ). onward next s (Some start)) place ∙ comes_there))),
+          ))
 
   -- one of the two it does
   in_need : IsInNeed
@@ -440,10 +451,11 @@ need_is_need net stance c bound is =
         sym (ap (λ (b : Bool). cond b None (last_held stance (way_from net stance p))) stuck) ∙ need in
         let last = last_of stance (way_from net stance p) c is_last in
         let needs =
-        in_need stance (λ (q : ℕ). awaited net (stance q)) (length net.codes) bound p c below stuck last in
-        (last.process,
-        process_below stance (λ (q : ℕ). awaited net (stance q)) (length net.codes) bound p c below stuck last,
-        record { held = last.held; stuck = needs.stays; last = needs.last_one }))
+        in_need stance (λ (q : ℕ). awaited net (stance q)) (length net.codes) bound p c below stuck last in (
+          last.process,
+          process_below stance (λ (q : ℕ). awaited net (stance q)) (length net.codes) bound p c below stuck last,
+          record { held = last.held; stuck = needs.stays; last = needs.last_one },
+        ))
 
 -- and where none is found, nobody needs any
 pub none_in_need : (net : Network) (stance : ℕ → Stance) (p c : ℕ) → p < length net.codes
