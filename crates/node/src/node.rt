@@ -34,7 +34,7 @@ use layout::names_right;
 use net_check::{Inputs, Net};
 use outlet::{Outlet, OutletFault};
 use proc_step::{Done, Job};
-use protocol::Outcome;
+use protocol::{Outcome, Rooms};
 use retained::LogFault;
 use sector_disk::ArmedFault;
 use slot_cell::SlotCell;
@@ -86,36 +86,36 @@ impl<C: SlotCell> Node<C> {
         }
     }
 
-    /// Whether a job can be granted now, where a channel has so much room.
-    pub fn has_job(&self, net: &Net, inputs: &Inputs, room: usize) -> bool
+    /// Whether a job can be granted now, where channels have these rooms.
+    pub fn has_job(&self, net: &Net, inputs: &Inputs, rooms: &Rooms) -> bool
         ensures { result ≡ is_some
-            (node_job (network_of net.now.program) inputs.now room (view_of self.now)) }
+            (node_job (network_of net.now.program) inputs.now rooms.now (view_of self.now)) }
     {
         let Ok(kept) = self.store.record() else {
             return false;
         };
         match &self.state.mode {
             Mode::Running(running) => {
-                running.has_job(net, inputs, room, kept, self.state.version)
+                running.has_job(net, inputs, rooms, kept, self.state.version)
             }
             Mode::Down | Mode::InDoubt => false,
         }
     }
 
-    /// Grants a job to the ready process that is next: its state, the items at hand and the room, where a channel retains
-    /// at most so many items, and no more than its share of a record. The node keeps a share to compare with what comes
+    /// Grants a job to the ready process that is next: its state, the items at hand and the room, where channels have
+    /// these rooms, and a channel retains no more than its share of a record. The node keeps a share to compare with what comes
     /// back. `None` where no job can be granted. Refuses for want of memory alone.
     pub fn grant(
         &mut self,
         alloc: Global,
         net: &Arc<Net>,
         inputs: &Inputs,
-        room: usize,
+        rooms: &Rooms,
     ) -> Result<Option<Arc<Job>>, AllocError>
         ensures job { IfOk result (λ job. option_map shared_view job
-            ≡ node_job (network_of net.now.value.program) inputs.now room (view_of self.old)) }
+            ≡ node_job (network_of net.now.value.program) inputs.now rooms.now (view_of self.old)) }
         ensures state { IfOk result (λ job. view_of self.new
-            ≡ with_grant (node_job (network_of net.now.value.program) inputs.now room
+            ≡ with_grant (node_job (network_of net.now.value.program) inputs.now rooms.now
             (view_of self.old)) (view_of self.old)) }
         ensures err { OnErr result (view_of self.new ≡ view_of self.old) }
         ensures same { (self.new.store ≡ self.old.store) × (self.new.number ≡ self.old.number) }
@@ -125,7 +125,7 @@ impl<C: SlotCell> Node<C> {
         };
         let version = self.state.version;
         match &mut self.state.mode {
-            Mode::Running(running) => running.grant(alloc, net, inputs, room, kept, version),
+            Mode::Running(running) => running.grant(alloc, net, inputs, rooms, kept, version),
             Mode::Down | Mode::InDoubt => Ok(None),
         }
     }

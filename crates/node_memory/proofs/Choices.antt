@@ -35,7 +35,7 @@ code_not_found program ps m n are same past =
     ∙ (ap (λ (l : List Process). slice_get (map code_of l) m) (sym are) ∙ code_past ps m past)
 
 -- a process is ready where its next act can be done
-pub ready_at : (program : Program) (inputs : List (List ℤ)) (share : ℕ) (image : ImageView) (inboxes : List Inbox)
+pub ready_at : (program : Program) (inputs : List (List ℤ)) (share : ℕ → ℕ) (image : ImageView) (inboxes : List Inbox)
     (ps : List Process) (m number : ℕ) (p : Process) (standing : Standing) (saved : SavedProcessView)
     (next act : NextAct)
     → ps ≡ program.processes.items → m ≡ number → m < length ps → p ≡ get_or ps m p
@@ -51,7 +51,7 @@ ready_at program inputs share image inboxes ps m number p standing saved next ac
     ∙ ap (is_ready (network_of program) inputs share image inboxes) view
 
 -- a process that the network doesn't have is not
-pub not_ready : (net : Network) (inputs : List (List ℤ)) (share : ℕ) (image : ImageView) (inboxes : List Inbox)
+pub not_ready : (net : Network) (inputs : List (List ℤ)) (share : ℕ → ℕ) (image : ImageView) (inboxes : List Inbox)
     (number : ℕ)
     (standing : Standing) (saved : SavedProcessView)
     → slice_get net.codes number ≡ None → record { number = number; standing = standing } ≡ saved
@@ -68,7 +68,7 @@ pub item_on : (channels : List Channel) (net : Network) (inputs : List (List ℤ
 item_on channels net inputs image inboxes channel has is are =
     is ∙ ap (λ (l : List Channel). has_item inputs image inboxes channel (slice_get l channel)) are
 
-pub room_on : (channels : List Channel) (net : Network) (share : ℕ) (image : ImageView) (channel : ℕ) (has : Bool)
+pub room_on : (channels : List Channel) (net : Network) (share : ℕ → ℕ) (image : ImageView) (channel : ℕ) (has : Bool)
     → has ≡ has_room share image channel (slice_get channels channel) → channels ≡ net.channels
     → has ≡ has_room share image channel (slice_get net.channels channel)
 room_on channels net share image channel has is are =
@@ -88,7 +88,7 @@ second_too : (a b : Bool) → (a && b) ≡ true → b ≡ true
 second_too true b both = both
 second_too false b both = absurd (cc)
 
-code_there : (net : Network) (inputs : List (List ℤ)) (share : ℕ) (image : ImageView) (inboxes : List Inbox)
+code_there : (net : Network) (inputs : List (List ℤ)) (share : ℕ → ℕ) (image : ImageView) (inboxes : List Inbox)
     (number : ℕ)
     (standing : Standing) (code : Option Code)
     → slice_get net.codes number ≡ code → can_go net inputs share image inboxes (next_at code standing) ≡ true
@@ -103,7 +103,7 @@ few_processes program valid =
     subst (λ (n : ℕ). n ≤ MAX_PROCESSES) (length-map program.processes.items code_of) valid.process_count
 
 -- a process that is ready is one of the network's
-pub goes_there : (program : Program) (inputs : List (List ℤ)) (share : ℕ) (image : ImageView) (inboxes : List Inbox)
+pub goes_there : (program : Program) (inputs : List (List ℤ)) (share : ℕ → ℕ) (image : ImageView) (inboxes : List Inbox)
     (saved : SavedProcessView)
     → is_ready (network_of program) inputs share image inboxes saved ≡ true
     → saved.number < length program.processes.items
@@ -113,7 +113,7 @@ goes_there program inputs share image inboxes saved goes =
     (code_there net inputs share image inboxes saved.number saved.standing _ refl goes)
 
 -- and so is one that is found ready
-pub ready_there : (program : Program) (inputs : List (List ℤ)) (share : ℕ) (image : ImageView) (inboxes : List Inbox)
+pub ready_there : (program : Program) (inputs : List (List ℤ)) (share : ℕ → ℕ) (image : ImageView) (inboxes : List Inbox)
     (number : ℕ)
     (saved : SavedProcessView)
     → ready_process (network_of program) inputs share image inboxes number ≡ Some saved
@@ -126,7 +126,7 @@ ready_there program inputs share image inboxes number saved is =
     (found_passes test image.processes saved is))
 
 -- the process that is chosen is one of the network's
-pub chosen_there : (program : Program) (inputs : List (List ℤ)) (share : ℕ) (image : ImageView) (inboxes : List Inbox)
+pub chosen_there : (program : Program) (inputs : List (List ℤ)) (share : ℕ → ℕ) (image : ImageView) (inboxes : List Inbox)
     (number : Option ℕ) (found : Option (Bor SavedProcessView))
     → option_copied found ≡ process_at (network_of program) inputs share image inboxes number
     → IfSome found (λ saved. saved.now.number < length program.processes.items)
@@ -136,7 +136,7 @@ chosen_there program inputs share image inboxes (Some number) (Some saved) is =
     ready_there program inputs share image inboxes number saved.now (sym is)
 
 -- all were looked at, of those of an image
-module _ (program : Program) (inputs : List (List ℤ)) (share : ℕ) (image : ImageView) (inboxes : List Inbox)
+module _ (program : Program) (inputs : List (List ℤ)) (share : ℕ → ℕ) (image : ImageView) (inboxes : List Inbox)
     (items : List SavedProcessView) (i start : ℕ) (are : items ≡ image.processes) (end : length items ≤ i) where
   found_there : (found : Option SavedProcessView)
       → IsSearched (is_ready (network_of program) inputs share image inboxes) items (drop i items) start found

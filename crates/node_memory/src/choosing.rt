@@ -3,14 +3,16 @@ ghost use Rattle.std.specs.Prelude.{◌≡◌, ◌≤◌, ◌<◌, ◌&&◌, ◌
 ghost use Rattle.protocol.specs.Node.Common.{network_of, log_at, received_at, sent_in, first_log, inbox_log};
 ghost use Rattle.protocol.specs.Node.Common.{MAX_CHANNELS};
 ghost use Rattle.protocol.specs.Node.Choosing.{has_item, has_room, is_ready, ready_processes, process_at, next_process};
+ghost use Rattle.protocol.specs.Node.Sharing.{share_in};
 ghost use Rattle.node_memory.specs.Searching.{ComesFirst};
 ghost use Rattle.turns.specs.Turns.{least_from};
 
 use crate::granting::{inbox_log, places};
+use crate::sharing::share_in;
 use kahn_net::{Channel, History, Port};
 use net_check::Net;
 use proc_step::{NextAct, next_act};
-use protocol::Inbox;
+use protocol::{Inbox, Rooms};
 use record::{End, Image, SavedProcess};
 use retained::Log;
 use turns::start_after;
@@ -62,25 +64,36 @@ fn has_item(
     }
 }
 
-// Whether there is room on this channel, where each log has places up to this share.
-fn has_room(channels: &[Channel], share: usize, image: &Image, channel: usize) -> bool
+// Whether there is room on this channel, where the log of each has places up to its room and to this share.
+fn has_room(
+    channels: &[Channel],
+    rooms: &Rooms,
+    share: usize,
+    image: &Image,
+    channel: usize,
+) -> bool
     requires { length channels.now ≤ MAX_CHANNELS }
-    ensures { result ≡ has_room share image.now channel (slice_get channels.now channel) }
+    ensures { result ≡ has_room (share_in rooms.now share) image.now channel (slice_get channels.now channel) }
 {
-    channel < channels.len() && places(share, image.log(channel as u8)) > 0
+    channel < channels.len()
+        && places(
+            share_in(rooms, share, channel as u8),
+            image.log(channel as u8),
+        ) > 0
 }
 
 // Whether a process can go on.
 fn is_ready(
     net: &Net,
     inputs: &[History],
+    rooms: &Rooms,
     share: usize,
     image: &Image,
     inboxes: &[Inbox],
     saved: &SavedProcess,
 ) -> bool
     ensures { result
-        ≡ is_ready (network_of net.now.program) inputs.now share image.now inboxes.now saved.now }
+        ≡ is_ready (network_of net.now.program) inputs.now (share_in rooms.now share) image.now inboxes.now saved.now }
 {
     match net.program.processes.get(usize::from(saved.number)) {
         Some(_) => match next_act(net, usize::from(saved.number), &saved.state) {
@@ -88,7 +101,13 @@ fn is_ready(
             NextAct::Get { channel } => {
                 has_item(&net.program.channels, inputs, image, inboxes, channel)
             },
-            NextAct::Put { channel } => has_room(&net.program.channels, share, image, channel),
+            NextAct::Put { channel } => has_room(
+                &net.program.channels,
+                rooms,
+                share,
+                image,
+                channel,
+            ),
             NextAct::Nothing => false,
         },
         None => false,
@@ -99,6 +118,7 @@ fn is_ready(
 fn comes_first(
     net: &Net,
     inputs: &[History],
+    rooms: &Rooms,
     share: usize,
     image: &Image,
     inboxes: &[Inbox],
@@ -107,7 +127,7 @@ fn comes_first(
     saved: &SavedProcess,
 ) -> bool
     ensures { IsTrue result ↔ ComesFirst
-        (is_ready (network_of net.now.program) inputs.now share image.now inboxes.now)
+        (is_ready (network_of net.now.program) inputs.now (share_in rooms.now share) image.now inboxes.now)
         start (option_copied found.entry) saved.now }
 {
     if usize::from(saved.number) < start {
@@ -118,7 +138,7 @@ fn comes_first(
     {
         return false;
     }
-    is_ready(net, inputs, share, image, inboxes, saved)
+    is_ready(net, inputs, rooms, share, image, inboxes, saved)
 }
 
 // The ready process with the least number from this one on. Where they stand in order of their numbers, none is asked
@@ -126,43 +146,47 @@ fn comes_first(
 fn ready_from<'a>(
     net: &Net,
     inputs: &[History],
+    rooms: &Rooms,
     share: usize,
     image: &'a Image,
     inboxes: &[Inbox],
     start: usize,
 ) -> Option<&'a SavedProcess>
     ensures process { let net = network_of net.now.program in
-        option_copied result ≡ process_at net inputs.now share image.now inboxes.now
-        (least_from start (ready_processes net inputs.now share image.now inboxes.now)) }
+        option_copied result ≡ process_at net inputs.now (share_in rooms.now share) image.now inboxes.now
+        (least_from start (ready_processes net inputs.now (share_in rooms.now share) image.now inboxes.now)) }
     ensures number { option_map (λ saved. saved.number) (option_copied result)
-        ≡ least_from start (ready_processes (network_of net.now.program) inputs.now share image.now inboxes.now) }
+        ≡ least_from start (ready_processes (network_of net.now.program) inputs.now (share_in rooms.now share) image.now inboxes.now) }
 {
     let mut found: Option<&SavedProcess> = None;
     for saved in &image.processes {
-        if comes_first(net, inputs, share, image, inboxes, start, found, saved) {
+        if comes_first(
+            net, inputs, rooms, share, image, inboxes, start, found, saved,
+        ) {
             found = Some(saved);
         }
     }
     found
 }
 
-// The ready process with the least number after the last one, beginning again at the least, where each log has places up
-// to this share.
+// The ready process with the least number after the last one, beginning again at the least, where the log of
+// each channel has places up to its room and to this share.
 pub(crate) fn next_process<'a>(
     net: &Net,
     inputs: &[History],
+    rooms: &Rooms,
     share: usize,
     image: &'a Image,
     inboxes: &[Inbox],
     last: Option<u8>,
 ) -> Option<&'a SavedProcess>
     ensures chosen { option_copied result
-        ≡ next_process (network_of net.now.program) inputs.now share image.now inboxes.now last }
+        ≡ next_process (network_of net.now.program) inputs.now (share_in rooms.now share) image.now inboxes.now last }
     ensures there { IfSome result
         (λ saved. saved.now.number < length net.now.program.processes.items) }
 {
-    match ready_from(net, inputs, share, image, inboxes, start_after(last)) {
+    match ready_from(net, inputs, rooms, share, image, inboxes, start_after(last)) {
         Some(saved) => Some(saved),
-        None => ready_from(net, inputs, share, image, inboxes, 0),
+        None => ready_from(net, inputs, rooms, share, image, inboxes, 0),
     }
 }

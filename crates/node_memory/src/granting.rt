@@ -4,11 +4,13 @@ ghost use Rattle.protocol.specs.Node.Common.{network_of, inbox_log, is_process, 
 ghost use Rattle.protocol.specs.Node.Common.{room_from, source_of, MAX_CHANNELS};
 ghost use Rattle.node_memory.specs.JobView.{job_view};
 ghost use Rattle.protocol.specs.Node.Granting.{room_in, job_for};
+ghost use Rattle.protocol.specs.Node.Sharing.{share_in};
 
+use crate::sharing::share_in;
 use kahn_net::{Channel, History, MAX_COUNT, Port};
 use net_check::{Inputs, Net};
 use proc_step::Job;
-use protocol::{Inbox, MAX_JOB_ITEMS};
+use protocol::{Inbox, MAX_JOB_ITEMS, Rooms};
 use record::{Image, SavedProcess};
 use retained::Log;
 use std::alloc::{AllocError, Global};
@@ -136,20 +138,22 @@ pub(crate) fn places(share: usize, log: Option<&Log>) -> usize
     }
 }
 
-// The room that a process has on each channel, where each log has places up to this share.
+// The room that a process has on each channel, where the log of each has places up to its room and to this share.
 fn list_room(
     alloc: Global,
+    rooms: &Rooms,
     share: usize,
     channels: &[Channel],
     image: &Image,
     process: usize,
 ) -> Result<Vec<usize>, AllocError>
     requires { length channels.now ≤ MAX_CHANNELS }
-    ensures { IfOk result (λ room. room.items ≡ room_from share image.now process 0 channels.now) }
+    ensures { IfOk result (λ room. room.items ≡ room_from (share_in rooms.now share) image.now process 0 channels.now) }
 {
     let mut room = Vec::with_capacity(alloc, channels.len())?;
     for (number, channel) in channels.iter().enumerate() {
         if is_at(channel.producer, process) {
+            let share = share_in(rooms, share, number as u8);
             room.push(places(share, image.log(number as u8)))?;
         } else {
             room.push(0)?;
@@ -158,9 +162,10 @@ fn list_room(
     Ok(room)
 }
 
-/// The job of a process that stands there, where each log has places up to this share.
+/// The job of a process that stands there, where the log of each channel has places up to its room and to this share.
 pub(crate) fn make_job(
     alloc: Global,
+    rooms: &Rooms,
     share: usize,
     net: &Arc<Net>,
     inputs: &Inputs,
@@ -171,7 +176,7 @@ pub(crate) fn make_job(
 ) -> Result<Job, AllocError>
     requires { saved.now.number < length net.now.value.program.processes.items }
     ensures { IfOk result (λ job. job_view job
-        ≡ job_for share (network_of net.now.value.program) inputs.now image.now inboxes.now
+        ≡ job_for (share_in rooms.now share) (network_of net.now.value.program) inputs.now image.now inboxes.now
         saved.now.number saved.now.standing version) }
 {
     let process = usize::from(saved.number);
@@ -188,6 +193,6 @@ pub(crate) fn make_job(
             inboxes,
             process,
         )?,
-        room: list_room(alloc, share, &net.program.channels, image, process)?,
+        room: list_room(alloc, rooms, share, &net.program.channels, image, process)?,
     })
 }

@@ -7,6 +7,7 @@ ghost use Rattle.protocol.specs.Node.Choosing.{next_process};
 ghost use Rattle.protocol.specs.Node.GoingBack.{set_back_from};
 ghost use Rattle.node_memory.specs.Handing.{IsHandedTo};
 ghost use Rattle.protocol.specs.Node.Installing.{IsTaken};
+ghost use Rattle.protocol.specs.Node.Sharing.{share_in};
 ghost use Rattle.node_memory.specs.JobView.{job_view, shared_view};
 ghost use Rattle.rollback_core.specs.RestoredView.{restored_view};
 
@@ -15,7 +16,7 @@ use crate::delivering::{hear_acknowledgement, hear_item};
 use crate::granting::make_job;
 use crate::installing::install_from;
 use crate::sending::{add_all_answers, add_all_outgoing, add_all_undone};
-use crate::sharing::retained_share;
+use crate::sharing::share_of;
 use crate::telling::{add_live_asks, add_verdicts};
 use datagram::{Body, Packet};
 use decide_core::Initiator;
@@ -23,7 +24,7 @@ use kahn_net::{Channel, MAX_COUNT};
 use net_check::{Inputs, Net};
 use outlet::{Outlet, OutletFault, release};
 use proc_step::{Done, Job};
-use protocol::{Inbox, Outbox};
+use protocol::{Inbox, Outbox, Rooms};
 use record::{Image, Record, SavedProcess};
 use retained::LogFault;
 use rollback_core::{Restored, note_epoch, set_back};
@@ -72,19 +73,20 @@ impl Running {
         kept.tentative.is_none() && self.out.is_none() && version < MAX_COUNT
     }
 
-    // The process that is next, where a job may be granted at a node with this record and version, and each log has places
-    // up to this share.
+    // The process that is next, where a job may be granted at a node with this record and version, and the log of each channel
+    // has places up to its room and to this share.
     fn next_process(
         &self,
         net: &Net,
         inputs: &Inputs,
+        rooms: &Rooms,
         share: usize,
         kept: &Record,
         version: u64,
     ) -> Option<&SavedProcess>
         ensures chosen { option_copied result ≡ (
             let node = running_node kept.now version (running_view self.now) in
-            if may_grant node then next_process (network_of net.now.program) inputs.now share
+            if may_grant node then next_process (network_of net.now.program) inputs.now (share_in rooms.now share)
             node.current node.inboxes node.last else None) }
         ensures there { IfSome result
             (λ saved. saved.now.number < length net.now.program.processes.items) }
@@ -95,6 +97,7 @@ impl Running {
         next_process(
             net,
             inputs.as_slice(),
+            rooms,
             share,
             &self.current,
             &self.inboxes,
@@ -102,50 +105,51 @@ impl Running {
         )
     }
 
-    /// Whether a job can be granted now, at a node with this record and version, where a channel has so much room.
+    /// Whether a job can be granted now, at a node with this record and version, where channels have these rooms.
     pub fn has_job(
         &self,
         net: &Net,
         inputs: &Inputs,
-        room: usize,
+        rooms: &Rooms,
         kept: &Record,
         version: u64,
     ) -> bool
-        ensures { result ≡ is_some (next_job (network_of net.now.program) inputs.now room
+        ensures { result ≡ is_some (next_job (network_of net.now.program) inputs.now rooms.now
             (running_node kept.now version (running_view self.now))) }
     {
-        let share = retained_share(room, &self.current);
-        self.next_process(net, inputs, share, kept, version)
+        let share = share_of(&self.current);
+        self.next_process(net, inputs, rooms, share, kept, version)
             .is_some()
     }
 
-    /// Grants a job to the ready process that is next: its state, the items at hand and the room, where a channel has so
-    /// much. A share is kept to compare with what comes back. `None` where no job can be granted. Refuses for want of
+    /// Grants a job to the ready process that is next: its state, the items at hand and the room, where channels have
+    /// these rooms. A share is kept to compare with what comes back. `None` where no job can be granted. Refuses for want of
     /// memory alone.
     pub fn grant(
         &mut self,
         alloc: Global,
         net: &Arc<Net>,
         inputs: &Inputs,
-        room: usize,
+        rooms: &Rooms,
         kept: &Record,
         version: u64,
     ) -> Result<Option<Arc<Job>>, AllocError>
-        // The process that is next in turn, with at most 64 items of each input, and room up to 64 and no further than its share.
+        // The process that is next in turn, with at most 64 items of each input, and room up to 64, no further than the channel's and than its share.
         ensures job { IfOk result (λ job. option_map shared_view job
-            ≡ next_job (network_of net.now.value.program) inputs.now room
+            ≡ next_job (network_of net.now.value.program) inputs.now rooms.now
             (running_node kept.now version (running_view self.old))) }
         ensures state { IfOk result (λ job. running_view self.new
-            ≡ granted (next_job (network_of net.now.value.program) inputs.now room
+            ≡ granted (next_job (network_of net.now.value.program) inputs.now rooms.now
             (running_node kept.now version (running_view self.old))) (running_view self.old)) }
         ensures err { OnErr result (running_view self.new ≡ running_view self.old) }
     {
-        let share = retained_share(room, &self.current);
-        let Some(saved) = self.next_process(net, inputs, share, kept, version) else {
+        let share = share_of(&self.current);
+        let Some(saved) = self.next_process(net, inputs, rooms, share, kept, version) else {
             return Ok(None);
         };
         let job = make_job(
             alloc,
+            rooms,
             share,
             net,
             inputs,

@@ -4,10 +4,11 @@ ghost use Rattle.protocol.specs.Node.Common.{Network, IsValid, MAX_NODES, ImageV
 ghost use Rattle.protocol.specs.Node.Common.{is_logging, log_share, with_decision, MAX_DECISIONS, opening_record};
 ghost use Rattle.protocol.specs.Node.Common.{RunningNode, HasReached, ImageStands, IsLaidOut, LogsAreWithin};
 ghost use Rattle.ckpt_codec.specs.SizeLaws.{IsImageWithin, IsRecordWithin};
-ghost use Rattle.protocol.specs.Node.Sharing.{log_count, retained_share};
+ghost use Rattle.protocol.specs.Node.Sharing.{log_count, share_in};
 ghost use Rattle.protocol.specs.Node.Starting.{with_own};
 
 use ckpt_codec::MAX_RETAINED_ITEMS;
+use protocol::Rooms;
 use record::{End, Image};
 
 // Whether an end has a log.
@@ -31,8 +32,8 @@ fn count_logs(image: &Image) -> usize
         .count()
 }
 
-// The most items of each log of an image: an equal share of those for which a record has room.
-fn share_of(image: &Image) -> usize
+/// The most items of each log of an image: an equal share of those for which a record has room.
+pub(crate) fn share_of(image: &Image) -> usize
     ensures { result ≡ log_share image.now }
 {
     match count_logs(image) {
@@ -41,11 +42,11 @@ fn share_of(image: &Image) -> usize
     }
 }
 
-/// How far a job may fill each log of an image, where the world gives a channel so much room: no further than its share.
-pub(crate) fn retained_share(room: usize, image: &Image) -> usize
-    ensures { result ≡ retained_share room image.now }
+/// How far a job may fill the log of a channel: as far as the channel has room, and no further than this share.
+pub(crate) fn share_in(rooms: &Rooms, share: usize, channel: u8) -> usize
+    ensures { result ≡ share_in rooms.now share channel }
 {
-    room.min(share_of(image))
+    rooms.of(channel).min(share)
 }
 
 /// An image of a valid network, each log of which has at most its share, is within the bounds of which a record holds two; so is a

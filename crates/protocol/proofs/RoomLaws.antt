@@ -1,7 +1,9 @@
 -- The rooms of channels, made and changed.
-use Rattle.std.proofs.Common.{◌≡◌, ℕ, ◌*◌, ◌<◌, ◌≤◌, List, map, length, replicate, All, min, refl, sym, ap, subst, ◌∙◌, arith}
+use Rattle.std.proofs.Common.{ℕ, ◌*◌, List, map, ◌∙◌, arith}
+use Rattle.std.proofs.Math.Nat.{min-le_right, le-min}
 use Rattle.std.proofs.lemmas.List.{length-map, length-replicate}
-use Rattle.std.proofs.lemmas.List.Elements.{All-map, All-replicate}
+use Rattle.std.proofs.lemmas.List.Elements.{All-map, All-replicate, All-weaker}
+use Rattle.ckpt_codec.specs.declared.lengths.TheConstants.{MAX_RETAINED_ITEMS}
 use Rattle.kahn_net.specs.declared.limits.TheConstants.{MAX_CHANNELS}
 use Rattle.protocol.specs.Node.Sharing.{AreRooms, IsRoom, even_rooms, wider}
 
@@ -10,4 +12,20 @@ pub even_are_rooms : (room : ℕ) → IsRoom room → AreRooms (even_rooms room)
 even_are_rooms room is = record {
   count = length-replicate MAX_CHANNELS room;
   each = All-replicate IsRoom MAX_CHANNELS room is;
+}
+
+-- twice the room of a channel is one that a channel may be given
+pub wider_is_room : (room : ℕ) → IsRoom room → IsRoom (wider room)
+wider_is_room room is =
+    let least = is.0 in
+    let most = min-le_right (room * 2) MAX_RETAINED_ITEMS in (
+      le-min (omega (arith, least)) (omega arith),
+      most,
+    )
+
+-- twice the room for each
+pub widened_are_rooms : (rooms : List ℕ) → AreRooms rooms → AreRooms (map wider rooms)
+widened_are_rooms rooms are = record {
+  count = length-map rooms wider ∙ are.count;
+  each = All-map IsRoom wider rooms (All-weaker IsRoom (λ room. IsRoom (wider room)) wider_is_room rooms are.each);
 }

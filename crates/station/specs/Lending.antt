@@ -15,4 +15,4 @@ inputs_lent lent = lent.inputs.now.value
 
 -- what an event finds around its station, with this in flight
 abbrev pub setting_by : Lent → Traffic → Setting
-setting_by lent traffic = setting_in (net_lent lent) (inputs_lent lent) traffic lent.round lent.room
+setting_by lent traffic = setting_in (net_lent lent) (inputs_lent lent) traffic lent.round lent.rooms.now

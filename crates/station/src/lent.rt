@@ -1,6 +1,7 @@
 //! What an event is lent.
 
 use net_check::{Inputs, Net};
+use protocol::Rooms;
 use std::alloc::Global;
 use std::sync::Arc;
 
@@ -11,6 +12,6 @@ pub struct Lent<'a> {
     pub net: &'a Arc<Net>,
     pub inputs: &'a Arc<Inputs>,
     pub round: u64,
-    /// How many items a channel retains at most, where its share of a record isn't less.
-    pub room: usize,
+    /// How many items each channel retains at most, where its share of a record isn't less.
+    pub rooms: &'a Rooms,
 }

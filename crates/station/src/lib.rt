@@ -1,7 +1,7 @@
 //! A node with its outlets, and each event at it: what it does, which is next, and whether anything is left to do.
 //!
 //! `Station::act` is one event of the station's node, `Station::pick` the one that is next. A station is lent what all nodes
-//! of its world have in common: the network and its inputs, what is in flight between them, the round, and the room of a
+//! of its world have in common: the network and its inputs, what is in flight between them, the round, and the room of each
 //! channel.
 #![tactic(auto)]
 

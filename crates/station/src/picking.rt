@@ -16,7 +16,7 @@ use decide_core::may_decide;
 use net_check::{Inputs, Net};
 use node::{Mode, NodeState};
 use outlet::Outlet;
-use protocol::{Deed, MAX_GRANTS};
+use protocol::{Deed, MAX_GRANTS, Rooms};
 use record::{Image, Record};
 use slot_cell::SlotCell;
 use wire::Wire;
@@ -67,14 +67,14 @@ impl<C: SlotCell, O: Outlet> Station<C, O> {
         state.is_down() && state.restart <= round
     }
 
-    // Whether a job is next where a channel has so much room: a process is ready, and fewer were granted in this round than
+    // Whether a job is next where channels have these rooms: a process is ready, and fewer were granted in this round than
     // may be.
-    fn has_grant(&self, net: &Net, inputs: &Inputs, room: usize, round: u64) -> bool
+    fn has_grant(&self, net: &Net, inputs: &Inputs, rooms: &Rooms, round: u64) -> bool
         ensures { result ≡ (nat_lt (turns_of round self.now.turns).granted MAX_GRANTS
-            && is_some (node_job (network_of net.now.program) inputs.now room
+            && is_some (node_job (network_of net.now.program) inputs.now rooms.now
             (view_of self.now.node))) }
     {
-        self.turns.of(round).granted < MAX_GRANTS && self.node.has_job(net, inputs, room)
+        self.turns.of(round).granted < MAX_GRANTS && self.node.has_job(net, inputs, rooms)
     }
 
     // Whether its node may decide the checkpoint for which it collects answers.
@@ -136,15 +136,15 @@ impl<C: SlotCell, O: Outlet> Station<C, O> {
     }
 
     // The event that is next for its node, where no packet is due to it.
-    fn pick_own(&self, net: &Net, inputs: &Inputs, room: usize, nodes: usize, round: u64) -> Event
-        ensures { event_view result ≡ own_choice (network_of net.now.program) inputs.now room
+    fn pick_own(&self, net: &Net, inputs: &Inputs, rooms: &Rooms, nodes: usize, round: u64) -> Event
+        ensures { event_view result ≡ own_choice (network_of net.now.program) inputs.now rooms.now
             nodes round (station_view O.taken O.failures self.now) }
     {
         let number = self.node.number;
         if self.next_release(round).is_some() {
             return Event::release(number);
         }
-        if self.has_grant(net, inputs, room, round) {
+        if self.has_grant(net, inputs, rooms, round) {
             return Event::by_node(number, Deed::Grant);
         }
         if self.may_decide() {
@@ -164,13 +164,13 @@ impl<C: SlotCell, O: Outlet> Station<C, O> {
         &self,
         net: &Net,
         inputs: &Inputs,
-        room: usize,
+        rooms: &Rooms,
         wire: &Wire,
         nodes: usize,
         round: u64,
     ) -> Event
         requires { self.now.node.number < NODES }
-        ensures { event_view result ≡ station_choice (network_of net.now.program) inputs.now room
+        ensures { event_view result ≡ station_choice (network_of net.now.program) inputs.now rooms.now
             (traffic_of wire.now) nodes round (station_view O.taken O.failures self.now) }
     {
         let node = self.node.number;
@@ -179,7 +179,7 @@ impl<C: SlotCell, O: Outlet> Station<C, O> {
         }
         match self.due_place(wire, round) {
             Some(place) => Event::by_node(node, Deed::Deliver { place }),
-            None => self.pick_own(net, inputs, room, nodes, round),
+            None => self.pick_own(net, inputs, rooms, nodes, round),
         }
     }
 }

@@ -22,7 +22,7 @@ use layout::{consumer_node, producer_node};
 use net_check::{Inputs, Net};
 use node::{Mode, NodeState, Running};
 use outlet::Outlet;
-use protocol::{Inbox, MAX_INBOX_ITEMS, Outbox};
+use protocol::{Inbox, MAX_INBOX_ITEMS, Outbox, Rooms};
 use record::{Image, Record};
 use retained::Log;
 use slot_cell::SlotCell;
@@ -187,16 +187,16 @@ fn is_settled<C: SlotCell, O: Outlet>(
 }
 
 impl<C: SlotCell, O: Outlet> Station<C, O> {
-    /// Whether nothing is to be done here where a channel has so much room, beside these stations: its node is settled, and can
+    /// Whether nothing is to be done here where channels have these rooms, beside these stations: its node is settled, and can
     /// grant no job. Takes no memory.
     pub fn is_still(
         &self,
         net: &Net,
         inputs: &Inputs,
-        room: usize,
+        rooms: &Rooms,
         stations: &[Station<C, O>],
     ) -> bool
-        ensures { result ≡ is_still (network_of net.now.program) inputs.now room
+        ensures { result ≡ is_still (network_of net.now.program) inputs.now rooms.now
             (map (station_view O.taken O.failures) stations.now)
             (station_view O.taken O.failures self.now) }
     {
@@ -204,17 +204,18 @@ impl<C: SlotCell, O: Outlet> Station<C, O> {
         match node.store.record() {
             Ok(kept) => {
                 is_settled(net, stations, &node.state, kept, &self.outputs)
-                    && !node.has_job(net, inputs, room)
+                    && !node.has_job(net, inputs, rooms)
             }
             Err(_) => false,
         }
     }
 
-    /// Whether its node could grant a job where channels had as much room as a record has. Takes no memory.
+    /// Whether its node could grant a job where each channel had as much room as a record has. Takes no memory.
     pub fn wants_room(&self, net: &Net, inputs: &Inputs) -> bool
         ensures { result ≡ wants_room (network_of net.now.program) inputs.now
             (station_view O.taken O.failures self.now) }
     {
-        self.node.has_job(net, inputs, MAX_RETAINED_ITEMS)
+        self.node
+            .has_job(net, inputs, &Rooms::even(MAX_RETAINED_ITEMS))
     }
 }

@@ -38,7 +38,7 @@ fn note_grant(turns: &mut RoundTurns, granted: Option<Arc<Job>>, round: u64) -> 
 }
 
 impl<C: SlotCell, O: Outlet> Station<C, O> {
-    /// Grants a job, where a channel has so much room.
+    /// Grants a job, where channels have the rooms that are lent.
     pub(crate) fn grant(&mut self, lent: &Lent) -> Result<Reply, AllocError>
         ensures outputs { outlet_views O.taken O.failures self.new.outputs.items
             ≡ outlet_views O.taken O.failures self.old.outputs.items }
@@ -48,12 +48,12 @@ impl<C: SlotCell, O: Outlet> Station<C, O> {
         ensures step { IfOk result
             (λ reply. ComesBy (fits_in (C.slot_capacity (cell_in self.old.node.store)))
             lent.now.round (grant_plan (node_job (net_lent lent.now) (inputs_lent lent.now)
-            lent.now.room (view_of self.old.node)) lent.now.round (station_view O.taken O.failures self.old))
+            lent.now.rooms.now (view_of self.old.node)) lent.now.round (station_view O.taken O.failures self.old))
             (station_view O.taken O.failures self.old) (reply_view reply)
             (station_view O.taken O.failures self.new)) }
     {
         let node = &mut self.node;
-        let granted = node.grant(lent.alloc, lent.net, lent.inputs, lent.room)?;
+        let granted = node.grant(lent.alloc, lent.net, lent.inputs, lent.rooms)?;
         Ok(note_grant(&mut self.turns, granted, lent.round))
     }
 

@@ -200,7 +200,7 @@ module _ (setting : Setting) (stations : List StationView) (k : ℕ) (old : Stat
   deed_joins (event.Deliver place) says =
       came_joins place (due_bytes setting.round (flight_at setting k place)) (says place refl)
   deed_joins event.Grant says =
-      grant_joins setting.net old.number old.node joins_now (node_job setting.net setting.inputs setting.room old.node)
+      grant_joins setting.net old.number old.node joins_now (node_job setting.net setting.inputs setting.rooms old.node)
   deed_joins event.Send says =
       turn_joins setting.net old.number old.node joins_now (not (is_down old.node.mode))
       (turn_packets setting.net old.number old.node.kept old.node.mode)

@@ -119,7 +119,7 @@ module _ (setting : Setting) (stations : List StationView) (k : ℕ) (old : Stat
         came place (due_bytes setting.round (flight_at setting k place)) refl says
     deed_leads event.Grant says =
         grant_leads setting.net stations k old in_world.there run.sent
-        (node_job setting.net setting.inputs setting.room old.node)
+        (node_job setting.net setting.inputs setting.rooms old.node)
     deed_leads event.Send says =
         as_numbered (λ (n : ℕ). send_prospect setting.net n old.node)
         (turn_leads setting.net in_world.valid stations k old in_world.there run.sent incoming)
@@ -164,7 +164,7 @@ pub answers_so : (setting : Setting) (k : ℕ) (deed : Deed) (station : StationV
 answers_so setting k (event.Deliver place) station =
     bytes_answer setting.net place (due_bytes setting.round (flight_at setting k place)) station
 answers_so setting k event.Grant station =
-    job_answers (node_job setting.net setting.inputs setting.room station.node)
+    job_answers (node_job setting.net setting.inputs setting.rooms station.node)
     (count_grant (turns_of setting.round station.turns)) station.node
 answers_so setting k event.Recover station =
     inr (back_answers (restored_mode setting.net station.number (with_epoch station.node.kept)), refl)

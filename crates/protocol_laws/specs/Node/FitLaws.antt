@@ -19,7 +19,7 @@ use Rattle.protocol.specs.Node.Common.{MAX_COUNT}
 use Rattle.retained.specs.LogState.{Overfills}
 use Rattle.proc_step.specs.Turns.{IsTurn}
 use Rattle.proc_step.specs.TurnLaws.{sent_fits, taken_fits}
-use Rattle.protocol.specs.Node.Sharing.{IsWithinShare}
+use Rattle.protocol.specs.Node.Sharing.{IsWithinShare, full_share}
 use Rattle.protocol.specs.Node.Granting.{items_by}
 use Rattle.protocol.specs.Node.Granting.{room_in, room_of}
 use Rattle.ckpt_codec.specs.Common.{pushed, counted, LogTakes}
@@ -180,21 +180,21 @@ taken_is_there net home inputs n made image inboxes job code after taken sent st
 -- What a turn puts
 
 -- the room of a channel on which the process puts, and none on any other
-pub room_from-at : (share : ℕ) (image : ImageView) (process number : ℕ) (channels : List Channel) (c : ℕ)
+pub room_from-at : (share : ℕ → ℕ) (image : ImageView) (process number : ℕ) (channels : List Channel) (c : ℕ)
     (channel : Channel)
     → slice_get channels c ≡ Some channel
     → slice_index (room_from share image process number channels) c
-    ≡ cond (is_process process channel.producer) (room_of share image (number + c)) 0
+    ≡ cond (is_process process channel.producer) (room_of (share (number + c)) image (number + c)) 0
 room_from-at share image process number [] c channel is = absurd (cc)
 room_from-at share image process number (x ∷ channels) zero channel is =
     let same : x ≡ channel = cc in
     let here : number ≡ number + 0 = omega arith in
-    ap (λ (y : Channel). cond (is_process process y.producer) (room_of share image number) 0) same
-    ∙ ap (λ (n : ℕ). cond (is_process process channel.producer) (room_of share image n) 0) here
+    ap (λ (y : Channel). cond (is_process process y.producer) (room_of (share number) image number) 0) same
+    ∙ ap (λ (n : ℕ). cond (is_process process channel.producer) (room_of (share n) image n) 0) here
 room_from-at share image process number (x ∷ channels) (suc c) channel is =
     let there : suc number + c ≡ number + suc c = omega arith in
     room_from-at share image process (suc number) channels c channel is
-    ∙ ap (λ (n : ℕ). cond (is_process process channel.producer) (room_of share image n) 0) there
+    ∙ ap (λ (n : ℕ). cond (is_process process channel.producer) (room_of (share n) image n) 0) there
 
 -- what a turn puts on a channel has room in its log
 pub put_has_room : (net : Network) (inputs : List (List ℤ)) (n : ℕ) (made : ℕ → ℕ) (image : ImageView)
@@ -216,9 +216,9 @@ put_has_room net inputs n made image inboxes job code after taken sent stands ha
         let few =
         sent_fits code (approximation net inputs n) (made job.process) job.items job.room after taken sent done c in
         let sum : 0 + c ≡ c = omega arith in
-        let room : slice_index (room_from (log_share image) image job.process 0 net.channels) c
+        let room : slice_index (room_from (full_share image) image job.process 0 net.channels) c
         ≡ room_of (log_share image) image c =
-        room_from-at (log_share image) image job.process 0 net.channels c channel on
+        room_from-at (full_share image) image job.process 0 net.channels c channel on
         ∙ (ap (λ (b : Bool). cond b (room_of (log_share image) image (0 + c)) 0) test
         ∙ ap (λ (m : ℕ). room_of (log_share image) image m) sum) in
         let given = of.room c in

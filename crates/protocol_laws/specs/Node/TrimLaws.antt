@@ -15,7 +15,7 @@ use Rattle.protocol.specs.Node.Common.{acts_of, ImageStands, is_counting, IsLaid
 use Rattle.protocol.specs.Node.Common.{CountsAreWithin, LogsAreWithin, IsJobOf, SavedProcessView, IsBehind, SavedEnd}
 use Rattle.protocol.specs.Node.Common.{End, Receives, Sends, Both, MAX_COUNT}
 use Rattle.protocol.specs.Node.Trimming.{with_current}
-use Rattle.protocol.specs.Node.Sharing.{IsWithinShare}
+use Rattle.protocol.specs.Node.Sharing.{IsWithinShare, full_share}
 use Rattle.protocol.specs.Node.Granting.{items_by, room_in}
 use Rattle.protocol.specs.Node.Granting.{room_of}
 use Rattle.record.specs.Changes.{trimmed_end, trimmed_saved}
@@ -337,14 +337,14 @@ items_same inputs image later inboxes process number (x ∷ channels) same =
     by_consumer Outside to = refl
     by_consumer (Process q) to = by_number q to (eqb_tells q process)
 
-room_grows : (share later_share : ℕ) (image later : ImageView) (process number : ℕ) (channels : List Channel) (d : ℕ)
-    → ((d : ℕ) → room_of share image d ≤ room_of later_share later d)
+room_grows : (share later_share : ℕ → ℕ) (image later : ImageView) (process number : ℕ) (channels : List Channel) (d : ℕ)
+    → ((d : ℕ) → room_of (share d) image d ≤ room_of (later_share d) later d)
     → slice_index (room_from share image process number channels) d
     ≤ slice_index (room_from later_share later process number channels) d
 room_grows share later_share image later process number [] d more = omega arith
 room_grows share later_share image later process number (x ∷ channels) zero more = at (is_process process x.producer)
   where
-    at : (b : Bool) → cond b (room_of share image number) 0 ≤ cond b (room_of later_share later number) 0
+    at : (b : Bool) → cond b (room_of (share number) image number) 0 ≤ cond b (room_of (later_share number) later number) 0
     at true = more number
     at false = omega arith
 room_grows share later_share image later process number (x ∷ channels) (suc d) more =
@@ -380,7 +380,7 @@ job_trimmed net home inputs c position channel image inboxes job laid on away of
   room = λ d. (
       let given = of.room d in
       let more =
-      room_grows (log_share image) (log_share (trimmed_image c position image)) image (trimmed_image c position image)
+      room_grows (full_share image) (full_share (trimmed_image c position image)) image (trimmed_image c position image)
       job.process 0 net.channels d (room_trimmed c position image) in
       omega (arith, given, more));
 }

@@ -262,7 +262,7 @@ act_comes setting place (Some fits) (Some station) e came also old answer other 
     )
 
 same_world : (x y : WorldView) → x.net ≡ y.net → x.inputs ≡ y.inputs → x.stations ≡ y.stations
-    → x.traffic ≡ y.traffic → x.round ≡ y.round → x.room ≡ y.room → x ≡ y
+    → x.traffic ≡ y.traffic → x.round ≡ y.round → x.rooms ≡ y.rooms → x ≡ y
 same_world x y a b c d e f =
     ap (λ (n : Network). record {
       net = n;
@@ -270,7 +270,7 @@ same_world x y a b c d e f =
       stations = x.stations;
       traffic = x.traffic;
       round = x.round;
-      room = x.room;
+      rooms = x.rooms;
     }) a
     ∙ (ap (λ (i : List (List ℤ)). record {
       net = y.net;
@@ -278,7 +278,7 @@ same_world x y a b c d e f =
       stations = x.stations;
       traffic = x.traffic;
       round = x.round;
-      room = x.room;
+      rooms = x.rooms;
     }) b
     ∙ (ap (λ (s : List StationView). record {
       net = y.net;
@@ -286,7 +286,7 @@ same_world x y a b c d e f =
       stations = s;
       traffic = x.traffic;
       round = x.round;
-      room = x.room;
+      rooms = x.rooms;
     }) c
     ∙ (ap (λ (t : Traffic). record {
       net = y.net;
@@ -294,7 +294,7 @@ same_world x y a b c d e f =
       stations = y.stations;
       traffic = t;
       round = x.round;
-      room = x.room;
+      rooms = x.rooms;
     }) d
     ∙ (ap (λ (r : ℕ). record {
       net = y.net;
@@ -302,15 +302,15 @@ same_world x y a b c d e f =
       stations = y.stations;
       traffic = y.traffic;
       round = r;
-      room = x.room;
+      rooms = x.rooms;
     }) e
-    ∙ ap (λ (r : ℕ). record {
+    ∙ ap (λ (r : List ℕ). record {
       net = y.net;
       inputs = y.inputs;
       stations = y.stations;
       traffic = y.traffic;
       round = y.round;
-      room = r;
+      rooms = r;
     }) f))))
 
 pub steps_agree : StepsAgree
@@ -323,5 +323,5 @@ steps_agree fits e world answer other one two first second nothing none =
           (first.traffic ∙ (both.2 ∙ sym second.traffic))
           (first.round
           ∙ (ap (λ (a : ReplyView). round_after a world.round one.stations) both.0
-          ∙ (ap (round_after other world.round) both.1 ∙ sym second.round))) (first.room ∙ sym second.room),
+          ∙ (ap (round_after other world.round) both.1 ∙ sym second.round))) (first.rooms ∙ sym second.rooms),
     )

@@ -259,7 +259,7 @@ module _ (setting : Setting) (sure : IsSoundSetting setting) (old : StationView)
     pub deed_sound : (k : ℕ) (deed : Deed)
         → IsSoundProspect setting.net setting.inputs old (plan_of setting k deed old).prospect
     deed_sound k (event.Deliver place) = came_sound k place (flight_at setting k place) refl
-    deed_sound k event.Grant = grant_sound setting.net setting.inputs setting.room old sound.inv
+    deed_sound k event.Grant = grant_sound setting.net setting.inputs setting.rooms old sound.inv
     deed_sound k event.Send = tells_sound
     deed_sound k event.Start = begins_sound
     deed_sound k event.Decide = decides_sound
@@ -293,7 +293,7 @@ deed_sends : (setting : Setting) (k : ℕ) (deed : Deed) (station : StationView)
 deed_sends setting k (event.Deliver place) station came down =
     down_hears setting.net place (due_bytes setting.round (flight_at setting k place)) station came down
 deed_sends setting k event.Grant station came down =
-    grant_sends (node_job setting.net setting.inputs setting.room station.node) station.node came
+    grant_sends (node_job setting.net setting.inputs setting.rooms station.node) station.node came
 deed_sends setting k event.Send station came down = undue_sends (not (is_down station.node.mode)) _ came (ap not down)
 deed_sends setting k event.Start station came down =
     undue_sends (may_start station.node) _ came (down_start station.node down)
@@ -312,7 +312,7 @@ module _ (setting : Setting) (flying : TrafficIsSound setting.net setting.inputs
   pub deed_is : (k : ℕ) (deed : Deed) (old : StationView) → old.number ≡ k
       → is_dropped (plan_of setting k deed old).answer ≡ false
   deed_is k (event.Deliver place) old here = came_is setting flying k place old here (flight_at setting k place) refl
-  deed_is k event.Grant old here = grant_is (node_job setting.net setting.inputs setting.room old.node)
+  deed_is k event.Grant old here = grant_is (node_job setting.net setting.inputs setting.rooms old.node)
   deed_is k event.Recover old here = back_is (restored_mode setting.net old.number (with_epoch old.node.kept))
   deed_is k deed old here = refl
 

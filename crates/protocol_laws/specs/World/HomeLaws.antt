@@ -33,12 +33,12 @@ home_of home None here = absurd (cc)
 home_of home (Some code) here = eqb-true code.node home here
 
 -- the job that a running node grants next is of one of its processes
-granted_here : (net : Network) (home : ℕ) (inputs : List (List ℤ)) (room : ℕ) (node : RunningNode) (job : JobView)
-    → IsLaidOut net home node.current → next_job net inputs room node ≡ Some job → node_in job.code ≡ home
-granted_here net home inputs room node job laid h = by_leave (may_grant node) h
+granted_here : (net : Network) (home : ℕ) (inputs : List (List ℤ)) (rooms : List ℕ) (node : RunningNode) (job : JobView)
+    → IsLaidOut net home node.current → next_job net inputs rooms node ≡ Some job → node_in job.code ≡ home
+granted_here net home inputs rooms node job laid h = by_leave (may_grant node) h
   where
-    share : ℕ
-    share = retained_share room node.current
+    share : ℕ → ℕ
+    share = retained_share rooms node.current
 
     by_process : (o : Option SavedProcessView) → next_process net inputs share node.current node.inboxes node.last ≡ o
         → job_of net inputs share node o ≡ Some job → node_in job.code ≡ home
@@ -59,19 +59,19 @@ granted_here net home inputs room node job laid h = by_leave (may_grant node) h
     by_leave false e = absurd (cc)
 
 -- so of a station, whatever mode its node is in
-node_grants : (net : Network) (inputs : List (List ℤ)) (room : ℕ) (station : StationView)
-    → StationInvariant net inputs station → (job : JobView) → node_job net inputs room station.node ≡ Some job
+node_grants : (net : Network) (inputs : List (List ℤ)) (rooms : List ℕ) (station : StationView)
+    → StationInvariant net inputs station → (job : JobView) → node_job net inputs rooms station.node ≡ Some job
     → node_in job.code ≡ station.node.kept.node
-node_grants net inputs room station inv job = at station.node.mode refl
+node_grants net inputs rooms station inv job = at station.node.mode refl
   where
     at : (m : ModeView) → station.node.mode ≡ m
-        → job_at net inputs room (running_in station.node.kept station.node.version m) ≡ Some job
+        → job_at net inputs rooms (running_in station.node.kept station.node.version m) ≡ Some job
         → node_in job.code ≡ station.node.kept.node
     at Down is e = absurd (cc)
     at InDoubt is e = absurd (cc)
     at (Runs running) is e =
         let node = running_node station.node.kept station.node.version running in
-        granted_here net station.node.kept.node inputs room node job
+        granted_here net station.node.kept.node inputs rooms node job
         (inv.runs node (ap (running_in station.node.kept station.node.version) is)).sound.kept.laid_out e
 
 -- ---- answers that grant nothing
@@ -145,8 +145,8 @@ module _ (setting : Setting) (station : StationView) (inv : StationInvariant set
   deed_grants k (event.Deliver place) here =
       grants_nothing k _ (bytes_is setting.net place (due_bytes setting.round (flight_at setting k place)) station)
   deed_grants k event.Grant here =
-      grant_is k (node_job setting.net setting.inputs setting.room station.node) (λ job is.
-      node_grants setting.net setting.inputs setting.room station inv job is ∙ here)
+      grant_is k (node_job setting.net setting.inputs setting.rooms station.node) (λ job is.
+      node_grants setting.net setting.inputs setting.rooms station inv job is ∙ here)
   deed_grants k event.Recover here =
       grants_nothing k _ (back_is (restored_mode setting.net station.number (with_epoch station.node.kept)))
   deed_grants k deed here = grants_nothing k _ refl

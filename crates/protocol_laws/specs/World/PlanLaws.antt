@@ -171,13 +171,13 @@ module _ (net : Network) (inputs : List (List ℤ)) where
   after_grant_is kept version None running = refl
   after_grant_is kept version (Some job) running = refl
 
-  grant_keeps : (room : ℕ) (old : StationView) → StationInvariant net inputs old
+  grant_keeps : (rooms : List ℕ) (old : StationView) → StationInvariant net inputs old
       → StationInvariant net inputs
-      (moved_to (with_grant (node_job net inputs room old.node) old.node) old.failures old.turns old)
-  grant_keeps room old inv = moved_keeps (with_grant job old.node) old.failures old.turns old inv.kept runs
+      (moved_to (with_grant (node_job net inputs rooms old.node) old.node) old.failures old.turns old)
+  grant_keeps rooms old inv = moved_keeps (with_grant job old.node) old.failures old.turns old inv.kept runs
     where
       job : Option JobView
-      job = node_job net inputs room old.node
+      job = node_job net inputs rooms old.node
 
       runs : (run : RunningNode) → running_of (with_grant job old.node) ≡ Some run
           → RunsSoundly net inputs run (outputs_of old.outlets)
@@ -185,27 +185,27 @@ module _ (net : Network) (inputs : List (List ℤ)) where
           let before = ran old.node.kept old.node.version (granted job) old.node.mode run is in
           let node = running_node old.node.kept old.node.version before.0 in
           let sound = runs_at old inv before.0 before.1 in
-          let next : next_job net inputs room node ≡ job =
-          sym (ap (λ (m : ModeView). job_at net inputs room (running_in old.node.kept old.node.version m)) before.1) in
+          let next : next_job net inputs rooms node ≡ job =
+          sym (ap (λ (m : ModeView). job_at net inputs rooms (running_in old.node.kept old.node.version m)) before.1) in
           subst (λ (n : RunningNode). RunsSoundly net inputs n (outputs_of old.outlets))
           (sym (after_grant_is old.node.kept old.node.version job before.0) ∙ before.2)
           (record {
             order = order_granted job node sound.order;
             sound =
-                granted_sound net inputs (outputs_of old.outlets) room job node next sound.sound;
+                granted_sound net inputs (outputs_of old.outlets) rooms job node next sound.sound;
           })
 
-  pub grant_sound : (room : ℕ) (old : StationView) → StationInvariant net inputs old
-      → IsSoundProspect net inputs old (grant_prospect (node_job net inputs room old.node) old.node)
-  grant_sound room old inv = at (node_job net inputs room old.node) refl
+  pub grant_sound : (rooms : List ℕ) (old : StationView) → StationInvariant net inputs old
+      → IsSoundProspect net inputs old (grant_prospect (node_job net inputs rooms old.node) old.node)
+  grant_sound rooms old inv = at (node_job net inputs rooms old.node) refl
     where
-      at : (job : Option JobView) → node_job net inputs room old.node ≡ job
+      at : (job : Option JobView) → node_job net inputs rooms old.node ≡ job
           → IsSoundProspect net inputs old (grant_prospect job old.node)
       at None is = tt
       at (Some job) is =
           sound_becoming (with_grant (Some job) old.node) old
           (subst (λ (o : Option JobView). StationInvariant net inputs
-          (moved_to (with_grant o old.node) old.failures old.turns old)) is (grant_keeps room old inv)) refl
+          (moved_to (with_grant o old.node) old.failures old.turns old)) is (grant_keeps rooms old inv)) refl
 
   -- ---- a recovery
 

@@ -125,7 +125,7 @@ made_fits : (setting : Setting) (k : ℕ) (deed : Deed) (station : StationView)
     → ¬ (IsTooLarge (plan_of setting k deed station).answer)
 made_fits setting k (event.Deliver place) station =
     bytes_fit setting.net place (due_bytes setting.round (flight_at setting k place)) station
-made_fits setting k event.Grant station = job_fits (node_job setting.net setting.inputs setting.room station.node)
+made_fits setting k event.Grant station = job_fits (node_job setting.net setting.inputs setting.rooms station.node)
 made_fits setting k event.Recover station =
     back_fits (restored_mode setting.net station.number (with_epoch station.node.kept))
 made_fits setting k deed station = λ large. cc

@@ -46,17 +46,17 @@ module _ (net : Network) (inputs : List (List ℤ)) (outputs : List OutputView) 
             ∥∥₁_map sound.come (come_taken x n old);
       }
 
-  come_grant : (room : ℕ) (job : Option JobView) (old : RunningNode) → next_job net inputs room old ≡ job
+  come_grant : (rooms : List ℕ) (job : Option JobView) (old : RunningNode) → next_job net inputs rooms old ≡ job
       → IsSound net inputs old outputs → HasCome net inputs old outputs
       → HasCome net inputs (after_grant job old) outputs
-  come_grant room None old is sound come = come
-  come_grant room (Some job) old is sound come = record {
+  come_grant rooms None old is sound come = come
+  come_grant rooms (Some job) old is sound come = record {
     reached = reached_grant net inputs (Some job) old come.reached;
     inboxes =
         subst (λ (m : ℕ). InboxesStand (approximation net inputs m) old.inboxes)
         (sym (on_grant net inputs (Some job) old come.reached).same) come.inboxes;
     out = λ other h. subst (IsJobOf net inputs old.current old.inboxes) (same job other h)
-        (job_granted net old.kept.node inputs room old job sound.kept.laid_out is);
+        (job_granted net old.kept.node inputs rooms old job sound.kept.laid_out is);
     released =
         λ j p output channel h at from. beginning_stays net inputs old _ come.reached _ output.channel p output.taken
         (on_grant net inputs (Some job) old come.reached) (come.released j p output channel h at from);
@@ -66,10 +66,10 @@ module _ (net : Network) (inputs : List (List ℤ)) (outputs : List OutputView) 
       same a b e = cc
 
   -- whatever was granted
-  pub granted_sound : (room : ℕ) (job : Option JobView) (old : RunningNode) → next_job net inputs room old ≡ job
+  pub granted_sound : (rooms : List ℕ) (job : Option JobView) (old : RunningNode) → next_job net inputs rooms old ≡ job
       → IsSound net inputs old outputs → IsSound net inputs (after_grant job old) outputs
-  granted_sound room None old is sound = sound
-  granted_sound room (Some job) old is sound =
+  granted_sound rooms None old is sound = sound
+  granted_sound rooms (Some job) old is sound =
       record {
         listed = sound.listed;
         kept =
@@ -83,7 +83,7 @@ module _ (net : Network) (inputs : List (List ℤ)) (outputs : List OutputView) 
         covered = λ j output h. let at =
             sound.covered j output h in record { no_gap = at.no_gap; covered = at.covered };
         come =
-            ∥∥₁_map sound.come (come_grant room (Some job) old is sound);
+            ∥∥₁_map sound.come (come_grant rooms (Some job) old is sound);
       }
 
   come_decide : (number : ℕ) (nodes : List ℕ) (old : RunningNode) → HasCome net inputs old outputs

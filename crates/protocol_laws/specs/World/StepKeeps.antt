@@ -18,7 +18,7 @@ use Rattle.protocol.specs.World.Common.{Traffic, all_sent, DoneView, EventView, 
 use Rattle.protocol.specs.World.Common.{event_node, IsJoined, HasRun, RunsOn, output_of, outputs_of, AreSound}
 use Rattle.protocol.specs.World.Common.{IsNumbered, RunsSoundly, StationInvariant, WorldInvariant, OutputView}
 use Rattle.protocol.specs.World.Common.{RecordIsSound, has_happened, ReplyView, IsSound, StationView, IsActOf, IsAct}
-use Rattle.protocol.specs.World.Common.{IsRelease, IsStationStep, IsStep, Setting, with_room, WorldView}
+use Rattle.protocol.specs.World.Common.{IsRelease, IsStationStep, IsStep, Setting, with_rooms, WorldView}
 use Rattle.protocol.specs.World.Common.{first_waiting, moved_to, next_release, plan_of, round_after, sending_of}
 use Rattle.protocol.specs.World.Common.{setting_of, traffic_acted, traffic_after, traffic_left, TrafficIsSound}
 use Rattle.protocol.specs.World.Common.{IsSoundSetting, IsSoundStation}
@@ -640,7 +640,7 @@ pub act_keeps_world : (rooms : List (RecordView → Bool)) (e : EventView) (came
       stations = stations;
       traffic = traffic;
       round = round;
-      room = old.room;
+      rooms = old.rooms;
     })
 act_keeps_world rooms e came old answer setting number round stations traffic inv same_setting same_number act flown
     later =
@@ -651,7 +651,7 @@ act_keeps_world rooms e came old answer setting number round stations traffic in
       stations = stations;
       traffic = traffic;
       round = round;
-      room = old.room;
+      rooms = old.rooms;
     }) inv
     (record {
       net = refl;
@@ -663,13 +663,13 @@ act_keeps_world rooms e came old answer setting number round stations traffic in
           flown ∙ (ap (λ (s : Setting). traffic_after s e came answer (slice_get old.stations number)) same_setting
           ∙ ap (λ (n : ℕ). traffic_after (setting_of old) e came answer (slice_get old.stations n)) same_number);
       round = later;
-      room = refl;
+      rooms = refl;
     })
 
--- A world is sound whatever room its channels are given, since the room bounds what a job is granted alone.
-pub room_keeps_world : (world : WorldView) (room : ℕ) → WorldInvariant world
-    → WorldInvariant (with_room room world)
-room_keeps_world world room inv = record {
+-- A world is sound whatever rooms its channels are given, since a room bounds what a job is granted alone.
+pub rooms_keep_world : (world : WorldView) (rooms : List ℕ) → WorldInvariant world
+    → WorldInvariant (with_rooms rooms world)
+rooms_keep_world world rooms inv = record {
   valid = inv.valid;
   fits = inv.fits;
   count = inv.count;

@@ -135,7 +135,7 @@ returns-in-Grant-clause-come g c =
     quiet_came setting fits (event_view c.args.event.now) was _ (traffic_of c.args.wire.now) c.grant.result
     _ view.Grant _
     (deed_seen c.in-Plain.is c.in-ByNode.is c.in-Grant.is)
-    refl refl refl (λ came. grant_sends (node_job setting.net setting.inputs setting.room was.node) was.node came)
+    refl refl refl (λ came. grant_sends (node_job setting.net setting.inputs setting.rooms was.node) was.node came)
     c.grant.ensures.step
 
 pub returns-in-Install-clause-come : goal.returns-in-Install-clause-come

@@ -13,7 +13,7 @@ returns-clause-step g c =
     let slots = g.C.SlotCell in
     let granted = c.in_ok-granted in
     let next : List (List ℤ) → Option JobView =
-    (λ inputs. node_job (net_lent c.args.lent.now) inputs c.args.lent.now.room (view_of was.node)) in
+    (λ inputs. node_job (net_lent c.args.lent.now) inputs c.args.lent.now.rooms.now (view_of was.node)) in
     grants (fits_in (slots.slot_capacity (cell_in was.node.store))) c.args.lent.now.round
     (next (inputs_lent c.args.lent.now))
     granted.granted
