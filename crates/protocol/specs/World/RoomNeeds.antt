@@ -6,7 +6,7 @@
 -- nobody on it goes on, nobody on it ever will, whatever the others do, unless a channel gets more room: the last one at
 -- which a process on the way is held for want of it. Where that way goes round, this channel lies on the round. Where it
 -- ends, no other on the rest of the way would help.
-use Rattle.std.specs.Prelude.{ℕ, zero, suc, Bool, true, false, if◌then◌else◌, List, [], ◌∷◌, length, Option, Some, None}
+use Rattle.std.specs.Prelude.{◌≡◌, ◌⊎◌, ℕ, zero, suc, Bool, true, false, if◌then◌else◌, List, [], ◌∷◌, length, Option, Some, None}
 use Rattle.std.specs.Prelude.{slice_get, slice_index, slice_set}
 use Rattle.std.specs.List.{list_any}
 use Rattle.ckpt_codec.specs.Common.{Network, Channel, Port, Outside, Process}
@@ -76,6 +76,28 @@ need_on stance processes =
 abbrev pub way_from : Network → (ℕ → Stance) → ℕ → List ℕ
 way_from net stance process =
     way (λ (other : ℕ). awaited net (stance other)) (suc (length net.codes)) (Some process)
+
+-- ---- what it is to need room
+
+-- the process to which a way has led in so many steps
+abbrev pub onward : (ℕ → Option ℕ) → ℕ → Option ℕ → Option ℕ
+onward next zero from = from
+onward next (suc steps) None = None
+onward next (suc steps) (Some process) = onward next steps (next process)
+
+-- The way from a process comes back to it; or nobody else whom it comes to is held for want of room.
+abbrev pub IsLastHeld : (ℕ → Option ℕ) → (ℕ → Stance) → ℕ → Type 0
+IsLastHeld next stance process =
+    ((steps : ℕ) × (onward next (suc steps) (Some process) ≡ Some process))
+    ⊎ ((steps other : ℕ) → onward next (suc steps) (Some process) ≡ Some other → held_on (stance other) ≡ None)
+
+-- A process needs more room for a channel: its put there is held for want of it, nobody goes on to whom the way from it
+-- comes, and it is the last one there that is held.
+pub record NeedsRoom (net : Network) (stance : ℕ → Stance) (process channel : ℕ) : Type 0 where
+  pub held : stance process ≡ Held channel
+  pub stuck : (steps other : ℕ) → onward (λ (one : ℕ). awaited net (stance one)) steps (Some process) ≡ Some other
+      → is_going (stance other) ≡ false
+  pub last : IsLastHeld (λ (one : ℕ). awaited net (stance one)) stance process
 
 -- ---- the channel that gets more
 

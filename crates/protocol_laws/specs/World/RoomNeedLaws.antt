@@ -1,29 +1,33 @@
 -- Where a world stands still for want of room, some channel needs more; and a channel that needs more is one at which a put
 -- is held for want of it.
-use Rattle.std.proofs.Common.{◌≡◌, ◌⊎◌, inl, inr, ℕ, zero, suc, ◌+◌, ◌<◌, ◌≤◌, Bool, true, false, ◌&&◌, ◌||◌, ◌==◌, not}
+use Rattle.std.proofs.Common.{◌≡◌, ◌⊎◌, inl, inr, ℕ, zero, suc, ◌+◌, ◌-◌, ◌*◌, ◌<◌, ◌≤◌, Bool, true, false, ◌&&◌, ◌||◌, ◌==◌, not}
 use Rattle.std.proofs.Common.{cond, ltb, eqb, ℤ, List, [], ◌∷◌, length, map, drop, get_or, Option, Some, None, is_some}
 use Rattle.std.proofs.Common.{option_map, refl, sym, ap, subst, ◌∙◌, arith}
 use Rattle.std.specs.Prelude.{slice_get, slice_index, find, IsTrue, min, nat_lt, nat_le}
 use Rattle.std.specs.List.{list_all, list_any, range_with_len}
 use Rattle.std.proofs.Math.Nat.{min-le_right}
 use Rattle.std.proofs.lemmas.Bool.{and_parts, or_parts, eqb-true, leb-true, ltb-true, ltb-false, le-ltb, lt-ltb, cases_Bool}
-use Rattle.std.proofs.lemmas.Bool.{not-true, and_from, or_from, cases_lt}
+use Rattle.std.proofs.lemmas.Bool.{not-true, and_from, or_from, or_left, or_right, eq-eqb, cases_lt}
 use Rattle.std.proofs.lemmas.List.{get_or-drop, get_or_past}
 use Rattle.std.proofs.lemmas.List.Folds.{Any-from_list_any}
 use Rattle.std.proofs.lemmas.List.FromFn.{length-map-range_with_len, get_or-map-range_with_len}
 use Rattle.std.proofs.lemmas.Option.{slice_get_cases, slice_get_within, slice_get-get_or}
 use Rattle.turns.specs.Turns.{first_ready, least_from, next_in_turn, or_else, start_after}
-use Rattle.kahn_net.specs.Common.{Next, Gets, Puts, NoNext}
-use Rattle.kahn_net.specs.NextActs.{Begins}
-use Rattle.protocol.specs.Node.Common.{Network, Code, Channel, ImageView, SavedProcessView, SavedEnd, RunningNode, JobView}
+use Rattle.kahn_net.specs.Common.{Next, Gets, Puts, NoNext, next_of, Standing, Block, GetThen, AssignThen, PutThen}
+use Rattle.kahn_net.specs.Common.{StopThen, IfThen, RepeatThen, Nothing, sites_of, IsValid, block_puts, code_puts}
+use Rattle.kahn_net.specs.NextActs.{Begins, next_on, next_in_body}
+use Rattle.kahn_net.specs.Processes.Standing.{At, Done, NotBegun}
+use Rattle.kahn_net.specs.Valid.{body_puts}
+use Rattle.protocol.specs.Node.Common.{Network, Code, Channel, Port, Outside, Process, ImageView, SavedProcessView, SavedEnd, RunningNode, JobView}
 use Rattle.protocol.specs.Node.Common.{running_in, running_node, running_of, ModeView, Down, InDoubt, Runs, RecordView, received_of, sent_of, base_of, is_none, may_grant, MAX_COUNT, NodeView}
-use Rattle.protocol.specs.Node.Common.{log_share, log_of, LogState, has_process, is_on, End, received_at}
+use Rattle.protocol.specs.Node.Common.{log_end, log_share, log_of, LogState, has_process, is_on, End, received_at}
 use Rattle.protocol.specs.Node.Addresses.{consumer_node}
 use Rattle.protocol.specs.Node.Choosing.{has_item, has_room, can_go, next_at, is_ready, ready_process, ready_processes}
 use Rattle.protocol.specs.Node.Choosing.{process_at, next_process, job_at, job_of, job_up_to, next_job}
 use Rattle.protocol.specs.Node.Granting.{room_in, room_of}
-use Rattle.protocol.specs.Node.Sharing.{even_rooms, full_share, retained_share}
+use Rattle.protocol.specs.Node.Sharing.{AreRooms, even_rooms, full_share, retained_share, wider}
 use Rattle.protocol.specs.Node.Layout.{is_node}
+use Rattle.protocol.specs.declared.limits.TheConstants.{MAX_JOB_ITEMS, MIN_ROOM}
 use Rattle.protocol.specs.declared.links.Inbox.{Inbox}
 use Rattle.protocol.specs.declared.links.Outbox.{Outbox}
 use Rattle.protocol.specs.declared.stance.Stance.{Stance}
@@ -37,12 +41,14 @@ use Rattle.protocol.specs.World.Stances.{is_of, stance_at_put, stance_before, st
 use Rattle.protocol.specs.World.Stances.{stance_with, stance_of}
 use Rattle.protocol.specs.World.Still.{has_come_from, has_let_go, kept_by, kept_at, keeps_all, is_settled, is_settled_at}
 use Rattle.protocol.specs.World.Still.{is_still, wants_room}
-use Rattle.protocol.specs.World.RoomNeeds.{is_going, held_on, need_by, needed_at}
+use Rattle.protocol.specs.World.RoomNeeds.{NeedsRoom, awaited, getter_of, is_going, held_on, need_by, needed_at}
+use Rattle.protocol.specs.World.RoomNeeds.{process_on, putter_of}
 use Rattle.protocol_laws.specs.Node.GrantLaws.{fewer_places}
 use Rattle.protocol_laws.specs.Node.ImageLaws.{find_within, found_is}
 use Rattle.protocol_laws.specs.Node.NumberedLaws.{where_mark, where_find}
+use Rattle.protocol_laws.specs.Node.SharingLaws.{share_within}
 use Rattle.protocol_laws.specs.World.QuietLaws.{all_at, left_at}
-use Rattle.protocol_laws.specs.World.WayLaws.{held_needs}
+use Rattle.protocol_laws.specs.World.WayLaws.{held_needs, need_is_need, none_in_need}
 
 -- ---- what is found
 
@@ -128,16 +134,20 @@ turn_there last ready k is = at (least_from (start_after last) ready) refl
         → (q : ℕ) × (or_else (least_from (start_after last) ready) (least_from 0 ready) ≡ Some q)
         × (get_or ready q false ≡ true)
     at (Some q) here =
-        let place = first_is (start_after last) (drop (start_after last) ready) q here in
-        (q, ap (λ (o : Option ℕ). or_else o (least_from 0 ready)) here,
-        ap (λ (n : ℕ). get_or ready n false) place.1
-        ∙ (sym (get_or-drop (start_after last) ready place.0 false) ∙ place.2))
+        let place = first_is (start_after last) (drop (start_after last) ready) q here in (
+          q,
+          ap (λ (o : Option ℕ). or_else o (least_from 0 ready)) here,
+          ap (λ (n : ℕ). get_or ready n false) place.1
+              ∙ (sym (get_or-drop (start_after last) ready place.0 false) ∙ place.2),
+        )
     at None here =
         let first = first_there 0 ready k is in
         let place = first_is 0 ready first.0 first.1 in
-        let same : first.0 ≡ place.0 = omega (arith, place.1) in
-        (first.0, ap (λ (o : Option ℕ). or_else o (least_from 0 ready)) here ∙ first.1,
-        ap (λ (n : ℕ). get_or ready n false) same ∙ place.2)
+        let same : first.0 ≡ place.0 = omega (arith, place.1) in (
+          first.0,
+          ap (λ (o : Option ℕ). or_else o (least_from 0 ready)) here ∙ first.1,
+          ap (λ (n : ℕ). get_or ready n false) same ∙ place.2,
+        )
 
 -- ---- the job of a node
 
@@ -235,10 +245,14 @@ module _ (net : Network) (inputs : List (List ℤ)) (share : ℕ → ℕ) (node 
                   let test : SavedProcessView → Bool = λ (s : SavedProcessView).
                   (s.number == number) && is_ready net inputs share node.current node.inboxes s in
                   let place = find_within test node.current.processes saved there in
-                  let passes = found_passes test node.current.processes saved there in
-                  (may, place.0, saved, place.1,
-                  (and_parts (saved.number == number)
-                  (is_ready net inputs share node.current node.inboxes saved) passes).1)
+                  let passes = found_passes test node.current.processes saved there in (
+                    may,
+                    place.0,
+                    saved,
+                    place.1,
+                    (and_parts (saved.number == number)
+                        (is_ready net inputs share node.current node.inboxes saved) passes).1,
+                  )
 
 -- ---- a station that stands still
 
@@ -279,16 +293,19 @@ rest_of net inputs rooms stations station still = at (running_of station.node) r
         let settled = length node.kept.decisions == 0 in
         let free = and_parts (is_none node.kept.tentative) (settled && (is_none node.out && more)) first.0 in
         let late = and_parts settled (is_none node.out && more) free.1 in
-        let idle = and_parts (is_none node.out) more late.1 in
-        (node, is, record {
-          free = free.0;
-          idle = idle.0;
-          rose = not-true (has_more (Some node)) idle.1;
-          left = rest.0;
-          come = last.0;
-          gone = last.1;
-          none = not-true (is_some (next_job net inputs rooms node)) parts.1;
-        }))
+        let idle = and_parts (is_none node.out) more late.1 in (
+          node,
+          is,
+          record {
+            free = free.0;
+            idle = idle.0;
+            rose = not-true (has_more (Some node)) idle.1;
+            left = rest.0;
+            come = last.0;
+            gone = last.1;
+            none = not-true (is_some (next_job net inputs rooms node)) parts.1;
+          },
+        ))
 
 -- where no count rose, no more was received of any channel than is kept for good
 rose_at : (now earlier : ImageView) (ends : List SavedEnd) (k : ℕ) (saved : SavedEnd)
@@ -504,9 +521,9 @@ module _ (net : Network) (inputs : List (List ℤ)) (rooms : List ℕ) (stations
             record {
               stays = ap is_going same;
               held = λ grants can. (let bad : true ≡ false =
-              sym (and_parts (is_none node.out) (nat_lt node.version MAX_COUNT)
-              (and_parts (is_none node.kept.tentative) (is_none node.out && nat_lt node.version MAX_COUNT) grants).1).1
-              ∙ late in absurd (cc));
+                  sym (and_parts (is_none node.out) (nat_lt node.version MAX_COUNT)
+                  (and_parts (is_none node.kept.tentative) (is_none node.out && nat_lt node.version MAX_COUNT) grants).1).1
+                  ∙ late in absurd (cc));
             })
 
   -- ---- nobody goes on
@@ -634,11 +651,14 @@ one_is_held net inputs rooms stations all numbered sound k station is wants =
         below in
         let held = put.held says.0
         (fuller net inputs even node.current node.inboxes (next_at (slice_get net.codes saved.number) saved.standing)
-        says.4) in
-        (saved.number, held.0, below,
-        stance_is net inputs rooms stations all saved.number code.0 station node saved code.1
-        (ap (slice_get stations) here ∙ is) runs found
-        ∙ held.1)
+        says.4) in (
+          saved.number,
+          held.0,
+          below,
+          stance_is net inputs rooms stations all saved.number code.0 station node saved code.1
+              (ap (slice_get stations) here ∙ is) runs found
+              ∙ held.1,
+        )
 
 -- Where a world stands still for want of room, a channel needs more.
 pub some_need : (world : WorldView) → WorldInvariant world → stands_still world ≡ true
@@ -655,3 +675,369 @@ some_need world inv still =
     one.4 in
     held_needs world.net (stance_of world.net world.inputs world.rooms world.stations) held.0 held.1
     (nobody_goes world.net world.inputs world.rooms world.stations parts.0) held.2 held.3
+
+-- ---- what is held
+
+-- A process is held at a put on a channel for want of room: nothing is on its way out of the channel's log, there is no
+-- place in it, and there would be one if the channel had all the room that it may have.
+pub record PutIsHeld (world : WorldView) (p c : ℕ) : Type 0 where
+  pub code : Code
+  pub station : StationView
+  pub node : RunningNode
+  pub saved : SavedProcessView
+  pub coded : slice_get world.net.codes p ≡ Some code
+  pub there : slice_get world.stations code.node ≡ Some station
+  pub runs : running_of station.node ≡ Some node
+  pub found : find (λ (s : SavedProcessView). s.number == p) node.current.processes ≡ Some saved
+  pub next : next_at (slice_get world.net.codes saved.number) saved.standing ≡ Puts c
+  pub settled : is_leaving world.net world.stations node (outputs_of station.outlets) c ≡ false
+  pub no_place : has_room (retained_share world.rooms node.current) node.current c (slice_get world.net.channels c)
+      ≡ false
+  pub place : has_room (full_share node.current) node.current c (slice_get world.net.channels c) ≡ true
+
+-- what a process comes to that is held
+held_before : (world : WorldView) (node : RunningNode) (outputs : List OutputView) (c : ℕ) (next : Next)
+    → stance_before world.net world.inputs world.rooms world.stations node outputs next ≡ Held c
+    → (next ≡ Puts c)
+    × (is_leaving world.net world.stations node outputs c ≡ false)
+    × (has_room (retained_share world.rooms node.current) node.current c (slice_get world.net.channels c) ≡ false)
+    × (has_room (full_share node.current) node.current c (slice_get world.net.channels c) ≡ true)
+held_before world node outputs c Begins is = absurd (cc)
+held_before world node outputs c NoNext is = absurd (cc)
+held_before world node outputs c (Gets d) is =
+    at
+    (has_item world.inputs node.current node.inboxes d (slice_get world.net.channels d) ||
+    is_coming world.net world.stations node.inboxes d) is
+  where
+    at : (b : Bool) → cond b GoesOn (Waits d) ≡ Held c
+        → (Gets d ≡ Puts c)
+        × (is_leaving world.net world.stations node outputs c ≡ false)
+        × (has_room (retained_share world.rooms node.current) node.current c (slice_get world.net.channels c) ≡ false)
+        × (has_room (full_share node.current) node.current c (slice_get world.net.channels c) ≡ true)
+    at true bad = absurd (cc)
+    at false bad = absurd (cc)
+held_before world node outputs c (Puts d) is = at (now || leaves) refl full refl
+  where
+    now : Bool
+    now = has_room (retained_share world.rooms node.current) node.current d (slice_get world.net.channels d)
+
+    leaves : Bool
+    leaves = is_leaving world.net world.stations node outputs d
+
+    full : Bool
+    full = has_room (full_share node.current) node.current d (slice_get world.net.channels d)
+
+    stance : stance_before world.net world.inputs world.rooms world.stations node outputs (Puts d)
+        ≡ cond (now || leaves) GoesOn (cond full (Held d) (Full d))
+    stance = refl
+
+    at : (b : Bool) → (now || leaves) ≡ b → (f : Bool) → full ≡ f
+        → (Puts d ≡ Puts c)
+        × (is_leaving world.net world.stations node outputs c ≡ false)
+        × (has_room (retained_share world.rooms node.current) node.current c (slice_get world.net.channels c) ≡ false)
+        × (has_room (full_share node.current) node.current c (slice_get world.net.channels c) ≡ true)
+    at true some f fully =
+        let bad : GoesOn ≡ Held c =
+        sym (ap (λ (b : Bool). cond b GoesOn (cond full (Held d) (Full d))) some) ∙ is in
+        absurd (cc)
+    at false none false fully =
+        let bad : Full d ≡ Held c =
+        sym (ap (λ (b : Bool). cond b GoesOn (cond full (Held d) (Full d))) none
+        ∙ ap (λ (b : Bool). cond b (Held d) (Full d)) fully)
+        ∙ is in
+        absurd (cc)
+    at false none true fully =
+        let same_stance : Held d ≡ Held c =
+        sym (ap (λ (b : Bool). cond b GoesOn (cond full (Held d) (Full d))) none
+        ∙ ap (λ (b : Bool). cond b (Held d) (Full d)) fully)
+        ∙ is in
+        let same : d ≡ c = cc in
+        let parts = or_parts now leaves none in (
+          ap Puts same,
+          subst (λ (e : ℕ). is_leaving world.net world.stations node outputs e ≡ false) same parts.1,
+          subst (λ (e : ℕ). has_room (retained_share world.rooms node.current) node.current e
+              (slice_get world.net.channels e) ≡ false) same parts.0,
+          subst (λ (e : ℕ). has_room (full_share node.current) node.current e (slice_get world.net.channels e) ≡ true)
+              same fully,
+        )
+
+pub put_is_held : (world : WorldView) (p c : ℕ)
+    → stance_of world.net world.inputs world.rooms world.stations p ≡ Held c → PutIsHeld world p c
+put_is_held world p c is = coded (slice_get world.net.codes p) refl is
+  where
+    with_code : Option Code → Stance
+    with_code o = stance_with world.net world.inputs world.rooms world.stations p o
+
+    at_station : Option StationView → Stance
+    at_station o = stance_at world.net world.inputs world.rooms world.stations p o
+
+    coded : (o : Option Code) → slice_get world.net.codes p ≡ o → with_code o ≡ Held c → PutIsHeld world p c
+    coded None coded_is stance = absurd (cc)
+    coded (Some code) coded_is stance = there (slice_get world.stations code.node) refl stance
+      where
+        there : (o : Option StationView) → slice_get world.stations code.node ≡ o → at_station o ≡ Held c
+            → PutIsHeld world p c
+        there None there_is stance = absurd (cc)
+        there (Some station) there_is stance = runs (running_of station.node) refl stance
+          where
+            outputs : List OutputView
+            outputs = outputs_of station.outlets
+
+            runs : (o : Option RunningNode) → running_of station.node ≡ o
+                → stance_on world.net world.inputs world.rooms world.stations p outputs o ≡ Held c
+                → PutIsHeld world p c
+            runs None runs_is stance = absurd (cc)
+            runs (Some node) runs_is stance =
+                found (find (λ (s : SavedProcessView). s.number == p) node.current.processes) refl stance
+              where
+                found : (o : Option SavedProcessView)
+                    → find (λ (s : SavedProcessView). s.number == p) node.current.processes ≡ o
+                    → stance_there world.net world.inputs world.rooms world.stations node outputs o ≡ Held c
+                    → PutIsHeld world p c
+                found None found_is stance = absurd (cc)
+                found (Some saved) found_is stance =
+                    out (is_of saved.number node.out) (nat_lt node.version MAX_COUNT) stance
+                  where
+                    next : Next
+                    next = next_at (slice_get world.net.codes saved.number) saved.standing
+
+                    before : Stance
+                    before = stance_before world.net world.inputs world.rooms world.stations node outputs next
+
+                    out : (own early : Bool) → cond own GoesOn (cond early before Ended) ≡ Held c
+                        → PutIsHeld world p c
+                    out true early bad = absurd (cc)
+                    out false false bad = absurd (cc)
+                    out false true held =
+                        (let put = held_before world node outputs c next held in
+                        record {
+                          code = code;
+                          station = station;
+                          node = node;
+                          saved = saved;
+                          coded = coded_is;
+                          there = there_is;
+                          runs = runs_is;
+                          found = found_is;
+                          next = put.0;
+                          settled = put.1;
+                          no_place = put.2;
+                          place = put.3;
+                        })
+
+-- ---- more room makes a place
+
+-- a channel on which there is room at all is one of the network
+channel_there : (share : ℕ → ℕ) (image : ImageView) (channels : List Channel) (c : ℕ)
+    → has_room share image c (slice_get channels c) ≡ true → c < length channels
+channel_there share image channels c has = at (slice_get channels c) refl has
+  where
+    at : (o : Option Channel) → slice_get channels c ≡ o → has_room share image c o ≡ true → c < length channels
+    at None is bad = absurd (cc)
+    at (Some ends) is some = slice_get_within channels c ends is
+
+-- where a put is held for want of room, the channel hasn't all the room that it may have
+pub below_share : (world : WorldView) (p c : ℕ) (held : PutIsHeld world p c)
+    → slice_index world.rooms c < log_share held.node.current
+below_share world p c held =
+    at (slice_get world.net.channels c) (log_of held.node.current c) refl held.no_place held.place
+  where
+    room : ℕ
+    room = slice_index world.rooms c
+
+    share : ℕ
+    share = log_share held.node.current
+
+    at : (o : Option Channel) (log : Option LogState) → log_of held.node.current c ≡ log
+        → has_room (retained_share world.rooms held.node.current) held.node.current c o ≡ false
+        → has_room (full_share held.node.current) held.node.current c o ≡ true → room < share
+    at None log is none some = absurd (cc)
+    at (Some ends) None is none some =
+        (let places : room_of share held.node.current c ≡ 0 = ap (room_in share) is in
+        let one = ltb-true 0 (room_of share held.node.current c) some in
+        absurd (omega (arith, places, one)))
+    at (Some ends) (Some log) is none some =
+        (let places : room_of share held.node.current c ≡ room_in share (Some log) = ap (room_in share) is in
+        let one = ltb-true 0 (room_of share held.node.current c) some in
+        let nothing : room_of (min room share) held.node.current c ≡ room_in (min room share) (Some log) =
+        ap (room_in (min room share)) is in
+        let no_one = ltb-false 0 (room_of (min room share) held.node.current c) none in
+        lower room share (length log.items) (MAX_COUNT - log_end log) (omega (arith, places, one))
+        (omega (arith, nothing, no_one)))
+      where
+        lower : (room share items counts : ℕ) → 0 < min MAX_JOB_ITEMS (min (share - items) counts)
+            → min MAX_JOB_ITEMS (min (min room share - items) counts) ≤ 0 → room < share
+        lower room share items counts some none = omega (arith, some, none)
+
+-- ---- the process that puts there
+
+either : (x y : Bool) → (x ≡ true) ⊎ (y ≡ true) → (x || y) ≡ true
+either x y (inl left) = or_left x y left
+either x y (inr right) = or_right x y right
+
+-- statements that put next on a channel put there
+puts_next : (number : ℕ) (b : Block) (site c : ℕ) → next_on number b site ≡ Puts c → block_puts c b ≡ true
+puts_next number Nothing site c is = absurd (cc)
+puts_next number (GetThen x d rest) site c is =
+    at (number == site) is (λ later. puts_next (number + 1) rest site c later)
+  where
+    at : (b : Bool) → cond b (Gets d) (next_on (number + 1) rest site) ≡ Puts c
+        → (next_on (number + 1) rest site ≡ Puts c → block_puts c rest ≡ true) → block_puts c rest ≡ true
+    at true bad further = absurd (cc)
+    at false later further = further later
+puts_next number (AssignThen x e rest) site c is = puts_next number rest site c is
+puts_next number (PutThen e d rest) site c is =
+    at (number == site) is (λ later. puts_next (number + 1) rest site c later)
+  where
+    at : (b : Bool) → cond b (Puts d) (next_on (number + 1) rest site) ≡ Puts c
+        → (next_on (number + 1) rest site ≡ Puts c → block_puts c rest ≡ true)
+        → ((d == c) || block_puts c rest) ≡ true
+    at true here further =
+        let same : d ≡ c = cc in
+        either (d == c) (block_puts c rest) (inl (eq-eqb d c same))
+    at false later further = either (d == c) (block_puts c rest) (inr (further later))
+puts_next number (StopThen rest) site c is = puts_next number rest site c is
+puts_next number (IfThen test first second rest) site c is =
+    at (nat_lt site (number + sites_of first)) (nat_lt site (number + sites_of first + sites_of second)) is
+    (λ in_first. puts_next number first site c in_first)
+    (λ in_second. puts_next (number + sites_of first) second site c in_second)
+    (λ later. puts_next (number + sites_of first + sites_of second) rest site c later)
+  where
+    at : (b d : Bool)
+        → cond b (next_on number first site) (cond d (next_on (number + sites_of first) second site)
+        (next_on (number + sites_of first + sites_of second) rest site)) ≡ Puts c
+        → (next_on number first site ≡ Puts c → block_puts c first ≡ true)
+        → (next_on (number + sites_of first) second site ≡ Puts c → block_puts c second ≡ true)
+        → (next_on (number + sites_of first + sites_of second) rest site ≡ Puts c → block_puts c rest ≡ true)
+        → (block_puts c first || (block_puts c second || block_puts c rest)) ≡ true
+    at true d here one two three =
+        either (block_puts c first) (block_puts c second || block_puts c rest) (inl (one here))
+    at false true here one two three =
+        either (block_puts c first) (block_puts c second || block_puts c rest)
+        (inr (either (block_puts c second) (block_puts c rest) (inl (two here))))
+    at false false here one two three =
+        either (block_puts c first) (block_puts c second || block_puts c rest)
+        (inr (either (block_puts c second) (block_puts c rest) (inr (three here))))
+puts_next number (RepeatThen times body rest) site c is =
+    at (nat_lt site (number + sites_of body)) is (λ in_body. puts_next number body site c in_body)
+    (λ later. puts_next (number + sites_of body) rest site c later)
+  where
+    at : (b : Bool) → cond b (next_on number body site) (next_on (number + sites_of body) rest site) ≡ Puts c
+        → (next_on number body site ≡ Puts c → block_puts c body ≡ true)
+        → (next_on (number + sites_of body) rest site ≡ Puts c → block_puts c rest ≡ true)
+        → (block_puts c body || block_puts c rest) ≡ true
+    at true here one two = either (block_puts c body) (block_puts c rest) (inl (one here))
+    at false here one two = either (block_puts c body) (block_puts c rest) (inr (two here))
+
+-- a process that puts next on a channel puts there
+code_puts_next : (code : Code) (standing : Standing) (c : ℕ) → next_of code standing ≡ Puts c
+    → code_puts c code ≡ true
+code_puts_next code (NotBegun vars) c is = absurd (cc)
+code_puts_next code (Done vars) c is = absurd (cc)
+code_puts_next code (At point vars) c is = at (nat_lt point.site (sites_of code.prelude)) code.body refl is
+  where
+    at : (b : Bool) (body : Option Block) → code.body ≡ body
+        → cond b (next_on 0 code.prelude point.site) (next_in_body (sites_of code.prelude) body point.site) ≡ Puts c
+        → code_puts c code ≡ true
+    at true body same here =
+        either (block_puts c code.prelude) (body_puts c code.body)
+        (inl (puts_next 0 code.prelude point.site c here))
+    at false None same here = absurd (cc)
+    at false (Some body) same here =
+        either (block_puts c code.prelude) (body_puts c code.body)
+        (inr (ap (body_puts c) same ∙ puts_next (sites_of code.prelude) body point.site c here))
+
+-- so it is the channel's producer
+pub puts_there : (world : WorldView) (p c : ℕ) → IsValid world.net → PutIsHeld world p c
+    → (ends : Channel) × (slice_get world.net.channels c ≡ Some ends) × (ends.producer ≡ Process p)
+puts_there world p c valid held = at (slice_get world.net.channels c) refl held.place
+  where
+    at : (o : Option Channel) → slice_get world.net.channels c ≡ o
+        → has_room (full_share held.node.current) held.node.current c o ≡ true
+        → (ends : Channel) × (slice_get world.net.channels c ≡ Some ends) × (ends.producer ≡ Process p)
+    at None is bad = absurd (cc)
+    at (Some ends) is has =
+        let number : held.saved.number ≡ p =
+        found_is (λ (s : SavedProcessView). s.number) held.node.current.processes p held.saved held.found in
+        let next : next_of held.code held.saved.standing ≡ Puts c =
+        ap (λ (o : Option Code). next_at o held.saved.standing)
+        (sym held.coded ∙ ap (slice_get world.net.codes) (sym number))
+        ∙ held.next in (
+          ends,
+          is,
+          (valid.producer c p ends held.code is held.coded).0 (code_puts_next held.code held.saved.standing c next),
+        )
+
+-- ---- of a world
+
+-- who gets from a channel is a process of the network, and who puts there
+getter_below : (net : Network) → IsValid net → (c q : ℕ) → getter_of (slice_get net.channels c) ≡ Some q
+    → q < length net.codes
+getter_below net valid c q is = at (slice_get net.channels c) refl is
+  where
+    at : (o : Option Channel) → slice_get net.channels c ≡ o → getter_of o ≡ Some q → q < length net.codes
+    at None there bad = absurd (cc)
+    at (Some ends) there own = by ends.consumer refl own
+      where
+        by : (port : Port) → ends.consumer ≡ port → process_on port ≡ Some q → q < length net.codes
+        by Outside same bad = absurd (cc)
+        by (Process p) same it =
+            let own : p ≡ q = cc in
+            valid.consumer_is_here c q ends there (same ∙ ap Process own)
+
+putter_below : (net : Network) → IsValid net → (c q : ℕ) → putter_of (slice_get net.channels c) ≡ Some q
+    → q < length net.codes
+putter_below net valid c q is = at (slice_get net.channels c) refl is
+  where
+    at : (o : Option Channel) → slice_get net.channels c ≡ o → putter_of o ≡ Some q → q < length net.codes
+    at None there bad = absurd (cc)
+    at (Some ends) there own = by ends.producer refl own
+      where
+        by : (port : Port) → ends.producer ≡ port → process_on port ≡ Some q → q < length net.codes
+        by Outside same bad = absurd (cc)
+        by (Process p) same it =
+            let own : p ≡ q = cc in
+            valid.producer_is_here c q ends there (same ∙ ap Process own)
+
+-- so whoever is awaited is one
+awaited_below : (net : Network) → IsValid net → (stance : Stance) (q : ℕ) → awaited net stance ≡ Some q
+    → q < length net.codes
+awaited_below net valid GoesOn q is = absurd (cc)
+awaited_below net valid Ended q is = absurd (cc)
+awaited_below net valid (Waits c) q is = putter_below net valid c q is
+awaited_below net valid (Held c) q is = getter_below net valid c q is
+awaited_below net valid (Full c) q is = getter_below net valid c q is
+
+-- The channel that is found is one that a process needs, whose put there is held.
+pub needed_is_need : (world : WorldView) (c : ℕ) → IsValid world.net → needed_at world ≡ Some c
+    → (p : ℕ) × NeedsRoom world.net (stance_of world.net world.inputs world.rooms world.stations) p c
+    × PutIsHeld world p c
+needed_is_need world c valid is =
+    let stance = stance_of world.net world.inputs world.rooms world.stations in
+    let found = need_is_need world.net stance c (λ p q waits. awaited_below world.net valid (stance p) q waits) is in
+    (found.0, found.2, put_is_held world found.0 c found.2.held)
+
+-- And where none is found, no process needs more room.
+pub nobody_needs : (world : WorldView) → needed_at world ≡ None → (p c : ℕ) → p < length world.net.codes
+    → ¬ NeedsRoom world.net (stance_of world.net world.inputs world.rooms world.stations) p c
+nobody_needs world none p c below needs =
+    let found =
+    none_in_need world.net (stance_of world.net world.inputs world.rooms world.stations) p c below needs in
+    let bad : None ≡ Some found.0 = sym none ∙ found.1 in
+    absurd (cc)
+
+-- The channel that is found gets more, where it gets twice its room.
+pub gets_more : (world : WorldView) (c : ℕ) → IsValid world.net → AreRooms world.rooms → needed_at world ≡ Some c
+    → slice_index world.rooms c < wider (slice_index world.rooms c)
+gets_more world c valid rooms is =
+    let need = needed_is_need world c valid is in
+    let held = need.2 in
+    let below = below_share world need.0 c held in
+    let share = share_within held.node.current in
+    let known = channel_there (full_share held.node.current) held.node.current world.net.channels c held.place in
+    let here : c < length world.rooms = omega (arith, known, valid.channel_count, rooms.count) in
+    let room = rooms.each c 0 here in
+    higher (slice_index world.rooms c) (omega (arith, below, share)) room.0
+  where
+    higher : (room : ℕ) → room < MAX_RETAINED_ITEMS → MIN_ROOM ≤ room → room < min (room * 2) MAX_RETAINED_ITEMS
+    higher room few some = omega (arith, few, some)
