@@ -45,6 +45,7 @@ use Rattle.runtime.specs.declared.ending.RunEnd.{RunEnd}
 use Rattle.runtime.specs.declared.ending.RunEnd.TheVariants.{Complete, Rounds, Items, Refused, Stopped}
 use Rattle.cobaltmidge.specs.FirstWorld.{first_world, HasNoFailures, IsRunRoom, nearest_room, run_rooms, unused_outlet}
 use Rattle.runtime.specs.Logs.{HubFault}
+use Rattle.runtime.specs.Logs as hub
 use Rattle.cobaltmidge.specs.Failing.{HasFailedAtOnce, hub_fault, IsRunFault, store_fault}
 use Rattle.cobaltmidge.specs.Runs.{HasCome, IsEnd, bounds_of}
 use Rattle.cobaltmidge.specs.declared.settings.Settings.{Settings}

@@ -23,11 +23,11 @@ line_of maker event answer = maker_text maker ++ codes " " ++ event ++ codes ": 
 abbrev pub entry_text : EntryWords → List ℕ
 entry_text entry = line_of entry.maker (words_text entry.event) (reply_text entry.answer.later entry.answer.reply)
 
--- An event has a line, and so has that channels got more room. That none was made isn't told.
+-- An event has a line, and so has that a channel got more room, by its number. That none was made isn't told.
 abbrev pub happening_text : Happening → List ℕ
 happening_text (Made maker event answer) = line_of maker (event_text event) (reply_text 0 answer) ++ codes "\n"
 happening_text (Silent reason) = []
-happening_text Widened = codes "widened\n"
+happening_text (Widened channel) = codes "widened " ++ decimal channel ++ codes "\n"
 
 abbrev pub happenings_text : List Happening → List ℕ
 happenings_text happened = flat_map happening_text happened

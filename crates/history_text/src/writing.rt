@@ -53,7 +53,7 @@ fn write_line<W: Write>(out: &mut W, line: &Line) -> io::Result<()>
             rises,
         } => write_made(out, entry, *times, *rises),
         Line::Silent { .. } => Ok(()),
-        Line::Widened => writeln!(out, "widened"),
+        Line::Widened(channel) => writeln!(out, "widened {channel}"),
     }
 }
 

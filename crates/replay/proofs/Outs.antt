@@ -590,7 +590,7 @@ module _ (fits : List (RecordView → Bool)) (script : List ScriptedEvent) (k : 
       let so = stays_out old.world new.world
       (ap (λ (l : Look). l.out) same, ap (λ (l : Look). l.runs) same, ap (λ (l : Look). l.epoch) same) out in
       inl (so.0, λ install. install, so.1)
-  appears Widened passed old new wide out =
+  appears (Widened channel) passed old new wide out =
       let same : look_at new.world k ≡ look_at old.world k = ap (λ (a : ArmedView). look_at a.world k) wide.1 in
       let so = stays_out old.world new.world
       (ap (λ (l : Look). l.out) same, ap (λ (l : Look). l.runs) same, ap (λ (l : Look). l.epoch) same) out in
@@ -604,7 +604,7 @@ module _ (fits : List (RecordView → Bool)) (script : List ScriptedEvent) (k : 
       (armed_goes k fits made.event old made.answer new made.step) out none runs
   still (Silent reason) passed old new silent out none runs =
       ap (λ (a : ArmedView). (look_at a.world k).out) silent.1 ∙ out
-  still Widened passed old new wide out none runs =
+  still (Widened channel) passed old new wide out none runs =
       ap (λ (a : ArmedView). (look_at a.world k).out) wide.1 ∙ out
 
   -- ---- a history

@@ -1,10 +1,10 @@
 -- What a history keeps of the world.
-use Rattle.std.proofs.Common.{◌≡◌, ◌∙◌, ℕ, Bool, List, [], ◌∷◌, ◌++◌, map, Option, Some, None, refl, sym, ap, subst}
+use Rattle.std.proofs.Common.{◌≡◌, ◌∙◌, ℕ, Bool, List, [], ◌∷◌, ◌++◌, Option, Some, None, refl, sym, ap, subst}
 use mathlib.Core.Logic.{∥∥₁_map}
 use Rattle.protocol.specs.Node.Common.{RecordView}
 use Rattle.protocol.specs.World.Common.{ByNode, WorldInvariant, ReplyView, WorldView}
 use Rattle.protocol.specs.declared.event.Deed.TheVariants as event
-use Rattle.protocol.specs.Node.Sharing.{wider}
+use Rattle.protocol.specs.World.RoomNeeds.{wider_at}
 use Rattle.protocol_laws.specs.World.StepKeeps.{rooms_keep_world, step_keeps}
 use Rattle.replay.specs.Armed.{ArmedEvent, ArmedView, OfWorld, ArmCrash, IsArmedStep, EndsWith}
 use Rattle.replay.specs.Armed.{crash_after, delivered_to}
@@ -37,9 +37,9 @@ happens_keeps fits script (Made maker kept said) passed old new inv made =
     armed_keeps fits made.event old made.answer new inv made.step
 happens_keeps fits script (Silent reason) passed old new inv silent =
     subst WorldInvariant (sym (ap (λ (a : ArmedView). a.world) silent.1)) inv
-happens_keeps fits script Widened passed old new inv wide =
+happens_keeps fits script (Widened channel) passed old new inv wide =
     subst WorldInvariant (sym (ap (λ (a : ArmedView). a.world) wide.1))
-    (rooms_keep_world old.world (map wider old.world.rooms) inv)
+    (rooms_keep_world old.world (wider_at channel old.world.rooms) inv)
 
 pub replays_keep : ReplaysKeep
 replays_keep fits script opening _ _ _ inv (at_first armed same) =
@@ -76,7 +76,7 @@ rooms_then : (before : List Happening) (next : Happening) (rooms : List ℕ)
 rooms_then [] next rooms = refl
 rooms_then (Made maker event answer ∷ before) next rooms = rooms_then before next rooms
 rooms_then (Silent reason ∷ before) next rooms = rooms_then before next rooms
-rooms_then (Widened ∷ before) next rooms = rooms_then before next (map wider rooms)
+rooms_then (Widened channel ∷ before) next rooms = rooms_then before next (wider_at channel rooms)
 
 stays_more : (before all : List Happening) (next : Happening) (opening old new : WorldView)
     → StaysBut before opening old → StaysBut (next ∷ []) old new → all ≡ before ++ next ∷ []
@@ -110,7 +110,7 @@ happens_stays fits script (Made maker kept said) passed old new made =
     armed_stays fits made.event old made.answer new made.step
 happens_stays fits script (Silent reason) passed old new silent =
     stays_same old.world new.world (ap (λ (a : ArmedView). a.world) silent.1)
-happens_stays fits script Widened passed old new wide = (
+happens_stays fits script (Widened channel) passed old new wide = (
   ap (λ (a : ArmedView). a.world.net) wide.1,
   ap (λ (a : ArmedView). a.world.inputs) wide.1,
   ap (λ (a : ArmedView). a.world.rooms) wide.1,

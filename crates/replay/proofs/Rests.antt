@@ -11,7 +11,8 @@ use Rattle.protocol.specs.Node.Common.{running_of, may_decide}
 use Rattle.protocol.specs.World.Common.{is_due, flights_to, choice, EventView, ByNode, Release, event_node}
 use Rattle.protocol.specs.World.Common.{WorldInvariant, ReplyView, StationView, WorldView, Setting, IsStep, IsActOf}
 use Rattle.protocol.specs.World.Common.{IsPlanned, next_release, moved_to, round_after, setting_of}
-use Rattle.protocol.specs.World.Common.{turns_of, stands_still}
+use Rattle.protocol.specs.World.Common.{turns_of}
+use Rattle.protocol.specs.World.RoomNeeds.{needed_for}
 use Rattle.protocol.specs.World.Choice.{choice_of, deliver_or, due_place, has_more, has_turn, may_recover}
 use Rattle.protocol.specs.World.Choice.{own_choice}
 use Rattle.protocol.specs.declared.event.Deed.TheVariants.{Crash, Deliver, Idle}
@@ -432,17 +433,17 @@ rest_is_silence script passed world node rests none = at (slice_get world.statio
 
 -- ---- a node that has nothing to do rests
 
-resting_by : (idle idled still : Bool) → next_by idle idled still ≡ Rest → (idle ≡ true) × (idled ≡ true)
-resting_by false idled still is = absurd (cc)
-resting_by true true still is = (refl, refl)
-resting_by true false true is = absurd (cc)
-resting_by true false false is = absurd (cc)
+resting_by : (idle idled : Bool) (need : Option ℕ) → next_by idle idled need ≡ Rest → (idle ≡ true) × (idled ≡ true)
+resting_by false idled need is = absurd (cc)
+resting_by true true need is = (refl, refl)
+resting_by true false (Some channel) is = absurd (cc)
+resting_by true false None is = absurd (cc)
 
 pub silence_is_rest : SilenceIsRest
 silence_is_rest world node inv is = at (slice_get world.stations node) refl
   where
     parts : (is_idle (choice world node) ≡ true) × (has_idled world node ≡ true)
-    parts = resting_by (is_idle (choice world node)) (has_idled world node) (stands_still world) is
+    parts = resting_by (is_idle (choice world node)) (has_idled world node) (needed_for world node) is
 
     at : (o : Option StationView) → slice_get world.stations node ≡ o
         → RestsAt world.net world.inputs world.rooms (length world.stations) world.round node (slice_get world.stations node)
@@ -466,41 +467,42 @@ idle_is (ByNode k Idle) idle = (k, refl)
 idle_is event idle = absurd (cc)
 
 -- what comes at a turn, by what is asked
-pub turn_is : (world : WorldView) (node : ℕ) (event : EventView) (idle idled still : Bool) → event ≡ choice world node → idle ≡ is_idle event
-    → idled ≡ has_idled world node → still ≡ stands_still world → next_by idle idled still ≡ next_turn world node
-turn_is world node event idle idled still chosen of_idle of_idled of_still =
-    ap (λ (b : Bool). next_by b idled still) (of_idle ∙ ap is_idle chosen)
-    ∙ (ap (λ (b : Bool). next_by (is_idle (choice world node)) b still) of_idled
-    ∙ ap (next_by (is_idle (choice world node)) (has_idled world node)) of_still)
+pub turn_is : (world : WorldView) (node : ℕ) (event : EventView) (idle idled : Bool) (need : Option ℕ) → event ≡ choice world node
+    → idle ≡ is_idle event → idled ≡ has_idled world node → need ≡ needed_for world node
+    → next_by idle idled need ≡ next_turn world node
+turn_is world node event idle idled need chosen of_idle of_idled of_need =
+    ap (λ (b : Bool). next_by b idled need) (of_idle ∙ ap is_idle chosen)
+    ∙ (ap (λ (b : Bool). next_by (is_idle (choice world node)) b need) of_idled
+    ∙ ap (next_by (is_idle (choice world node)) (has_idled world node)) of_need)
 
 -- an event comes where none but that would let the turn pass again
-pub makes_unless : (still : Bool) → still ≡ false → next_by true false still ≡ Make
-makes_unless true is = absurd (cc)
-makes_unless false is = refl
+pub makes_unless : (need : Option ℕ) → need ≡ None → next_by true false need ≡ Make
+makes_unless (Some channel) is = absurd (cc)
+makes_unless None is = refl
 
-widening_by : (idle idled still : Bool) → next_by idle idled still ≡ Widen → still ≡ true
-widening_by false idled still is = absurd (cc)
-widening_by true true still is = absurd (cc)
-widening_by true false true is = refl
-widening_by true false false is = absurd (cc)
+widening_by : (idle idled : Bool) (need : Option ℕ) (channel : ℕ) → next_by idle idled need ≡ Widen channel → need ≡ Some channel
+widening_by false idled need channel is = absurd (cc)
+widening_by true true need channel is = absurd (cc)
+widening_by true false (Some other) channel is = let same : other ≡ channel = cc in ap Some same
+widening_by true false None channel is = absurd (cc)
 
--- channels get more room only where the world stands still
-pub widening_is : (world : WorldView) (node : ℕ) → next_turn world node ≡ Widen → stands_still world ≡ true
-widening_is world node is = widening_by (is_idle (choice world node)) (has_idled world node) (stands_still world) is
+-- a channel gets more room only where a process of the node is held that shows that it needs more
+pub widening_is : (world : WorldView) (node channel : ℕ) → next_turn world node ≡ Widen channel → needed_for world node ≡ Some channel
+widening_is world node channel is = widening_by (is_idle (choice world node)) (has_idled world node) (needed_for world node) channel is
 
 -- a node has no event to make where nothing comes at its turn
 pub rest_silence : (script : List ScriptedEvent) (passed : ℕ) (world : WorldView) (node : ℕ) → next_turn world node ≡ Rest
     → IsSilence script (Nothing node) passed world
 rest_silence script passed world node is =
-    let parts = resting_by (is_idle (choice world node)) (has_idled world node) (stands_still world) is in
+    let parts = resting_by (is_idle (choice world node)) (has_idled world node) (needed_for world node) is in
     (parts.1, idle_is (choice world node) parts.0)
 
 -- what a silence of a node is, as its turn has it
 pub silent_turn : (world : WorldView) (node : ℕ) → has_idled world node ≡ true → IsIdle (choice world node)
     → next_turn world node ≡ Rest
 silent_turn world node idled idle =
-    ap (λ (e : EventView). next_by (is_idle e) (has_idled world node) (stands_still world)) idle.1
-    ∙ ap (λ (b : Bool). next_by true b (stands_still world)) idled
+    ap (λ (e : EventView). next_by (is_idle e) (has_idled world node) (needed_for world node)) idle.1
+    ∙ ap (λ (b : Bool). next_by true b (needed_for world node)) idled
 
 -- ---- what is noted
 

@@ -44,7 +44,7 @@ no_event_apart : (front : List Happening) (last : Happening) → no_event (front
 no_event_apart [] last none = (refl, none)
 no_event_apart (Made maker event answer ∷ front) last none = absurd (cc)
 no_event_apart (Silent reason ∷ front) last none = no_event_apart front last none
-no_event_apart (Widened ∷ front) last none = absurd (cc)
+no_event_apart (Widened channel ∷ front) last none = absurd (cc)
 
 -- ---- one happening
 
@@ -56,7 +56,7 @@ holds_on fits script (Made maker event answer) passed after old new reason none 
 holds_on fits script (Silent other) passed after old new reason none happens count holds =
     subst (λ (n : ℕ). IsSilence script reason n new.world) (sym count)
     (subst (λ (a : ArmedView). IsSilence script reason passed a.world) (sym happens.1) holds)
-holds_on fits script Widened passed after old new reason none happens count holds = absurd (cc)
+holds_on fits script (Widened channel) passed after old new reason none happens count holds = absurd (cc)
 
 -- and so does what is said there
 said_holds : (fits : List (RecordView → Bool)) (script : List ScriptedEvent) (passed after : ℕ) (old new : ArmedView)

@@ -6,7 +6,7 @@ use Rattle.protocol.specs.Node.Common.{RecordView, next_number}
 use Rattle.protocol.specs.World.Common.{EventView, ByNode, has_happened, ReplyView, IsStep, WorldView}
 use Rattle.protocol.specs.declared.event.Deed.TheVariants as event
 use Rattle.protocol.specs.declared.reply.Reply.TheVariants as reply
-use Rattle.protocol.specs.World.Still.{widened}
+use Rattle.protocol.specs.World.RoomNeeds.{widened_at}
 use Rattle.replay.specs.declared.kept.ArmedCrash.{ArmedCrash}
 
 -- an event of a world, or that a crash is armed
@@ -28,9 +28,9 @@ armed_at_first world =
 abbrev pub with_world : WorldView → ArmedView → ArmedView
 with_world world armed = record { world = world; deliveries = armed.deliveries; crashes = armed.crashes }
 
--- and where its channels have more room
-abbrev pub armed_widened : ArmedView → ArmedView
-armed_widened armed = with_world (widened armed.world) armed
+-- and where this channel has more room
+abbrev pub armed_widened : ℕ → ArmedView → ArmedView
+armed_widened channel armed = with_world (widened_at channel armed.world) armed
 
 -- ---- deliveries and their number
 

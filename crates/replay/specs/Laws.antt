@@ -1,10 +1,10 @@
 -- What a history says of the world to which it leads, of the turns that come back, and of what may be said again.
-use Rattle.std.specs.Prelude.{◌≡◌, ◌⊎◌, ℕ, Bool, true, false, List, [], ◌∷◌, ◌++◌, map, Some, slice_get}
+use Rattle.std.specs.Prelude.{◌≡◌, ◌⊎◌, ℕ, Bool, true, false, List, [], ◌∷◌, ◌++◌, Some, slice_get}
 use Rattle.protocol.specs.Node.Common.{RecordView, IsOut}
 use Rattle.protocol.specs.World.Common.{DoneView, Install, event_node, WorldInvariant, ReplyView, StationView, IsStep}
 use Rattle.protocol.specs.World.Common.{WorldView}
 use Rattle.protocol.specs.declared.reply.Reply.TheVariants.{Installed, Discarded}
-use Rattle.protocol.specs.Node.Sharing.{wider}
+use Rattle.protocol.specs.World.RoomNeeds.{wider_at}
 use Rattle.replay.specs.Armed.{ArmedView}
 use Rattle.replay.specs.Replay.{Happening, Made, Silent, Widened, IsReplay, IsSilence, LeadsTo}
 use Rattle.replay.specs.declared.kept.ScriptedEvent.{ScriptedEvent}
@@ -21,7 +21,7 @@ abbrev pub rooms_after : List Happening → List ℕ → List ℕ
 rooms_after [] rooms = rooms
 rooms_after (Made maker event answer ∷ rest) rooms = rooms_after rest rooms
 rooms_after (Silent reason ∷ rest) rooms = rooms_after rest rooms
-rooms_after (Widened ∷ rest) rooms = rooms_after rest (map wider rooms)
+rooms_after (Widened channel ∷ rest) rooms = rooms_after rest (wider_at channel rooms)
 
 -- the network and its inputs stay, and so do the rooms of channels, but where the history says that they were widened
 abbrev pub ReplaysStay : Type 0
@@ -43,7 +43,7 @@ abbrev pub no_event : List Happening → Bool
 no_event [] = true
 no_event (Made maker event answer ∷ rest) = false
 no_event (Silent reason ∷ rest) = no_event rest
-no_event (Widened ∷ rest) = false
+no_event (Widened channel ∷ rest) = false
 
 -- why no event was made, as a history says behind its last event, is still so in the world to which it leads
 abbrev pub SilencesStay : Type 0

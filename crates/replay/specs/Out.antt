@@ -53,7 +53,7 @@ IsInstallOf node job (Made maker (OfJob back) said) =
     (back ≡ job) × (node_in job.code ≡ node) × (said ≡ reply.Installed)
 IsInstallOf node job (Made maker (Plainly event) said) = ⊥
 IsInstallOf node job (Silent reason) = ⊥
-IsInstallOf node job Widened = ⊥
+IsInstallOf node job (Widened channel) = ⊥
 
 -- an entry is a grant of this job by this node
 pub record IsGrantOf (fits : List (RecordView → Bool)) (script : List ScriptedEvent) (node : ℕ) (job : JobView) (maker : Maker)

@@ -3,7 +3,9 @@ use Rattle.std.specs.Prelude.{◌≡◌, ◌⊎◌, ◌≤◌, ◌<◌, ◌+◌,
 use Rattle.std.specs.Prelude.{slice_get}
 use Rattle.protocol.specs.Node.Common.{RecordView, JobView}
 use Rattle.protocol.specs.World.Common.{choice, DoneView, EventView, ByNode, Install, event_node, ReplyView}
-use Rattle.protocol.specs.World.Common.{StationView, WorldView, stands_still, turns_of}
+use Rattle.protocol.specs.World.Common.{StationView, WorldView, turns_of}
+use Rattle.protocol.specs.World.RoomNeeds.{NeedsRoom}
+use Rattle.protocol.specs.World.Stances.{stance_of}
 use Rattle.protocol.specs.declared.event.Deed.TheVariants as deed
 use Rattle.replay.specs.Armed.{ArmedEvent, OfWorld, ArmedView, IsArmedStep, armed_at_first, armed_widened}
 use Rattle.replay.specs.Plain.{run_view}
@@ -27,13 +29,13 @@ abbrev pub IsKeptOf : KeptEventView → ArmedEvent → Type 0
 IsKeptOf (Plainly plain) event = event ≡ run_view plain
 IsKeptOf (OfJob job) event = (done : DoneView) × (event ≡ OfWorld (Install done)) × (done.job ≡ job)
 
--- What happened: an event with its maker and its answer; that none was made; or that channels got more room, since the world
--- stood still for want of it. (That is nobody's event: whoever finds it so may say it, and it comes out the same.)
+-- What happened: an event with its maker and its answer; that none was made; or that a channel got more room, since a process
+-- needed it. (That is nobody's event: whoever finds it so may say it, and it comes out the same.)
 -- How often it was said that no event was made isn't told here, since it makes no difference to the world.
 pub data Happening : Type 0 where
   Made : (maker : Maker) → (event : KeptEventView) → (answer : KeptReply) → Happening
   Silent : (reason : Silence) → Happening
-  Widened : Happening
+  Widened : (channel : ℕ) → Happening
 
 -- ---- whose event may be which
 
@@ -98,10 +100,15 @@ pub record IsMade (fits : List (RecordView → Bool)) (script : List ScriptedEve
   pub is_said : said ≡ kept_reply answer
   pub step : IsArmedStep fits event old answer new
 
+-- some process needs more room for this channel
+abbrev pub IsNeeded : ℕ → WorldView → Type 0
+IsNeeded channel world =
+    ∥ ((process : ℕ) × NeedsRoom world.net (stance_of world.net world.inputs world.rooms world.stations) process channel) ∥₁
+
 abbrev pub Happens : List (RecordView → Bool) → List ScriptedEvent → Happening → ℕ → ArmedView → ArmedView → Type 0
 Happens fits script (Made maker kept said) passed old new = IsMade fits script maker kept said passed old new
 Happens fits script (Silent reason) passed old new = IsSilence script reason passed old.world × (new ≡ old)
-Happens fits script Widened passed old new = (stands_still old.world ≡ true) × (new ≡ armed_widened old)
+Happens fits script (Widened channel) passed old new = IsNeeded channel old.world × (new ≡ armed_widened channel old)
 
 -- how many lines of the script are passed then
 abbrev pub passed_by : Maker → ℕ → ℕ
@@ -111,7 +118,7 @@ passed_by Driver passed = passed + 1
 abbrev pub passed_after : Happening → ℕ → ℕ
 passed_after (Made maker kept said) passed = passed_by maker passed
 passed_after (Silent reason) passed = passed
-passed_after Widened passed = passed
+passed_after (Widened channel) passed = passed
 
 -- What happened, in order, leads from one world, for which no crash is armed, to another, and passes so many lines of the
 -- script. (The equations stand beside, and not in the indices, so that a proof may take the family apart.)

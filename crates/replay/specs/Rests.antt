@@ -5,7 +5,8 @@ use Rattle.std.specs.List.{position_from}
 use Rattle.protocol.specs.Node.Common.{Network, RecordView, MAX_NODES}
 use Rattle.protocol.specs.World.Choice.{may_recover, own_choice}
 use Rattle.protocol.specs.World.Common.{EventView, ByNode, ReplyView, StationView, WorldInvariant, WorldView, choice, event_node}
-use Rattle.protocol.specs.World.Common.{flights_to, is_due, stands_still, turns_of}
+use Rattle.protocol.specs.World.Common.{flights_to, is_due, turns_of}
+use Rattle.protocol.specs.World.RoomNeeds.{needed_for}
 use Rattle.protocol.specs.declared.event.Deed.TheVariants.{Idle}
 use Rattle.protocol.specs.declared.reply.Reply.TheVariants.{Idled}
 use Rattle.replay.specs.Armed.{ArmedView, IsArmedStep, OfWorld}
@@ -21,15 +22,16 @@ is_idle (ByNode node Idle) = true
 is_idle event = false
 
 -- What comes at a node's turn: nothing, where all that it could do is to let its turn pass, and it has done so in this round; more room for
--- channels, where else it would let its turn pass and the world stands still for want of room; and else the event that is next for it.
-abbrev pub next_by : (idle has_idled still : Bool) → NextTurn
-next_by false has_idled still = Make
-next_by true true still = Rest
-next_by true false true = Widen
-next_by true false false = Make
+-- a channel, where else it would let its turn pass and a process of its own is held since that channel needs more; and else the event that is
+-- next for it.
+abbrev pub next_by : (idle has_idled : Bool) → (need : Option ℕ) → NextTurn
+next_by false has_idled need = Make
+next_by true true need = Rest
+next_by true false (Some channel) = Widen channel
+next_by true false None = Make
 
 abbrev pub next_turn : WorldView → ℕ → NextTurn
-next_turn world node = next_by (is_idle (choice world node)) (has_idled world node) (stands_still world)
+next_turn world node = next_by (is_idle (choice world node)) (has_idled world node) (needed_for world node)
 
 -- whether a packet is due for a node
 abbrev pub has_due : WorldView → ℕ → Bool

@@ -30,8 +30,9 @@ pub enum Silence {
 pub enum NextTurn {
     /// Nothing: to let its turn pass is all that the node could do, and it has done so in this round.
     Rest,
-    /// More room for channels: the node could but let its turn pass, and the world stands still for want of room.
-    Widen,
+    /// More room for this channel: the node could but let its turn pass, and a process of its own is held at a put since that
+    /// channel needs more.
+    Widen(u8),
     /// The event that is next for the node.
     Make,
 }

@@ -9,16 +9,16 @@ use Rattle.std.proofs.lemmas.Option.{slice_get_cases, slice_get_past}
 use Rattle.std.proofs.lemmas.List.Concat.{flat_map-append}
 use Rattle.std.proofs.lemmas.List.Sums.{sum_by-append}
 use Rattle.protocol.specs.Node.Common.{RecordView}
-use Rattle.protocol.specs.World.Common.{ReplyView, WorldView, stands_still}
+use Rattle.protocol.specs.World.Common.{ReplyView, WorldView}
 use Rattle.replay.specs.Armed.{ArmedEvent, ArmedView, IsArmedStep, armed_at_first, armed_widened}
-use Rattle.replay.specs.Replay.{Happening, Made, Silent, Widened, Happens, IsEventOf, IsReplay, IsScripted, IsSilence, LeadsTo, is_before, is_line_late}
+use Rattle.replay.specs.Replay.{Happening, Made, Silent, Widened, Happens, IsEventOf, IsNeeded, IsReplay, IsScripted, IsSilence, LeadsTo, is_before, is_line_late}
 use Rattle.replay.specs.Replay.{at_first, and_then, passed_by}
 use Rattle.replay.specs.Plain.{run_view}
 use Rattle.replay.specs.Replies.{kept_reply}
 use Rattle.replay.specs.declared.kept.Maker.{Maker}
 use Rattle.replay.specs.declared.kept.ScriptedEvent.{ScriptedEvent}
 use Rattle.replay.specs.declared.kept.Silence.{Silence}
-use Rattle.run_log.specs.Answers.{IsReplyIn, IsSilentIn, IsStillIn}
+use Rattle.run_log.specs.Answers.{IsNeededIn, IsReplyIn, IsSilentIn}
 use Rattle.run_log.specs.Counts.{numbers_in, events_in, nothings_in, not_yets_in, no_mores_in, IsCounted}
 use Rattle.run_log.specs.Happened.{HasHappened, HasRun}
 use Rattle.run_log.specs.Added.{IsAdded}
@@ -97,30 +97,32 @@ tells_silence fits script opening keeps lines passed armed reason run silent =
     ∥∥₁_map₂ run silent (λ r said.
     record { before = r.happened; passed = passed; old = armed; run = r.run; silence = said })
 
-pub tells_still : (fits : List (RecordView → Bool)) (script : List ScriptedEvent) (opening : WorldView) (keeps : Bool)
-    (lines : List Line) (passed : ℕ) (armed : ArmedView) → Replays fits script opening keeps lines passed armed
-    → stands_still armed.world ≡ true → ∥ IsStillIn fits script opening ∥₁
-tells_still fits script opening keeps lines passed armed run still =
-    ∥∥₁_map run (λ r. record { before = r.happened; passed = passed; old = armed; run = r.run; still = still })
+pub tells_need : (fits : List (RecordView → Bool)) (script : List ScriptedEvent) (opening : WorldView) (keeps : Bool)
+    (lines : List Line) (passed : ℕ) (armed : ArmedView) (channel : ℕ) → Replays fits script opening keeps lines passed armed
+    → IsNeeded channel armed.world → ∥ IsNeededIn fits script opening channel ∥₁
+tells_need fits script opening keeps lines passed armed channel run needed =
+    ∥∥₁_map run (λ r. record { before = r.happened; passed = passed; old = armed; run = r.run; needed = needed })
 
--- more room for channels
+-- more room for a channel
 pub widens : (fits : List (RecordView → Bool)) (script : List ScriptedEvent) (opening : WorldView) (keeps writes : Bool)
-    (before now : List Line) (passed : ℕ) (old new : ArmedView)
-    → Replays fits script opening keeps before passed old → writes ≡ keeps → stands_still old.world ≡ true
-    → (writes ≡ true → IsWidened before now) → new ≡ armed_widened old → Replays fits script opening keeps now passed new
-widens fits script opening keeps writes before now passed old new run writing still added wider =
+    (before now : List Line) (passed : ℕ) (old new : ArmedView) (channel : ℕ)
+    → Replays fits script opening keeps before passed old → writes ≡ keeps → IsNeeded channel old.world
+    → (writes ≡ true → IsWidened channel before now) → new ≡ armed_widened channel old
+    → Replays fits script opening keeps now passed new
+widens fits script opening keeps writes before now passed old new channel run writing needed added wider =
+    let next = Widened channel in
     ∥∥₁_map run (λ r. record {
-      happened = r.happened ++ Widened ∷ [];
-      run = and_then r.happened (r.happened ++ Widened ∷ []) Widened passed passed old new r.run (still, wider) refl refl;
+      happened = r.happened ++ next ∷ [];
+      run = and_then r.happened (r.happened ++ next ∷ []) next passed passed old new r.run (needed, wider) refl refl;
       written = λ yes. ap happenings (added (writing ∙ yes))
-          ∙ (flat_map-append happenings_of before (line.Widened ∷ [])
-          ∙ ap (λ (happened : List Happening). happened ++ Widened ∷ []) (r.written yes));
+          ∙ (flat_map-append happenings_of before (line.Widened channel ∷ [])
+          ∙ ap (λ (happened : List Happening). happened ++ next ∷ []) (r.written yes));
     })
 
-pub numbers_widened : (before now : List Line) (stops : ℕ) → IsWidened before now
+pub numbers_widened : (before now : List Line) (stops channel : ℕ) → IsWidened channel before now
     → numbers_in now stops ≡ counted kind.Entry (numbers_in before stops)
-numbers_widened before now stops added =
-    let one = line.Widened ∷ [] in
+numbers_widened before now stops channel added =
+    let one = line.Widened channel ∷ [] in
     ap (λ (lines : List Line). numbers_in lines stops) added
     ∙ same_numbers _ _ _ _ _ _ _ _ _ _ (omega (arith, sum_by-append events_in before one))
     (omega (arith, sum_by-append nothings_in before one)) (omega (arith, sum_by-append not_yets_in before one))

@@ -94,7 +94,7 @@ abbrev reason_in : Option Line → Silence
 reason_in None = NoMore
 reason_in (Some (Made entry times rises)) = NoMore
 reason_in (Some (Silent reason count)) = reason
-reason_in (Some Widened) = NoMore
+reason_in (Some (Widened channel)) = NoMore
 
 -- where the line that is found is the one that is read
 pub numbers_raised_there : (lines : List Line) (place found read : ℕ) (reason said : Silence)

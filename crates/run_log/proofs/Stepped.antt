@@ -4,7 +4,7 @@ use Rattle.std.specs.Prelude.{IfSome}
 use Rattle.kahn_net.specs.declared.limits.TheConstants.{MAX_COUNT}
 use Rattle.protocol.specs.Node.Common.{RecordView}
 use Rattle.protocol.specs.World.Common.{ByNetwork, ByNode, EventView, Install, Release, ReplyView, WorldInvariant, WorldView, choice}
-use Rattle.protocol.specs.World.Common.{stands_still}
+use Rattle.protocol.specs.World.RoomNeeds.{needed_for}
 use Rattle.protocol.specs.declared.event.Deed.TheVariants as deed
 use Rattle.replay.specs.Armed.{ArmedView, IsArmedStep, OfWorld}
 use Rattle.replay.specs.Replay.{has_idled, is_line_late}
@@ -49,7 +49,7 @@ same_idle (ByNetwork node place act) = refl
 -- where no turn passes, the event is made that is next
 pub makes_next : (world : WorldView) (node : ℕ) → event_is.is_idle (choice world node) ≡ false → next_turn world node ≡ next.Make
 makes_next world node other =
-    ap (λ (idle : Bool). next_by idle (has_idled world node) (stands_still world)) (same_idle (choice world node) ∙ other)
+    ap (λ (idle : Bool). next_by idle (has_idled world node) (needed_for world node)) (same_idle (choice world node) ∙ other)
 
 -- and what is noted of nodes that rest holds behind it
 pub noted_next : (fits : List (RecordView → Bool)) (script : List ScriptedEvent) (node passed round : ℕ) (old new : ArmedView)

@@ -1,9 +1,9 @@
 -- What a seat is answered.
 use Rattle.std.specs.Prelude.{◌≡◌, ℕ, Bool, true, List}
 use Rattle.protocol.specs.Node.Common.{RecordView}
-use Rattle.protocol.specs.World.Common.{IsGrantedAt, ReplyView, WorldView, stands_still}
+use Rattle.protocol.specs.World.Common.{IsGrantedAt, ReplyView, WorldView}
 use Rattle.replay.specs.Armed.{ArmedEvent, ArmedView}
-use Rattle.replay.specs.Replay.{Happening, IsMade, IsReplay, IsSilence, KeptEventView}
+use Rattle.replay.specs.Replay.{Happening, IsMade, IsNeeded, IsReplay, IsSilence, KeptEventView}
 use Rattle.replay.specs.Replies.{KeptReply}
 use Rattle.replay.specs.declared.kept.Maker.{Maker}
 use Rattle.replay.specs.declared.kept.Maker.TheVariants.{Node, Driver}
@@ -30,7 +30,7 @@ abbrev pub turn_kind : TurnAnswer → Counted
 turn_kind (turn.Reply reply) = counted.Entry
 turn_kind turn.Nothing = counted.Nothing
 turn_kind turn.Late = counted.Nothing
-turn_kind turn.Widened = counted.Entry
+turn_kind (turn.Widened channel) = counted.Entry
 turn_kind turn.Stopped = counted.Stop
 
 abbrev pub fault_kind : FaultAnswer → Counted
@@ -47,13 +47,13 @@ IsGrantedIn node other = Unit {0}
 -- ---- what is written of it
 
 -- Where what happens is written, the event of an answer stands behind all others, with its maker and with this very answer; so does it
--- that channels got more room; and an answer without an event is counted, and makes no other.
+-- that a channel got more room; and an answer without an event is counted, and makes no other.
 abbrev pub IsTurnWritten : Bool → ℕ → List Line → List Line → TurnAnswer → Type 0
 IsTurnWritten keeps node before now (turn.Reply reply) =
     (event : ArmedEvent) × IsAdded keeps (Node node) event (reply_view reply) before now
 IsTurnWritten keeps node before now turn.Nothing = keeps ≡ true → IsCounted (Nothing node) before now
 IsTurnWritten keeps node before now turn.Late = keeps ≡ true → IsCounted (Late node) before now
-IsTurnWritten keeps node before now turn.Widened = keeps ≡ true → IsWidened before now
+IsTurnWritten keeps node before now (turn.Widened channel) = keeps ≡ true → IsWidened channel before now
 IsTurnWritten keeps node before now turn.Stopped = now ≡ before
 
 abbrev pub IsFaultWritten : Bool → List Line → List Line → FaultAnswer → Type 0
@@ -87,21 +87,21 @@ pub record IsSilentIn (fits : List (RecordView → Bool)) (script : List Scripte
   pub run : IsReplay fits script opening before passed old
   pub silence : IsSilence script reason passed old.world
 
--- One leads to a world that stands still for want of room.
-pub record IsStillIn (fits : List (RecordView → Bool)) (script : List ScriptedEvent) (opening : WorldView) : Type 0 where
+-- One leads to a world in which this channel needs more room.
+pub record IsNeededIn (fits : List (RecordView → Bool)) (script : List ScriptedEvent) (opening : WorldView) (channel : ℕ) : Type 0 where
   pub before : List Happening
   pub passed : ℕ
   pub old : ArmedView
   pub run : IsReplay fits script opening before passed old
-  pub still : stands_still old.world ≡ true
+  pub needed : IsNeeded channel old.world
 
 -- What a node's call is told is so in a world to which a history of this run leads: a reply is that of an event which
--- is the node's to make, a silence is the node's own, and more room was given where the world stands still.
+-- is the node's to make, a silence is the node's own, and more room was given to a channel that needs it.
 abbrev pub TellsTurn : List (RecordView → Bool) → List ScriptedEvent → WorldView → ℕ → TurnAnswer → Type 0
 TellsTurn fits script opening node (turn.Reply reply) = ∥ IsReplyIn fits script opening (Node node) (reply_view reply) ∥₁
 TellsTurn fits script opening node turn.Nothing = ∥ IsSilentIn fits script opening (Nothing node) ∥₁
 TellsTurn fits script opening node turn.Late = ∥ IsSilentIn fits script opening (Late node) ∥₁
-TellsTurn fits script opening node turn.Widened = ∥ IsStillIn fits script opening ∥₁
+TellsTurn fits script opening node (turn.Widened channel) = ∥ IsNeededIn fits script opening channel ∥₁
 TellsTurn fits script opening node turn.Stopped = Unit {0}
 
 -- What the driver's call is told is so in a world to which a history of this run leads: a reply is that of the

@@ -19,11 +19,11 @@ kind_of (Late node) = counted.Nothing
 kind_of NotYet = counted.NotYet
 kind_of NoMore = counted.NoMore
 
--- that channels got more room counts as an event
+-- that a channel got more room counts as an event
 abbrev pub events_in : Line → ℕ
 events_in (Made entry times rises) = times
 events_in (Silent reason count) = 0
-events_in Widened = 1
+events_in (Widened channel) = 1
 
 abbrev pub nothings_in : Line → ℕ
 nothings_in (Made entry times rises) = 0
@@ -31,7 +31,7 @@ nothings_in (Silent (Nothing node) count) = count
 nothings_in (Silent (Late node) count) = count
 nothings_in (Silent NotYet count) = 0
 nothings_in (Silent NoMore count) = 0
-nothings_in Widened = 0
+nothings_in (Widened channel) = 0
 
 abbrev pub not_yets_in : Line → ℕ
 not_yets_in (Made entry times rises) = 0
@@ -39,7 +39,7 @@ not_yets_in (Silent (Nothing node) count) = 0
 not_yets_in (Silent (Late node) count) = 0
 not_yets_in (Silent NotYet count) = count
 not_yets_in (Silent NoMore count) = 0
-not_yets_in Widened = 0
+not_yets_in (Widened channel) = 0
 
 abbrev pub no_mores_in : Line → ℕ
 no_mores_in (Made entry times rises) = 0
@@ -47,7 +47,7 @@ no_mores_in (Silent (Nothing node) count) = 0
 no_mores_in (Silent (Late node) count) = 0
 no_mores_in (Silent NotYet count) = 0
 no_mores_in (Silent NoMore count) = count
-no_mores_in Widened = 0
+no_mores_in (Widened channel) = 0
 
 -- the numbers of a run with these lines and so many answers `Stopped`
 abbrev pub numbers_in : List Line → ℕ → Numbers

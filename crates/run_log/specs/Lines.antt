@@ -32,15 +32,15 @@ made_times rises (suc n) maker event answer =
 abbrev pub happenings_of : Line → List Happening
 happenings_of (line.Made entry times rises) = made_times rises times entry.maker (kept_view entry.event) entry.reply
 happenings_of (line.Silent reason count) = Silent reason ∷ []
-happenings_of line.Widened = Widened ∷ []
+happenings_of (line.Widened channel) = Widened channel ∷ []
 
 -- what happened in a run, of the lines in which it is kept, in order
 abbrev pub happenings : List Line → List Happening
 happenings lines = flat_map happenings_of lines
 
--- channels got more room
-abbrev pub IsWidened : List Line → List Line → Type 0
-IsWidened before now = now ≡ before ++ line.Widened ∷ []
+-- a channel got more room
+abbrev pub IsWidened : ℕ → List Line → List Line → Type 0
+IsWidened channel before now = now ≡ before ++ line.Widened channel ∷ []
 
 -- at this place it was said why no event was made, and none was made since
 abbrev pub IsSaidAt : List Line → ℕ → Silence → Type 0

@@ -16,7 +16,7 @@ use Rattle.run_log.specs.declared.answer.TurnAnswer.TheVariants as turn
 use Rattle.station.specs.ReplyView.{reply_view}
 
 -- A node's turn is what comes next there: a line of the script that is late comes before it, so nothing is done; else the event that is next for
--- the node, more room for the channels, where the world stands still for want of it, or nothing, where all that the node could do is to let
+-- the node, more room for a channel, where a process of the node is held that needs it, or nothing, where all that the node could do is to let
 -- its turn pass, as it has done in this round (`next_turn`). Where the run is stopped it is nothing too.
 abbrev pub IsTurn : List (RecordView → Bool) → List ScriptedEvent → ℕ → ℕ → TurnAnswer → ArmedView → ArmedView → Type 0
 IsTurn fits script passed node (turn.Reply reply) old new =
@@ -24,8 +24,9 @@ IsTurn fits script passed node (turn.Reply reply) old new =
     × IsArmedStep fits (OfWorld (choice old.world node)) old (reply_view reply) new
 IsTurn fits script passed node turn.Nothing old new =
     (is_line_late script passed old.world.round ≡ false) × (next_turn old.world node ≡ next.Rest) × (new ≡ old)
-IsTurn fits script passed node turn.Widened old new =
-    (is_line_late script passed old.world.round ≡ false) × (next_turn old.world node ≡ next.Widen) × (new ≡ armed_widened old)
+IsTurn fits script passed node (turn.Widened channel) old new =
+    (is_line_late script passed old.world.round ≡ false) × (next_turn old.world node ≡ next.Widen channel)
+    × (new ≡ armed_widened channel old)
 IsTurn fits script passed node turn.Late old new = (is_line_late script passed old.world.round ≡ true) × (new ≡ old)
 IsTurn fits script passed node turn.Stopped old new = new ≡ old
 

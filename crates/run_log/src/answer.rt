@@ -11,8 +11,8 @@ pub enum TurnAnswer {
     Nothing,
     /// The script's next line is of an earlier round, and comes first.
     Late,
-    /// The world stood still for want of room, and channels have more now.
-    Widened,
+    /// A process of the node was held at a put since this channel needed more room, which it has now.
+    Widened(u8),
     /// The run is stopped: no turn and no line of the script makes an event any more, but a job that is out may come back.
     Stopped,
 }

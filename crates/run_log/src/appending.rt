@@ -82,7 +82,7 @@ fn count_in(line: &mut Line, next: &Entry) -> bool
             *times += 1;
             true
         }
-        Line::Silent { .. } | Line::Widened => false,
+        Line::Silent { .. } | Line::Widened(_) => false,
     }
 }
 

@@ -19,7 +19,7 @@ fn find_silence(lines: &[Line], reason: Silence) -> Option<usize>
     while place > 0 {
         place -= 1;
         match &lines[place] {
-            Line::Made { .. } | Line::Widened => return None,
+            Line::Made { .. } | Line::Widened(_) => return None,
             Line::Silent { reason: said, .. } => {
                 if *said == reason {
                     return Some(place);
@@ -40,7 +40,7 @@ fn raise(lines: &mut Vec<Line>, place: usize, reason: Silence) -> Result<(), Hub
     ensures full { IfErr result (λ fault. fault ≡ PastNumber → HasFullLine lines.old.items) }
 {
     match &mut lines[place] {
-        Line::Made { .. } | Line::Widened => Ok(()),
+        Line::Made { .. } | Line::Widened(_) => Ok(()),
         Line::Silent { count, .. } => {
             if *count >= MAX_COUNT {
                 return Err(HubFault::PastNumber);
@@ -70,13 +70,13 @@ fn add_silence(lines: &mut Vec<Line>, reason: Silence) -> Result<(), HubFault>
     Ok(())
 }
 
-// Notes that channels got more room.
-fn add_widened(lines: &mut Vec<Line>) -> Result<(), HubFault>
-    ensures added { OnOk result (IsWidened lines.old.items lines.new.items) }
+// Notes that a channel got more room.
+fn add_widened(lines: &mut Vec<Line>, channel: u8) -> Result<(), HubFault>
+    ensures added { OnOk result (IsWidened channel lines.old.items lines.new.items) }
     ensures refused { OnErr result (lines.new.items ≡ lines.old.items) }
     ensures no_memory { IfErr result (λ fault. fault ≡ NoMemory) }
 {
-    if lines.push(Line::Widened).is_err() {
+    if lines.push(Line::Widened(channel)).is_err() {
         return Err(HubFault::NoMemory);
     }
     Ok(())
@@ -98,14 +98,18 @@ pub(crate) fn write_silence(
     Ok(())
 }
 
-/// Notes that channels got more room, where what happens is written.
-pub(crate) fn write_widened(lines: &mut Vec<Line>, keeps: bool) -> Result<(), HubFault>
-    ensures added { OnOk result (keeps ≡ true → IsWidened lines.old.items lines.new.items) }
+/// Notes that a channel got more room, where what happens is written.
+pub(crate) fn write_widened(
+    lines: &mut Vec<Line>,
+    keeps: bool,
+    channel: u8,
+) -> Result<(), HubFault>
+    ensures added { OnOk result (keeps ≡ true → IsWidened channel lines.old.items lines.new.items) }
     ensures refused { OnErr result (lines.new.items ≡ lines.old.items) }
     ensures no_memory { IfErr result (λ fault. fault ≡ NoMemory) }
 {
     if keeps {
-        add_widened(lines)?;
+        add_widened(lines, channel)?;
     }
     Ok(())
 }

@@ -35,8 +35,8 @@ pub enum Line {
         reason: Silence,
         count: u64,
     },
-    /// The world stood still for want of room, and channels got more.
-    Widened,
+    /// This channel needed more room, and got it.
+    Widened(u8),
 }
 
 /// All that happened in a run, where it was kept, and how often a seat was answered `Stopped`.

@@ -1,16 +1,16 @@
 // The log of a run, with the world to which it leads.
 ghost use Rattle.std.specs.Prelude.{◌≡◌, ◌==◌, ◌≢◌, ◌+◌, ◌-◌, ◌<◌, ◌≤◌, [], true, false, is_none, length, IfErr, IfOk, IfSome, IsNone, IsTrue, OnOk, slice_get};
-ghost use Rattle.protocol.specs.World.Common.{choice, event_node, Install, are_quiet, released_of, stands_still, IsGrantedAt};
+ghost use Rattle.protocol.specs.World.Common.{choice, event_node, Install, are_quiet, released_of, IsGrantedAt};
 ghost use Rattle.replay.specs.Armed.{OfWorld, armed_at_first, armed_widened};
 ghost use Rattle.replay.specs.Plain.{run_view};
-ghost use Rattle.replay.specs.Replay.{IsEventOf, IsSilence, LeadsTo, has_idled, is_line_late};
+ghost use Rattle.replay.specs.Replay.{IsEventOf, IsNeeded, IsSilence, LeadsTo, has_idled, is_line_late};
 ghost use Rattle.replay.specs.Rests.{AllRest, has_due, next_turn};
 ghost use Rattle.replay.specs.declared.kept.NextTurn.TheVariants as next;
 ghost use Rattle.run_log.specs.Happened.{HasHappened, HasRun};
 ghost use Rattle.replay.specs.declared.kept.Maker.TheVariants as who;
 ghost use Rattle.run_log.specs.ArmedWorlds.{armed_view};
 ghost use Rattle.replay.specs.declared.kept.Silence.TheVariants.{Nothing};
-ghost use Rattle.run_log.specs.Answers.{IsSilentIn, IsStillIn};
+ghost use Rattle.run_log.specs.Answers.{IsNeededIn, IsSilentIn};
 ghost use Rattle.run_log.specs.Counts.{kind_of, numbers_in, IsCounted};
 ghost use Rattle.run_log.specs.Turns.{is_due, next_line};
 ghost use Rattle.run_log.specs.Lines.{IsWidened, happenings};
@@ -43,13 +43,13 @@ use std::alloc::{AllocError, Global};
 use wire::NODES;
 use world::{Event, Freed, Refused, Reply, World};
 
-/// What a node that has nothing to do waits for, beside a packet: the round, how many lines of the script are passed, and when channels
+/// What a node that has nothing to do waits for, beside a packet: the round, how many lines of the script are passed, and when a channel
 /// got more room last. As long as these stay, and no packet is due for it, it has nothing to do.
 #[derive(Clone, Copy, Debug, PartialEq, Eq)]
 pub struct Moment {
     pub round: u64,
     pub passed: usize,
-    /// How many events were made when channels got more room last, that one counted; 0 where they never did. So it is another number
+    /// How many events were made when a channel got more room last, that one counted; 0 where none did. So it is another number
     /// behind each time, and is compared more cheaply than the room of each channel.
     pub widened_at: u64,
 }
@@ -72,7 +72,7 @@ pub struct RunLog<C: SlotCell, O: Outlet, ThisRun: Run> {
     busy: u8,
     // Of which nodes it is noted that they rest.
     resting: Resting,
-    // How many events were made when channels got more room last.
+    // How many events were made when a channel got more room last.
     widened_at: u64,
     totals: RunCount<ThisRun>,
     // A history leads from the opening world to this one, by this script; where what happens is written it is what the lines say.
@@ -121,10 +121,10 @@ fn next_turn<C: SlotCell, O: Outlet>(world: &World<C, O>, event: &Event, node: u
     if has_idled(world, node) {
         return NextTurn::Rest;
     }
-    if world.stands_still() {
-        return NextTurn::Widen;
+    match world.needed_for(node) {
+        Some(channel) => NextTurn::Widen(channel),
+        None => NextTurn::Make,
     }
-    NextTurn::Make
 }
 
 // Whether it is still this round.
@@ -281,16 +281,16 @@ impl<C: SlotCell, O: Outlet, ThisRun: Run> RunLog<C, O, ThisRun> {
         Ok(reply)
     }
 
-    // Gives channels more room, with its line and its count.
-    fn widen(&mut self, count: &mut SeatCount<ThisRun>) -> Result<(), HubFault>
+    // Gives a channel more room, with its line and its count.
+    fn widen(&mut self, channel: u8, count: &mut SeatCount<ThisRun>) -> Result<(), HubFault>
         requires part { 0 < seat_parts count.old }
-        requires still { stands_still (world_of self.old.armed.world) ≡ true }
+        requires needed { IsNeeded channel (world_of self.old.armed.world) }
         ensures parts { seat_parts count.new ≡ seat_parts count.old }
         ensures counts { OnOk result
             (seat_numbers count.new ≡ counted kind.Entry (seat_numbers count.old)) }
-        ensures added { OnOk result (self.old.keeps ≡ true → IsWidened self.old.lines.items self.new.lines.items) }
-        ensures told { OnOk result (∥ IsStillIn ThisRun.rooms ThisRun.script ThisRun.opening ∥₁) }
-        ensures wider { OnOk result (armed_view self.new.armed ≡ armed_widened (armed_view self.old.armed)) }
+        ensures added { OnOk result (self.old.keeps ≡ true → IsWidened channel self.old.lines.items self.new.lines.items) }
+        ensures told { OnOk result (∥ IsNeededIn ThisRun.rooms ThisRun.script ThisRun.opening channel ∥₁) }
+        ensures wider { OnOk result (armed_view self.new.armed ≡ armed_widened channel (armed_view self.old.armed)) }
         ensures passed { self.new.passed ≡ self.old.passed }
         ensures running { self.new.stopped ≡ self.old.stopped }
         ensures refused { IfErr result (λ fault. IsRefused fault self.old self.new (seat_numbers count.old)
@@ -309,8 +309,8 @@ impl<C: SlotCell, O: Outlet, ThisRun: Run> RunLog<C, O, ThisRun> {
             totals,
             ..
         } = self;
-        write_widened(lines, *keeps)?;
-        armed.world.widen();
+        write_widened(lines, *keeps, channel)?;
+        armed.world.widen_at(channel);
         *resting = none_rest();
         *incomplete = false;
         totals.add(count, Counted::Entry);
@@ -474,8 +474,8 @@ impl<C: SlotCell, O: Outlet, ThisRun: Run> RunLog<C, O, ThisRun> {
         Ok(Some(reply))
     }
 
-    // The turn of a node that could only let it pass: nothing, where it has done so in this round; more room for channels, where the world stands
-    // still for want of it; and else that it does so.
+    // The turn of a node that could only let it pass: nothing, where it has done so in this round; more room for a channel, where a process of
+    // the node is held that needs it; and else that it does so.
     fn pass(
         &mut self,
         alloc: Global,
@@ -494,9 +494,9 @@ impl<C: SlotCell, O: Outlet, ThisRun: Run> RunLog<C, O, ThisRun> {
         let event = self.armed.world.pick(node);
         match next_turn(&self.armed.world, &event, node) {
             NextTurn::Rest => self.be_at_rest(node, count),
-            NextTurn::Widen => {
-                self.widen(count)?;
-                Ok(TurnAnswer::Widened)
+            NextTurn::Widen(channel) => {
+                self.widen(channel, count)?;
+                Ok(TurnAnswer::Widened(channel))
             }
             NextTurn::Make => match self.make(alloc, node, event, count) {
                 Ok(reply) => Ok(TurnAnswer::Reply(reply)),
@@ -506,7 +506,7 @@ impl<C: SlotCell, O: Outlet, ThisRun: Run> RunLog<C, O, ThisRun> {
     }
 
     /// The event that is next for a node; none where all that it could do is to let its turn pass, and it has done so in this
-    /// round. Before it does so first, channels get more room if the world stands still for want of it. A line of the script that is of
+    /// round. Before it does so first, a channel gets more room if a process of the node is held that needs it. A line of the script that is of
     /// an earlier round comes before: until it is passed, no node makes an event by its turn.
     pub fn turn(
         &mut self,

@@ -80,8 +80,8 @@ module _ (lines : ℕ) (before now : List Line) (begun : BeginsByDriver lines (h
   by_turn node (turn.Reply reply) written = by_event _ written.0 _ written.1
   by_turn node turn.Nothing written = by_silence _ (written refl)
   by_turn node turn.Late written = by_silence _ (written refl)
-  by_turn node turn.Widened written =
-      behind _ (ap happenings (written refl) ∙ flat_map-append happenings_of before (line.Widened ∷ []))
+  by_turn node (turn.Widened channel) written =
+      behind _ (ap happenings (written refl) ∙ flat_map-append happenings_of before (line.Widened channel ∷ []))
   by_turn node turn.Stopped written = subst (λ (all : List Line). BeginsByDriver lines (happenings all)) (sym written) begun
 
   pub by_fault : (answer : FaultAnswer) → IsFaultWritten true before now answer → BeginsByDriver lines (happenings now)

@@ -59,7 +59,7 @@ turned_within fits script passed node bound limit (turn.Reply reply) old new few
     (rounds_are_next fits (OfWorld _) old new (reply_view reply) turned.2) few most
 turned_within fits script passed node bound limit turn.Nothing old new few most within turned =
     same_within limit old new (ap (λ (a : ArmedView). a.world.round) turned.2) within
-turned_within fits script passed node bound limit turn.Widened old new few most within turned =
+turned_within fits script passed node bound limit (turn.Widened channel) old new few most within turned =
     same_within limit old new (ap (λ (a : ArmedView). a.world.round) turned.2) within
 turned_within fits script passed node bound limit turn.Late old new few most within turned =
     same_within limit old new (ap (λ (a : ArmedView). a.world.round) turned.1) within

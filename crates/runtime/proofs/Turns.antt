@@ -171,9 +171,9 @@ turn_made fits script passed node old between new answer reply is turned follows
     subst (λ (next : NextTurn). IsTurnBy next fits node old new) (sym told.1)
     (record { answer = reply_view reply; between = between; step = told.2; follows = follows })
 
-pub turn_widened : (fits : List (RecordView → Bool)) (script : List ScriptedEvent) (passed node : ℕ) (old new : ArmedView) (answer : TurnAnswer) → answer ≡ turn.Widened
+pub turn_widened : (fits : List (RecordView → Bool)) (script : List ScriptedEvent) (passed node : ℕ) (old new : ArmedView) (answer : TurnAnswer) (channel : ℕ) → answer ≡ turn.Widened channel
     → IsTurn fits script passed node answer old new → IsNodeTurn fits node old new
-turn_widened fits script passed node old new answer is turned =
+turn_widened fits script passed node old new answer channel is turned =
     let told = subst (λ (a : TurnAnswer). IsTurn fits script passed node a old new) is turned in
     subst (λ (next : NextTurn). IsTurnBy next fits node old new) (sym told.1) told.2
 

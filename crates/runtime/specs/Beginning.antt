@@ -15,7 +15,7 @@ abbrev pub is_by_driver : Happening → Bool
 is_by_driver (Made (Node k) event said) = false
 is_by_driver (Made Driver event said) = true
 is_by_driver (Silent reason) = false
-is_by_driver Widened = false
+is_by_driver (Widened channel) = false
 
 abbrev pub begins_by_driver : ℕ → List Happening → Bool
 begins_by_driver zero happened = true

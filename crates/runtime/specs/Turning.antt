@@ -35,11 +35,11 @@ pub record IsEventTurn (fits : List (RecordView → Bool)) (node : ℕ) (old new
 
 abbrev pub IsTurnBy : NextTurn → List (RecordView → Bool) → ℕ → ArmedView → ArmedView → Type 0
 IsTurnBy next.Rest fits node old new = new ≡ old
-IsTurnBy next.Widen fits node old new = new ≡ armed_widened old
+IsTurnBy (next.Widen channel) fits node old new = new ≡ armed_widened channel old
 IsTurnBy next.Make fits node old new = IsEventTurn fits node old new
 
 -- A turn of a node is what comes next there: nothing, where it has let its turn pass in this round and could only do so again; more room for
--- channels, where the world stands still for want of it; or the event that is next for it.
+-- a channel, where a process of the node is held that needs it; or the event that is next for it.
 abbrev pub IsNodeTurn : List (RecordView → Bool) → ℕ → ArmedView → ArmedView → Type 0
 IsNodeTurn fits node old new = IsTurnBy (next_turn old.world node) fits node old new
 

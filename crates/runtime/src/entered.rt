@@ -71,7 +71,7 @@ impl<'hub, C: SlotCell, O: Outlet, ThisRun: HubRun> Entered<'hub, C, O, ThisRun>
                     self.locked.left = self.locked.left.saturating_add(1);
                 }
             }
-            TurnAnswer::Widened => *made += 1,
+            TurnAnswer::Widened(_) => *made += 1,
             TurnAnswer::Nothing | TurnAnswer::Late | TurnAnswer::Stopped => {}
         }
         Ok(answer)

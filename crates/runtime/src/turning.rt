@@ -150,7 +150,7 @@ impl<C: SlotCell, O: Outlet, ThisRun: Run> Table<C, O, ThisRun> {
         let answer = self.turn(alloc, node)?;
         match answer {
             TurnAnswer::Reply(reply) => self.follow(alloc, node, reply),
-            TurnAnswer::Widened => Ok(()),
+            TurnAnswer::Widened(_) => Ok(()),
             TurnAnswer::Nothing => Ok(()),
             // The lines that were late were passed before.
             TurnAnswer::Late => unreachable!(),

@@ -43,9 +43,34 @@ fn raise<C: SlotCell, O: Outlet, ThisRun: HubRun, ItsMarks: MarksName>(
 // How many turns in a row a node takes at most while it has the lock.
 const TURNS: u32 = 256;
 
-// Turns in a row, until a job is granted, nothing is to be done, or others have something to do. It answers what the last one came to.
 // Items leave by one output after another, mostly many in a row, so a mark is raised once for all of them: before items leave by another
 // output, and by who called for the output that is left in `left_by`.
+fn mark<C: SlotCell, O: Outlet, ThisRun: HubRun, ItsMarks: MarksName>(
+    entered: &Entered<'_, C, O, ThisRun>,
+    marks: &Marks<ItsMarks>,
+    marks_seat: &mut Seat<ItsMarks>,
+    left_by: &mut Option<u8>,
+    answer: &TurnAnswer,
+) -> Result<(), HubFault> {
+    if let TurnAnswer::Reply(Reply::Released(item)) = answer {
+        if *left_by != Some(item.output) {
+            raise(entered, marks, marks_seat, *left_by)?;
+            *left_by = Some(item.output);
+        }
+    }
+    Ok(())
+}
+
+// Whether a node takes no further turn behind this answer.
+fn is_last(answer: &TurnAnswer) -> bool {
+    match answer {
+        TurnAnswer::Reply(Reply::Granted(_)) => true,
+        TurnAnswer::Reply(_) | TurnAnswer::Widened(_) => false,
+        TurnAnswer::Nothing | TurnAnswer::Late | TurnAnswer::Stopped => true,
+    }
+}
+
+// Turns in a row, until a job is granted, nothing is to be done, or others have something to do. It answers what the last one came to.
 fn take_turns<C: SlotCell, O: Outlet, ThisRun: HubRun, ItsMarks: MarksName>(
     alloc: Global,
     entered: &mut Entered<'_, C, O, ThisRun>,
@@ -57,27 +82,16 @@ fn take_turns<C: SlotCell, O: Outlet, ThisRun: HubRun, ItsMarks: MarksName>(
     ensures node { seat.new.node ≡ seat.old.node }
     ensures home { IfOk result (IsGrantedIn seat.old.node) }
 {
+    let mut answer = entered.turn(alloc, seat)?;
     for _ in 1..TURNS {
-        match entered.turn(alloc, seat)? {
-            TurnAnswer::Reply(Reply::Granted(job)) => {
-                return Ok(TurnAnswer::Reply(Reply::Granted(job)));
-            }
-            TurnAnswer::Reply(Reply::Released(item)) => {
-                if *left_by != Some(item.output) {
-                    raise(entered, marks, marks_seat, *left_by)?;
-                    *left_by = Some(item.output);
-                }
-            }
-            TurnAnswer::Reply(_) | TurnAnswer::Widened => {}
-            TurnAnswer::Nothing => return Ok(TurnAnswer::Nothing),
-            TurnAnswer::Late => return Ok(TurnAnswer::Late),
-            TurnAnswer::Stopped => return Ok(TurnAnswer::Stopped),
+        mark(entered, marks, marks_seat, left_by, &answer)?;
+        if is_last(&answer) || entered.has_moved_on() {
+            return Ok(answer);
         }
-        if entered.has_moved_on() {
-            break;
-        }
+        answer = entered.turn(alloc, seat)?;
     }
-    Ok(TurnAnswer::Widened)
+    mark(entered, marks, marks_seat, left_by, &answer)?;
+    Ok(answer)
 }
 
 // What a node's turns came to: its seats are at their desk again, or out with a job that was granted.
@@ -96,7 +110,7 @@ fn put_down<C: SlotCell, O: Outlet, ThisRun: HubRun, ItsMarks: MarksName>(
             return Some(Task { seats, nth, job });
         }
         TurnAnswer::Reply(_other) => entered.locked.workers.rests(node, None),
-        TurnAnswer::Late | TurnAnswer::Widened | TurnAnswer::Stopped => {
+        TurnAnswer::Late | TurnAnswer::Widened(_) | TurnAnswer::Stopped => {
             entered.locked.workers.rests(node, None)
         }
         TurnAnswer::Nothing => entered.locked.rests(node),

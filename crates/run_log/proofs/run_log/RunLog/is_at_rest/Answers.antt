@@ -3,7 +3,8 @@ use Rattle.std.specs.Prelude.{IsTrue}
 use Rattle.std.proofs.lemmas.Option.{slice_get-get_or}
 use Rattle.std.proofs.Math.Logic.{∥∥₁_elim}
 use Rattle.std.proofs.Props.{props}
-use Rattle.protocol.specs.World.Common.{NODES, choice, stands_still}
+use Rattle.protocol.specs.World.Common.{NODES, choice}
+use Rattle.protocol.specs.World.RoomNeeds.{needed_for}
 use Rattle.replay.specs.Replay.{IsSilence, has_idled}
 use Rattle.replay.specs.Rests.{AllRest, is_idle}
 use Rattle.replay.specs.declared.kept.Silence.TheVariants.{Nothing}
@@ -33,4 +34,4 @@ returns g c done =
     let idle : is_idle (choice world node) ≡ true =
     ∥∥₁_elim log.rest (hlevel props) (λ all. ap is_idle (silence all).1.1) in
     let idled : has_idled world node ≡ true = ∥∥₁_elim log.rest (hlevel props) (λ all. (silence all).0) in
-    sym (turn_is world node (choice world node) true true (stands_still world) refl (sym idle) (sym idled) refl)
+    sym (turn_is world node (choice world node) true true (needed_for world node) refl (sym idle) (sym idled) refl)

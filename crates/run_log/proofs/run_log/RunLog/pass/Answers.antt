@@ -1,8 +1,17 @@
 use Rattle.std.proofs.Common.{◌∙◌, ap, sym}
 use Rattle.protocol.specs.World.Common.{event_node}
 use Rattle.replay.proofs.Choices.{choice_at_home}
+use Rattle.replay.proofs.Rests.{widening_is}
+use Rattle.run_log.proofs.Needed.{is_needed}
 use Rattle.world.specs.WholeView.{world_of}
 use Rattle.run_log.proofs.run_log.RunLog.pass.Goals as goal
+
+-- a channel gets more room that a process needs
+pub widen-requires-in-Widen-clause-needed : goal.widen-requires-in-Widen-clause-needed
+widen-requires-in-Widen-clause-needed g c =
+    let world = world_of c.args.self.now.armed.world in
+    is_needed world c.args.node c.in-Widen.field-0 c.args.self.now.armed.world.sound
+    (widening_is world c.args.node c.in-Widen.field-0 (sym c.next_turn.ensures ∙ c.in-Widen.is))
 
 pub returns-in_ok-widen-in-Widen-clause-answered : goal.returns-in_ok-widen-in-Widen-clause-answered
 returns-in_ok-widen-in-Widen-clause-answered g c =
