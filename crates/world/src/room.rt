@@ -35,7 +35,7 @@ impl<C: SlotCell, O: Outlet> World<C, O> {
         self.channel_rooms.of(channel)
     }
 
-    /// The same of all channels.
+    /// How many items each channel retains at most, by its number.
     pub fn rooms(&self) -> &Rooms
         ensures { result.now ≡ (world_of self.now).rooms }
     {
@@ -60,7 +60,7 @@ impl<C: SlotCell, O: Outlet> World<C, O> {
         Ok(())
     }
 
-    /// The same for one channel.
+    /// Sets how many items one channel retains at most, as `set_room` does for all.
     pub fn set_room_of(&mut self, channel: u8, items: usize) -> Result<(), RoomOutOfRange>
         // Its room is what differs, and nothing else.
         ensures set { OnOk result (world_of self.new
