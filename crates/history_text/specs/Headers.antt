@@ -36,5 +36,5 @@ processes_text number (process ∷ processes) (name ∷ names) =
 
 abbrev pub header_text : Net → List ℕ
 header_text net =
-    codes "history 1\n" ++ channels_text 0 net.program.channels.items net.channel_names.items
+    codes "history 2\n" ++ channels_text 0 net.program.channels.items net.channel_names.items
     ++ processes_text 0 net.program.processes.items net.process_names.items

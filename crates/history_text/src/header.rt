@@ -89,7 +89,7 @@ fn write_processes<W: Write>(out: &mut W, processes: &[Process], names: &[Name])
 pub fn write_header<W: Write>(out: &mut W, net: &Net) -> io::Result<()>
     ensures { OnOk result (Appends (W.contents out.old) (W.contents out.new) (header_text net.now)) }
 {
-    writeln!(out, "history 1")?;
+    writeln!(out, "history 2")?;
     write_channels(out, &net.program.channels, &net.channel_names)?;
     write_processes(out, &net.program.processes, &net.process_names)
 }
