@@ -160,14 +160,14 @@ impl<'a> Machine<'a> {
     fn perform(
         &mut self,
         stack: &mut Stack,
-        instruction: Instruction,
+        instruction: &Instruction,
         room: &[usize],
     ) -> Result<Next, AllocError>
         requires { length self.old.sent.items ≡ length room.now }
-        ensures { IfOk result (λ next. (place : ℕ) → Performed instruction room.now
+        ensures { IfOk result (λ next. (place : ℕ) → Performed instruction.now room.now
             (held self.old place stack.old) next (held self.new place stack.new)) }
     {
-        match instruction {
+        match *instruction {
             Instruction::Store { variable, value } => {
                 let value = take_value(stack, &self.variables, value);
                 set_variable(&mut self.variables, variable, value);
@@ -253,7 +253,7 @@ impl<'a> Machine<'a> {
             return Ok(Some(Flow::RanOut));
         };
         for instruction in rest {
-            match self.perform(stack, *instruction, room)? {
+            match self.perform(stack, instruction, room)? {
                 Next::Behind => {}
                 Next::To(target) => {
                     self.place = target;

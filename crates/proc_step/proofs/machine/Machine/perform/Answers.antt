@@ -18,7 +18,7 @@ returns-in-Some c place =
     let h = c.in-Some.ensures.some in
     let f : FitsSigned w64 c.in-Some.item = search rules in
     let unread = c.deref_mut-in-Get.ensures.value in
-    get_moves c.args.instruction x channel c.in-Get.site c.args.room.now m c.in-Some.item h.0
+    get_moves c.args.instruction.now x channel c.in-Get.site c.args.room.now m c.in-Some.item h.0
     (with_items m.variables c.set_variable-in-Get.new.variables) (with_items m.unread c.take_item.new.unread)
     c.in-Get.is (ap (λ (l : List (List ℤ)). history_of l channel) (sym unread) ∙ h.1)
     (with_items_is m.unread _ (omega (arith, c.take_item.auto.unread, c.deref_mut-in-Get.ensures.len))
@@ -39,7 +39,7 @@ returns-in_ok-send-in-Put c place =
     to_z-of_z w64 _ f ∙ c.take_value-item.ensures.value
     ∙ ap (value_in value m.stack) c.deref-in-Put-2.ensures.value in
     let before = c.deref_mut-in-Put.result.now in
-    put_moves c.args.instruction channel c.in-Put.site value c.args.room.now m c.take_value-item.new.stack
+    put_moves c.args.instruction.now channel c.in-Put.site value c.args.room.now m c.take_value-item.new.stack
     (with_items m.sent c.send.new.sent) c.in-Put.is
     (subst (λ (l : List (List ℤ)). length (history_of l channel) < slice_index c.args.room.now channel)
     c.deref-in-Put.ensures.value (c.has_room.ensures.0 c.if-not-has_room.false))
