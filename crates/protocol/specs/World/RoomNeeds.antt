@@ -6,11 +6,12 @@
 -- nobody on it goes on, nobody on it ever will, whatever the others do, unless a channel gets more room: the last one at
 -- which a process on the way is held for want of it. Where that way goes round, this channel lies on the round. Where it
 -- ends, no other on the rest of the way would help.
-use Rattle.std.specs.Prelude.{◌≡◌, ◌==◌, ◌&&◌, ◌⊎◌, ℕ, zero, suc, Bool, true, false, if◌then◌else◌, List, [], ◌∷◌, length, Option, Some, None}
+use Rattle.std.specs.Prelude.{◌≡◌, ◌&&◌, ◌⊎◌, ℕ, zero, suc, Bool, true, false, if◌then◌else◌, List, [], ◌∷◌, length, Option, Some, None}
 use Rattle.std.specs.Prelude.{slice_get, slice_index, slice_set}
 use Rattle.std.specs.List.{list_any}
-use Rattle.ckpt_codec.specs.Common.{Code, Network, Channel, Port, Outside, Process}
+use Rattle.ckpt_codec.specs.Common.{Network, Channel, Port, Outside, Process}
 use Rattle.turns.specs.Turns.{or_else}
+use Rattle.protocol.specs.Node.Layout.{has_process}
 use Rattle.protocol.specs.Node.Sharing.{wider}
 use Rattle.protocol.specs.World.Stances.{stance_of}
 use Rattle.protocol.specs.World.Steps.{WorldView, with_rooms}
@@ -117,11 +118,6 @@ needed_at world = need_by world.net (stance_of world.net world.inputs world.room
 
 -- ---- by node
 
--- a process of which this is the code is on this node
-abbrev pub is_on : ℕ → Option Code → Bool
-is_on node None = false
-is_on node (Some code) = code.node == node
-
 abbrev pub is_held : Stance → Bool
 is_held GoesOn = false
 is_held Ended = false
@@ -132,7 +128,7 @@ is_held (Full channel) = false
 -- what is needed on the way from a process, if it is one of this node and is held for want of room
 abbrev pub need_of : Network → (ℕ → Stance) → ℕ → ℕ → Option ℕ
 need_of net stance node process =
-    if is_on node (slice_get net.codes process) && is_held (stance process) then need_on stance (way_from net stance process) else None
+    if has_process net node process && is_held (stance process) then need_on stance (way_from net stance process) else None
 
 -- the channel of a world that needs more room, by the first process of a node that is held and shows it
 abbrev pub needed_for : WorldView → ℕ → Option ℕ

@@ -41,14 +41,14 @@ use Rattle.protocol.specs.World.Stances.{is_of, stance_at_put, stance_before, st
 use Rattle.protocol.specs.World.Stances.{stance_with, stance_of}
 use Rattle.protocol.specs.World.Still.{has_come_from, has_let_go, kept_by, kept_at, keeps_all, is_settled, is_settled_at}
 use Rattle.protocol.specs.World.Still.{is_still, wants_room}
-use Rattle.protocol.specs.World.RoomNeeds.{NeedsRoom, awaited, getter_of, is_going, held_on, need_by, needed_at}
+use Rattle.protocol.specs.World.RoomNeeds.{NeedsRoom, awaited, getter_of, is_going, held_on, need_by, needed_at, needed_for}
 use Rattle.protocol.specs.World.RoomNeeds.{process_on, putter_of}
 use Rattle.protocol_laws.specs.Node.GrantLaws.{fewer_places}
 use Rattle.protocol_laws.specs.Node.ImageLaws.{find_within, found_is}
 use Rattle.protocol_laws.specs.Node.NumberedLaws.{where_mark, where_find}
 use Rattle.protocol_laws.specs.Node.SharingLaws.{share_within}
 use Rattle.protocol_laws.specs.World.QuietLaws.{all_at, left_at}
-use Rattle.protocol_laws.specs.World.WayLaws.{held_needs, need_is_need, none_in_need}
+use Rattle.protocol_laws.specs.World.WayLaws.{held_needs, need_for_is_need, need_is_need, need_is_shown, none_in_need}
 
 -- ---- what is found
 
@@ -1041,3 +1041,32 @@ gets_more world c valid rooms is =
   where
     higher : (room : ℕ) → room < MAX_RETAINED_ITEMS → MIN_ROOM ≤ room → room < min (room * 2) MAX_RETAINED_ITEMS
     higher room few some = omega (arith, few, some)
+
+-- ---- by node
+
+-- The channel that a node is found to need is one that a process needs, whose put there is held.
+pub needed_for_is_need : (world : WorldView) (node c : ℕ) → IsValid world.net → needed_for world node ≡ Some c
+    → (p : ℕ) × NeedsRoom world.net (stance_of world.net world.inputs world.rooms world.stations) p c
+    × PutIsHeld world p c
+needed_for_is_need world node c valid is =
+    let stance = stance_of world.net world.inputs world.rooms world.stations in
+    let found =
+    need_for_is_need world.net stance node c (λ p q waits. awaited_below world.net valid (stance p) q waits) is in
+    (found.0, found.2, put_is_held world found.0 c found.2.held)
+
+-- And a process that needs room is found by the node on which it is.
+pub need_shows : (world : WorldView) (p c : ℕ)
+    → (needs : NeedsRoom world.net (stance_of world.net world.inputs world.rooms world.stations) p c)
+    → (held : PutIsHeld world p c) → (d : ℕ) × (needed_for world held.code.node ≡ Some d)
+need_shows world p c needs held =
+    need_is_shown world.net (stance_of world.net world.inputs world.rooms world.stations) p c held.code held.coded
+    (slice_get_within world.net.codes p held.code held.coded) needs
+
+-- So where a world stands still for want of room, some node finds a channel that needs more.
+pub some_node_needs : (world : WorldView) → WorldInvariant world → stands_still world ≡ true
+    → (node c : ℕ) × (needed_for world node ≡ Some c)
+some_node_needs world inv still =
+    let need = some_need world inv still in
+    let found = needed_is_need world need.0 inv.valid need.1 in
+    let shown = need_shows world found.0 need.0 found.1 found.2 in
+    (found.2.code.node, shown.0, shown.1)

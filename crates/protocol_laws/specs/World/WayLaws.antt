@@ -1,17 +1,18 @@
 -- Laws of the ways on which processes wait for others: where nobody goes on, one that is held for want of room shows which
 -- channel needs it.
-use Rattle.std.proofs.Common.{◌≡◌, ◌≢◌, ◌⊎◌, inl, inr, ℕ, zero, suc, ◌+◌, ◌-◌, ◌<◌, ◌≤◌, Bool, true, false, ◌||◌, cond, eqb, List, [], ◌∷◌}
+use Rattle.std.proofs.Common.{◌≡◌, ◌≢◌, ◌⊎◌, inl, inr, ℕ, zero, suc, ◌+◌, ◌-◌, ◌<◌, ◌≤◌, Bool, true, false, ◌&&◌, ◌||◌, cond, eqb, List, [], ◌∷◌}
 use Rattle.std.proofs.Common.{length, Option, Some, None, refl, sym, ap, ◌∙◌, arith}
-use Rattle.std.proofs.lemmas.Bool.{cases_eq, cases_lt, cases_Bool, eqb-true, or_parts}
+use Rattle.std.proofs.lemmas.Bool.{cases_eq, cases_lt, cases_Bool, eq-eqb, eqb-true, or_parts}
 use Rattle.std.proofs.lemmas.List.Folds.{Any-from_list_any}
 use Rattle.std.proofs.lemmas.Map.Steps.{length-le_from_distinct_below}
 use Rattle.std.proofs.lemmas.Option.{slice_get_cases, slice_get_within, slice_get-get_or}
 use Rattle.std.specs.List.{AllByRecursion, IsDistinct, list_any}
-use Rattle.std.specs.Prelude.{slice_get}
-use Rattle.protocol.specs.Node.Common.{Network}
+use Rattle.std.specs.Prelude.{if◌then◌else◌, slice_get}
+use Rattle.protocol.specs.Node.Common.{Code, Network}
+use Rattle.protocol.specs.Node.Layout.{has_process, is_on}
 use Rattle.turns.specs.Turns.{or_else}
 use Rattle.protocol.specs.World.RoomNeeds.{is_going, held_on, awaited, way, last_held, need_on, way_from, first_of_any}
-use Rattle.protocol.specs.World.RoomNeeds.{IsLastHeld, NeedsRoom, need_by, onward}
+use Rattle.protocol.specs.World.RoomNeeds.{IsLastHeld, NeedsRoom, is_held, need_by, need_of, onward}
 use Rattle.protocol.specs.declared.stance.Stance.{Stance}
 use Rattle.protocol.specs.declared.stance.Stance.TheVariants.{GoesOn, Ended, Waits, Held, Full}
 
@@ -428,25 +429,20 @@ module _ (stance : ℕ → Stance) (next : ℕ → Option ℕ) (n : ℕ) (bound 
       below_on next n bound (suc n) last.place last.process (Some start)
       (λ r e. (let same : start ≡ r = cc in omega (arith, same, below))) last.there
 
--- The channel that is found is one that a process needs.
-pub need_is_need : (net : Network) (stance : ℕ → Stance) (c : ℕ)
-    → ((p q : ℕ) → awaited net (stance p) ≡ Some q → q < length net.codes) → need_by net stance ≡ Some c
-    → (p : ℕ) × (p < length net.codes) × NeedsRoom net stance p c
-need_is_need net stance c bound is =
-    let found =
-    found_of (λ (q : ℕ). need_on stance (way_from net stance q)) 0 (length net.codes) c is in
-    at found.0 (omega (arith, found.2)) (list_any (λ (p : ℕ). is_going (stance p)) (way_from net stance found.0)) refl
-    found.3
+-- What is needed on the way from a process is a channel that a process needs.
+pub on_way_is_need : (net : Network) (stance : ℕ → Stance) (c : ℕ)
+    → ((p q : ℕ) → awaited net (stance p) ≡ Some q → q < length net.codes) → (p : ℕ) → p < length net.codes
+    → need_on stance (way_from net stance p) ≡ Some c → (q : ℕ) × (q < length net.codes) × NeedsRoom net stance q c
+on_way_is_need net stance c bound p below need =
+    at (list_any (λ (q : ℕ). is_going (stance q)) (way_from net stance p)) refl
   where
-    at : (p : ℕ) → p < length net.codes → (b : Bool)
-        → list_any (λ (q : ℕ). is_going (stance q)) (way_from net stance p) ≡ b
-        → need_on stance (way_from net stance p) ≡ Some c
+    at : (b : Bool) → list_any (λ (q : ℕ). is_going (stance q)) (way_from net stance p) ≡ b
         → (q : ℕ) × (q < length net.codes) × NeedsRoom net stance q c
-    at p below true going need =
+    at true going =
         let bad : None ≡ Some c =
         sym (ap (λ (b : Bool). cond b None (last_held stance (way_from net stance p))) going) ∙ need in
         absurd (cc)
-    at p below false stuck need =
+    at false stuck =
         (let is_last : last_held stance (way_from net stance p) ≡ Some c =
         sym (ap (λ (b : Bool). cond b None (last_held stance (way_from net stance p))) stuck) ∙ need in
         let last = last_of stance (way_from net stance p) c is_last in
@@ -457,18 +453,26 @@ need_is_need net stance c bound is =
           record { held = last.held; stuck = needs.stays; last = needs.last_one },
         ))
 
--- and where none is found, nobody needs any
-pub none_in_need : (net : Network) (stance : ℕ → Stance) (p c : ℕ) → p < length net.codes
-    → NeedsRoom net stance p c → (d : ℕ) × (need_by net stance ≡ Some d)
-none_in_need net stance p c below needs =
+-- The channel that is found is one that a process needs.
+pub need_is_need : (net : Network) (stance : ℕ → Stance) (c : ℕ)
+    → ((p q : ℕ) → awaited net (stance p) ≡ Some q → q < length net.codes) → need_by net stance ≡ Some c
+    → (p : ℕ) × (p < length net.codes) × NeedsRoom net stance p c
+need_is_need net stance c bound is =
+    let found =
+    found_of (λ (q : ℕ). need_on stance (way_from net stance q)) 0 (length net.codes) c is in
+    on_way_is_need net stance c bound found.0 (omega (arith, found.2)) found.3
+
+-- On the way from a process that needs room some is needed.
+pub needs_on_way : (net : Network) (stance : ℕ → Stance) (p c : ℕ) → NeedsRoom net stance p c
+    → (d : ℕ) × (need_on stance (way_from net stance p) ≡ Some d)
+needs_on_way net stance p c needs =
     let next : ℕ → Option ℕ = λ (q : ℕ). awaited net (stance q) in
     let last = last_there stance p c (way next (length net.codes) (next p)) needs.held in
     let going : list_any (λ (q : ℕ). is_going (stance q)) (way_from net stance p) ≡ false =
-    none_goes next (suc (length net.codes)) (Some p) needs.stuck in
-    let here : need_on stance (way_from net stance p) ≡ Some last.0 =
-    ap (λ (b : Bool). cond b None (last_held stance (way_from net stance p))) going ∙ last.1 in
-    found_there (λ (q : ℕ). need_on stance (way_from net stance q)) 0 (length net.codes) p last.0 (omega arith)
-    (omega (arith, below)) here
+    none_goes next (suc (length net.codes)) (Some p) needs.stuck in (
+      last.0,
+      ap (λ (b : Bool). cond b None (last_held stance (way_from net stance p))) going ∙ last.1,
+    )
   where
     none_goes : (next : ℕ → Option ℕ) (count : ℕ) (from : Option ℕ)
         → ((steps q : ℕ) → onward next steps from ≡ Some q → is_going (stance q) ≡ false)
@@ -478,3 +482,41 @@ none_in_need net stance p c below needs =
     none_goes next (suc count) (Some q) none =
         ap (λ (b : Bool). b || list_any (λ (r : ℕ). is_going (stance r)) (way next count (next q))) (none 0 q refl)
         ∙ none_goes next count (next q) (λ steps r comes. none (suc steps) r comes)
+
+-- and where none is found, nobody needs any
+pub none_in_need : (net : Network) (stance : ℕ → Stance) (p c : ℕ) → p < length net.codes
+    → NeedsRoom net stance p c → (d : ℕ) × (need_by net stance ≡ Some d)
+none_in_need net stance p c below needs =
+    let on = needs_on_way net stance p c needs in
+    found_there (λ (q : ℕ). need_on stance (way_from net stance q)) 0 (length net.codes) p on.0 (omega arith)
+    (omega (arith, below)) on.1
+
+-- ---- by node
+
+-- The channel that a node is found to need is one that a process needs.
+pub need_for_is_need : (net : Network) (stance : ℕ → Stance) (node c : ℕ)
+    → ((p q : ℕ) → awaited net (stance p) ≡ Some q → q < length net.codes)
+    → first_of_any (need_of net stance node) 0 (length net.codes) ≡ Some c
+    → (p : ℕ) × (p < length net.codes) × NeedsRoom net stance p c
+need_for_is_need net stance node c bound is =
+    let found = found_of (need_of net stance node) 0 (length net.codes) c is in
+    on_way_is_need net stance c bound found.0 (omega (arith, found.2))
+    (at (has_process net node found.0 && is_held (stance found.0)) (way_from net stance found.0) found.3)
+  where
+    at : (b : Bool) (processes : List ℕ) → (if b then need_on stance processes else None) ≡ Some c
+        → need_on stance processes ≡ Some c
+    at true processes need = need
+    at false processes need = absurd (cc)
+
+-- And a process that needs room is found by its node.
+pub need_is_shown : (net : Network) (stance : ℕ → Stance) (p c : ℕ) (code : Code) → slice_get net.codes p ≡ Some code
+    → p < length net.codes → NeedsRoom net stance p c
+    → (d : ℕ) × (first_of_any (need_of net stance code.node) 0 (length net.codes) ≡ Some d)
+need_is_shown net stance p c code coded below needs =
+    let on = needs_on_way net stance p c needs in
+    let here : has_process net code.node p ≡ true = ap (is_on code.node) coded ∙ eq-eqb code.node code.node refl in
+    let held : is_held (stance p) ≡ true = ap is_held needs.held in
+    let shown : need_of net stance code.node p ≡ Some on.0 =
+    ap (λ (b : Bool). if b && is_held (stance p) then need_on stance (way_from net stance p) else None) here
+    ∙ (ap (λ (b : Bool). if b then need_on stance (way_from net stance p) else None) held ∙ on.1) in
+    found_there (need_of net stance code.node) 0 (length net.codes) p on.0 (omega arith) (omega (arith, below)) shown
