@@ -1,5 +1,5 @@
 -- What the compiler writes, over plain lists.
-use Rattle.std.proofs.Common.{◌≡◌, ℕ, ◌+◌, List, [], ◌∷◌, ◌++◌, length, set, drop, sym, ap, ◌∙◌, arith}
+use Rattle.std.proofs.Common.{◌≡◌, ℕ, suc, ◌+◌, List, [], ◌∷◌, ◌++◌, length, set, drop, refl, sym, ap, ◌∙◌, arith}
 use Rattle.std.proofs.Common.{append_assoc, length-append, Vec, Box, Global}
 use Rattle.std.proofs.Math.Seq.{set-append_seam}
 use Rattle.kahn_net.specs.Common.{Tree, Chain, Block, IfThen, RepeatThen, links_of, tree_of, then_of, block_of, sites_of}
@@ -10,29 +10,41 @@ use Rattle.kahn_net.specs.declared.program.Expr.TheViews as view
 use Rattle.kahn_net.specs.declared.program.Statement.{Statement}
 use Rattle.kahn_net.specs.declared.program.Statement.TheViews as statement
 use Rattle.proc_code.specs.declared.instruction.Instruction.{Instruction}
+use Rattle.proc_code.specs.declared.instruction.Destination.{Destination}
 use Rattle.proc_code.specs.declared.instruction.Operand.{Operand}
 use Rattle.proc_code.specs.declared.instruction.Site.{Site}
 use Rattle.proc_code.specs.declared.instruction.Instruction.TheVariants.{Jump, JumpIfZero, Repeat, Again}
-use Rattle.proc_code.specs.Translation.{expr_code, links_code, if_code, operand_behind, operand_of, repeat_code, block_code, sites_at}
+use Rattle.proc_code.specs.Translation.{code_to, count_links, expr_code, link_to, links_code, if_code, operand_behind, operand_of}
+use Rattle.proc_code.specs.Translation.{repeat_code, block_code, sites_at}
 use Rattle.proc_code.specs.Laws.Sites.{length_sites}
 use Rattle.proc_code.specs.Emitting.{Emits}
 
+-- as many links as there are
+pub counted_links : (items : List Link) → count_links (links_of items) ≡ length items
+counted_links [] = refl
+counted_links (link ∷ items) = ap suc (counted_links items)
+
 -- a chain, before its links are reached
 pub chain_starts : (e : Expr) (first : Box Expr Global) (links : Vec Link Global) (items : List Link)
-    (code code' : List Instruction) (left : Operand) → e ≡ view.Chain first links → items ≡ links.items
-    → left ≡ operand_of (tree_of first.value) → code' ≡ code ++ expr_code (tree_of first.value)
-    → (code' ++ links_code left (links_of (drop 0 items)) ≡ code ++ expr_code (tree_of e))
+    (code code' : List Instruction) (to : Destination) (left : Operand) (later : ℕ) → e ≡ view.Chain first links
+    → items ≡ links.items → left ≡ operand_of (tree_of first.value) → later ≡ length links.items
+    → code' ≡ code ++ code_to (link_to to later) (tree_of first.value)
+    → (code' ++ links_code to left (links_of (drop 0 items)) ≡ code ++ code_to to (tree_of e))
     × (operand_behind left (links_of (drop 0 items)) ≡ operand_of (tree_of e))
-chain_starts e first links items code code' left h k o t =
+    × (later ≡ count_links (links_of (drop 0 items)))
+chain_starts e first links items code code' to left later h k o many t =
     let f = tree_of first.value in
-    let whole : tree_of e ≡ Chain f (links_of links.items) = ap tree_of h ∙ chain_of first links in (
-      ap (λ (l : List Instruction). l ++ links_code left (links_of items)) t
-          ∙ append_assoc code (expr_code f) (links_code left (links_of items))
-          ∙ ap (λ (l : Operand). code ++ (expr_code f ++ links_code l (links_of items))) o
-          ∙ ap (λ (is : List Link). code ++ (expr_code f ++ links_code (operand_of f) (links_of is))) k
-          ∙ sym (ap (λ (x : Tree). code ++ expr_code x) whole),
+    let whole : tree_of e ≡ Chain f (links_of links.items) = ap tree_of h ∙ chain_of first links in
+    let count : later ≡ count_links (links_of links.items) = many ∙ sym (counted_links links.items) in (
+      ap (λ (l : List Instruction). l ++ links_code to left (links_of items)) t
+          ∙ append_assoc code (code_to (link_to to later) f) (links_code to left (links_of items))
+          ∙ ap (λ (l : Operand). code ++ (code_to (link_to to later) f ++ links_code to l (links_of items))) o
+          ∙ ap (λ (is : List Link). code ++ (code_to (link_to to later) f ++ links_code to (operand_of f) (links_of is))) k
+          ∙ ap (λ (n : ℕ). code ++ (code_to (link_to to n) f ++ links_code to (operand_of f) (links_of links.items))) count
+          ∙ sym (ap (λ (x : Tree). code ++ code_to to x) whole),
       ap (λ (l : Operand). operand_behind l (links_of items)) o
           ∙ ap (λ (is : List Link). operand_behind (operand_of f) (links_of is)) k ∙ sym (ap operand_of whole),
+      count ∙ ap (λ (is : List Link). count_links (links_of is)) (sym k),
     )
 
 -- something written behind

@@ -9,6 +9,8 @@ use Rattle.proc_code.specs.declared.instruction.Instruction.{Instruction}
 use Rattle.proc_code.specs.declared.instruction.Instruction.TheVariants.{Store, Negate, Apply, Get, Put}
 use Rattle.proc_code.specs.declared.instruction.Instruction.TheVariants.{Jump, JumpIfZero, Repeat, Again, Stop}
 use Rattle.proc_code.specs.declared.instruction.Instruction.TheVariants.{End}
+use Rattle.proc_code.specs.declared.instruction.Destination.{Destination}
+use Rattle.proc_code.specs.declared.instruction.Destination.TheVariants.{Stack, Variable as Into}
 use Rattle.proc_code.specs.declared.instruction.Operand.{Operand}
 use Rattle.proc_code.specs.declared.instruction.Operand.TheVariants.{Top, Variable, Literal}
 
@@ -40,6 +42,15 @@ behind_value Top stack = below stack
 behind_value (Variable x) stack = stack
 behind_value (Literal n) stack = stack
 
+-- the stack and the variables once a value went there
+abbrev pub stack_with : Destination → ℤ → List ℤ → List ℤ
+stack_with Stack x stack = x ∷ stack
+stack_with (Into y) x stack = stack
+
+abbrev pub vars_with : Destination → ℤ → List ℤ → List ℤ
+vars_with Stack x vars = vars
+vars_with (Into y) x vars = slice_set vars y x
+
 -- the passes that remain of the innermost repetition; where there is none, none
 abbrev pub innermost : List ℕ → ℕ
 innermost [] = 0
@@ -58,12 +69,12 @@ abbrev pub perform : Option Instruction → Continuation → Continuation
 perform None go place stack left vars unread = no_steps (Ended vars unread)
 perform (Some (Store x value)) go place stack left vars unread =
     go (place + 1) (behind_value value stack) left (slice_set vars x (value_in value stack vars)) unread
-perform (Some (Negate value)) go place stack left vars unread =
-    go (place + 1) (int_wrapping_neg w64 (value_in value stack vars) ∷ behind_value value stack) left vars unread
-perform (Some (Apply operator first second)) go place stack left vars unread =
-    go (place + 1)
-    (apply operator (value_in first (behind_value second stack) vars) (value_in second stack vars)
-    ∷ behind_value first (behind_value second stack)) left vars unread
+perform (Some (Negate value to)) go place stack left vars unread =
+    let x = int_wrapping_neg w64 (value_in value stack vars) in
+    go (place + 1) (stack_with to x (behind_value value stack)) left (vars_with to x vars) unread
+perform (Some (Apply operator first second to)) go place stack left vars unread =
+    let x = apply operator (value_in first (behind_value second stack) vars) (value_in second stack vars) in
+    go (place + 1) (stack_with to x (behind_value first (behind_value second stack))) left (vars_with to x vars) unread
 perform (Some (Get x channel site)) go place stack left vars unread =
     on_get (history_of unread channel) (point_at site left) channel vars
     (λ item later. go (place + 1) stack left (slice_set vars x item) (slice_set unread channel later))

@@ -1,5 +1,5 @@
 -- The code of a process, and the table of its sites.
-use Rattle.std.specs.Prelude.{ℕ, ◌+◌, ◌-◌, List, [], ◌∷◌, ◌++◌, length, Option, Some, None, cond, ◌==◌}
+use Rattle.std.specs.Prelude.{ℕ, zero, suc, ◌+◌, ◌-◌, List, [], ◌∷◌, ◌++◌, length, Option, Some, None, cond, ◌==◌}
 use Rattle.std.specs.Prelude.{nat_lt}
 use Rattle.std.specs.Prelude.{max}
 use Rattle.kahn_net.specs.Common.{Tree, Number, Name, Minus, Chain, Links, NoLinks, LinkThen, Block, Nothing, GetThen}
@@ -8,6 +8,8 @@ use Rattle.proc_code.specs.declared.instruction.Instruction.{Instruction}
 use Rattle.proc_code.specs.declared.instruction.Instruction.TheVariants.{Store, Negate, Apply, Get, Put}
 use Rattle.proc_code.specs.declared.instruction.Instruction.TheVariants.{Jump, JumpIfZero, Repeat, Again, Stop}
 use Rattle.proc_code.specs.declared.instruction.Instruction.TheVariants.{End}
+use Rattle.proc_code.specs.declared.instruction.Destination.{Destination}
+use Rattle.proc_code.specs.declared.instruction.Destination.TheVariants.{Stack, Variable as Into}
 use Rattle.proc_code.specs.declared.instruction.Operand.{Operand}
 use Rattle.proc_code.specs.declared.instruction.Operand.TheVariants.{Top, Variable, Literal}
 use Rattle.proc_code.specs.declared.instruction.Site.{Site}
@@ -28,19 +30,42 @@ abbrev mutual
   operand_behind value NoLinks = value
   operand_behind value (LinkThen operator right rest) = Top
 
--- The code of an expression. Behind it its value is where `operand_of` says.
+-- where a value goes that so many links follow: the last one's to where that of the expression does
+abbrev pub link_to : Destination → ℕ → Destination
+link_to to zero = to
+link_to to (suc later) = Stack
+
+abbrev pub count_links : Links → ℕ
+count_links NoLinks = 0
+count_links (LinkThen operator right rest) = suc (count_links rest)
+
+-- The code of an expression. Behind it its value is where `operand_of` says; but where that is the stack it has gone there.
 abbrev mutual
-  pub expr_code : Tree → List Instruction
-  expr_code (Number n) = []
-  expr_code (Name x) = []
-  expr_code (Minus value) = expr_code value ++ Negate (operand_of value) ∷ []
-  expr_code (Chain first links) = expr_code first ++ links_code (operand_of first) links
+  pub code_to : Destination → Tree → List Instruction
+  code_to to (Number n) = []
+  code_to to (Name x) = []
+  code_to to (Minus value) = code_to Stack value ++ Negate (operand_of value) to ∷ []
+  code_to to (Chain first links) = code_to (link_to to (count_links links)) first ++ links_code to (operand_of first) links
 
   -- and of links, where the value before them is there
-  pub links_code : Operand → Links → List Instruction
-  links_code left NoLinks = []
-  links_code left (LinkThen operator right rest) =
-      expr_code right ++ Apply operator left (operand_of right) ∷ links_code Top rest
+  pub links_code : Destination → Operand → Links → List Instruction
+  links_code to left NoLinks = []
+  links_code to left (LinkThen operator right rest) =
+      code_to Stack right
+      ++ Apply operator left (operand_of right) (link_to to (count_links rest)) ∷ links_code to Top rest
+
+abbrev pub expr_code : Tree → List Instruction
+expr_code e = code_to Stack e
+
+-- the code by which a variable takes a value that is there, behind what was written so far
+abbrev pub with_store : Operand → ℕ → List Instruction → List Instruction
+with_store Top x code = code
+with_store (Variable y) x code = code ++ Store x (Variable y) ∷ []
+with_store (Literal n) x code = code ++ Store x (Literal n) ∷ []
+
+-- the code by which a variable takes an expression's value
+abbrev pub assign_code : ℕ → Tree → List Instruction
+assign_code x e = with_store (operand_of e) x (code_to (Into x) e)
 
 -- An if whose code begins at this place: its test, whose value is then there, a jump to the second block where that is 0, the first block, a
 -- jump behind the second one, and the second block. Where a block's code begins, it says what it is.
@@ -63,7 +88,7 @@ abbrev pub block_code : ℕ → ℕ → Block → List Instruction
 block_code at site Nothing = []
 block_code at site (GetThen x channel rest) = Get x channel site ∷ block_code (at + 1) (site + 1) rest
 block_code at site (AssignThen x e rest) =
-    let assign = expr_code e ++ Store x (operand_of e) ∷ [] in
+    let assign = assign_code x e in
     assign ++ block_code (at + length assign) site rest
 block_code at site (PutThen e channel rest) =
     let put = expr_code e ++ Put channel site (operand_of e) ∷ [] in
@@ -93,7 +118,7 @@ abbrev pub entry_at : ℕ → ℕ → Block → ℕ → ℕ
 entry_at at number Nothing site = at
 entry_at at number (GetThen x channel rest) site =
     cond (number == site) at (entry_at (at + 1) (number + 1) rest site)
-entry_at at number (AssignThen x e rest) site = entry_at (at + length (expr_code e ++ Store x (operand_of e) ∷ [])) number rest site
+entry_at at number (AssignThen x e rest) site = entry_at (at + length (assign_code x e)) number rest site
 entry_at at number (PutThen e channel rest) site =
     cond (number == site) at
     (entry_at (at + length (expr_code e ++ Put channel number (operand_of e) ∷ [])) (number + 1) rest site)
@@ -131,7 +156,7 @@ put_site channel entry = record { act = PutAct channel; entry = entry }
 abbrev pub sites_at : ℕ → ℕ → Block → List Site
 sites_at at number Nothing = []
 sites_at at number (GetThen x channel rest) = get_site channel at ∷ sites_at (at + 1) (number + 1) rest
-sites_at at number (AssignThen x e rest) = sites_at (at + length (expr_code e ++ Store x (operand_of e) ∷ [])) number rest
+sites_at at number (AssignThen x e rest) = sites_at (at + length (assign_code x e)) number rest
 sites_at at number (PutThen e channel rest) =
     put_site channel at ∷ sites_at (at + length (expr_code e ++ Put channel number (operand_of e) ∷ [])) (number + 1) rest
 sites_at at number (StopThen rest) = sites_at (at + 1) number rest
@@ -166,11 +191,16 @@ height_behind Top height = height - 1
 height_behind (Variable x) height = height
 height_behind (Literal n) height = height
 
+-- how many values are on the stack once one went there, where so many were before
+abbrev pub height_with : Destination → ℕ → ℕ
+height_with Stack height = height + 1
+height_with (Into x) height = height
+
 -- how many values are on the stack behind an instruction, where so many were before it
 abbrev pub height_after : Instruction → ℕ → ℕ
 height_after (Store x value) height = height_behind value height
-height_after (Negate value) height = height_behind value height + 1
-height_after (Apply operator left right) height = height_behind left (height_behind right height) + 1
+height_after (Negate value to) height = height_with to (height_behind value height)
+height_after (Apply operator left right to) height = height_with to (height_behind left (height_behind right height))
 height_after (Get x channel site) height = height
 height_after (Put channel site value) height = height_behind value height
 height_after (Jump target) height = height
@@ -192,8 +222,8 @@ abbrev pub nesting_after : Instruction → ℕ → ℕ
 nesting_after (Repeat times behind) nesting = nesting + 1
 nesting_after (Again target) nesting = nesting - 1
 nesting_after (Store x value) nesting = nesting
-nesting_after (Negate value) nesting = nesting
-nesting_after (Apply operator left right) nesting = nesting
+nesting_after (Negate value to) nesting = nesting
+nesting_after (Apply operator left right to) nesting = nesting
 nesting_after (Get x channel site) nesting = nesting
 nesting_after (Put channel site value) nesting = nesting
 nesting_after (Jump target) nesting = nesting

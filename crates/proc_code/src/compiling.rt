@@ -3,12 +3,12 @@
 ghost use Rattle.std.specs.Prelude.{◌≡◌, ◌+◌, ◌<◌, ◌^◌, map, IfOk};
 ghost use Rattle.kahn_net.specs.Common.{code_of};
 ghost use Rattle.proc_code.specs.CodeView.{code_view};
-ghost use Rattle.proc_code.specs.Translation.{flat_code, greatest_height, height_after, height_behind, greatest_nesting, nesting_after};
+ghost use Rattle.proc_code.specs.Translation.{flat_code, greatest_height, height_after, height_behind, height_with, greatest_nesting, nesting_after};
 
 use crate::code::Code;
 use crate::emitting::{emit_loop, emit_statements};
 use crate::fault::Fault;
-use crate::instruction::{Instruction, Operand};
+use crate::instruction::{Destination, Instruction, Operand};
 use kahn_net::Process;
 use std::alloc::Global;
 
@@ -22,16 +22,30 @@ fn height_behind(value: Operand, height: usize) -> usize
     }
 }
 
+/// How many values are on the stack once one went there, where so many were before.
+fn height_with(to: Destination, height: usize) -> usize
+    requires { height + 1 < 2 ^ 64 }
+    ensures { result ≡ height_with to height }
+{
+    match to {
+        Destination::Stack => height + 1,
+        Destination::Variable(_) => height,
+    }
+}
+
 /// How many values are on the stack behind an instruction, where so many were before it.
 fn height_after(instruction: Instruction, height: usize) -> usize
     requires { height + 1 < 2 ^ 64 }
     ensures { result ≡ height_after instruction height }
 {
     match instruction {
-        Instruction::Negate { value } => height_behind(value, height) + 1,
-        Instruction::Apply { left, right, .. } => {
-            height_behind(left, height_behind(right, height)) + 1
-        }
+        Instruction::Negate { value, to } => height_with(to, height_behind(value, height)),
+        Instruction::Apply {
+            left,
+            right,
+            to,
+            ..
+        } => height_with(to, height_behind(left, height_behind(right, height))),
         Instruction::Store { value, .. }
         | Instruction::Put { value, .. }
         | Instruction::JumpIfZero { value, .. } => height_behind(value, height),

@@ -3,10 +3,10 @@
 ghost use Rattle.std.specs.Prelude.{◌≡◌, [], ◌∷◌, ◌++◌, IfOk, OnOk, length};
 ghost use Rattle.kahn_net.specs.Common.{tree_of, then_of, block_of};
 ghost use Rattle.kahn_net.specs.Syntax.{body_of};
-ghost use Rattle.proc_code.specs.Translation.{expr_code, operand_of, block_code, sites_at, loop_code, loop_sites};
+ghost use Rattle.proc_code.specs.Translation.{code_to, link_to, operand_of, with_store, block_code, sites_at, loop_code, loop_sites};
 ghost use Rattle.proc_code.specs.Emitting.{Emits};
 
-use crate::instruction::{Instruction, Operand, Site, SiteAct};
+use crate::instruction::{Destination, Instruction, Operand, Site, SiteAct};
 use kahn_net::{Expr, Statement};
 use std::alloc::AllocError;
 
@@ -27,29 +27,44 @@ fn enter(sites: &mut Vec<Site>, act: SiteAct, entry: usize) -> Result<(), AllocE
     Ok(())
 }
 
-/// The code of an expression, and where its value is behind that. A variable and a number take no code.
-fn emit_expr(code: &mut Vec<Instruction>, expr: &Expr) -> Result<Operand, AllocError>
-    ensures code { OnOk result (code.new.items ≡ code.old.items ++ expr_code (tree_of expr.now)) }
+/// Where a link's value goes that so many links follow: the last one's to where that of the expression does.
+fn link_to(to: Destination, later: usize) -> Destination
+    ensures { result ≡ link_to to later }
+{
+    if later == 0 { to } else { Destination::Stack }
+}
+
+/// The code of an expression, and where its value is behind that: a variable and a number take no code, and the value of
+/// any other goes there.
+fn emit_expr(
+    code: &mut Vec<Instruction>,
+    expr: &Expr,
+    to: Destination,
+) -> Result<Operand, AllocError>
+    ensures code { OnOk result (code.new.items ≡ code.old.items ++ code_to to (tree_of expr.now)) }
     ensures value { IfOk result (λ value. value ≡ operand_of (tree_of expr.now)) }
 {
     match expr {
         Expr::Literal(value) => Ok(Operand::Literal(*value)),
         Expr::Variable(variable) => Ok(Operand::Variable(*variable)),
         Expr::Negate(value) => {
-            let value = emit_expr(code, value)?;
-            emit(code, Instruction::Negate { value })?;
+            let value = emit_expr(code, value, Destination::Stack)?;
+            emit(code, Instruction::Negate { value, to })?;
             Ok(Operand::Top)
         }
         Expr::Chain { first, links } => {
-            let mut left = emit_expr(code, first)?;
+            let mut later = links.len();
+            let mut left = emit_expr(code, first, link_to(to, later))?;
             for link in links {
-                let right = emit_expr(code, &link.value)?;
+                later -= 1;
+                let right = emit_expr(code, &link.value, Destination::Stack)?;
                 emit(
                     code,
                     Instruction::Apply {
                         operator: link.operator,
                         left,
                         right,
+                        to: link_to(to, later),
                     },
                 )?;
                 left = Operand::Top;
@@ -57,6 +72,21 @@ fn emit_expr(code: &mut Vec<Instruction>, expr: &Expr) -> Result<Operand, AllocE
             Ok(left)
         }
     }
+}
+
+/// The code by which a variable takes a value that is there. One that would be on the stack was put into the variable
+/// where it was made.
+fn emit_store(
+    code: &mut Vec<Instruction>,
+    variable: usize,
+    value: Operand,
+) -> Result<(), AllocError>
+    ensures { OnOk result (code.new.items ≡ with_store value variable code.old.items) }
+{
+    if let Operand::Top = value {
+        return Ok(());
+    }
+    emit(code, Instruction::Store { variable, value })
 }
 
 /// The code of a statement.
@@ -83,19 +113,13 @@ fn emit_statement(
             )
         }
         Statement::Assign { variable, value } => {
-            let value = emit_expr(code, value)?;
-            emit(
-                code,
-                Instruction::Store {
-                    variable: *variable,
-                    value,
-                },
-            )
+            let value = emit_expr(code, value, Destination::Variable(*variable))?;
+            emit_store(code, *variable, value)
         }
         Statement::Put { value, channel } => {
             let site = sites.len();
             enter(sites, SiteAct::Put { channel: *channel }, code.len())?;
-            let value = emit_expr(code, value)?;
+            let value = emit_expr(code, value, Destination::Stack)?;
             emit(
                 code,
                 Instruction::Put {
@@ -111,7 +135,7 @@ fn emit_statement(
             first,
             second,
         } => {
-            let value = emit_expr(code, test)?;
+            let value = emit_expr(code, test, Destination::Stack)?;
             let test_end = code.len();
             emit(code, Instruction::JumpIfZero { target: 0, value })?;
             emit_statements(code, sites, first)?;

@@ -13,6 +13,14 @@ pub enum Operand {
     Literal(i64),
 }
 
+/// Where an instruction puts the value that it makes.
+#[derive(Clone, Copy, Debug, PartialEq, Eq)]
+pub enum Destination {
+    /// On the stack of values.
+    Stack,
+    Variable(usize),
+}
+
 /// An instruction of a process's code. What is made within an expression is kept on a stack of values; jumps name the index of
 /// the instruction that comes next.
 #[derive(Clone, Copy, Debug, PartialEq, Eq)]
@@ -22,15 +30,17 @@ pub enum Instruction {
         variable: usize,
         value: Operand,
     },
-    /// Puts 0 less a value on the stack, modulo 2^64.
+    /// Makes 0 less a value, modulo 2^64.
     Negate {
         value: Operand,
+        to: Destination,
     },
-    /// Puts on the stack what the operator makes of two values. The right one is taken first.
+    /// Makes what the operator makes of two values. The right one is taken first.
     Apply {
         operator: Operator,
         left: Operand,
         right: Operand,
+        to: Destination,
     },
     /// Takes the channel's next item into a variable. With no item at hand the process stands at this site.
     Get {

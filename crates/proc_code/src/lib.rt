@@ -11,5 +11,5 @@ mod laws;
 pub use code::Code;
 pub use compiling::{compile, compile_all};
 pub use fault::Fault;
-pub use instruction::{Instruction, Operand, Site, SiteAct};
+pub use instruction::{Destination, Instruction, Operand, Site, SiteAct};
 pub use laws::code_law;

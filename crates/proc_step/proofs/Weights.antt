@@ -9,7 +9,7 @@ use Rattle.kahn_net.specs.Common.{sites_of, is_repeat_within, code_repeats_withi
 use Rattle.kahn_net.specs.Repeats.{repeats_within, body_repeats_within}
 use Rattle.kahn_net.specs.declared.limits.TheConstants.{MAX_TIMES, MAX_NESTED_TIMES, MAX_REPEATS}
 use Rattle.proc_code.specs.declared.instruction.Instruction.TheVariants.{Store, Put, JumpIfZero, Jump, Again}
-use Rattle.proc_code.specs.Translation.{expr_code, operand_of, if_code, repeat_code, block_code, loop_code, process_code}
+use Rattle.proc_code.specs.Translation.{assign_code, expr_code, operand_of, if_code, repeat_code, block_code, loop_code, process_code}
 use Rattle.proc_code.specs.Laws.Blocks.{most_of}
 use Rattle.proc_code.specs.Laws.Resuming.{times_monotone}
 use Rattle.proc_code.specs.Laws.Processes.{loop_most, process_most}
@@ -32,16 +32,15 @@ block_few (GetThen x c rest) at site o m h few =
     let split : m * (1 + most_of rest) ≡ m + m * most_of rest = omega arith in
     omega (arith, r, split, few)
 block_few (AssignThen x e rest) at site o m h few =
-    let c = expr_code e ++ Store x (operand_of e) ∷ [] in
+    let c = assign_code x e in
     let r = block_few rest (at + length c) site o m h few in
-    let n = length (expr_code e) in
+    let n = length c in
     let mine : n * m ≤ n * MOST = (let a = times_monotone m MOST n few in
     let x1 : n * m ≡ m * n = omega arith in let x2 : n * MOST ≡ MOST * n = omega arith in omega (arith, a, x1, x2)) in
-    let split : m * (n + 1 + most_of rest) ≡ n * m + m + m * most_of rest = omega arith in
+    let split : m * (n + most_of rest) ≡ n * m + m * most_of rest = omega arith in
     let later = block_code (at + length c) site rest in
     let long : length (c ++ later) ≡ length c + length later = length-append c later in
-    let short : length c ≡ n + 1 = length-append (expr_code e) (Store x (operand_of e) ∷ []) in
-    omega (arith, r, mine, split, long, short, few)
+    omega (arith, r, mine, split, long, few)
 block_few (PutThen e d rest) at site o m h few =
     let c = expr_code e ++ Put d site (operand_of e) ∷ [] in
     let r = block_few rest (at + length c) (site + 1) o m h few in

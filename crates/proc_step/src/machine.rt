@@ -11,7 +11,7 @@ ghost use Rattle.std.specs.Prelude.{IfOk, OnOk};
 ghost use Rattle.kahn_net.specs.Common.{Trace, total};
 ghost use Rattle.kahn_net.specs.Syntax.{Code as Syntax};
 ghost use Rattle.proc_code.specs.CodeView.{code_view};
-ghost use Rattle.proc_code.specs.Machine.{behind_value, innermost, round_it, value_in};
+ghost use Rattle.proc_code.specs.Machine.{behind_value, innermost, round_it, stack_with, value_in, vars_with};
 ghost use Rattle.proc_code.specs.Translation.{flat_code};
 ghost use Rattle.proc_step.specs.Parts.{Part, passes_in, place_in};
 ghost use Rattle.proc_step.specs.Stepping.{Performed, RunsTo, WentOn, held};
@@ -20,7 +20,7 @@ ghost use Rattle.proc_step.specs.Turns.{nothing_sent};
 use crate::room::{empty_histories, has_room, send};
 use crate::stack::Stack;
 use kahn_net::{History, MAX_NESTED_TIMES, Mode, ProcState};
-use proc_code::{Code, Instruction, Operand};
+use proc_code::{Code, Destination, Instruction, Operand};
 use std::alloc::{AllocError, Global};
 use std::mem;
 use stream_eq::{Unread, all_unread, operate, set_variable, take_item};
@@ -74,6 +74,23 @@ fn take_value(stack: &mut Stack, variables: &[i64], value: Operand) -> i64
         Operand::Variable(variable) => variables.get(variable).copied().unwrap_or(0),
         Operand::Literal(number) => number,
     }
+}
+
+/// A value goes there that an instruction made.
+fn put_value(
+    stack: &mut Stack,
+    variables: &mut [i64],
+    to: Destination,
+    value: i64,
+) -> Result<(), AllocError>
+    ensures stack { OnOk result (stack.new ≡ stack_with to value stack.old) }
+    ensures variables { OnOk result (variables.new ≡ vars_with to value variables.old) }
+{
+    match to {
+        Destination::Stack => stack.push(value)?,
+        Destination::Variable(variable) => set_variable(variables, variable, value),
+    }
+    Ok(())
 }
 
 /// Opens a repetition of so many passes.
@@ -173,19 +190,25 @@ impl<'a> Machine<'a> {
                 set_variable(&mut self.variables, variable, value);
                 Ok(Next::Behind)
             }
-            Instruction::Negate { value } => {
+            Instruction::Negate { value, to } => {
                 let value = take_value(stack, &self.variables, value);
-                stack.push(value.wrapping_neg())?;
+                put_value(stack, &mut self.variables, to, value.wrapping_neg())?;
                 Ok(Next::Behind)
             }
             Instruction::Apply {
                 operator,
                 left,
                 right,
+                to,
             } => {
                 let right = take_value(stack, &self.variables, right);
                 let left = take_value(stack, &self.variables, left);
-                stack.push(operate(operator, left, right))?;
+                put_value(
+                    stack,
+                    &mut self.variables,
+                    to,
+                    operate(operator, left, right),
+                )?;
                 Ok(Next::Behind)
             }
             Instruction::Get {

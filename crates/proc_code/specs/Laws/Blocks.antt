@@ -1,6 +1,6 @@
 -- The code of a block performs what the block does, and goes on behind it.
 use Rattle.std.proofs.Common.{◌≡◌, ℕ, zero, suc, ◌+◌, ◌-◌, ◌*◌, ◌≤◌, Bool, true, false, cond, List, ℤ, pos, [], ◌∷◌, ◌++◌, set, length}
-use Rattle.std.proofs.Common.{Some, refl, sym, ap, ◌∙◌, subst, arith, length-append}
+use Rattle.std.proofs.Common.{Some, refl, sym, ap, ◌∙◌, subst, arith, append-nil, length-append}
 use Rattle.std.specs.Prelude.{slice_get, nat_lt, ◌==◌}
 use Rattle.std.proofs.lemmas.Bool.{lt-ltb, ne_eqb}
 use Rattle.std.specs.Ordering.{int_eq}
@@ -11,14 +11,18 @@ use Rattle.kahn_net.specs.Common.{Step, Trace, Ended, no_steps, point_at, on_get
 use Rattle.kahn_net.specs.Common.{sites_of}
 use Rattle.kahn_net.specs.Statements.{after_step}
 use Rattle.kahn_net.specs.Statements.{choose, value_along, apply}
+use Rattle.kahn_net.specs.declared.program.Operator.{Operator}
 use Rattle.kahn_net.specs.Laws.Traces.{then_do_then}
 use Rattle.proc_code.specs.declared.instruction.Instruction.{Instruction}
 use Rattle.proc_code.specs.declared.instruction.Instruction.TheVariants.{Store, Negate, Apply, Get, Put}
 use Rattle.proc_code.specs.declared.instruction.Instruction.TheVariants.{Jump, JumpIfZero, Repeat, Again, Stop}
+use Rattle.proc_code.specs.declared.instruction.Destination.{Destination}
+use Rattle.proc_code.specs.declared.instruction.Destination.TheVariants.{Stack, Variable as Into}
 use Rattle.proc_code.specs.declared.instruction.Operand.{Operand}
 use Rattle.proc_code.specs.declared.instruction.Operand.TheVariants.{Top, Variable, Literal}
-use Rattle.proc_code.specs.Machine.{Continuation, behind_value, innermost, round_it, perform, Runs, value_in}
-use Rattle.proc_code.specs.Translation.{expr_code, links_code, if_code, operand_behind, operand_of, repeat_code, block_code}
+use Rattle.proc_code.specs.Machine.{Continuation, behind_value, innermost, round_it, perform, Runs, stack_with, value_in, vars_with}
+use Rattle.proc_code.specs.Translation.{assign_code, code_to, count_links, expr_code, link_to, links_code, if_code, operand_behind, operand_of}
+use Rattle.proc_code.specs.Translation.{repeat_code, block_code, with_store}
 use Rattle.proc_code.specs.Laws.Running.{IsCodeAt, first_part, later_part, rephrased, in_more_steps, single_step}
 use Rattle.proc_code.specs.Laws.Running.{not_moved, first_moves, first_makes, ends_at}
 
@@ -27,7 +31,7 @@ use Rattle.proc_code.specs.Laws.Running.{not_moved, first_moves, first_makes, en
 abbrev pub most_of : Block → ℕ
 most_of Nothing = 0
 most_of (GetThen x channel rest) = 1 + most_of rest
-most_of (AssignThen x e rest) = length (expr_code e) + 1 + most_of rest
+most_of (AssignThen x e rest) = length (assign_code x e) + most_of rest
 most_of (PutThen e channel rest) = length (expr_code e) + 1 + most_of rest
 most_of (StopThen rest) = 1 + most_of rest
 most_of (IfThen test first second rest) =
@@ -56,6 +60,11 @@ stack_behind : (o : Operand) (x : ℤ) (s : List ℤ) → behind_value o (with_v
 stack_behind Top x s = refl
 stack_behind (Variable y) x s = refl
 stack_behind (Literal n) x s = refl
+
+-- where the value of an expression goes to the stack, so does that of each of its links
+link_stack : (to : Destination) (later : ℕ) → to ≡ Stack → link_to to later ≡ Stack
+link_stack to zero is = is
+link_stack to (suc later) is = refl
 
 -- a value that is found there, whatever the stack is like else
 abbrev IsThere : Operand → ℤ → List ℤ → Type 0
@@ -120,70 +129,185 @@ module _ (code : List Instruction) where
       reaches_same 0 0 at at (at + 0) s s left v u (let e : at ≡ at + 0 = omega arith in e) (omega arith)
       (not_moved code at s left v u)
 
+  -- a value goes to the stack
+  gone_there : (to : Destination) (x : ℤ) (at : ℕ) (s : List ℤ) (left : List ℕ) (v : List ℤ) (u : List (List ℤ))
+      (go : Continuation) → to ≡ Stack → go at (stack_with to x s) left (vars_with to x v) u ≡ go at (x ∷ s) left v u
+  gone_there to x at s left v u go is =
+      ap (λ (t : Destination). go at (stack_with t x s) left (vars_with t x v) u) is
+
+  -- what a link does, where the value before it is there
+  applied : (operator : Operator) (e : Tree) (o : Operand) (t : Destination) (here : ℕ) (x : ℤ) (s : List ℤ)
+      (left : List ℕ) (v : List ℤ) (u : List (List ℤ)) (go : Continuation) → IsThere o x v
+      → perform (Some (Apply operator o (operand_of e) t)) go here
+      (with_value (operand_of e) (value_of e v) (with_value o x s)) left v u
+      ≡ go (here + 1) (stack_with t (apply operator x (value_of e v)) s) left
+      (vars_with t (apply operator x (value_of e v)) v) u
+  applied operator e o t here x s left v u go there =
+      let from = with_value o x s in
+      let ends = λ (y : ℤ) (r : List ℤ). go (here + 1) (stack_with t y r) left (vars_with t y v) u in
+      value_taken e v from (λ z r. ends (apply operator (value_in o r v) z) (behind_value o r))
+      ∙ (ap (λ (w : ℤ). ends (apply operator w (value_of e v)) (behind_value o from)) (there s)
+      ∙ ap (ends (apply operator x (value_of e v))) (stack_behind o x s))
+
   mutual
-    pub expr_reached : (e : Tree) (at : ℕ) (s : List ℤ) (left : List ℕ) (v : List ℤ) (u : List (List ℤ))
-        → IsCodeAt code at (expr_code e)
-        → Reaches (length (expr_code e)) at s left v u (at + length (expr_code e))
+    pub expr_reached : (e : Tree) (to : Destination) (at : ℕ) (s : List ℤ) (left : List ℕ) (v : List ℤ)
+        (u : List (List ℤ)) → to ≡ Stack → IsCodeAt code at (code_to to e)
+        → Reaches (length (code_to to e)) at s left v u (at + length (code_to to e))
         (with_value (operand_of e) (value_of e v) s)
-    expr_reached (Number n) at s left v u h = nothing_done at s left v u
-    expr_reached (Name x) at s left v u h = nothing_done at s left v u
-    expr_reached (Minus e) at s left v u h =
+    expr_reached (Number n) to at s left v u is h = nothing_done at s left v u
+    expr_reached (Name x) to at s left v u is h = nothing_done at s left v u
+    expr_reached (Minus e) to at s left v u is h =
         let o = operand_of e in
+        let i = Negate o to in
         let m = length (expr_code e) in
         let here = at + m in
-        let whole = length (expr_code e ++ Negate o ∷ []) in
-        let last = later_part code at (expr_code e) (Negate o ∷ []) h in
-        let long : whole ≡ m + 1 = length-append (expr_code e) (Negate o ∷ []) in
+        let whole = length (expr_code e ++ i ∷ []) in
+        let last = later_part code at (expr_code e) (i ∷ []) h in
+        let long : whole ≡ m + 1 = length-append (expr_code e) (i ∷ []) in
         reaches_same (m + 1) whole at (here + 1) (at + whole) s (int_wrapping_neg w64 (value_of e v) ∷ s) left v u
         (omega (arith, long)) (omega (arith, long))
         (reaches_past m at here (here + 1) s (with_value o (value_of e v) s) (int_wrapping_neg w64 (value_of e v) ∷ s)
-        left v u (Negate o)
-        (expr_reached e at s left v u (first_part code at (expr_code e) (Negate o ∷ []) h)) last.0
-        (λ go. value_taken e v s (λ x r. go (here + 1) (int_wrapping_neg w64 x ∷ r) left v u)) refl)
-    expr_reached (Chain first links) at s left v u h =
+        left v u i
+        (expr_reached e Stack at s left v u refl (first_part code at (expr_code e) (i ∷ []) h)) last.0
+        (λ go. value_taken e v s (λ x r. go (here + 1) (stack_with to (int_wrapping_neg w64 x) r) left
+        (vars_with to (int_wrapping_neg w64 x) v) u)
+        ∙ gone_there to (int_wrapping_neg w64 (value_of e v)) (here + 1) s left v u go is) refl)
+    expr_reached (Chain first links) to at s left v u is h =
         let o = operand_of first in
-        let m = length (expr_code first) in
-        let n = length (links_code o links) in
+        let t = link_to to (count_links links) in
+        let m = length (code_to t first) in
+        let n = length (links_code to o links) in
         let here = at + m in
-        let whole = length (expr_code first ++ links_code o links) in
-        let long : whole ≡ m + n = length-append (expr_code first) (links_code o links) in
-        let to = with_value (operand_behind o links) (value_along links v (value_of first v)) s in
-        reaches_same (m + n) whole at (here + n) (at + whole) s to left v u (omega (arith, long)) (omega (arith, long))
-        (reaches_further m n at here (here + n) s (with_value o (value_of first v) s) to left v u
-        (expr_reached first at s left v u (first_part code at (expr_code first) (links_code o links) h))
-        (links_reached links o here (value_of first v) s left v u (expr_is_there first v)
-        (later_part code at (expr_code first) (links_code o links) h)))
+        let whole = length (code_to t first ++ links_code to o links) in
+        let long : whole ≡ m + n = length-append (code_to t first) (links_code to o links) in
+        let end = with_value (operand_behind o links) (value_along links v (value_of first v)) s in
+        reaches_same (m + n) whole at (here + n) (at + whole) s end left v u (omega (arith, long)) (omega (arith, long))
+        (reaches_further m n at here (here + n) s (with_value o (value_of first v) s) end left v u
+        (expr_reached first t at s left v u (link_stack to (count_links links) is)
+        (first_part code at (code_to t first) (links_code to o links) h))
+        (links_reached links o to here (value_of first v) s left v u is (expr_is_there first v)
+        (later_part code at (code_to t first) (links_code to o links) h)))
 
-    pub links_reached : (links : Links) (o : Operand) (at : ℕ) (x : ℤ) (s : List ℤ) (left : List ℕ) (v : List ℤ)
-        (u : List (List ℤ)) → IsThere o x v → IsCodeAt code at (links_code o links)
-        → Reaches (length (links_code o links)) at (with_value o x s) left v u (at + length (links_code o links))
-        (with_value (operand_behind o links) (value_along links v x) s)
-    links_reached NoLinks o at x s left v u there h = nothing_done at (with_value o x s) left v u
-    links_reached (LinkThen operator e rest) o at x s left v u there h =
-        let i = Apply operator o (operand_of e) in
+    pub links_reached : (links : Links) (o : Operand) (to : Destination) (at : ℕ) (x : ℤ) (s : List ℤ) (left : List ℕ)
+        (v : List ℤ) (u : List (List ℤ)) → to ≡ Stack → IsThere o x v → IsCodeAt code at (links_code to o links)
+        → Reaches (length (links_code to o links)) at (with_value o x s) left v u
+        (at + length (links_code to o links)) (with_value (operand_behind o links) (value_along links v x) s)
+    links_reached NoLinks o to at x s left v u is there h = nothing_done at (with_value o x s) left v u
+    links_reached (LinkThen operator e rest) o to at x s left v u is there h =
+        let t = link_to to (count_links rest) in
+        let i = Apply operator o (operand_of e) t in
         let m = length (expr_code e) in
-        let n = length (links_code Top rest) in
+        let n = length (links_code to Top rest) in
         let here = at + m in
-        let later = later_part code at (expr_code e) (i ∷ links_code Top rest) h in
+        let later = later_part code at (expr_code e) (i ∷ links_code to Top rest) h in
         let y = apply operator x (value_of e v) in
-        let whole = length (expr_code e ++ i ∷ links_code Top rest) in
+        let whole = length (expr_code e ++ i ∷ links_code to Top rest) in
         let long : whole ≡ m + (n + 1) =
-        length-append (expr_code e) (i ∷ links_code Top rest)
+        length-append (expr_code e) (i ∷ links_code to Top rest)
         ∙ (let k : m + suc n ≡ m + (n + 1) = omega arith in k) in
         let from = with_value o x s in
-        let to = with_value (operand_behind Top rest) (value_along rest v y) s in
+        let end = with_value (operand_behind Top rest) (value_along rest v y) s in
         let same : operand_behind Top rest ≡ Top = on_top rest in
         reaches_same (m + 1 + n) whole at (here + 1 + n) (at + whole) from (value_along rest v y ∷ s) left v u
         (omega (arith, long)) (omega (arith, long))
         (subst (λ (p : Operand). Reaches (m + 1 + n) at from left v u (here + 1 + n) (with_value p (value_along rest v y) s))
         same
-        (reaches_further (m + 1) n at (here + 1) (here + 1 + n) from (y ∷ s) to left v u
+        (reaches_further (m + 1) n at (here + 1) (here + 1 + n) from (y ∷ s) end left v u
         (reaches_past m at here (here + 1) from (with_value (operand_of e) (value_of e v) from) (y ∷ s) left v u i
-        (expr_reached e at from left v u (first_part code at (expr_code e) (i ∷ links_code Top rest) h)) later.0
-        (λ go. value_taken e v from (λ z r. go (here + 1) (apply operator (value_in o r v) z ∷ behind_value o r) left v u)
-        ∙ (ap (λ (w : ℤ). go (here + 1) (apply operator w (value_of e v) ∷ behind_value o from) left v u) (there s)
-        ∙ ap (λ (r : List ℤ). go (here + 1) (y ∷ r) left v u) (stack_behind o x s))) refl)
-        (links_reached rest Top (here + 1) y s left v u (λ r. refl) later.1)))
+        (expr_reached e Stack at from left v u refl (first_part code at (expr_code e) (i ∷ links_code to Top rest) h)) later.0
+        (λ go. applied operator e o t here x s left v u go there ∙ gone_there t y (here + 1) s left v u go (link_stack to (count_links rest) is))
+        refl)
+        (links_reached rest Top to (here + 1) y s left v u is (λ r. refl) later.1)))
+
+  -- The value of an expression goes to a variable.
+  abbrev Assigned : List Instruction → ℕ → ℕ → ℤ → List ℤ → List ℕ → List ℤ → List (List ℤ) → Type 0
+  Assigned c at x y s left v u =
+      IsCodeAt code at c → Runs code (length c) at s left v u (λ go. go (at + length c) s left (set v x y) u)
+
+  links_assigned : (rest : Links) (operator : Operator) (e : Tree) (o : Operand) (at var : ℕ) (x : ℤ) (s : List ℤ)
+      (left : List ℕ) (v : List ℤ) (u : List (List ℤ)) → IsThere o x v
+      → IsCodeAt code at (links_code (Into var) o (LinkThen operator e rest))
+      → Runs code (length (links_code (Into var) o (LinkThen operator e rest))) at (with_value o x s) left v u
+      (λ go. go (at + length (links_code (Into var) o (LinkThen operator e rest))) s left
+      (set v var (value_along rest v (apply operator x (value_of e v)))) u)
+  links_assigned NoLinks operator e o at var x s left v u there h =
+      let i = Apply operator o (operand_of e) (Into var) in
+      let m = length (expr_code e) in
+      let here = at + m in
+      let y = apply operator x (value_of e v) in
+      let whole = length (expr_code e ++ i ∷ []) in
+      let long : whole ≡ m + 1 = length-append (expr_code e) (i ∷ []) in
+      let from = with_value o x s in
+      let reached = with_value (operand_of e) (value_of e v) from in
+      in_more_steps code (m + 1) whole at from left v u (λ go. go (at + whole) s left (set v var y) u) (omega (arith, long))
+      (subst (λ (n : ℕ). Runs code (m + 1) at from left v u (λ go. go n s left (set v var y) u))
+      (let ends : here + 1 ≡ at + whole = omega (arith, long) in ends)
+      (first_moves code (λ t. t) at here from reached left left v v u u (λ go. go (here + 1) s left (set v var y) u)
+      (expr_reached e Stack at from left v u refl (first_part code at (expr_code e) (i ∷ []) h))
+      (rephrased code here reached left v u _ _ (λ go. applied operator e o (Into var) here x s left v u go there)
+      (single_step code here reached left v u i (later_part code at (expr_code e) (i ∷ []) h).0))))
+  links_assigned (LinkThen next f rest) operator e o at var x s left v u there h =
+      let i = Apply operator o (operand_of e) Stack in
+      let more = links_code (Into var) Top (LinkThen next f rest) in
+      let m = length (expr_code e) in
+      let n = length more in
+      let here = at + m in
+      let y = apply operator x (value_of e v) in
+      let later = later_part code at (expr_code e) (i ∷ more) h in
+      let whole = length (expr_code e ++ i ∷ more) in
+      let long : whole ≡ m + (n + 1) =
+      length-append (expr_code e) (i ∷ more) ∙ (let k : m + suc n ≡ m + (n + 1) = omega arith in k) in
+      let from = with_value o x s in
+      let end = set v var (value_along rest v (apply next y (value_of f v))) in
+      in_more_steps code (m + 1 + n) whole at from left v u (λ go. go (at + whole) s left end u) (omega (arith, long))
+      (subst (λ (k : ℕ). Runs code (m + 1 + n) at from left v u (λ go. go k s left end u))
+      (let ends : here + 1 + n ≡ at + whole = omega (arith, long) in ends)
+      (first_moves code (λ t. t) at (here + 1) from (y ∷ s) left left v v u u (λ go. go (here + 1 + n) s left end u)
+      (reaches_past m at here (here + 1) from (with_value (operand_of e) (value_of e v) from) (y ∷ s) left v u i
+      (expr_reached e Stack at from left v u refl (first_part code at (expr_code e) (i ∷ more) h)) later.0
+      (λ go. applied operator e o Stack here x s left v u go there) refl)
+      (links_assigned rest next f Top (here + 1) var y s left v u (λ r. refl) later.1)))
+
+  expr_assigned : (e : Tree) (at x : ℕ) (s : List ℤ) (left : List ℕ) (v : List ℤ) (u : List (List ℤ))
+      → Assigned (assign_code x e) at x (value_of e v) s left v u
+  expr_assigned (Number n) at x s left v u h = single_step code at s left v u (Store x (Literal n)) h.0
+  expr_assigned (Name y) at x s left v u h = single_step code at s left v u (Store x (Variable y)) h.0
+  expr_assigned (Minus e) at x s left v u h =
+      let i = Negate (operand_of e) (Into x) in
+      let m = length (expr_code e) in
+      let here = at + m in
+      let y = int_wrapping_neg w64 (value_of e v) in
+      let whole = length (expr_code e ++ i ∷ []) in
+      let long : whole ≡ m + 1 = length-append (expr_code e) (i ∷ []) in
+      let reached = with_value (operand_of e) (value_of e v) s in
+      in_more_steps code (m + 1) whole at s left v u (λ go. go (at + whole) s left (set v x y) u) (omega (arith, long))
+      (subst (λ (n : ℕ). Runs code (m + 1) at s left v u (λ go. go n s left (set v x y) u))
+      (let ends : here + 1 ≡ at + whole = omega (arith, long) in ends)
+      (first_moves code (λ t. t) at here s reached left left v v u u (λ go. go (here + 1) s left (set v x y) u)
+      (expr_reached e Stack at s left v u refl (first_part code at (expr_code e) (i ∷ []) h))
+      (rephrased code here reached left v u _ _
+      (λ go. value_taken e v s (λ z r. go (here + 1) r left (set v x (int_wrapping_neg w64 z)) u))
+      (single_step code here reached left v u i (later_part code at (expr_code e) (i ∷ []) h).0))))
+  expr_assigned (Chain first NoLinks) at x s left v u h =
+      subst (λ (c : List Instruction). Assigned (with_store (operand_of first) x c) at x (value_of first v) s left v u)
+      (sym (append-nil (code_to (Into x) first))) (λ k. expr_assigned first at x s left v u k) h
+  expr_assigned (Chain first (LinkThen operator e rest)) at x s left v u h =
+      let o = operand_of first in
+      let more = links_code (Into x) o (LinkThen operator e rest) in
+      let m = length (expr_code first) in
+      let n = length more in
+      let here = at + m in
+      let whole = length (expr_code first ++ more) in
+      let long : whole ≡ m + n = length-append (expr_code first) more in
+      let end = set v x (value_along rest v (apply operator (value_of first v) (value_of e v))) in
+      in_more_steps code (m + n) whole at s left v u (λ go. go (at + whole) s left end u) (omega (arith, long))
+      (subst (λ (k : ℕ). Runs code (m + n) at s left v u (λ go. go k s left end u))
+      (let ends : here + n ≡ at + whole = omega (arith, long) in ends)
+      (first_moves code (λ t. t) at here s (with_value o (value_of first v) s) left left v v u u
+      (λ go. go (here + n) s left end u)
+      (expr_reached first Stack at s left v u refl (first_part code at (expr_code first) more h))
+      (links_assigned rest operator e o here x (value_of first v) s left v u (expr_is_there first v)
+      (later_part code at (expr_code first) more h))))
 
   -- What statements do, and then what stands at this place. Where it begins, other repetitions may be open.
   abbrev pub MakesFrom : ℕ → ℕ → List ℤ → List ℕ → List ℕ → List ℤ → List (List ℤ) → Trace → ℕ → Type 0
@@ -423,25 +547,13 @@ module _ (code : List Instruction) where
           (set v x item) (set u c later) t (omega arith) (omega arith)
           (more (set v x item) (set u c later)))
   block_made (AssignThen x e rest) at site s left v u h =
-      let m = length (expr_code e) in
-      let c = expr_code e ++ Store x (operand_of e) ∷ [] in
+      let c = assign_code x e in
       let r = block_code (at + length c) site rest in
-      let mine = first_part code at c r h in
       let w = set v x (value_of e v) in
-      let here = at + m in
-      let reached = with_value (operand_of e) (value_of e v) s in
-      let c_long : length c ≡ m + 1 = length-append (expr_code e) (Store x (operand_of e) ∷ []) in
       let all_long : length (c ++ r) ≡ length c + length r = length-append c r in
       (first_moves code (λ t. t) at (at + length c) s s left left v w u u
       (λ go. then_do (trace_of site left rest w u) (λ v' u'. go (at + length (c ++ r)) s left v' u'))
-      (first_moves code (λ t. t) at here s reached left left v v u u (λ go. go (at + length c) s left w u)
-      (expr_reached e at s left v u (first_part code at (expr_code e) (Store x (operand_of e) ∷ []) mine))
-      (subst (λ (n : ℕ). Runs code 1 here reached left v u (λ go. go n s left w u))
-      (let e1 : here + 1 ≡ at + length c = omega (arith, c_long) in e1)
-      (rephrased code here reached left v u _ _
-      (λ go. value_taken e v s (λ y r. go (here + 1) r left (set v x y) u))
-      (single_step code here reached left v u (Store x (operand_of e))
-      (later_part code at (expr_code e) (Store x (operand_of e) ∷ []) mine).0))))
+      (expr_assigned e at x s left v u (first_part code at c r h))
       (ends_at code (most_of rest) (most_of rest) (at + length c) (at + length c + length r) (at + length (c ++ r)) s s left w
       u (trace_of site left rest w u) (omega (arith, all_long)) (omega arith)
       (block_made rest (at + length c) site s left w u (later_part code at c r h))))
@@ -460,7 +572,7 @@ module _ (code : List Instruction) where
       (λ go. then_do (trace_of (site + 1) left rest v u) (λ v' u'. go (at + length (c ++ r)) s left v' u'))
       (first_moves code (λ t. t) at here s reached left left v v u u
       (λ go. puts (go (at + length c) s left v u))
-      (expr_reached e at s left v u (first_part code at (expr_code e) (Put d site (operand_of e) ∷ []) mine))
+      (expr_reached e Stack at s left v u refl (first_part code at (expr_code e) (Put d site (operand_of e) ∷ []) mine))
       (subst (λ (n : ℕ). Runs code 1 here reached left v u (λ go. puts (go n s left v u)))
       (let e1 : here + 1 ≡ at + length c = omega (arith, c_long) in e1)
       (rephrased code here reached left v u _ _
@@ -494,7 +606,7 @@ module _ (code : List Instruction) where
       at (at + length c) (at + length c + length r) s left left v u
       (choice_made at (expr_code test) (operand_of test) one two (most_of first) (most_of second) x (trace_of site left first v u)
       (trace_of (site + sites_of first) left second v u) s left v u mine
-      (expr_reached test at s left v u
+      (expr_reached test Stack at s left v u refl
       (first_part code at (expr_code test)
       (JumpIfZero two_place (operand_of test) ∷ (one one_place ++ Jump (two_place + length (two two_place)) ∷ two two_place))
       mine))

@@ -11,7 +11,7 @@ use Rattle.kahn_net.specs.Resuming.{trace_on, passes_left}
 use Rattle.kahn_net.specs.Laws.Traces.{then_do_then}
 use Rattle.proc_code.specs.declared.instruction.Instruction.{Instruction}
 use Rattle.proc_code.specs.declared.instruction.Instruction.TheVariants.{Store, Put, Again}
-use Rattle.proc_code.specs.Translation.{expr_code, operand_of, if_code, repeat_code, block_code, entry_at}
+use Rattle.proc_code.specs.Translation.{assign_code, expr_code, operand_of, if_code, repeat_code, block_code, entry_at}
 use Rattle.proc_code.specs.Laws.Running.{IsCodeAt, first_part, later_part, not_moved, in_more_steps, ends_at_from, rephrased}
 use Rattle.proc_code.specs.Laws.Running.{first_makes}
 use Rattle.proc_code.specs.Laws.Blocks.{MakesFrom, makes_both, makes_and_jumps, most_of, block_made, at_end}
@@ -68,7 +68,7 @@ module _ (code : List Instruction) where
       (trace_on (number + 1) left rest site inner v u) (omega arith) (omega arith)
       (block_resumed rest (at + 1) (number + 1) site s left inner v u h.1 f))
   block_resumed (AssignThen x e rest) at number site s left inner v u h fits =
-      let c = expr_code e ++ Store x (operand_of e) ∷ [] in
+      let c = assign_code x e in
       let r = block_code (at + length c) number rest in
       let long : length (c ++ r) ≡ length c + length r = length-append c r in
       ends_at_from code (most_of rest) (most_of (AssignThen x e rest)) (entry_at (at + length c) number rest site)

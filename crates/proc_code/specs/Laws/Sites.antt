@@ -12,14 +12,14 @@ use Rattle.kahn_net.specs.Common.{sites_of, Next, Gets, Puts, NoNext}
 use Rattle.kahn_net.specs.NextActs.{next_on, next_in_body, next_at}
 use Rattle.proc_code.specs.declared.instruction.Instruction.TheVariants.{Store, Put, Jump}
 use Rattle.proc_code.specs.declared.instruction.Site.{Site}
-use Rattle.proc_code.specs.Translation.{expr_code, operand_of, if_code, repeat_code, block_code, loop_code, process_code, entry_at, loop_entry}
+use Rattle.proc_code.specs.Translation.{assign_code, expr_code, operand_of, if_code, repeat_code, block_code, loop_code, process_code, entry_at, loop_entry}
 use Rattle.proc_code.specs.Translation.{entry_of, get_site, put_site, sites_at, loop_sites, process_sites, next_by}
 
 -- as many rows as sites
 pub length_sites : (b : Block) (at number : ℕ) → length (sites_at at number b) ≡ sites_of b
 length_sites Nothing at number = refl
 length_sites (GetThen x c rest) at number = let r = length_sites rest (at + 1) (number + 1) in omega (arith, r)
-length_sites (AssignThen x e rest) at number = length_sites rest (at + length (expr_code e ++ Store x (operand_of e) ∷ [])) number
+length_sites (AssignThen x e rest) at number = length_sites rest (at + length (assign_code x e)) number
 length_sites (PutThen e c rest) at number = let r =
     length_sites rest (at + length (expr_code e ++ Put c number (operand_of e) ∷ [])) (number + 1) in omega (arith, r)
 length_sites (StopThen rest) at number = length_sites rest (at + 1) number
@@ -147,7 +147,7 @@ entries_are (GetThen x c rest) at number site d above under =
     (entry_at (at + 1) (number + 1) rest site) above
     (λ past. entries_are rest (at + 1) (number + 1) site d past (omega (arith, under)))
 entries_are (AssignThen x e rest) at number site d above under =
-    entries_are rest (at + length (expr_code e ++ Store x (operand_of e) ∷ [])) number site d above under
+    entries_are rest (at + length (assign_code x e)) number site d above under
 entries_are (PutThen e c rest) at number site d above under =
     let next = at + length (expr_code e ++ Put c number (operand_of e) ∷ []) in
     this_or_later (λ (s : Site). s.entry) number site d (put_site c at) (sites_at next (number + 1) rest)
@@ -191,7 +191,7 @@ acts_are (GetThen x c rest) at number site d above under =
     (next_on (number + 1) rest site) above
     (λ past. acts_are rest (at + 1) (number + 1) site d past (omega (arith, under)))
 acts_are (AssignThen x e rest) at number site d above under =
-    acts_are rest (at + length (expr_code e ++ Store x (operand_of e) ∷ [])) number site d above under
+    acts_are rest (at + length (assign_code x e)) number site d above under
 acts_are (PutThen e c rest) at number site d above under =
     let next = at + length (expr_code e ++ Put c number (operand_of e) ∷ []) in
     this_or_later next_in number site d (put_site c at) (sites_at next (number + 1) rest)
@@ -241,7 +241,7 @@ entry_past (GetThen x c rest) at number site past =
     (at + length (block_code at number (GetThen x c rest))) (omega (arith, past))
     (let r = entry_past rest (at + 1) (number + 1) site (omega (arith, past)) in omega (arith, r))
 entry_past (AssignThen x e rest) at number site past =
-    let c = expr_code e ++ Store x (operand_of e) ∷ [] in
+    let c = assign_code x e in
     let r = entry_past rest (at + length c) number site past in
     omega (arith, r, length-append c (block_code (at + length c) number rest))
 entry_past (PutThen e d rest) at number site past =
