@@ -3,12 +3,12 @@
 use Rattle.std.proofs.Common.{◌≡◌, ◌⊎◌, inl, inr, ℕ, zero, suc, ◌+◌, ◌-◌, ◌*◌, ◌<◌, ◌≤◌, Bool, true, false, ◌&&◌, ◌||◌, ◌==◌, not}
 use Rattle.std.proofs.Common.{cond, ltb, eqb, ℤ, List, [], ◌∷◌, length, map, drop, get_or, Option, Some, None, is_some}
 use Rattle.std.proofs.Common.{option_map, refl, sym, ap, subst, ◌∙◌, arith}
-use Rattle.std.specs.Prelude.{slice_get, slice_index, find, IsTrue, min, nat_lt, nat_le}
+use Rattle.std.specs.Prelude.{slice_get, slice_index, find, IfSome, IsTrue, min, nat_lt, nat_le}
 use Rattle.std.specs.List.{list_all, list_any, range_with_len}
 use Rattle.std.proofs.Math.Nat.{min-le_right}
 use Rattle.std.proofs.lemmas.Bool.{and_parts, or_parts, eqb-true, leb-true, ltb-true, ltb-false, le-ltb, lt-ltb, cases_Bool}
 use Rattle.std.proofs.lemmas.Bool.{not-true, and_from, or_from, or_left, or_right, eq-eqb, cases_lt}
-use Rattle.std.proofs.lemmas.List.{get_or-drop, get_or_past}
+use Rattle.std.proofs.lemmas.List.{get_or-drop, get_or-set_same, get_or_past}
 use Rattle.std.proofs.lemmas.List.Folds.{Any-from_list_any}
 use Rattle.std.proofs.lemmas.List.FromFn.{length-map-range_with_len, get_or-map-range_with_len}
 use Rattle.std.proofs.lemmas.Option.{slice_get_cases, slice_get_within, slice_get-get_or}
@@ -41,6 +41,7 @@ use Rattle.protocol.specs.World.Stances.{beside_others, comes_to, is_coming, got
 use Rattle.protocol.specs.World.Stances.{is_leaving, stance_on, stance_at, stance_with, stance_of}
 use Rattle.protocol.specs.World.Still.{has_come_from, has_let_go, kept_by, kept_at, keeps_all, is_settled, is_settled_at}
 use Rattle.protocol.specs.World.Still.{is_still, wants_room}
+use Rattle.protocol.specs.World.RoomByNeed.{PutIsHeld, StillNeedsRoom, NeedIsFound, NobodyNeedsMore, NeedIsHeld, NeedGetsMore}
 use Rattle.protocol.specs.World.RoomNeeds.{NeedsRoom, awaited, getter_of, is_going, held_on, need_by, needed_at}
 use Rattle.protocol.specs.World.RoomNeeds.{process_on, putter_of}
 use Rattle.protocol_laws.specs.Node.GrantLaws.{fewer_places}
@@ -676,8 +677,7 @@ one_is_held net inputs rooms stations all numbered sound k station is wants =
         )
 
 -- Where a world stands still for want of room, a channel needs more.
-pub some_need : (world : WorldView) → WorldInvariant world → stands_still world ≡ true
-    → (c : ℕ) × (needed_at world ≡ Some c)
+pub some_need : StillNeedsRoom
 some_need world inv still =
     let all = list_all (is_still world.net world.inputs world.rooms world.stations) world.stations in
     let any = list_any (wants_room world.net world.inputs) world.stations in
@@ -692,23 +692,6 @@ some_need world inv still =
     (nobody_goes world.net world.inputs world.rooms world.stations parts.0) held.2 held.3
 
 -- ---- what is held
-
--- A process is held at a put on a channel for want of room: nothing is on its way out of the channel's log, there is no
--- place in it, and there would be one if the channel had all the room that it may have.
-pub record PutIsHeld (world : WorldView) (p c : ℕ) : Type 0 where
-  pub code : Code
-  pub station : StationView
-  pub node : RunningNode
-  pub saved : SavedProcessView
-  pub coded : slice_get world.net.codes p ≡ Some code
-  pub there : slice_get world.stations code.node ≡ Some station
-  pub runs : running_of station.node ≡ Some node
-  pub found : find (λ (s : SavedProcessView). s.number == p) node.current.processes ≡ Some saved
-  pub next : next_at (slice_get world.net.codes saved.number) saved.standing ≡ Puts c
-  pub settled : is_leaving world.net world.stations node (outputs_of station.outlets) c ≡ false
-  pub no_place : has_room (retained_share world.rooms node.current) node.current c (slice_get world.net.channels c)
-      ≡ false
-  pub place : has_room (full_share node.current) node.current c (slice_get world.net.channels c) ≡ true
 
 -- what a process comes to at its node that is held
 own_held : (world : WorldView) (node : RunningNode) (c : ℕ) (next : Next)
@@ -754,12 +737,13 @@ own_held world node c (Puts d) is = at now refl full refl
         sym (ap (λ (b : Bool). cond b GoesOn (cond full (Held d) (Full d))) none
         ∙ ap (λ (b : Bool). cond b (Held d) (Full d)) fully)
         ∙ is in
-        let same : d ≡ c = cc in
-        (ap Puts same,
-        subst (λ (e : ℕ). has_room (retained_share world.rooms node.current) node.current e
-        (slice_get world.net.channels e) ≡ false) same none,
-        subst (λ (e : ℕ). has_room (full_share node.current) node.current e (slice_get world.net.channels e) ≡ true)
-        same fully)
+        let same : d ≡ c = cc in (
+          ap Puts same,
+          subst (λ (e : ℕ). has_room (retained_share world.rooms node.current) node.current e
+              (slice_get world.net.channels e) ≡ false) same none,
+          subst (λ (e : ℕ). has_room (full_share node.current) node.current e (slice_get world.net.channels e) ≡ true)
+              same fully,
+        )
 
 -- one that is held beside the others is held at its node, and nothing is on its way out
 held_beside : (net : Network) (stations : List StationView) (node : RunningNode) (outputs : List OutputView)
@@ -1041,36 +1025,44 @@ awaited_below net valid (Waits c) q is = putter_below net valid c q is
 awaited_below net valid (Held c) q is = getter_below net valid c q is
 awaited_below net valid (Full c) q is = getter_below net valid c q is
 
--- The channel that is found is one that a process needs, whose put there is held.
-pub needed_is_need : (world : WorldView) (c : ℕ) → IsValid world.net → needed_at world ≡ Some c
-    → (p : ℕ) × NeedsRoom world.net (stance_of world.net world.inputs world.rooms world.stations) p c
-    × PutIsHeld world p c
-needed_is_need world c valid is =
+-- The channel that is found is one for which a process needs more room.
+pub need_is_found : NeedIsFound
+need_is_found world c valid is =
     let stance = stance_of world.net world.inputs world.rooms world.stations in
     let found = need_is_need world.net stance c (λ p q waits. awaited_below world.net valid (stance p) q waits) is in
-    (found.0, found.2, put_is_held world found.0 c found.2.held)
+    (found.0, found.2)
 
--- And where none is found, no process needs more room.
-pub nobody_needs : (world : WorldView) → needed_at world ≡ None → (p c : ℕ) → p < length world.net.codes
-    → ¬ NeedsRoom world.net (stance_of world.net world.inputs world.rooms world.stations) p c
+-- And where none is found, no process needs more.
+pub nobody_needs : NobodyNeedsMore
 nobody_needs world none p c below needs =
     let found =
     none_in_need world.net (stance_of world.net world.inputs world.rooms world.stations) p c below needs in
     let bad : None ≡ Some found.0 = sym none ∙ found.1 in
     absurd (cc)
 
--- The channel that is found gets more, where it gets twice its room.
-pub gets_more : (world : WorldView) (c : ℕ) → IsValid world.net → AreRooms world.rooms → needed_at world ≡ Some c
-    → slice_index world.rooms c < wider (slice_index world.rooms c)
+-- A process that needs more puts there, and is held.
+pub need_is_held : NeedIsHeld
+need_is_held world p c valid needs =
+    let held = put_is_held world p c needs.held in
+    let there = puts_there world p c valid held in (
+      held,
+      subst (λ (o : Option Channel). IfSome o (λ ends. ends.producer ≡ Process p)) (sym there.1) there.2,
+      below_share world p c held,
+    )
+
+-- The channel that is found gets more.
+pub gets_more : NeedGetsMore
 gets_more world c valid rooms is =
-    let need = needed_is_need world c valid is in
-    let held = need.2 in
+    let need = need_is_found world c valid is in
+    let held = put_is_held world need.0 c need.1.held in
     let below = below_share world need.0 c held in
     let share = share_within held.node.current in
     let known = channel_there (full_share held.node.current) held.node.current world.net.channels c held.place in
     let here : c < length world.rooms = omega (arith, known, valid.channel_count, rooms.count) in
     let room = rooms.each c 0 here in
-    higher (slice_index world.rooms c) (omega (arith, below, share)) room.0
+    let set = get_or-set_same world.rooms c (wider (slice_index world.rooms c)) 0 here in
+    let more = higher (slice_index world.rooms c) (omega (arith, below, share)) room.0 in
+    omega (arith, set, more)
   where
     higher : (room : ℕ) → room < MAX_RETAINED_ITEMS → MIN_ROOM ≤ room → room < min (room * 2) MAX_RETAINED_ITEMS
     higher room few some = omega (arith, few, some)
