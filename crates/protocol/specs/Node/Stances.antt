@@ -10,6 +10,7 @@ use Rattle.protocol.specs.Node.Choosing.{has_item, has_room, next_at}
 use Rattle.protocol.specs.Node.JobView.{JobView}
 use Rattle.protocol.specs.Node.NodeView.{RunningNode}
 use Rattle.protocol.specs.Node.Sharing.{full_share, retained_share}
+use Rattle.protocol.specs.declared.links.Inbox.{Inbox}
 use Rattle.protocol.specs.declared.stance.Stance.{Stance}
 use Rattle.protocol.specs.declared.stance.Stance.TheVariants.{GoesOn, Ended, Waits, Held, Full}
 
@@ -24,15 +25,15 @@ module _ (net : Network) (inputs : List (List ℤ)) (rooms : List ℕ) where
   stance_at_put image channel =
       if has_room (full_share image) image channel (slice_get net.channels channel) then Held channel else Full channel
 
-  -- where this comes next
-  abbrev pub stance_before : RunningNode → Next → Stance
-  stance_before node Begins = GoesOn
-  stance_before node (Gets channel) =
-      if has_item inputs node.current node.inboxes channel (slice_get net.channels channel) then GoesOn else Waits channel
-  stance_before node (Puts channel) =
-      if has_room (retained_share rooms node.current) node.current channel (slice_get net.channels channel) then GoesOn else
-      stance_at_put node.current channel
-  stance_before node NoNext = Ended
+  -- where this comes next, at a node with this image and these inboxes
+  abbrev pub stance_before : ImageView → List Inbox → Next → Stance
+  stance_before image inboxes Begins = GoesOn
+  stance_before image inboxes (Gets channel) =
+      if has_item inputs image inboxes channel (slice_get net.channels channel) then GoesOn else Waits channel
+  stance_before image inboxes (Puts channel) =
+      if has_room (retained_share rooms image) image channel (slice_get net.channels channel) then GoesOn else
+      stance_at_put image channel
+  stance_before image inboxes NoNext = Ended
 
   -- A process whose job is out goes on, and so does one for which a job can be granted, now or once its node holds no
   -- image and has no job out. A node at the greatest version grants none any more.
@@ -40,7 +41,7 @@ module _ (net : Network) (inputs : List (List ℤ)) (rooms : List ℕ) where
   stance_in node saved =
       if is_of saved.number node.out then GoesOn
       else (if nat_lt node.version MAX_COUNT
-      then stance_before node (next_at (slice_get net.codes saved.number) saved.standing) else Ended)
+      then stance_before node.current node.inboxes (next_at (slice_get net.codes saved.number) saved.standing) else Ended)
 
   -- a process that isn't there does nothing more
   abbrev pub stance_there : RunningNode → Option SavedProcessView → Stance

@@ -449,7 +449,7 @@ module _ (net : Network) (inputs : List (List ℤ)) (rooms : List ℕ) (stations
     before_still : may_grant node ≡ true → (next : Next)
         → next_at (slice_get net.codes saved.number) saved.standing ≡ next
         → StaysPut node (can_go net inputs (full_share node.current) node.current node.inboxes next)
-        (beside_others net stations node outputs (stance_before net inputs rooms node next))
+        (beside_others net stations node outputs (stance_before net inputs rooms node.current node.inboxes next))
     before_still may Begins comes = absurd (not_ready may Begins comes refl)
     before_still may NoNext comes = record { stays = refl; held = λ grants could. absurd (cc) }
     before_still may (Gets c) comes =
@@ -458,10 +458,10 @@ module _ (net : Network) (inputs : List (List ℤ)) (rooms : List ℕ) (stations
         at : (b : Bool) → has_item inputs node.current node.inboxes c (slice_get net.channels c) ≡ b
             → (has_item inputs node.current node.inboxes c (slice_get net.channels c) ≡ true → ⊥)
             → StaysPut node (has_item inputs node.current node.inboxes c (slice_get net.channels c))
-            (beside_others net stations node outputs (stance_before net inputs rooms node (Gets c)))
+            (beside_others net stations node outputs (stance_before net inputs rooms node.current node.inboxes (Gets c)))
         at true has never = absurd (never has)
         at false has never =
-            (let same : beside_others net stations node outputs (stance_before net inputs rooms node (Gets c)) ≡ Waits c =
+            (let same : beside_others net stations node outputs (stance_before net inputs rooms node.current node.inboxes (Gets c)) ≡ Waits c =
             ap (λ (b : Bool). beside_others net stations node outputs (cond b GoesOn (Waits c))) has ∙ waits_still c in
             record { stays = ap is_going same; held = λ grants could. absurd (never could) })
     before_still may (Puts c) comes =
@@ -474,19 +474,19 @@ module _ (net : Network) (inputs : List (List ℤ)) (rooms : List ℕ) (stations
         at : (b : Bool) → has_room (retained_share rooms node.current) node.current c (slice_get net.channels c) ≡ b
             → (has_room (retained_share rooms node.current) node.current c (slice_get net.channels c) ≡ true → ⊥)
             → StaysPut node full
-            (beside_others net stations node outputs (stance_before net inputs rooms node (Puts c)))
+            (beside_others net stations node outputs (stance_before net inputs rooms node.current node.inboxes (Puts c)))
         at true has never = absurd (never has)
         at false has never =
-            (let put : beside_others net stations node outputs (stance_before net inputs rooms node (Puts c))
+            (let put : beside_others net stations node outputs (stance_before net inputs rooms node.current node.inboxes (Puts c))
             ≡ beside_others net stations node outputs (cond full (Held c) (Full c)) =
             ap (λ (b : Bool). beside_others net stations node outputs (cond b GoesOn (cond full (Held c) (Full c)))) has in
             by full refl put)
           where
             by : (f : Bool) → full ≡ f
-                → beside_others net stations node outputs (stance_before net inputs rooms node (Puts c))
+                → beside_others net stations node outputs (stance_before net inputs rooms node.current node.inboxes (Puts c))
                 ≡ beside_others net stations node outputs (cond full (Held c) (Full c))
                 → StaysPut node full
-                (beside_others net stations node outputs (stance_before net inputs rooms node (Puts c)))
+                (beside_others net stations node outputs (stance_before net inputs rooms node.current node.inboxes (Puts c)))
             by true fully put =
                 let same = put
                 ∙ (ap (λ (b : Bool). beside_others net stations node outputs (cond b (Held c) (Full c))) fully
@@ -511,7 +511,7 @@ module _ (net : Network) (inputs : List (List ℤ)) (rooms : List ℕ) (stations
         next = next_at (slice_get net.codes saved.number) saved.standing
 
         before : Stance
-        before = stance_before net inputs rooms node next
+        before = stance_before net inputs rooms node.current node.inboxes next
 
         could : Bool
         could = can_go net inputs (full_share node.current) node.current node.inboxes next
@@ -695,7 +695,7 @@ some_need world inv still =
 
 -- what a process comes to at its node that is held
 own_held : (world : WorldView) (node : RunningNode) (c : ℕ) (next : Next)
-    → stance_before world.net world.inputs world.rooms node next ≡ Held c
+    → stance_before world.net world.inputs world.rooms node.current node.inboxes next ≡ Held c
     → (next ≡ Puts c)
     × (has_room (retained_share world.rooms node.current) node.current c (slice_get world.net.channels c) ≡ false)
     × (has_room (full_share node.current) node.current c (slice_get world.net.channels c) ≡ true)
@@ -819,7 +819,7 @@ put_is_held world p c is = coded (slice_get world.net.codes p) refl is
                     next = next_at (slice_get world.net.codes saved.number) saved.standing
 
                     before : Stance
-                    before = stance_before world.net world.inputs world.rooms node next
+                    before = stance_before world.net world.inputs world.rooms node.current node.inboxes next
 
                     out : (own early : Bool) → cond own GoesOn (cond early before Ended) ≡ Held c
                         → PutIsHeld world p c
