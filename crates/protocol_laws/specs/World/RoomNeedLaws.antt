@@ -1,17 +1,17 @@
 -- Where a world stands still for want of room, some channel needs more; and a channel that needs more is one at which a put
 -- is held for want of it.
 use Rattle.std.proofs.Common.{◌≡◌, ◌⊎◌, inl, inr, ℕ, zero, suc, ◌+◌, ◌-◌, ◌*◌, ◌<◌, ◌≤◌, Bool, true, false, ◌&&◌, ◌||◌, ◌==◌, not}
-use Rattle.std.proofs.Common.{cond, ltb, eqb, ℤ, List, [], ◌∷◌, length, map, drop, get_or, Option, Some, None, is_some}
+use Rattle.std.proofs.Common.{cond, eqb, ℤ, List, [], ◌∷◌, length, map, drop, get_or, Option, Some, None, is_some}
 use Rattle.std.proofs.Common.{option_map, refl, sym, ap, subst, ◌∙◌, arith}
-use Rattle.std.specs.Prelude.{slice_get, slice_index, find, IfSome, IsTrue, min, nat_lt, nat_le}
+use Rattle.std.specs.Prelude.{slice_get, slice_index, find, IfSome, min, nat_lt}
 use Rattle.std.specs.List.{list_all, list_any, range_with_len}
 use Rattle.std.proofs.Math.Nat.{min-le_right}
-use Rattle.std.proofs.lemmas.Bool.{and_parts, or_parts, eqb-true, leb-true, ltb-true, ltb-false, le-ltb, lt-ltb, cases_Bool}
+use Rattle.std.proofs.lemmas.Bool.{and_parts, or_parts, eqb-true, leb-true, ltb-true, ltb-false, le-ltb, lt-ltb}
 use Rattle.std.proofs.lemmas.Bool.{not-true, and_from, or_from, or_left, or_right, eq-eqb, cases_lt}
 use Rattle.std.proofs.lemmas.List.{get_or-drop, get_or-set_same, get_or_past}
 use Rattle.std.proofs.lemmas.List.Folds.{Any-from_list_any}
 use Rattle.std.proofs.lemmas.List.FromFn.{length-map-range_with_len, get_or-map-range_with_len}
-use Rattle.std.proofs.lemmas.Option.{slice_get_cases, slice_get_within, slice_get-get_or}
+use Rattle.std.proofs.lemmas.Option.{slice_get_within, slice_get-get_or}
 use Rattle.turns.specs.Turns.{first_ready, least_from, next_in_turn, or_else, start_after}
 use Rattle.kahn_net.specs.Common.{Next, Gets, Puts, NoNext, next_of, Standing, Block, GetThen, AssignThen, PutThen}
 use Rattle.kahn_net.specs.Common.{StopThen, IfThen, RepeatThen, Nothing, sites_of, IsValid, block_puts, code_puts}
@@ -20,20 +20,19 @@ use Rattle.kahn_net.specs.Processes.Standing.{At, Done, NotBegun}
 use Rattle.kahn_net.specs.Valid.{body_puts}
 use Rattle.protocol.specs.Node.Common.{Network, Code, Channel, Port, Outside, Process, ImageView, SavedProcessView, SavedEnd, RunningNode, JobView}
 use Rattle.protocol.specs.Node.Common.{running_in, running_node, running_of, ModeView, Down, InDoubt, Runs, RecordView, received_of, sent_of, base_of, is_none, may_grant, MAX_COUNT, NodeView}
-use Rattle.protocol.specs.Node.Common.{log_end, log_share, log_of, LogState, has_process, is_on, End, received_at}
+use Rattle.protocol.specs.Node.Common.{log_end, log_share, log_of, LogState, has_process, is_on, received_at}
 use Rattle.protocol.specs.Node.Addresses.{consumer_node}
 use Rattle.protocol.specs.Node.Choosing.{has_item, has_room, can_go, next_at, is_ready, ready_process, ready_processes}
 use Rattle.protocol.specs.Node.Choosing.{process_at, next_process, job_at, job_of, job_up_to, next_job}
 use Rattle.protocol.specs.Node.Granting.{room_in, room_of}
-use Rattle.protocol.specs.Node.Sharing.{AreRooms, even_rooms, full_share, retained_share, wider}
-use Rattle.protocol.specs.Node.Layout.{is_node}
+use Rattle.protocol.specs.Node.Sharing.{even_rooms, full_share, retained_share, wider}
 use Rattle.protocol.specs.declared.limits.TheConstants.{MAX_JOB_ITEMS, MIN_ROOM}
 use Rattle.protocol.specs.declared.links.Inbox.{Inbox}
 use Rattle.protocol.specs.declared.links.Outbox.{Outbox}
 use Rattle.protocol.specs.declared.stance.Stance.{Stance}
 use Rattle.protocol.specs.declared.stance.Stance.TheVariants.{GoesOn, Ended, Waits, Held, Full}
 use Rattle.ckpt_codec.specs.declared.lengths.TheConstants.{MAX_RETAINED_ITEMS}
-use Rattle.protocol.specs.World.Common.{AreSound, IsNumbered, StationView, WorldView, OutputView, WorldInvariant, outputs_of, stands_still}
+use Rattle.protocol.specs.World.Common.{AreSound, IsNumbered, StationView, WorldView, OutputView, outputs_of}
 use Rattle.protocol.specs.World.Choice.{counts_rose, has_more}
 use Rattle.protocol.specs.World.Quiet.{have_all_left}
 use Rattle.protocol.specs.Node.Stances.{is_of, own_stance, stance_before, stance_in, stance_there}
@@ -42,7 +41,7 @@ use Rattle.protocol.specs.World.Stances.{is_leaving, stance_on, stance_at, stanc
 use Rattle.protocol.specs.World.Still.{has_come_from, has_let_go, kept_by, kept_at, keeps_all, is_settled, is_settled_at}
 use Rattle.protocol.specs.World.Still.{is_still, wants_room}
 use Rattle.protocol.specs.World.RoomByNeed.{PutIsHeld, StillNeedsRoom, NeedIsFound, NobodyNeedsMore, NeedIsHeld, NeedGetsMore}
-use Rattle.protocol.specs.World.RoomNeeds.{NeedsRoom, awaited, getter_of, is_going, held_on, need_by, needed_at}
+use Rattle.protocol.specs.World.RoomNeeds.{awaited, getter_of, is_going}
 use Rattle.protocol.specs.World.RoomNeeds.{process_on, putter_of}
 use Rattle.protocol_laws.specs.Node.GrantLaws.{fewer_places}
 use Rattle.protocol_laws.specs.Node.ImageLaws.{find_within, found_is}
