@@ -1,5 +1,5 @@
 -- Where no device and no outlet fails, an event has one outcome.
-use Rattle.std.proofs.Common.{◌≡◌, inl, inr, ℕ, Bool, true, false, cond, List, ℤ, Option, Some, None, length}
+use Rattle.std.proofs.Common.{◌≡◌, inl, inr, ℕ, ◌+◌, Bool, true, false, cond, List, ℤ, Option, Some, None, length}
 use Rattle.std.proofs.Common.{refl, sym, ap, subst, ◌∙◌, ◌++◌}
 use Rattle.std.specs.Prelude.{slice_get, slice_set}
 use Rattle.protocol.specs.Node.Common.{Network, Channel, RecordView, LogState, restart_after, IsInstall, NodeView}

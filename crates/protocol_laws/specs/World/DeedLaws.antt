@@ -1,6 +1,6 @@
 -- What is known of each deed: its plan is sound, a node that is down sends nothing by it, and nothing that comes by
 -- it is dropped. A further deed has a case in each of the three laws that go by deeds, at the end of this file.
-use Rattle.std.proofs.Common.{◌≡◌, ℕ, Bool, true, false, cond, ℤ, List, [], map, Option, Some, None}
+use Rattle.std.proofs.Common.{◌≡◌, ℕ, Bool, true, false, cond, ℤ, List, [], map, All, Option, Some, None}
 use Rattle.std.proofs.Common.{option_map, refl, sym, ap, subst, ◌∙◌}
 use Rattle.std.specs.Prelude.{◌==◌, nat_lt, not}
 use Rattle.std.proofs.Math.Logic.{∥∥₁_elim}
