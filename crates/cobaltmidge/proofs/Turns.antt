@@ -19,8 +19,8 @@ use Rattle.slot_cell.specs.declared.slot_cell.SlotCell.{Ghosts as SlotWords}
 use Rattle.std.specs.declared.alloc.Global.{Global}
 use Rattle.std.specs.declared.sync.Arc.{Arc}
 use Rattle.protocol.specs.World.Common.{opening_traffic, opening_world, output_channels, OutletView, WorldView}
-use Rattle.protocol.specs.World.Common.{with_room, ReplyView}
-use Rattle.protocol.specs.Node.Sharing.{IsRoom}
+use Rattle.protocol.specs.World.Common.{with_rooms, ReplyView}
+use Rattle.protocol.specs.Node.Sharing.{IsRoom, even_rooms}
 use Rattle.protocol.specs.World.OpeningWorld.{opening_outlet, opening_stations}
 use Rattle.world.specs.OpeningWorld.{IsUnused}
 use Rattle.station.specs.StationView.{outlet_view, outlet_views}
@@ -161,7 +161,7 @@ module _ {O : Type 0} (taken : O → List ℤ) (failures : O → ℕ) where
   pub opens_first : (net other : Network) (inputs others : List (List ℤ)) (room : ℕ) (outputs : List (Output O))
       (first opened : WorldView) → other ≡ net → others ≡ inputs
       → (failed : List ℕ) → failed ≡ replicate (node_count net) 0
-      → first ≡ with_room (nearest_room room) opened
+      → first ≡ with_rooms (even_rooms (nearest_room room)) opened
       → opened ≡ opening_world other others failed (outlet_views taken failures outputs)
       → map (λ (output : Output O). output.channel) outputs ≡ output_channels 0 net.channels
       → AllByRecursion (IsUnused taken) outputs → AllByRecursion (HasNoFailures failures) outputs
@@ -170,7 +170,7 @@ module _ {O : Type 0} (taken : O → List ℤ) (failures : O → ℕ) where
       unused none =
       let views = outlet_views taken failures outputs in
       set
-      ∙ ap (with_room (nearest_room room)) (opening
+      ∙ ap (with_rooms (even_rooms (nearest_room room))) (opening
       ∙ (ap (λ (list : List ℕ). opening_world other others list views) never
       ∙ (ap (λ (n : Network). opening_world n others (replicate (node_count net) 0) views) same_net
       ∙ (ap (λ (i : List (List ℤ)). opening_world net i (replicate (node_count net) 0) views) same_inputs
@@ -181,7 +181,7 @@ module _ {O : Type 0} (taken : O → List ℤ) (failures : O → ℕ) where
             opening_stations net (replicate (node_count net) 0) outlets;
         traffic = opening_traffic;
         round = 0;
-        room = DEFAULT_ROOM;
+        rooms = even_rooms DEFAULT_ROOM;
       })
       (unused_outlets outputs unused none
       ∙ ap (λ (channels : List ℕ). map opening_outlet (map unused_outlet channels)) listed)))))

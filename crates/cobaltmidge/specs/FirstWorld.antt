@@ -1,7 +1,8 @@
 -- The world with which a run of a network begins.
 use Rattle.std.specs.Prelude.{◌≡◌, ℕ, Bool, ℤ, List, [], map, min, max, replicate, None}
 use Rattle.protocol.specs.Node.Common.{node_count, Network, slot_room_on, RecordView, fits_in, MAX_RETAINED_ITEMS, SECTORS}
-use Rattle.protocol.specs.World.Common.{opening_world, output_channels, OutletView, StationView, WorldView, with_room}
+use Rattle.protocol.specs.Node.Sharing.{even_rooms}
+use Rattle.protocol.specs.World.Common.{opening_world, output_channels, OutletView, StationView, WorldView, with_rooms}
 use Rattle.protocol.specs.declared.limits.TheConstants.{MIN_ROOM}
 use Rattle.station.specs.declared.output.Output.{Output}
 
@@ -25,9 +26,9 @@ unused_outlet channel = record { channel = channel; taken = []; failed = None; f
 abbrev pub nearest_room : ℕ → ℕ
 nearest_room asked = min (max asked MIN_ROOM) MAX_RETAINED_ITEMS
 
--- the world of a network on these inputs before its first turn, where this room of a channel is asked for; no disk has
+-- the world of a network on these inputs before its first turn, where this room is asked for each channel; no disk has
 -- failed
 abbrev pub first_world : Network → List (List ℤ) → ℕ → WorldView
 first_world net inputs room =
-    with_room (nearest_room room)
+    with_rooms (even_rooms (nearest_room room))
     (opening_world net inputs (replicate (node_count net) 0) (map unused_outlet (output_channels 0 net.channels)))

@@ -23,11 +23,11 @@ own_from false false false true sends number = refl
 own_from false false false false true number = refl
 own_from false false false false false number = refl
 
-own_at_home : (net : Network) (inputs : List (List ℤ)) (room nodes round : ℕ) (station : StationView)
-    → event_node (own_choice net inputs room nodes round station) ≡ station.number
-own_at_home net inputs room nodes round station =
+own_at_home : (net : Network) (inputs : List (List ℤ)) (rooms : List ℕ) (nodes round : ℕ) (station : StationView)
+    → event_node (own_choice net inputs rooms nodes round station) ≡ station.number
+own_at_home net inputs rooms nodes round station =
     own_from (is_some (next_release round station))
-    (nat_lt (turns_of round station.turns).granted MAX_GRANTS && is_some (node_job net inputs room station.node))
+    (nat_lt (turns_of round station.turns).granted MAX_GRANTS && is_some (node_job net inputs rooms station.node))
     (may_decide station.number station.node.kept (live_in station.node.mode)) (wants_checkpoint nodes round station)
     (not (is_down station.node.mode) && not (has_sent round station)) station.number
 
@@ -41,13 +41,13 @@ recovered : (recovers : Bool) (number : ℕ) (other : EventView) → event_node 
 recovered true number other is = refl
 recovered false number other is = is
 
-station_at_home : (net : Network) (inputs : List (List ℤ)) (room : ℕ) (traffic : Traffic) (nodes round : ℕ)
-    (station : StationView) → event_node (station_choice net inputs room traffic nodes round station) ≡ station.number
-station_at_home net inputs room traffic nodes round station =
+station_at_home : (net : Network) (inputs : List (List ℤ)) (rooms : List ℕ) (traffic : Traffic) (nodes round : ℕ)
+    (station : StationView) → event_node (station_choice net inputs rooms traffic nodes round station) ≡ station.number
+station_at_home net inputs rooms traffic nodes round station =
     recovered (may_recover round station) station.number
-    (deliver_or station.number (due_place traffic round station) (own_choice net inputs room nodes round station))
-    (delivered station.number (due_place traffic round station) (own_choice net inputs room nodes round station)
-    (own_at_home net inputs room nodes round station))
+    (deliver_or station.number (due_place traffic round station) (own_choice net inputs rooms nodes round station))
+    (delivered station.number (due_place traffic round station) (own_choice net inputs rooms nodes round station)
+    (own_at_home net inputs rooms nodes round station))
 
 pub choice_at_home : (world : WorldView) → WorldInvariant world → (node : ℕ) → event_node (choice world node) ≡ node
 choice_at_home world inv node = at (slice_get world.stations node) refl
@@ -56,5 +56,5 @@ choice_at_home world inv node = at (slice_get world.stations node) refl
         → event_node (choice_of world node found) ≡ node
     at None is = refl
     at (Some station) is =
-        station_at_home world.net world.inputs world.room world.traffic (length world.stations) world.round station
+        station_at_home world.net world.inputs world.rooms world.traffic (length world.stations) world.round station
         ∙ (inv.numbered node station is).0

@@ -86,12 +86,12 @@ of_network k n place act answer = (λ job grants. let is = grants.0 in cc, λ jo
 -- ---- a grant
 
 -- where a job can be granted the node runs, and none is out
-none_out : (net : Network) (inputs : List (List ℤ)) (room : ℕ) (job : JobView) (kept : RecordView) (version : ℕ) (mode : ModeView)
-    → job_at net inputs room (running_in kept version mode) ≡ Some job
+none_out : (net : Network) (inputs : List (List ℤ)) (rooms : List ℕ) (job : JobView) (kept : RecordView) (version : ℕ) (mode : ModeView)
+    → job_at net inputs rooms (running_in kept version mode) ≡ Some job
     → (out_in mode ≡ None) × (out_in (on_mode (granted (Some job)) mode) ≡ Some job)
-none_out net inputs room job kept version Down is = absurd (cc)
-none_out net inputs room job kept version InDoubt is = absurd (cc)
-none_out net inputs room job kept version (Runs running) is =
+none_out net inputs rooms job kept version Down is = absurd (cc)
+none_out net inputs rooms job kept version InDoubt is = absurd (cc)
+none_out net inputs rooms job kept version (Runs running) is =
     (at (is_none kept.tentative) running.out _ _ is, refl)
   where
     -- by whether it may grant one
@@ -101,30 +101,30 @@ none_out net inputs room job kept version (Runs running) is =
     at true None less next may = refl
     at true (Some other) less next may = absurd (cc)
 
-grant_goes : (k restart : ℕ) (net : Network) (inputs : List (List ℤ)) (room : ℕ) (found : Option JobView) (old : NodeView) (came : Outcome)
-    (otherwise answer : ReplyView) (new : NodeView) → node_job net inputs room old ≡ found
+grant_goes : (k restart : ℕ) (net : Network) (inputs : List (List ℤ)) (rooms : List ℕ) (found : Option JobView) (old : NodeView) (came : Outcome)
+    (otherwise answer : ReplyView) (new : NodeView) → node_job net inputs rooms old ≡ found
     → IsMadeOf restart (grant_prospect found old) old came new
     → otherwise ≡ reply.Refused TooLarge → answer ≡ answer_by (grant_reply found) otherwise came
     → StepGoes k (ByNode k event.Grant) answer (look_of old) (look_of new)
-grant_goes k restart net inputs room None old came otherwise answer new is step large said =
+grant_goes k restart net inputs rooms None old came otherwise answer new is step large said =
     inl (
       goes_same old new step.1,
       not_due k (ByNode k event.Grant) answer
           (said ∙ ap (answer_by reply.NotDue otherwise) step.0),
     )
-grant_goes k restart net inputs room (Some job) old outcome.NotDue otherwise answer new is step large said = absurd step
-grant_goes k restart net inputs room (Some job) old outcome.Made otherwise answer new is step large said =
-    let free = none_out net inputs room job old.kept old.version old.mode is in
+grant_goes k restart net inputs rooms (Some job) old outcome.NotDue otherwise answer new is step large said = absurd step
+grant_goes k restart net inputs rooms (Some job) old outcome.Made otherwise answer new is step large said =
+    let free = none_out net inputs rooms job old.kept old.version old.mode is in
     inr (inl (
       job,
       (refl, said),
       free.0,
       ap (λ (n : NodeView). out_in n.mode) step ∙ free.1,
     ))
-grant_goes k restart net inputs room (Some job) old (outcome.Refused TooLarge) otherwise answer new is step large said =
+grant_goes k restart net inputs rooms (Some job) old (outcome.Refused TooLarge) otherwise answer new is step large said =
     absurd (cc)
-grant_goes k restart net inputs room (Some job) old (outcome.Refused Spent) otherwise answer new is step large said = absurd step
-grant_goes k restart net inputs room (Some job) old outcome.Failed otherwise answer new is step large said = absurd (cc)
+grant_goes k restart net inputs rooms (Some job) old (outcome.Refused Spent) otherwise answer new is step large said = absurd step
+grant_goes k restart net inputs rooms (Some job) old outcome.Failed otherwise answer new is step large said = absurd (cc)
 
 -- ---- a turn that comes back
 
@@ -187,7 +187,7 @@ station_goes setting fits (ByNode k (event.Deliver place)) came old answer new s
     (λ c n. made_goes _ _ old.node c n
     (deliver_goes setting.net place (due_bytes setting.round (flight_at setting k place)) old))
 station_goes setting fits (ByNode k event.Grant) came old answer new step =
-    grant_goes k _ setting.net setting.inputs setting.room (node_job setting.net setting.inputs setting.room old.node) old.node came
+    grant_goes k _ setting.net setting.inputs setting.rooms (node_job setting.net setting.inputs setting.rooms old.node) old.node came
     (reply.Refused TooLarge) answer new.node refl step.step refl step.answers
 station_goes setting fits (ByNode k event.Send) came old answer new step =
     by_plan k k event.Send _ _ old.node came answer new.node (λ same. cc) step.step

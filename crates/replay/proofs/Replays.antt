@@ -1,14 +1,14 @@
 -- What a history keeps of the world.
-use Rattle.std.proofs.Common.{◌≡◌, ◌∙◌, ℕ, Bool, List, [], ◌∷◌, ◌++◌, Option, Some, None, refl, sym, ap, subst}
+use Rattle.std.proofs.Common.{◌≡◌, ◌∙◌, ℕ, Bool, List, [], ◌∷◌, ◌++◌, map, Option, Some, None, refl, sym, ap, subst}
 use mathlib.Core.Logic.{∥∥₁_map}
 use Rattle.protocol.specs.Node.Common.{RecordView}
 use Rattle.protocol.specs.World.Common.{ByNode, WorldInvariant, ReplyView, WorldView}
 use Rattle.protocol.specs.declared.event.Deed.TheVariants as event
-use Rattle.protocol.specs.World.Still.{wider}
-use Rattle.protocol_laws.specs.World.StepKeeps.{room_keeps_world, step_keeps}
+use Rattle.protocol.specs.Node.Sharing.{wider}
+use Rattle.protocol_laws.specs.World.StepKeeps.{rooms_keep_world, step_keeps}
 use Rattle.replay.specs.Armed.{ArmedEvent, ArmedView, OfWorld, ArmCrash, IsArmedStep, EndsWith}
 use Rattle.replay.specs.Armed.{crash_after, delivered_to}
-use Rattle.replay.specs.Laws.{ReplaysKeep, ReplaysStay, room_after}
+use Rattle.replay.specs.Laws.{ReplaysKeep, ReplaysStay, rooms_after}
 use Rattle.replay.specs.Replay.{Happening, Made, Silent, Widened, Happens, IsReplay, at_first, and_then}
 use Rattle.replay.specs.declared.kept.ArmedCrash.{ArmedCrash}
 use Rattle.replay.specs.declared.kept.ScriptedEvent.{ScriptedEvent}
@@ -39,7 +39,7 @@ happens_keeps fits script (Silent reason) passed old new inv silent =
     subst WorldInvariant (sym (ap (λ (a : ArmedView). a.world) silent.1)) inv
 happens_keeps fits script Widened passed old new inv wide =
     subst WorldInvariant (sym (ap (λ (a : ArmedView). a.world) wide.1))
-    (room_keeps_world old.world (wider old.world.room) inv)
+    (rooms_keep_world old.world (map wider old.world.rooms) inv)
 
 pub replays_keep : ReplaysKeep
 replays_keep fits script opening _ _ _ inv (at_first armed same) =
@@ -52,7 +52,7 @@ replays_keep fits script opening _ _ _ inv (and_then before all next passed afte
 
 abbrev StaysFrom : WorldView → WorldView → Type 0
 StaysFrom opening world =
-    (world.net ≡ opening.net) × (world.inputs ≡ opening.inputs) × (world.room ≡ opening.room)
+    (world.net ≡ opening.net) × (world.inputs ≡ opening.inputs) × (world.rooms ≡ opening.rooms)
 
 stays_through : (first next last : WorldView) → StaysFrom first next → StaysFrom next last → StaysFrom first last
 stays_through first next last before then =
@@ -62,21 +62,21 @@ stays_same : (opening world : WorldView) → world ≡ opening → StaysFrom ope
 stays_same opening world same = (
   ap (λ (w : WorldView). w.net) same,
   ap (λ (w : WorldView). w.inputs) same,
-  ap (λ (w : WorldView). w.room) same,
+  ap (λ (w : WorldView). w.rooms) same,
 )
 
--- but for the room, where this happens
+-- but for the rooms, where this happens
 abbrev StaysBut : List Happening → WorldView → WorldView → Type 0
 StaysBut happened opening world =
-    (world.net ≡ opening.net) × (world.inputs ≡ opening.inputs) × (world.room ≡ room_after happened opening.room)
+    (world.net ≡ opening.net) × (world.inputs ≡ opening.inputs) × (world.rooms ≡ rooms_after happened opening.rooms)
 
--- the room behind one more
-room_then : (before : List Happening) (next : Happening) (room : ℕ)
-    → room_after (before ++ next ∷ []) room ≡ room_after (next ∷ []) (room_after before room)
-room_then [] next room = refl
-room_then (Made maker event answer ∷ before) next room = room_then before next room
-room_then (Silent reason ∷ before) next room = room_then before next room
-room_then (Widened ∷ before) next room = room_then before next (wider room)
+-- the rooms behind one more
+rooms_then : (before : List Happening) (next : Happening) (rooms : List ℕ)
+    → rooms_after (before ++ next ∷ []) rooms ≡ rooms_after (next ∷ []) (rooms_after before rooms)
+rooms_then [] next rooms = refl
+rooms_then (Made maker event answer ∷ before) next rooms = rooms_then before next rooms
+rooms_then (Silent reason ∷ before) next rooms = rooms_then before next rooms
+rooms_then (Widened ∷ before) next rooms = rooms_then before next (map wider rooms)
 
 stays_more : (before all : List Happening) (next : Happening) (opening old new : WorldView)
     → StaysBut before opening old → StaysBut (next ∷ []) old new → all ≡ before ++ next ∷ []
@@ -85,20 +85,20 @@ stays_more before all next opening old new so_far then longer = (
   then.0 ∙ so_far.0,
   then.1 ∙ so_far.1,
   then.2
-      ∙ (ap (room_after (next ∷ [])) so_far.2
-      ∙ (sym (room_then before next opening.room)
-      ∙ ap (λ (happened : List Happening). room_after happened opening.room) (sym longer))),
+      ∙ (ap (rooms_after (next ∷ [])) so_far.2
+      ∙ (sym (rooms_then before next opening.rooms)
+      ∙ ap (λ (happened : List Happening). rooms_after happened opening.rooms) (sym longer))),
 )
 
 end_stays : (fits : List (RecordView → Bool)) (crash : Option ArmedCrash) (said answer : ReplyView)
     (between new : WorldView) → EndsWith fits crash said between answer new → StaysFrom between new
 end_stays fits None said answer between new ends = stays_same between new ends.1
-end_stays fits (Some crash) said answer between new ends = (ends.net, ends.inputs, ends.room)
+end_stays fits (Some crash) said answer between new ends = (ends.net, ends.inputs, ends.rooms)
 
 armed_stays : (fits : List (RecordView → Bool)) (event : ArmedEvent) (old : ArmedView) (answer : ReplyView)
     (new : ArmedView) → IsArmedStep fits event old answer new → StaysFrom old.world new.world
 armed_stays fits (OfWorld event) old answer new step =
-    stays_through old.world step.between new.world (step.step.net, step.step.inputs, step.step.room)
+    stays_through old.world step.between new.world (step.step.net, step.step.inputs, step.step.rooms)
     (end_stays fits (crash_after (delivered_to event) step.said new.deliveries old.crashes) step.said answer step.between
     new.world step.ends)
 armed_stays fits (ArmCrash crash) old answer new step =
@@ -113,7 +113,7 @@ happens_stays fits script (Silent reason) passed old new silent =
 happens_stays fits script Widened passed old new wide = (
   ap (λ (a : ArmedView). a.world.net) wide.1,
   ap (λ (a : ArmedView). a.world.inputs) wide.1,
-  ap (λ (a : ArmedView). a.world.room) wide.1,
+  ap (λ (a : ArmedView). a.world.rooms) wide.1,
 )
 
 replay_stays : (fits : List (RecordView → Bool)) (script : List ScriptedEvent) (opening : WorldView)

@@ -79,10 +79,10 @@ noted_in round turns =
 -- ---- the choice
 
 -- what a node does by itself, by what is remembered of the round
-abbrev own_by : Network → List (List ℤ) → ℕ → ℕ → ℕ → StationView → RoundTurns → EventView
-own_by net inputs room nodes round station turns =
+abbrev own_by : Network → List (List ℤ) → List ℕ → ℕ → ℕ → StationView → RoundTurns → EventView
+own_by net inputs rooms nodes round station turns =
     cond (is_some (next_release round station)) (Release station.number)
-    (cond (nat_lt turns.granted MAX_GRANTS && is_some (node_job net inputs room station.node)) (ByNode station.number
+    (cond (nat_lt turns.granted MAX_GRANTS && is_some (node_job net inputs rooms station.node)) (ByNode station.number
     event.Grant)
     (cond (may_decide station.number station.node.kept (live_in station.node.mode)) (ByNode station.number event.Decide)
     (cond (has_turn nodes round station.number &&
@@ -93,17 +93,17 @@ own_by net inputs room nodes round station turns =
     (ByNode station.number Idle)))))
 
 -- that a turn passed makes no difference to it
-own_again : (net : Network) (inputs : List (List ℤ)) (room nodes round failures : ℕ) (station : StationView)
-    → own_choice net inputs room nodes round
+own_again : (net : Network) (inputs : List (List ℤ)) (rooms : List ℕ) (nodes round failures : ℕ) (station : StationView)
+    → own_choice net inputs rooms nodes round
     (moved_to station.node failures (count_idle (turns_of round station.turns)) station)
-    ≡ own_choice net inputs room nodes round station
-own_again net inputs room nodes round failures station =
-    ap (own_by net inputs room nodes round station) (noted_in round station.turns)
+    ≡ own_choice net inputs rooms nodes round station
+own_again net inputs rooms nodes round failures station =
+    ap (own_by net inputs rooms nodes round station) (noted_in round station.turns)
 
 -- a turn passes where nothing else is next
 record PassesBy (world : WorldView) (node : ℕ) (station : StationView) : Type 0 where
   pub up : may_recover world.round station ≡ false
-  pub own : own_choice world.net world.inputs world.room (length world.stations) world.round station
+  pub own : own_choice world.net world.inputs world.rooms (length world.stations) world.round station
       ≡ ByNode station.number Idle
 
 idle_by : (number : ℕ) (recovers : Bool) (place : Option ℕ) (own : EventView)
@@ -135,11 +135,11 @@ passes_by world node station is =
     let round = world.round in
     let turns = turns_of round station.turns in
     let parts = idle_by station.number (may_recover round station) (due_place world.traffic round station)
-    (own_choice world.net world.inputs world.room nodes round station) is in
+    (own_choice world.net world.inputs world.rooms nodes round station) is in
     record {
       up = parts.0;
       own = own_idle (is_some (next_release round station))
-          (nat_lt turns.granted MAX_GRANTS && is_some (node_job world.net world.inputs world.room station.node))
+          (nat_lt turns.granted MAX_GRANTS && is_some (node_job world.net world.inputs world.rooms station.node))
           (may_decide station.number station.node.kept (live_in station.node.mode))
           (has_turn nodes round station.number &&
           (not turns.started && (may_start station.node && has_more (running_of station.node))))
@@ -190,18 +190,18 @@ left_by setting place node None station event came old new answer act other = re
   count = ap (λ (list : List StationView). length list) act.1;
 }
 
--- the same in another world, of the same network, inputs, room and nodes, in the same round
+-- the same in another world, of the same network, inputs, rooms and nodes, in the same round
 moved_rest : (old new : WorldView) (node : ℕ) (station : Option StationView) → new.net ≡ old.net
-    → new.inputs ≡ old.inputs → new.room ≡ old.room → length new.stations ≡ length old.stations
+    → new.inputs ≡ old.inputs → new.rooms ≡ old.rooms → length new.stations ≡ length old.stations
     → new.round ≡ old.round
-    → RestsAt old.net old.inputs old.room (length old.stations) old.round node station
-    → RestsAt new.net new.inputs new.room (length new.stations) new.round node station
-moved_rest old new node station net inputs room count round rests =
-    subst (λ (n : Network). RestsAt n new.inputs new.room (length new.stations) new.round node station) (sym net)
-    (subst (λ (i : List (List ℤ)). RestsAt old.net i new.room (length new.stations) new.round node station) (sym inputs)
-    (subst (λ (r : ℕ). RestsAt old.net old.inputs r (length new.stations) new.round node station) (sym room)
-    (subst (λ (m : ℕ). RestsAt old.net old.inputs old.room m new.round node station) (sym count)
-    (subst (λ (r : ℕ). RestsAt old.net old.inputs old.room (length old.stations) r node station) (sym round) rests))))
+    → RestsAt old.net old.inputs old.rooms (length old.stations) old.round node station
+    → RestsAt new.net new.inputs new.rooms (length new.stations) new.round node station
+moved_rest old new node station net inputs rooms count round rests =
+    subst (λ (n : Network). RestsAt n new.inputs new.rooms (length new.stations) new.round node station) (sym net)
+    (subst (λ (i : List (List ℤ)). RestsAt old.net i new.rooms (length new.stations) new.round node station) (sym inputs)
+    (subst (λ (r : List ℕ). RestsAt old.net old.inputs r (length new.stations) new.round node station) (sym rooms)
+    (subst (λ (m : ℕ). RestsAt old.net old.inputs old.rooms m new.round node station) (sym count)
+    (subst (λ (r : ℕ). RestsAt old.net old.inputs old.rooms (length old.stations) r node station) (sym round) rests))))
 
 stays_by_step : (fits : List (RecordView → Bool)) (event : EventView) (old new : WorldView) (answer : ReplyView)
     (node : ℕ) → IsStep fits event old answer new → new.round ≡ old.round → node ≢ event_node event
@@ -210,9 +210,9 @@ stays_by_step fits event old new answer node step round other rests =
     let left = left_by (setting_of old) (event_node event) node (slice_get fits (event_node event))
     (slice_get old.stations (event_node event)) event step.came old.stations new.stations answer step.act other in
     subst
-    (λ (s : Option StationView). RestsAt new.net new.inputs new.room (length new.stations) new.round node s)
+    (λ (s : Option StationView). RestsAt new.net new.inputs new.rooms (length new.stations) new.round node s)
     (sym left.there)
-    (moved_rest old new node (slice_get old.stations node) step.net step.inputs step.room left.count round rests)
+    (moved_rest old new node (slice_get old.stations node) step.net step.inputs step.rooms left.count round rests)
 
 -- the node of a crash that follows a delivery is the one to which the packet came
 crash_there : (node count : ℕ) (crashes : List ArmedCrash) (crash : ArmedCrash)
@@ -306,15 +306,15 @@ has_passed fits round old new answer (outcome.Refused Spent) planned = absurd pl
 has_passed fits round old new answer outcome.Failed planned = let no : false ≡ true = planned.step.0 in absurd (cc)
 
 -- then it rests
-rests_at : (net : Network) (inputs : List (List ℤ)) (room nodes round node : ℕ) (old new : StationView)
+rests_at : (net : Network) (inputs : List (List ℤ)) (rooms : List ℕ) (nodes round node : ℕ) (old new : StationView)
     → HasPassed round old new → old.number ≡ node → may_recover round old ≡ false
-    → own_choice net inputs room nodes round old ≡ ByNode node Idle
-    → RestsAt net inputs room nodes round node (Some new)
-rests_at net inputs room nodes round node old new passed number up own =
-    subst (λ (s : StationView). RestsAt net inputs room nodes round node (Some s)) (sym passed.same) (
+    → own_choice net inputs rooms nodes round old ≡ ByNode node Idle
+    → RestsAt net inputs rooms nodes round node (Some new)
+rests_at net inputs rooms nodes round node old new passed number up own =
+    subst (λ (s : StationView). RestsAt net inputs rooms nodes round node (Some s)) (sym passed.same) (
       number,
       up,
-      own_again net inputs room nodes round passed.failures old ∙ own,
+      own_again net inputs rooms nodes round passed.failures old ∙ own,
       ap (λ (t : RoundTurns). t.idled) (noted_in round old.turns),
     )
 
@@ -364,7 +364,7 @@ rests_by_step fits event old new node inv chosen idle step round = found (idled_
         let by : PassesBy old node station = passes_by old node station
         (ap (λ (s : Option StationView). is_idle (choice_of old node s)) (sym at.there) ∙ (ap is_idle (sym chosen) ∙ idle)) in
         let number : station.number ≡ node = (inv.numbered node station at.there).0 in
-        let own : own_choice old.net old.inputs old.room (length old.stations) old.round station ≡ ByNode node Idle =
+        let own : own_choice old.net old.inputs old.rooms (length old.stations) old.round station ≡ ByNode node Idle =
         by.own ∙ ap (λ (k : ℕ). ByNode k Idle) number in
         let one : IsActAt (setting_of old) node at.fits station (ByNode node Idle) step.came old.stations Idled new.stations =
         subst (λ (e : EventView). IsActAt (setting_of old) node at.fits station e step.came old.stations Idled new.stations)
@@ -374,10 +374,10 @@ rests_by_step fits event old new node inv chosen idle step round = found (idled_
         ∙ set_there old.stations node station one.later at.there in
         let count : length new.stations ≡ length old.stations =
         ap (λ (list : List StationView). length list) one.stations ∙ length-set old.stations node one.later in
-        subst (λ (s : Option StationView). RestsAt new.net new.inputs new.room (length new.stations) new.round node s)
+        subst (λ (s : Option StationView). RestsAt new.net new.inputs new.rooms (length new.stations) new.round node s)
         (sym there)
-        (moved_rest old new node (Some one.later) step.net step.inputs step.room count round
-        (rests_at old.net old.inputs old.room (length old.stations) old.round node station one.later
+        (moved_rest old new node (Some one.later) step.net step.inputs step.rooms count round
+        (rests_at old.net old.inputs old.rooms (length old.stations) old.round node station one.later
         (has_passed at.fits old.round station one.later Idled step.came one.step) number by.up own))
 
 no_delivery : (event : EventView) → is_idle event ≡ true → delivered_to event ≡ None
@@ -416,11 +416,11 @@ pub rest_is_silence : RestIsSilence
 rest_is_silence script passed world node rests none = at (slice_get world.stations node) refl rests
   where
     at : (o : Option StationView) → slice_get world.stations node ≡ o
-        → RestsAt world.net world.inputs world.room (length world.stations) world.round node o
+        → RestsAt world.net world.inputs world.rooms (length world.stations) world.round node o
         → IsSilence script (Nothing node) passed world
     at None is resting = absurd resting
     at (Some station) is resting =
-        let own = own_choice world.net world.inputs world.room (length world.stations) world.round station in
+        let own = own_choice world.net world.inputs world.rooms (length world.stations) world.round station in
         let chosen : choice_of world node (Some station) ≡ ByNode node Idle =
         ap (λ (b : Bool). cond b (ByNode station.number event.Recover)
         (deliver_or station.number (due_place world.traffic world.round station) own)) resting.1
@@ -445,7 +445,7 @@ silence_is_rest world node inv is = at (slice_get world.stations node) refl
     parts = resting_by (is_idle (choice world node)) (has_idled world node) (stands_still world) is
 
     at : (o : Option StationView) → slice_get world.stations node ≡ o
-        → RestsAt world.net world.inputs world.room (length world.stations) world.round node (slice_get world.stations node)
+        → RestsAt world.net world.inputs world.rooms (length world.stations) world.round node (slice_get world.stations node)
     at None none = absurd (no (ap (idled_at world.round) (sym none) ∙ parts.1))
       where
         no : false ≡ true → ⊥
@@ -453,7 +453,7 @@ silence_is_rest world node inv is = at (slice_get world.stations node) refl
     at (Some station) there =
         let by = passes_by world node station (ap (λ (o : Option StationView). is_idle (choice_of world node o)) (sym there) ∙ parts.0) in
         let number : station.number ≡ node = (inv.numbered node station there).0 in
-        subst (λ (o : Option StationView). RestsAt world.net world.inputs world.room (length world.stations) world.round node o)
+        subst (λ (o : Option StationView). RestsAt world.net world.inputs world.rooms (length world.stations) world.round node o)
         (sym there) (
           number,
           by.up,

@@ -1,10 +1,10 @@
 -- What a history says of the world to which it leads, of the turns that come back, and of what may be said again.
-use Rattle.std.specs.Prelude.{◌≡◌, ◌⊎◌, ℕ, Bool, true, false, List, [], ◌∷◌, ◌++◌, Some, slice_get}
+use Rattle.std.specs.Prelude.{◌≡◌, ◌⊎◌, ℕ, Bool, true, false, List, [], ◌∷◌, ◌++◌, map, Some, slice_get}
 use Rattle.protocol.specs.Node.Common.{RecordView, IsOut}
 use Rattle.protocol.specs.World.Common.{DoneView, Install, event_node, WorldInvariant, ReplyView, StationView, IsStep}
 use Rattle.protocol.specs.World.Common.{WorldView}
 use Rattle.protocol.specs.declared.reply.Reply.TheVariants.{Installed, Discarded}
-use Rattle.protocol.specs.World.Still.{wider}
+use Rattle.protocol.specs.Node.Sharing.{wider}
 use Rattle.replay.specs.Armed.{ArmedView}
 use Rattle.replay.specs.Replay.{Happening, Made, Silent, Widened, IsReplay, IsSilence, LeadsTo}
 use Rattle.replay.specs.declared.kept.ScriptedEvent.{ScriptedEvent}
@@ -16,19 +16,19 @@ ReplaysKeep = (fits : List (RecordView → Bool)) (script : List ScriptedEvent) 
     (happened : List Happening) (passed : ℕ) (armed : ArmedView) → WorldInvariant opening
     → IsReplay fits script opening happened passed armed → WorldInvariant armed.world
 
--- the room of a channel behind these, where it was so much before
-abbrev pub room_after : List Happening → ℕ → ℕ
-room_after [] room = room
-room_after (Made maker event answer ∷ rest) room = room_after rest room
-room_after (Silent reason ∷ rest) room = room_after rest room
-room_after (Widened ∷ rest) room = room_after rest (wider room)
+-- the rooms of channels behind these, where they were so much before
+abbrev pub rooms_after : List Happening → List ℕ → List ℕ
+rooms_after [] rooms = rooms
+rooms_after (Made maker event answer ∷ rest) rooms = rooms_after rest rooms
+rooms_after (Silent reason ∷ rest) rooms = rooms_after rest rooms
+rooms_after (Widened ∷ rest) rooms = rooms_after rest (map wider rooms)
 
--- the network and its inputs stay, and so does the room of a channel, but where the history says that it was widened
+-- the network and its inputs stay, and so do the rooms of channels, but where the history says that they were widened
 abbrev pub ReplaysStay : Type 0
 ReplaysStay = (fits : List (RecordView → Bool)) (script : List ScriptedEvent) (opening : WorldView)
     (happened : List Happening) (world : WorldView) → LeadsTo fits script opening happened world
     → ∥ (world.net ≡ opening.net) × (world.inputs ≡ opening.inputs)
-    × (world.room ≡ room_after happened opening.room) ∥₁
+    × (world.rooms ≡ rooms_after happened opening.rooms) ∥₁
 
 -- a turn is taken in exactly where its job is the one that is out at its node, and is else discarded
 abbrev pub InstallsAreTold : Type 0

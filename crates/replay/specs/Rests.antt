@@ -36,17 +36,17 @@ abbrev pub has_due : WorldView → ℕ → Bool
 has_due world node = is_some (position_from (is_due world.round) 0 (flights_to world.traffic node))
 
 -- The node of this number has let a turn pass in this round, and would do so again if no packet were due for it. (Of so many nodes, in a world
--- of this network, these inputs and this room.)
-abbrev pub RestsAt : Network → List (List ℤ) → ℕ → ℕ → ℕ → ℕ → Option StationView → Type 0
-RestsAt net inputs room nodes round node None = ⊥
-RestsAt net inputs room nodes round node (Some station) =
+-- of this network, these inputs and these rooms of channels.)
+abbrev pub RestsAt : Network → List (List ℤ) → List ℕ → ℕ → ℕ → ℕ → Option StationView → Type 0
+RestsAt net inputs rooms nodes round node None = ⊥
+RestsAt net inputs rooms nodes round node (Some station) =
     (station.number ≡ node) × (may_recover round station ≡ false)
-    × (own_choice net inputs room nodes round station ≡ ByNode node Idle)
+    × (own_choice net inputs rooms nodes round station ≡ ByNode node Idle)
     × ((turns_of round station.turns).idled ≡ true)
 
 abbrev pub Rests : WorldView → ℕ → Type 0
 Rests world node =
-    RestsAt world.net world.inputs world.room (length world.stations) world.round node (slice_get world.stations node)
+    RestsAt world.net world.inputs world.rooms (length world.stations) world.round node (slice_get world.stations node)
 
 -- each node of which it is noted rests
 pub record AllRest (noted : List Bool) (world : WorldView) : Type 0 where

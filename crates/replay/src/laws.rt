@@ -4,8 +4,8 @@ ghost use Rattle.replay.specs.Laws.{InstallsAreTold, ReplaysKeep, ReplaysStay, S
 ghost use Rattle.replay.specs.Out.{InstallsFollowGrants, JobsAreTold};
 ghost use Rattle.replay.specs.Rests.{PassingRests, RestIsSilence, RestsStay, SilenceIsRest};
 
-/// A history leads on from a sound world to a sound one. Network and inputs stay, and the room of a channel is twice what it was for
-/// each time that it was widened.
+/// A history leads on from a sound world to a sound one. Network and inputs stay, and the room of each channel is twice what it was
+/// for each time that channels got more, up to `MAX_RETAINED_ITEMS`.
 pub fn replay_law()
     ensures keeps { ReplaysKeep }
     ensures stays { ReplaysStay }

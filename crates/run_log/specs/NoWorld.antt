@@ -9,5 +9,5 @@ no_world = record {
   stations = [];
   traffic = record { queues = []; rules = [] };
   round = 0;
-  room = 0;
+  rooms = [];
 }

@@ -43,13 +43,15 @@ use std::alloc::{AllocError, Global};
 use wire::NODES;
 use world::{Event, Freed, Refused, Reply, World};
 
-/// What a node that has nothing to do waits for, beside a packet: the round, how many lines of the script are passed, and the room
-/// of channels. As long as these stay, and no packet is due for it, it has nothing to do.
+/// What a node that has nothing to do waits for, beside a packet: the round, how many lines of the script are passed, and when channels
+/// got more room last. As long as these stay, and no packet is due for it, it has nothing to do.
 #[derive(Clone, Copy, Debug, PartialEq, Eq)]
 pub struct Moment {
     pub round: u64,
     pub passed: usize,
-    pub room: usize,
+    /// How many events were made when channels got more room last, that one counted; 0 where they never did. So it is another number
+    /// behind each time, and is compared more cheaply than the room of each channel.
+    pub widened_at: u64,
 }
 
 /// A world with its script and its history, and how often the seats were answered. Several threads share it under a lock.
@@ -70,6 +72,8 @@ pub struct RunLog<C: SlotCell, O: Outlet, ThisRun: Run> {
     busy: u8,
     // Of which nodes it is noted that they rest.
     resting: Resting,
+    // How many events were made when channels got more room last.
+    widened_at: u64,
     totals: RunCount<ThisRun>,
     // A history leads from the opening world to this one, by this script; where what happens is written it is what the lines say.
     pub ghost replays: { ∥ HasHappened ThisRun.rooms ThisRun.script ThisRun.opening ThisRun.keeps lines.items passed
@@ -179,6 +183,7 @@ impl<C: SlotCell, O: Outlet, ThisRun: Run> RunLog<C, O, ThisRun> {
             incomplete: false,
             busy: 0,
             resting: none_rest(),
+            widened_at: 0,
             totals,
         }
     }
@@ -300,6 +305,7 @@ impl<C: SlotCell, O: Outlet, ThisRun: Run> RunLog<C, O, ThisRun> {
             keeps,
             incomplete,
             resting,
+            widened_at,
             totals,
             ..
         } = self;
@@ -308,6 +314,7 @@ impl<C: SlotCell, O: Outlet, ThisRun: Run> RunLog<C, O, ThisRun> {
         *resting = none_rest();
         *incomplete = false;
         totals.add(count, Counted::Entry);
+        *widened_at = totals.made();
         Ok(())
     }
 
@@ -603,7 +610,7 @@ impl<C: SlotCell, O: Outlet, ThisRun: Run> RunLog<C, O, ThisRun> {
         Moment {
             round: world.round(),
             passed: self.passed,
-            room: world.room(),
+            widened_at: self.widened_at,
         }
     }
 

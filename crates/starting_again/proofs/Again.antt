@@ -151,7 +151,7 @@ started_again world =
       stations = map down_station world.stations;
       traffic = opening_traffic;
       round = 0;
-      room = world.room;
+      rooms = world.rooms;
     }
 
 pub start_down : (stations : List StationView) → StartAgain stations (map down_station stations)

@@ -164,7 +164,7 @@ failed_world world k deed station made =
       stations = stations;
       traffic = traffic_after (setting_of world) (ByNode k deed) Failed reply.Down (slice_get world.stations k);
       round = round_after reply.Down world.round stations;
-      room = world.room;
+      rooms = world.rooms;
     }
 
 -- the cells of all these stations have that room
@@ -194,7 +194,7 @@ module _ (world : WorldView) (k : ℕ) (deed : Deed) (station : StationView)
         }));
     traffic = refl;
     round = refl;
-    room = refl;
+    rooms = refl;
   }
 
   put_behind : WorldInvariant world
@@ -368,7 +368,7 @@ act_leaves rooms e came old answer setting number stations records outputs inv s
                 stations = stations;
                 traffic = traffic_after setting e came answer (slice_get old.stations number);
                 round = round_after answer old.round stations;
-                room = old.room;
+                rooms = old.rooms;
               },
               record {
                 true_before = act_keeps_world rooms e came old answer setting number

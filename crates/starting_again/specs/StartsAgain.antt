@@ -27,7 +27,7 @@ pub record StationStartsAgain (old new : StationView) : Type 0 where
 -- - `stations`: as many, and each starts again from the one of its place.
 -- - `traffic`: nothing is in flight to any node. How many packets each node has sent to which is any, and so is which
 --   rules are armed for packets still to be sent.
--- - `round` and `room`: any.
+-- - `round` and `rooms`: any.
 pub record WorldStartsAgain (old new : WorldView) : Type 0 where
   pub net : new.net ≡ old.net
   pub inputs : new.inputs ≡ old.inputs

@@ -48,8 +48,9 @@ module _ {C O : Type 0} {cell : CellWords C} {slots : SlotWords C} (taken : O �
       ((stays.0 left since.0).one_of kept spelled.0, all_either olds news lefts records stays.1 since.1 spelled.1)
 
   -- so an event keeps the line
-  pub keeps_line : (net : Network) (inputs : List (List ℤ)) (olds news : List (Station C O slots cell)) (round room : ℕ)
-      (flying : Traffic) (rooms : List (RecordView → Bool)) (came : Outcome) (answer : ReplyView) (number : ℕ)
+  pub keeps_line : (net : Network) (inputs : List (List ℤ)) (olds news : List (Station C O slots cell)) (round : ℕ)
+      (channel_rooms : List ℕ) (flying : Traffic) (rooms : List (RecordView → Bool)) (came : Outcome) (answer : ReplyView)
+      (number : ℕ)
       → WorldInvariant
       (record {
         net = net;
@@ -58,7 +59,7 @@ module _ {C O : Type 0} {cell : CellWords C} {slots : SlotWords C} (taken : O �
         traffic =
             flying;
         round = round;
-        room = room;
+        rooms = channel_rooms;
       })
       → setting
       ≡ setting_of
@@ -69,13 +70,13 @@ module _ {C O : Type 0} {cell : CellWords C} {slots : SlotWords C} (taken : O �
         traffic =
             flying;
         round = round;
-        room = room;
+        rooms = channel_rooms;
       })
       → number ≡ event_node event
       → IsAct setting number rooms event came (map (station_view taken failures) olds) answer
       (map (station_view taken failures) news)
       → AllZip (StaysInLine taken failures setting event) olds news → KeepsLine taken failures net olds news
-  keeps_line net inputs olds news round room flying rooms came answer number inv same_setting same_number act stays =
+  keeps_line net inputs olds news round channel_rooms flying rooms came answer number inv same_setting same_number act stays =
       let world : WorldView =
       record {
         net = net;
@@ -84,7 +85,7 @@ module _ {C O : Type 0} {cell : CellWords C} {slots : SlotWords C} (taken : O �
         traffic =
             flying;
         round = round;
-        room = room;
+        rooms = channel_rooms;
       } in
       record {
         spelled = λ lefts since. all_spelled olds news lefts stays since;

@@ -55,8 +55,8 @@ acted {S} setting view room event xs place x y flown (Ok reply) within is come =
 
 -- the setting of a world by its stations, as they are and as they are seen
 pub setting_is : {S : Type 0} (view : S → StationView) (net : Network) (inputs : List (List ℤ)) (traffic : Traffic)
-    (xs : List S) (round room : ℕ)
-    → setting_in net inputs traffic round room
+    (xs : List S) (round : ℕ) (channel_rooms : List ℕ)
+    → setting_in net inputs traffic round channel_rooms
     ≡ setting_of
     (record {
       net = net;
@@ -64,17 +64,17 @@ pub setting_is : {S : Type 0} (view : S → StationView) (net : Network) (inputs
       stations = map view xs;
       traffic = traffic;
       round = round;
-      room = room;
+      rooms = channel_rooms;
     })
-setting_is view net inputs traffic xs round room = refl
+setting_is view net inputs traffic xs round channel_rooms = refl
 
 -- the station of this place is a sound one
 pub sound_at : {S : Type 0} (view : S → StationView) (net : Network) (inputs : List (List ℤ)) (traffic : Traffic)
-    (xs : List S) (place : ℕ) (x : S) (round room : ℕ)
+    (xs : List S) (place : ℕ) (x : S) (round : ℕ) (channel_rooms : List ℕ)
     → length (map view xs) ≡ node_count net → IsNumbered (map view xs) → AreSound net inputs (map view xs)
     → AreJoined net (map view xs) → place < length xs → x ≡ get_or xs place x
-    → IsSoundStation (setting_in net inputs traffic round room) (view x)
-sound_at view net inputs traffic xs place x round room all numbered sound joined within is =
+    → IsSoundStation (setting_in net inputs traffic round channel_rooms) (view x)
+sound_at view net inputs traffic xs place x round channel_rooms all numbered sound joined within is =
     let there : slice_get (map view xs) place ≡ Some (view x) =
     map_at view xs place x (slice_get_read xs (length xs) place x refl within is) in
     record {
@@ -129,7 +129,7 @@ pub world_steps : (rooms : List (RecordView → Bool)) (e : EventView) (old : Wo
       stations = stations;
       traffic = flown;
       round = round;
-      room = old.room;
+      rooms = old.rooms;
     })
 world_steps rooms e old answer setting number round stations flown same_setting same_number acted later =
     let here =
@@ -142,7 +142,7 @@ world_steps rooms e old answer setting number round stations flown same_setting 
       act = here.act;
       traffic = here.traffic;
       round = later;
-      room = refl;
+      rooms = refl;
     }
 
 -- where there is no station, nothing happens

@@ -18,6 +18,7 @@ use Rattle.protocol.specs.Node.Common.{Spells, Store, StoreFault, Whole}
 use Rattle.protocol.specs.World.Common.{opening_traffic, OutletView, StationView, WorldView}
 use Rattle.protocol.specs.World.OpeningWorld.{opening_outlet, outlets_on}
 use Rattle.protocol.specs.World.Turns.{no_turns}
+use Rattle.protocol.specs.Node.Sharing.{even_rooms}
 use Rattle.protocol.specs.declared.limits.TheConstants.{DEFAULT_ROOM}
 use Rattle.station.specs.StationView.{outlet_views, station_view}
 use Rattle.station.specs.declared.output.Output.{Output}
@@ -45,8 +46,8 @@ stations_down net number (kept ∷ records) (before ∷ failures) outlets =
     station_down number kept before (outlets_on net number outlets)
     ∷ stations_down net (suc number) records failures outlets
 
--- the world that is opened of these stations: nothing is in flight, it is in round 0, and a channel has the room that
--- holds unless it is set
+-- the world that is opened of these stations: nothing is in flight, it is in round 0, and each channel has the room
+-- that holds unless it is set
 abbrev pub world_again : Network → List (List ℤ) → List RecordView → List ℕ → List OutletView → WorldView
 world_again net inputs records failures outlets =
     record {
@@ -55,7 +56,7 @@ world_again net inputs records failures outlets =
       stations = stations_down net 0 records failures (map opening_outlet outlets);
       traffic = opening_traffic;
       round = 0;
-      room = DEFAULT_ROOM;
+      rooms = even_rooms DEFAULT_ROOM;
     }
 
 -- ---- a disk; `sectors`, `content`, `may_leave`, `armed` and `failures` are its words

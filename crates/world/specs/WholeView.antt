@@ -19,7 +19,7 @@ abbrev pub world_of : {C O : Type 0} {cell : CellWords C} {slots : SlotWords C} 
     → World C O slots cell outlet → WorldView
 world_of {C} {O} {cell} {slots} {outlet} world =
     world_view outlet.taken outlet.failures world.net world.inputs world.stations.items (traffic_of world.wire)
-    world.round world.room
+    world.round world.channel_rooms
 
 -- What a world is made of, in the words by which clauses name it: its network, its inputs, its stations, what is in flight, how many nodes it has,
 -- and of each cell what it has room for.

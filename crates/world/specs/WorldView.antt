@@ -16,11 +16,11 @@ use Rattle.station.specs.StationView.{station_view}
 use Rattle.station.specs.Leaving.{RestartsAsArmed, LeavesDeviceBy, LeavesWhatItFound}
 
 -- a world by its parts: shares of its network and of the inputs, its stations, what is in flight, the round, and the
--- room of a channel
+-- rooms of channels
 abbrev pub world_view : {C O : Type 0} {cell : CellWords C} {slots : SlotWords C} → (O → List ℤ) → (O → ℕ)
     → Arc Net Global
-    → Arc Inputs Global → List (Station C O slots cell) → Traffic → ℕ → ℕ → WorldView
-world_view taken failures net inputs stations traffic round room =
+    → Arc Inputs Global → List (Station C O slots cell) → Traffic → ℕ → List ℕ → WorldView
+world_view taken failures net inputs stations traffic round channel_rooms =
     record {
       net = network_of net.value.program;
       inputs = inputs.value;
@@ -28,7 +28,7 @@ world_view taken failures net inputs stations traffic round room =
           map (station_view taken failures) stations;
       traffic = traffic;
       round = round;
-      room = room;
+      rooms = channel_rooms;
     }
 
 -- for each station, which records its cell has room for

@@ -26,7 +26,7 @@ use kahn_net::Port;
 use net_check::{Inputs, Net};
 use node::{Node, is_here, opening_record};
 use outlet::Outlet;
-use protocol::DEFAULT_ROOM;
+use protocol::{DEFAULT_ROOM, Rooms};
 use record::{Image, Record};
 use sector_disk::Disk;
 use slot_cell::{LEAST_SPLIT_SECTORS, SlotCell, SplitCell, slot_room_of};
@@ -342,7 +342,7 @@ fn open_world<D: Disk, O: Outlet>(
             stations,
             wire,
             round: 0,
-            room: DEFAULT_ROOM,
+            channel_rooms: Rooms::even(DEFAULT_ROOM),
         }),
         Err(fault) => Err(OpeningRefused {
             disks,

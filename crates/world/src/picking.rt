@@ -32,7 +32,7 @@ impl<C: SlotCell, O: Outlet> World<C, O> {
             Some(station) => station.pick(
                 &self.net,
                 &self.inputs,
-                self.room,
+                &self.channel_rooms,
                 &self.wire,
                 self.stations.len(),
                 self.round,

@@ -17,7 +17,7 @@ use ckpt_store::{Store, StoreFault};
 use net_check::{Inputs, Net};
 use node::{Mode, Node, NodeState};
 use outlet::Outlet;
-use protocol::DEFAULT_ROOM;
+use protocol::{DEFAULT_ROOM, Rooms};
 use sector_disk::Disk;
 use slot_cell::SplitCell;
 use station::{Output, Station};
@@ -208,7 +208,7 @@ impl<D: Disk, O: Outlet> World<SplitCell<D>, O> {
                 stations,
                 wire,
                 round: 0,
-                room: DEFAULT_ROOM,
+                channel_rooms: Rooms::even(DEFAULT_ROOM),
             }),
             Err(fault) => Err(OpeningRefused {
                 disks,

@@ -1,13 +1,13 @@
-// The room of a channel, which is set.
-ghost use Rattle.std.specs.Prelude.{◌≡◌, OnErr, OnOk};
-ghost use Rattle.protocol.specs.Node.Sharing.{IsRoom};
-ghost use Rattle.protocol.specs.World.Common.{with_room};
+// The rooms of channels, which are set.
+ghost use Rattle.std.specs.Prelude.{◌≡◌, OnErr, OnOk, slice_index, slice_set};
+ghost use Rattle.protocol.specs.Node.Sharing.{IsRoom, even_rooms};
+ghost use Rattle.protocol.specs.World.Common.{with_rooms};
 ghost use Rattle.world.specs.WholeView.{inputs_in, net_in, stations_in, wire_in, world_of};
 
 use crate::world::World;
 use ckpt_codec::MAX_RETAINED_ITEMS;
 use outlet::Outlet;
-use protocol::MIN_ROOM;
+use protocol::{MIN_ROOM, Rooms};
 use slot_cell::SlotCell;
 use thiserror::Error;
 
@@ -16,20 +16,38 @@ use thiserror::Error;
 #[error("the room of a channel isn't from 64 to 57344 items")]
 pub struct RoomOutOfRange;
 
+// Refuses a number of items out of range.
+fn within_range(items: usize) -> Result<(), RoomOutOfRange>
+    ensures within { OnOk result (IsRoom items) }
+    ensures refused { OnErr result (¬ (IsRoom items)) }
+{
+    if items < MIN_ROOM || items > MAX_RETAINED_ITEMS {
+        return Err(RoomOutOfRange);
+    }
+    Ok(())
+}
+
 impl<C: SlotCell, O: Outlet> World<C, O> {
     /// How many items a channel retains at most, where its share of a record isn't less.
-    pub fn room(&self) -> usize
-        ensures { result ≡ (world_of self.now).room }
+    pub fn room(&self, channel: u8) -> usize
+        ensures { result ≡ slice_index (world_of self.now).rooms channel }
     {
-        self.room
+        self.channel_rooms.of(channel)
     }
 
-    /// Sets how many items a channel retains at most: from `MIN_ROOM` to `MAX_RETAINED_ITEMS`. It bounds what jobs that are
+    /// How many items each channel retains at most, by its number.
+    pub fn rooms(&self) -> &Rooms
+        ensures { result.now ≡ (world_of self.now).rooms }
+    {
+        &self.channel_rooms
+    }
+
+    /// Sets how many items each channel retains at most: from `MIN_ROOM` to `MAX_RETAINED_ITEMS`. It bounds what jobs that are
     /// granted from now on may put. A job that is out keeps the room that it was given, and a log that holds more takes
     /// nothing until it has shrunk. A number out of range is refused, and nothing is changed. Takes no memory.
     pub fn set_room(&mut self, items: usize) -> Result<(), RoomOutOfRange>
-        // The room is what differs, and nothing else.
-        ensures set { OnOk result (world_of self.new ≡ with_room items (world_of self.old)) }
+        // The rooms are what differs, and nothing else.
+        ensures set { OnOk result (world_of self.new ≡ with_rooms (even_rooms items) (world_of self.old)) }
         ensures unchanged { OnErr result (world_of self.new ≡ world_of self.old) }
         ensures same { (net_in self.new ≡ net_in self.old) × (inputs_in self.new ≡ inputs_in self.old)
             × (stations_in self.new ≡ stations_in self.old) × (wire_in self.new ≡ wire_in self.old) }
@@ -37,10 +55,24 @@ impl<C: SlotCell, O: Outlet> World<C, O> {
         ensures within { OnOk result (IsRoom items) }
         ensures refused { OnErr result (¬ (IsRoom items)) }
     {
-        if items < MIN_ROOM || items > MAX_RETAINED_ITEMS {
-            return Err(RoomOutOfRange);
-        }
-        self.room = items;
+        within_range(items)?;
+        self.channel_rooms = Rooms::even(items);
+        Ok(())
+    }
+
+    /// Sets how many items one channel retains at most, as `set_room` does for all.
+    pub fn set_room_of(&mut self, channel: u8, items: usize) -> Result<(), RoomOutOfRange>
+        // Its room is what differs, and nothing else.
+        ensures set { OnOk result (world_of self.new
+            ≡ with_rooms (slice_set (world_of self.old).rooms channel items) (world_of self.old)) }
+        ensures unchanged { OnErr result (world_of self.new ≡ world_of self.old) }
+        ensures same { (net_in self.new ≡ net_in self.old) × (inputs_in self.new ≡ inputs_in self.old)
+            × (stations_in self.new ≡ stations_in self.old) × (wire_in self.new ≡ wire_in self.old) }
+        ensures within { OnOk result (IsRoom items) }
+        ensures refused { OnErr result (¬ (IsRoom items)) }
+    {
+        within_range(items)?;
+        self.channel_rooms.set(channel, items);
         Ok(())
     }
 }

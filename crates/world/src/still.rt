@@ -3,15 +3,15 @@ ghost use Rattle.std.specs.Prelude.{◌≡◌, map};
 ghost use Rattle.std.specs.List.{list_all, list_any};
 ghost use Rattle.protocol.specs.Node.Common.{network_of};
 ghost use Rattle.protocol.specs.World.Common.{stands_still};
-ghost use Rattle.protocol.specs.World.Still.{is_still, wants_room, wider, widened};
+ghost use Rattle.protocol.specs.World.Still.{is_still, wants_room, widened};
 ghost use Rattle.station.specs.StationView.{station_view};
 ghost use Rattle.world.specs.Stillness.{is_still_world};
 ghost use Rattle.world.specs.WholeView.{inputs_in, net_in, stations_in, wire_in, world_of};
 
 use crate::world::World;
-use ckpt_codec::MAX_RETAINED_ITEMS;
 use net_check::{Inputs, Net};
 use outlet::Outlet;
+use protocol::Rooms;
 use slot_cell::SlotCell;
 use station::Station;
 
@@ -19,15 +19,15 @@ use station::Station;
 fn are_still<C: SlotCell, O: Outlet>(
     net: &Net,
     inputs: &Inputs,
-    room: usize,
+    rooms: &Rooms,
     stations: &[Station<C, O>],
 ) -> bool
-    ensures { result ≡ list_all (is_still (network_of net.now.program) inputs.now room
+    ensures { result ≡ list_all (is_still (network_of net.now.program) inputs.now rooms.now
         (map (station_view O.taken O.failures) stations.now))
         (map (station_view O.taken O.failures) stations.now) }
 {
     for station in stations {
-        if !station.is_still(net, inputs, room, stations) {
+        if !station.is_still(net, inputs, rooms, stations) {
             return false;
         }
     }
@@ -51,17 +51,6 @@ fn one_wants_room<C: SlotCell, O: Outlet>(
     false
 }
 
-// Twice the room of a channel, and no more than a record has.
-fn wider(room: usize) -> usize
-    ensures { result ≡ wider room }
-{
-    if room < MAX_RETAINED_ITEMS / 2 {
-        room * 2
-    } else {
-        MAX_RETAINED_ITEMS
-    }
-}
-
 impl<C: SlotCell, O: Outlet> World<C, O> {
     /// Whether nothing is to be done with the room that channels have now: each node runs and holds no image, each has kept all that it
     /// got and put, all that was put has left, nothing more comes from one node to another or is let go of, and no job can be granted. More
@@ -69,7 +58,7 @@ impl<C: SlotCell, O: Outlet> World<C, O> {
     pub fn is_still(&self) -> bool
         ensures { result ≡ is_still_world (world_of self.now) }
     {
-        are_still(&self.net, &self.inputs, self.room, &self.stations)
+        are_still(&self.net, &self.inputs, &self.channel_rooms, &self.stations)
     }
 
     /// Whether the world stands still for want of room: each node runs and holds no image, each has kept all that it got and
@@ -81,13 +70,13 @@ impl<C: SlotCell, O: Outlet> World<C, O> {
         self.is_still() && one_wants_room(&self.net, &self.inputs, &self.stations)
     }
 
-    /// Doubles how many items a channel retains at most, up to `MAX_RETAINED_ITEMS`. Takes no memory.
+    /// Doubles how many items each channel retains at most, up to `MAX_RETAINED_ITEMS`. Takes no memory.
     pub fn widen(&mut self)
-        // The room is what differs, and nothing else.
+        // The rooms are what differs, and nothing else.
         ensures set { world_of self.new ≡ widened (world_of self.old) }
         ensures same { (net_in self.new ≡ net_in self.old) × (inputs_in self.new ≡ inputs_in self.old)
             × (stations_in self.new ≡ stations_in self.old) × (wire_in self.new ≡ wire_in self.old) }
     {
-        self.room = wider(self.room);
+        self.channel_rooms.widen();
     }
 }

@@ -24,14 +24,15 @@ ghost use Rattle.station.specs.StationView.{station_view};
 use net_check::{Inputs, Net};
 use node::next_after;
 use outlet::Outlet;
+use protocol::Rooms;
 use slot_cell::SlotCell;
 use station::{Event, Lent, Refused, Reply, Station};
 use std::alloc::{AllocError, Global};
 use std::sync::Arc;
 use wire::Wire;
 
-/// A network that runs on its inputs: shares of both, its stations, one a node, by node number, the round, and the room of a
-/// channel.
+/// A network that runs on its inputs: shares of both, its stations, one a node, by node number, the round, and the room of
+/// each channel.
 ///
 /// Its type keeps that the inputs fit the network, that each station is of the node of its number, that the images of each
 /// station stand where its processes have come on one approximation of the network's histories, that what its outlets took
@@ -44,10 +45,10 @@ pub struct World<C: SlotCell, O: Outlet> {
     pub(crate) stations: Vec<Station<C, O>>,
     pub(crate) wire: Wire,
     pub(crate) round: u64,
-    /// How many items a channel retains at most, where its share of a record isn't less.
-    pub(crate) room: usize,
+    /// How many items each channel retains at most, where its share of a record isn't less.
+    pub(crate) channel_rooms: Rooms,
     pub ghost sound: { WorldInvariant
-        (world_view O.taken O.failures net inputs stations.items (traffic_of wire) round room) },
+        (world_view O.taken O.failures net inputs stations.items (traffic_of wire) round channel_rooms) },
 }
 
 // An event at the station of this number, where there is one.
@@ -154,7 +155,7 @@ impl<C: SlotCell, O: Outlet> World<C, O> {
             net: &self.net,
             inputs: &self.inputs,
             round: self.round,
-            room: self.room,
+            rooms: &self.channel_rooms,
         };
         match act_at(&lent, &mut self.stations, &mut self.wire, number, event) {
             Ok(reply) => {

@@ -1,11 +1,11 @@
 use Rattle.std.proofs.Common.{◌∙◌, ℕ, ap, subst, sym}
 use Rattle.std.specs.Prelude.{replicate}
 use Rattle.protocol.specs.Node.Common.{network_of, Net, sectors_of}
-use Rattle.protocol.specs.World.Common.{with_room}
+use Rattle.protocol.specs.World.Common.{with_rooms}
 use Rattle.world.specs.WholeView.{world_of}
 use Rattle.world.specs.WorldView.{capacities}
 use Rattle.cobaltmidge.specs.Failing.{IsRunFault}
-use Rattle.protocol.specs.Node.Sharing.{IsRoom}
+use Rattle.protocol.specs.Node.Sharing.{IsRoom, even_rooms}
 use Rattle.cobaltmidge.proofs.Turns.{nearest_is_room, opens_first, rooms_given, run_refused}
 use Rattle.cobaltmidge.proofs.opening.open_world.Goals as goal
 
@@ -31,7 +31,7 @@ returns-clause-first g c =
     (world_of c.set_room.new.self) opened (ap (λ (n : Net). network_of n.program) c.in-Ok-try_clone.ensures)
     c.in-Ok.ensures.ok _
     (c.in-Ok-empty_disks.ensures.unfailed ∙ ap (λ (n : ℕ). replicate n 0) c.requires.nodes)
-    (c.in-Ok-set_room.ensures.set ∙ ap (λ (n : ℕ). with_room n opened) c.nearest_room.ensures)
+    (c.in-Ok-set_room.ensures.set ∙ ap (λ (n : ℕ). with_rooms (even_rooms n) opened) c.nearest_room.ensures)
     c.in-Ok-new.ensures.made.opening
     c.requires.listed c.requires.unused c.requires.unfailed
 

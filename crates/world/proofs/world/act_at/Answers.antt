@@ -32,7 +32,7 @@ act-requires g c =
       sure = record { valid = net.valid; fits = c.requires.fits; traffic = c.requires.flying };
       sound = sound_at view (network_of net.program) c.args.lent.now.inputs.now.value (traffic_of c.args.wire.now)
           c.args.stations.now.items c.args.number x c.args.lent.now.round
-          c.args.lent.now.room (length-map c.args.stations.now.items view ∙ c.requires.count)
+          c.args.lent.now.rooms.now (length-map c.args.stations.now.items view ∙ c.requires.count)
           c.requires.numbered c.requires.sound c.requires.joined within c.index_mut.ensures.value;
       node = omega (arith, few, count, at, within);
     }
@@ -79,7 +79,7 @@ returns-clause-grown g c =
     c.args.stations.now.items c.args.number x _ _ c.act.result
     (sound_at view (network_of net.program) c.args.lent.now.inputs.now.value (traffic_of c.args.wire.now)
     c.args.stations.now.items
-    c.args.number x c.args.lent.now.round c.args.lent.now.room (length-map c.args.stations.now.items view ∙ c.requires.count)
+    c.args.number x c.args.lent.now.round c.args.lent.now.rooms.now (length-map c.args.stations.now.items view ∙ c.requires.count)
     c.requires.numbered c.requires.sound c.requires.joined (search rules) c.index_mut.ensures.value)
     c.requires.sound (search rules) c.index_mut.ensures.value c.act.ensures.moved c.act.ensures.come
     (on_err_map c.act.result c.act.ensures.refused (λ same. same.0))
@@ -99,7 +99,7 @@ returns-clause-line g c =
     c.args.stations.now.items c.args.number x _ _ c.act.result
     (sound_at view (network_of net.program) c.args.lent.now.inputs.now.value (traffic_of c.args.wire.now)
     c.args.stations.now.items
-    c.args.number x c.args.lent.now.round c.args.lent.now.room (length-map c.args.stations.now.items view ∙ c.requires.count)
+    c.args.number x c.args.lent.now.round c.args.lent.now.rooms.now (length-map c.args.stations.now.items view ∙ c.requires.count)
     c.requires.numbered c.requires.sound c.requires.joined (search rules) c.index_mut.ensures.value)
     c.requires.sound (search rules) c.index_mut.ensures.value c.act.ensures.moved c.act.ensures.come
     (on_err_map c.act.result c.act.ensures.refused (λ same. same.0))

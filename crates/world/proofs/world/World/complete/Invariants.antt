@@ -18,4 +18,4 @@ invariant-loop-station g l =
     (map (station_view O.taken O.failures) (drop l.station-index l.station-items))
     ≡ are_quiet
     (world_view O.taken O.failures l.self.net l.self.inputs l.self.stations.items (traffic_of l.self.wire)
-    l.self.round l.self.room)
+    l.self.round l.self.channel_rooms)

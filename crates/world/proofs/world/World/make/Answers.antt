@@ -32,14 +32,14 @@ invariant_of-self g c =
           (reply_view c.in-Ok.reply)
           (world_view {cell = g.C.StableCell} {slots = g.C.SlotCell} g.O.Outlet.taken g.O.Outlet.failures was.net
           was.inputs
-          c.act_at.new.stations.items (traffic_of c.act_at.new.wire) c.round_after-self.result was.room) was.sound
+          c.act_at.new.stations.items (traffic_of c.act_at.new.wire) c.round_after-self.result was.channel_rooms) was.sound
           (world_steps (rooms was.stations.items) (event_view c.args.event.now) (world_of was)
           (reply_view c.in-Ok.reply)
           (setting_in (network_of was.net.value.program) was.inputs.value (traffic_of was.wire)
-          was.round was.room) c.from-number.result c.round_after-self.result
+          was.round was.channel_rooms) c.from-number.result c.round_after-self.result
           (map view c.act_at.new.stations.items) (traffic_of c.act_at.new.wire)
           (setting_is view (network_of was.net.value.program) was.inputs.value (traffic_of was.wire)
-          was.stations.items was.round was.room) (c.from-number.ensures ∙ c.node.ensures) c.in-Ok.ensures.come
+          was.stations.items was.round was.channel_rooms) (c.from-number.ensures ∙ c.node.ensures) c.in-Ok.ensures.come
           (c.round_after-self.ensures
           ∙ ap (λ (l : List (Station g.row.C.Denot g.row.O.Denot g.C.SlotCell g.C.StableCell)). round_after
           (reply_view c.in-Ok.reply) was.round (map view l)) c.deref.ensures.value));
@@ -53,10 +53,10 @@ returns-in-Ok g c =
     let step =
     world_steps (rooms was.stations.items) (event_view c.args.event.now) (world_of was) (reply_view c.in-Ok.reply)
     (setting_in (network_of was.net.value.program) was.inputs.value (traffic_of was.wire)
-    was.round was.room) c.from-number.result c.round_after-self.result
+    was.round was.channel_rooms) c.from-number.result c.round_after-self.result
     (map view c.act_at.new.stations.items) (traffic_of c.act_at.new.wire)
     (setting_is view (network_of was.net.value.program) was.inputs.value (traffic_of was.wire)
-    was.stations.items was.round was.room) (c.from-number.ensures ∙ c.node.ensures) c.in-Ok.ensures.come
+    was.stations.items was.round was.channel_rooms) (c.from-number.ensures ∙ c.node.ensures) c.in-Ok.ensures.come
     (c.round_after-self.ensures
     ∙ ap (λ (l : List (Station g.row.C.Denot g.row.O.Denot g.C.SlotCell g.C.StableCell)). round_after
     (reply_view c.in-Ok.reply) was.round (map view l)) c.deref.ensures.value) in
@@ -65,13 +65,13 @@ returns-in-Ok g c =
       step = step;
       line = keeps_line {cell = g.C.StableCell} {slots = g.C.SlotCell} g.O.Outlet.taken g.O.Outlet.failures
           (setting_in (network_of was.net.value.program) was.inputs.value (traffic_of was.wire)
-          was.round was.room) (event_view c.args.event.now)
+          was.round was.channel_rooms) (event_view c.args.event.now)
           (network_of was.net.value.program) was.inputs.value was.stations.items c.act_at.new.stations.items was.round
-          was.room
+          was.channel_rooms
           (traffic_of was.wire) (rooms was.stations.items) c.in-Ok.ensures.come.came (reply_view c.in-Ok.reply)
           c.from-number.result was.sound
           (setting_is view (network_of was.net.value.program) was.inputs.value (traffic_of was.wire)
-          was.stations.items was.round was.room) (c.from-number.ensures ∙ c.node.ensures) c.in-Ok.ensures.come.act
+          was.stations.items was.round was.channel_rooms) (c.from-number.ensures ∙ c.node.ensures) c.in-Ok.ensures.come.act
           c.act_at.ensures.line;
       settled = one_line {cell = g.C.StableCell} {slots = g.C.SlotCell} g.O.Outlet.taken g.O.Outlet.failures
           c.act_at.new.stations.items;
@@ -79,32 +79,32 @@ returns-in-Ok g c =
           (reply_view c.in-Ok.reply)
           (world_view {cell = g.C.StableCell} {slots = g.C.SlotCell} g.O.Outlet.taken g.O.Outlet.failures was.net
           was.inputs
-          c.act_at.new.stations.items (traffic_of c.act_at.new.wire) c.round_after-self.result was.room) was.sound
+          c.act_at.new.stations.items (traffic_of c.act_at.new.wire) c.round_after-self.result was.channel_rooms) was.sound
           (world_steps (rooms was.stations.items) (event_view c.args.event.now) (world_of was)
           (reply_view c.in-Ok.reply)
           (setting_in (network_of was.net.value.program) was.inputs.value (traffic_of was.wire)
-          was.round was.room) c.from-number.result c.round_after-self.result
+          was.round was.channel_rooms) c.from-number.result c.round_after-self.result
           (map view c.act_at.new.stations.items) (traffic_of c.act_at.new.wire)
           (setting_is view (network_of was.net.value.program) was.inputs.value (traffic_of was.wire)
-          was.stations.items was.round was.room) (c.from-number.ensures ∙ c.node.ensures) c.in-Ok.ensures.come
+          was.stations.items was.round was.channel_rooms) (c.from-number.ensures ∙ c.node.ensures) c.in-Ok.ensures.come
           (c.round_after-self.ensures
           ∙ ap (λ (l : List (Station g.row.C.Denot g.row.O.Denot g.C.SlotCell g.C.StableCell)). round_after
           (reply_view c.in-Ok.reply) was.round (map view l)) c.deref.ensures.value));
       prefix = released_prefix
           (world_view {cell = g.C.StableCell} {slots = g.C.SlotCell} g.O.Outlet.taken g.O.Outlet.failures was.net
           was.inputs
-          c.act_at.new.stations.items (traffic_of c.act_at.new.wire) c.round_after-self.result was.room)
+          c.act_at.new.stations.items (traffic_of c.act_at.new.wire) c.round_after-self.result was.channel_rooms)
           (step_keeps (rooms was.stations.items) (event_view c.args.event.now) (world_of was) (reply_view c.in-Ok.reply)
           (world_view {cell = g.C.StableCell} {slots = g.C.SlotCell} g.O.Outlet.taken g.O.Outlet.failures was.net
           was.inputs
-          c.act_at.new.stations.items (traffic_of c.act_at.new.wire) c.round_after-self.result was.room) was.sound
+          c.act_at.new.stations.items (traffic_of c.act_at.new.wire) c.round_after-self.result was.channel_rooms) was.sound
           (world_steps (rooms was.stations.items) (event_view c.args.event.now) (world_of was)
           (reply_view c.in-Ok.reply)
           (setting_in (network_of was.net.value.program) was.inputs.value (traffic_of was.wire)
-          was.round was.room) c.from-number.result c.round_after-self.result
+          was.round was.channel_rooms) c.from-number.result c.round_after-self.result
           (map view c.act_at.new.stations.items) (traffic_of c.act_at.new.wire)
           (setting_is view (network_of was.net.value.program) was.inputs.value (traffic_of was.wire)
-          was.stations.items was.round was.room) (c.from-number.ensures ∙ c.node.ensures) c.in-Ok.ensures.come
+          was.stations.items was.round was.channel_rooms) (c.from-number.ensures ∙ c.node.ensures) c.in-Ok.ensures.come
           (c.round_after-self.ensures
           ∙ ap (λ (l : List (Station g.row.C.Denot g.row.O.Denot g.C.SlotCell g.C.StableCell)). round_after
           (reply_view c.in-Ok.reply) was.round (map view l)) c.deref.ensures.value)));
@@ -116,20 +116,20 @@ returns-in-Ok g c =
       roomy = λ room.
           never_too_large (world_of was)
           (setting_in (network_of was.net.value.program) was.inputs.value (traffic_of was.wire)
-          was.round was.room)
+          was.round was.channel_rooms)
           (λ (station : Station g.row.C.Denot g.row.O.Denot g.C.SlotCell g.C.StableCell). g.C.SlotCell.slot_capacity
           (cell_in station.node.store)) was.stations.items c.from-number.result _ (event_view c.args.event.now)
           c.in-Ok.ensures.come.came (reply_view c.in-Ok.reply) (map view c.act_at.new.stations.items)
           was.sound
           (setting_is view (network_of was.net.value.program) was.inputs.value (traffic_of was.wire)
-          was.stations.items was.round was.room) (c.from-number.ensures ∙ c.node.ensures) room c.in-Ok.ensures.come.act;
+          was.stations.items was.round was.channel_rooms) (c.from-number.ensures ∙ c.node.ensures) room c.in-Ok.ensures.come.act;
       heard = never_dropped (world_of was)
           (setting_in (network_of was.net.value.program) was.inputs.value (traffic_of was.wire)
-          was.round was.room) (rooms was.stations.items) c.from-number.result
+          was.round was.channel_rooms) (rooms was.stations.items) c.from-number.result
           (event_view c.args.event.now) c.in-Ok.ensures.come.came
           (reply_view c.in-Ok.reply) (map view c.act_at.new.stations.items) was.sound
           (setting_is view (network_of was.net.value.program) was.inputs.value (traffic_of was.wire)
-          was.stations.items was.round was.room) (c.from-number.ensures ∙ c.node.ensures) c.in-Ok.ensures.come.act;
+          was.stations.items was.round was.channel_rooms) (c.from-number.ensures ∙ c.node.ensures) c.in-Ok.ensures.come.act;
       home = granted_at_home (rooms c.args.self.now.stations.items) (event_view c.args.event.now)
           (world_of c.args.self.now)
           (reply_view c.in-Ok.reply) _ c.args.self.now.sound step;
@@ -153,12 +153,12 @@ returns-in-Err g c =
       step = tt;
       line = keeps_line {cell = g.C.StableCell} {slots = g.C.SlotCell} g.O.Outlet.taken g.O.Outlet.failures
           (setting_in (network_of was.net.value.program) was.inputs.value (traffic_of was.wire)
-          was.round was.room) (event_view c.args.event.now)
+          was.round was.channel_rooms) (event_view c.args.event.now)
           (network_of was.net.value.program) was.inputs.value was.stations.items c.act_at.new.stations.items was.round
-          was.room
+          was.channel_rooms
           (traffic_of was.wire) [] outcome.NotDue NotDue c.from-number.result was.sound
           (setting_is view (network_of was.net.value.program) was.inputs.value (traffic_of was.wire)
-          was.stations.items was.round was.room) (c.from-number.ensures ∙ c.node.ensures)
+          was.stations.items was.round was.channel_rooms) (c.from-number.ensures ∙ c.node.ensures)
           (refl, c.in-Err.ensures.refused.0)
           c.act_at.ensures.line;
       settled = one_line {cell = g.C.StableCell} {slots = g.C.SlotCell} g.O.Outlet.taken g.O.Outlet.failures
@@ -170,7 +170,7 @@ returns-in-Err g c =
             stations = stations;
             traffic = traffic_of c.act_at.new.wire;
             round = was.round;
-            room = was.room;
+            rooms = was.channel_rooms;
           })) (sym c.in-Err.ensures.refused.0)
           (subst (λ (traffic : Traffic). AreCoordinated (world_of was)
           (record {
@@ -179,7 +179,7 @@ returns-in-Err g c =
             stations = (world_of was).stations;
             traffic = traffic;
             round = was.round;
-            room = was.room;
+            rooms = was.channel_rooms;
           })) (sym c.in-Err.ensures.same_traffic) (coordinated_still (world_of was) was.sound));
       prefix = subst (λ (stations : List StationView). AreApproximated
           (record {
@@ -189,7 +189,7 @@ returns-in-Err g c =
             traffic =
                 traffic_of c.act_at.new.wire;
             round = was.round;
-            room = was.room;
+            rooms = was.channel_rooms;
           })) (sym c.in-Err.ensures.refused.0)
           (released_prefix (world_of was) was.sound);
       same_rooms = let capacity =

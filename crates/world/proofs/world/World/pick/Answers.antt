@@ -28,13 +28,13 @@ returns-in-Some g c =
     let there = seen_at view was.stations.items c.args.node c.in-Some.station.now within (search rules) in
     let many : c.len.result ≡ length was.stations.items = search rules in
     c.pick.ensures
-    ∙ (ap (λ (net : Net). station_choice (network_of net.program) c.deref-in-Some-2.result.now was.room
+    ∙ (ap (λ (net : Net). station_choice (network_of net.program) c.deref-in-Some-2.result.now was.channel_rooms
     (traffic_of was.wire)
     c.len.result was.round station) c.deref-in-Some.ensures
-    ∙ (ap (λ (inputs : List (List ℤ)). station_choice world.net inputs was.room (traffic_of was.wire) c.len.result
+    ∙ (ap (λ (inputs : List (List ℤ)). station_choice world.net inputs was.channel_rooms (traffic_of was.wire) c.len.result
     was.round
     station) c.deref-in-Some-2.ensures
-    ∙ (ap (λ (n : ℕ). station_choice world.net world.inputs was.room (traffic_of was.wire) n was.round station)
+    ∙ (ap (λ (n : ℕ). station_choice world.net world.inputs was.channel_rooms (traffic_of was.wire) n was.round station)
     (many ∙ sym (length-map was.stations.items view))
     ∙ sym (ap (choice_of world c.args.node) there))))
 
