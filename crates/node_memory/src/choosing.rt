@@ -41,7 +41,7 @@ fn comes_next(end: Option<&End>, inboxes: &[Inbox], channel: u8) -> bool
 }
 
 // Whether a next item of this channel is at hand.
-fn has_item(
+pub(crate) fn has_item(
     channels: &[Channel],
     inputs: &[History],
     image: &Image,
@@ -65,7 +65,7 @@ fn has_item(
 }
 
 // Whether there is room on this channel, where the log of each has places up to its room and to this share.
-fn has_room(
+pub(crate) fn has_room(
     channels: &[Channel],
     rooms: &Rooms,
     share: usize,

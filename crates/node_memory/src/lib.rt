@@ -12,6 +12,7 @@ mod popping;
 mod running;
 mod sending;
 mod sharing;
+mod stance;
 mod telling;
 
 pub use running::Running;

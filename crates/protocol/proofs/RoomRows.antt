@@ -1,14 +1,13 @@
 -- Which channel needs more room in small worlds, worked out by hand: each row says what `needed_at` comes to.
 use Rattle.std.proofs.Common.{◌≡◌, ℕ, ℤ, pos, List, [], ◌∷◌, Option, Some, None, refl, replicate}
 use Rattle.ckpt_codec.specs.Common.{Code, Network, Channel, Outside, Process, ImageView, RecordView, Receives, Sends}
-use Rattle.ckpt_codec.specs.Common.{SavedEnd, SavedProcessView, Standing, LogState, Tentative, MAX_COUNT}
+use Rattle.ckpt_codec.specs.Common.{SavedEnd, SavedProcessView, LogState, Tentative, MAX_COUNT}
 use Rattle.kahn_net.specs.Common.{Block, GetThen, PutThen, Nothing, Number, point_at}
 use Rattle.kahn_net.specs.Processes.Standing.{At, Done, NotBegun}
 use Rattle.record.specs.declared.image.End.TheVariants.{Both}
-use Rattle.window_link.specs.Windows.{Receiver, Sender}
 use Rattle.wire.specs.Traffic.{opening_traffic}
 use Rattle.protocol.specs.Node.JobView.{JobView}
-use Rattle.protocol.specs.Node.NodeView.{NodeView, ModeView, RunningView, Down, Runs}
+use Rattle.protocol.specs.Node.NodeView.{ModeView, Down, Runs}
 use Rattle.protocol.specs.World.RoomNeeds.{needed_at}
 use Rattle.protocol.specs.World.StationView.{OutletView, StationView}
 use Rattle.protocol.specs.World.Steps.{WorldView}

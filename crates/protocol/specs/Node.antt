@@ -6,6 +6,7 @@ pub mod Modes
 pub mod Plans
 pub mod ArmedRestarts
 pub mod Sharing
+pub mod Stances
 pub mod Granting
 pub mod Popping
 pub mod Installing

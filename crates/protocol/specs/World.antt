@@ -23,6 +23,7 @@ pub mod Quiet
 pub mod Still
 pub mod Stances
 pub mod RoomNeeds
+pub mod RoomByNeed
 pub mod RecoveryLine
 pub mod InLine
 pub mod Coordination

@@ -8,3 +8,4 @@ mod Ready
 mod Crashes
 mod Sends
 mod Arriving
+pub mod Stances

@@ -16,6 +16,7 @@ mod picking;
 mod quiet;
 mod recovering;
 mod releasing;
+mod stance;
 mod station;
 mod still;
 mod turning;

@@ -91,7 +91,7 @@ fn has_come(sent: u64, inbox: &Inbox) -> bool
 }
 
 // Whether nothing more comes to an inbox, beside these stations.
-fn has_come_from<C: SlotCell, O: Outlet>(
+pub(crate) fn has_come_from<C: SlotCell, O: Outlet>(
     net: &Net,
     stations: &[Station<C, O>],
     inbox: &Inbox,

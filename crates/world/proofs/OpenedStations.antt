@@ -338,7 +338,8 @@ module _ {D O : Type 0} {disk : DiskWords D} {cell : CellWords (SplitCell D disk
       stations) same
       all)
 
-  pub opened_world : (inputs : List (List ℤ)) (traffic : Traffic) → traffic ≡ opening_traffic
+  pub opened_world : (inputs : List (List ℤ)) (traffic : Traffic) (channel_rooms : List ℕ) → traffic ≡ opening_traffic
+      → channel_rooms ≡ even_rooms DEFAULT_ROOM
       → record {
         net = network_of net.program;
         inputs = inputs;
@@ -346,33 +347,36 @@ module _ {D O : Type 0} {disk : DiskWords D} {cell : CellWords (SplitCell D disk
         traffic =
             traffic;
         round = 0;
-        rooms = even_rooms DEFAULT_ROOM;
+        rooms = channel_rooms;
       }
       ≡ opening_world (network_of net.program) inputs (map (λ (d : D). disk.failure_count d) disks)
       (outlet_views taken failures outputs)
-  opened_world inputs traffic none =
-      ap (λ (list : List StationView). world list traffic)
+  opened_world inputs traffic channel_rooms none unset =
+      ap (λ (list : List StationView). world list traffic channel_rooms)
       (opened_views taken failures (network_of net.program) versions (map fresh outputs) 0 disks stations opened_all
       ∙ ap (stations_from (network_of net.program) (node_count (network_of net.program)) 0
       (map (λ (d : D). disk.failure_count d) disks)) (fresh_views taken failures outputs))
-      ∙ ap (world
-      (stations_from (network_of net.program) (node_count (network_of net.program)) 0
-      (map (λ (d : D). disk.failure_count d) disks) (map opening_outlet (outlet_views taken failures outputs))))
-      none
+      ∙ (ap (λ (flying : Traffic). world opened flying channel_rooms) none ∙ ap (world opened opening_traffic) unset)
     where
-      world : List StationView → Traffic → WorldView
-      world list traffic =
+      opened : List StationView
+      opened =
+          stations_from (network_of net.program) (node_count (network_of net.program)) 0
+          (map (λ (d : D). disk.failure_count d) disks) (map opening_outlet (outlet_views taken failures outputs))
+
+      world : List StationView → Traffic → List ℕ → WorldView
+      world list traffic channel_rooms =
           record {
             net = network_of net.program;
             inputs = inputs;
             stations = list;
             traffic = traffic;
             round = 0;
-            rooms = even_rooms DEFAULT_ROOM;
+            rooms = channel_rooms;
           }
 
   -- and so the world is sound
-  pub opened_sound : (inputs : List (List ℤ)) (traffic : Traffic) → traffic ≡ opening_traffic
+  pub opened_sound : (inputs : List (List ℤ)) (traffic : Traffic) (channel_rooms : List ℕ) → traffic ≡ opening_traffic
+      → channel_rooms ≡ even_rooms DEFAULT_ROOM
       → Fits (network_of net.program) inputs
       → length disks ≡ node_count (network_of net.program)
       → map (λ (output : Output O). output.channel) outputs ≡ output_channels 0 (network_of net.program).channels
@@ -385,10 +389,10 @@ module _ {D O : Type 0} {disk : DiskWords D} {cell : CellWords (SplitCell D disk
             map (station_view taken failures) stations;
         traffic = traffic;
         round = 0;
-        rooms = even_rooms DEFAULT_ROOM;
+        rooms = channel_rooms;
       })
-  opened_sound inputs traffic none fits each listed empty =
-      subst WorldInvariant (sym (opened_world inputs traffic none))
+  opened_sound inputs traffic channel_rooms none unset fits each listed empty =
+      subst WorldInvariant (sym (opened_world inputs traffic channel_rooms none unset))
       (world_opened (network_of net.program) inputs (map (λ (d : D). disk.failure_count d) disks)
       (outlet_views taken failures outputs) net.valid fits
       (length-map disks (λ (d : D). disk.failure_count d) ∙ each) (opened_listed taken failures outputs ∙ listed)

@@ -380,23 +380,24 @@ world_opens net inputs records failures outlets long = record {
   nothing = nothing_opened;
 }
 
--- such a world, by its stations and what is in flight
-abbrev pub world_at : Network → List (List ℤ) → List StationView → Traffic → WorldView
-world_at net inputs stations traffic =
+-- such a world, by its stations, what is in flight, and the rooms of channels
+abbrev pub world_at : Network → List (List ℤ) → List StationView → Traffic → List ℕ → WorldView
+world_at net inputs stations traffic channel_rooms =
     record {
       net = net;
       inputs = inputs;
       stations = stations;
       traffic = traffic;
       round = 0;
-      rooms = even_rooms DEFAULT_ROOM;
+      rooms = channel_rooms;
     }
 
 module _ {D O : Type 0} {disk : DiskWords D} {cell : CellWords (SplitCell D disk)}
     {slots : SlotWords (SplitCell D disk)} (taken : O → List ℤ) (failures : O → ℕ) (given net : Net)
     (inputs : List (List ℤ)) (disks : List D) (outputs items : List (Output O))
-    (stations : List (Station (SplitCell D disk) O slots cell)) (traffic : Traffic)
+    (stations : List (Station (SplitCell D disk) O slots cell)) (traffic : Traffic) (channel_rooms : List ℕ)
     (same : given ≡ net) (renewed : items ≡ map fresh outputs) (none : traffic ≡ opening_traffic)
+    (unset : channel_rooms ≡ even_rooms DEFAULT_ROOM)
     (all : AllNumbered (IsReopenedStation taken failures (network_of given.program) items) 0 disks stations) where
   -- as they are of the network and the outputs that were given
   pub reopened_all : AllNumbered (IsReopenedStation taken failures (network_of net.program) (map fresh outputs)) 0 disks
@@ -408,20 +409,23 @@ module _ {D O : Type 0} {disk : DiskWords D} {cell : CellWords (SplitCell D disk
       same all)
 
   pub reopened_world : world_at (network_of net.program) inputs (map (station_view taken failures) stations) traffic
+      channel_rooms
       ≡ world_again (network_of net.program) inputs (records_on disk.sector_count disk.content disks)
       (map (λ (d : D). disk.failure_count d) disks) (outlet_views taken failures outputs)
   reopened_world =
       let records : List RecordView = records_on disk.sector_count disk.content disks in
       let before : List ℕ = map (λ (d : D). disk.failure_count d) disks in
-      ap (λ (list : List StationView). world_at (network_of net.program) inputs list traffic)
+      let down : List StationView =
+      stations_down (network_of net.program) 0 records before (map opening_outlet (outlet_views taken failures outputs)) in
+      ap (λ (list : List StationView). world_at (network_of net.program) inputs list traffic channel_rooms)
       (reopened_views taken failures (network_of net.program) (map fresh outputs) 0 disks stations reopened_all
       ∙ ap (stations_down (network_of net.program) 0 records before) (fresh_views taken failures outputs))
-      ∙ ap (world_at (network_of net.program) inputs (stations_down (network_of net.program) 0 records before
-      (map opening_outlet (outlet_views taken failures outputs)))) none
+      ∙ (ap (λ (flying : Traffic). world_at (network_of net.program) inputs down flying channel_rooms) none
+      ∙ ap (world_at (network_of net.program) inputs down opening_traffic) unset)
 
   pub reopened_opens : OpensOver (network_of net.program) inputs (records_on disk.sector_count disk.content disks)
       (outputs_view taken outputs)
-      (world_at (network_of net.program) inputs (map (station_view taken failures) stations) traffic)
+      (world_at (network_of net.program) inputs (map (station_view taken failures) stations) traffic channel_rooms)
   reopened_opens =
       let records : List RecordView = records_on disk.sector_count disk.content disks in
       let before : List ℕ = map (λ (d : D). disk.failure_count d) disks in
@@ -436,11 +440,11 @@ module _ {D O : Type 0} {disk : DiskWords D} {cell : CellWords (SplitCell D disk
   -- and so it is sound, and what has left is what had left
   pub reopened_soundly :
       AreLeft disk.sector_count disk.content disk.may_leave taken (network_of net.program) inputs disks outputs
-      → WorldInvariant (world_at (network_of net.program) inputs (map (station_view taken failures) stations) traffic)
-      × (outputs_left (world_at (network_of net.program) inputs (map (station_view taken failures) stations) traffic)
+      → WorldInvariant (world_at (network_of net.program) inputs (map (station_view taken failures) stations) traffic channel_rooms)
+      × (outputs_left (world_at (network_of net.program) inputs (map (station_view taken failures) stations) traffic channel_rooms)
       ≡ outputs_view taken outputs)
   reopened_soundly left =
       opens_soundly (network_of net.program) inputs (records_on disk.sector_count disk.content disks)
       (outputs_view taken outputs)
-      (world_at (network_of net.program) inputs (map (station_view taken failures) stations) traffic) left.left
+      (world_at (network_of net.program) inputs (map (station_view taken failures) stations) traffic channel_rooms) left.left
       reopened_opens

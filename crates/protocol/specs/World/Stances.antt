@@ -1,18 +1,11 @@
 -- How a process stands in a world: whether it goes on while no channel gets more room, and else what it waits for.
---
--- What is said of a process speaks of its own next act, and of the one channel of that act, so that it is the same whatever
--- goes on elsewhere, on its node too.
-use Rattle.std.specs.Prelude.{◌==◌, ℕ, nat_lt, Bool, false, ◌||◌, not, if◌then◌else◌, ℤ, List, length, find}
-use Rattle.std.specs.Prelude.{Option, Some, None, slice_get}
-use Rattle.ckpt_codec.specs.Common.{Code, Network, MAX_COUNT, SavedProcessView, ImageView, received_of, sent_of}
-use Rattle.kahn_net.specs.Common.{Next, Gets, Puts, NoNext}
-use Rattle.kahn_net.specs.NextActs.{Begins}
+use Rattle.std.specs.Prelude.{◌==◌, ℕ, nat_lt, Bool, false, ◌||◌, not, if◌then◌else◌, ℤ, List, length, find, Option}
+use Rattle.std.specs.Prelude.{Some, None, slice_get}
+use Rattle.ckpt_codec.specs.Common.{Code, Network, ImageView, received_of, sent_of}
 use Rattle.record.specs.Common.{base_of}
 use Rattle.protocol.specs.Node.Addresses.{consumer_node}
-use Rattle.protocol.specs.Node.Choosing.{has_item, has_room, next_at}
-use Rattle.protocol.specs.Node.JobView.{JobView}
 use Rattle.protocol.specs.Node.NodeView.{RunningNode, running_of}
-use Rattle.protocol.specs.Node.Sharing.{full_share, retained_share}
+use Rattle.protocol.specs.Node.Stances.{own_stance}
 use Rattle.protocol.specs.World.Invariant.{outputs_of}
 use Rattle.protocol.specs.World.OutputView.{OutputView}
 use Rattle.protocol.specs.World.StationView.{StationView}
@@ -65,47 +58,23 @@ is_leaving net stations node outputs channel =
 
 -- ---- a process
 
--- it is for this process that a job is out
-abbrev pub is_of : ℕ → Option JobView → Bool
-is_of process None = false
-is_of process (Some job) = job.process == process
+-- one that waits goes on where what it waits for is under way
+abbrev pub beside_others : Network → List StationView → RunningNode → List OutputView → Stance → Stance
+beside_others net stations node outputs GoesOn = GoesOn
+beside_others net stations node outputs Ended = Ended
+beside_others net stations node outputs (Waits channel) =
+    if is_coming net stations node.inboxes channel then GoesOn else Waits channel
+beside_others net stations node outputs (Held channel) =
+    if is_leaving net stations node outputs channel then GoesOn else Held channel
+beside_others net stations node outputs (Full channel) =
+    if is_leaving net stations node outputs channel then GoesOn else Full channel
 
 module _ (net : Network) (inputs : List (List ℤ)) (rooms : List ℕ) (stations : List StationView) where
-  -- where it puts on a channel whose log has no place: what it would be if the channel had all the room that it may have
-  abbrev pub stance_at_put : ImageView → ℕ → Stance
-  stance_at_put image channel =
-      if has_room (full_share image) image channel (slice_get net.channels channel) then Held channel else Full channel
-
-  -- where this comes next
-  abbrev pub stance_before : RunningNode → List OutputView → Next → Stance
-  stance_before node outputs Begins = GoesOn
-  stance_before node outputs (Gets channel) =
-      if has_item inputs node.current node.inboxes channel (slice_get net.channels channel) ||
-      is_coming net stations node.inboxes channel
-      then GoesOn else Waits channel
-  stance_before node outputs (Puts channel) =
-      if has_room (retained_share rooms node.current) node.current channel (slice_get net.channels channel) ||
-      is_leaving net stations node outputs channel
-      then GoesOn else stance_at_put node.current channel
-  stance_before node outputs NoNext = Ended
-
-  abbrev pub stance_in : RunningNode → List OutputView → SavedProcessView → Stance
-  stance_in node outputs saved =
-      if is_of saved.number node.out then GoesOn
-      else (if nat_lt node.version MAX_COUNT
-      then stance_before node outputs (next_at (slice_get net.codes saved.number) saved.standing) else Ended)
-
-  -- a process that isn't there does nothing more
-  abbrev pub stance_there : RunningNode → List OutputView → Option SavedProcessView → Stance
-  stance_there node outputs None = Ended
-  stance_there node outputs (Some saved) = stance_in node outputs saved
-
   -- the process of this number at a node, which goes on where that doesn't run, since it comes back
   abbrev pub stance_on : ℕ → List OutputView → Option RunningNode → Stance
   stance_on process outputs None = GoesOn
   stance_on process outputs (Some node) =
-      stance_there node outputs
-      (find (λ (saved : SavedProcessView). saved.number == process) node.current.processes)
+      beside_others net stations node outputs (own_stance net inputs rooms process node)
 
   abbrev pub stance_at : ℕ → Option StationView → Stance
   stance_at process None = Ended

@@ -1,17 +1,17 @@
 -- Where a world stands still for want of room, some channel needs more; and a channel that needs more is one at which a put
 -- is held for want of it.
 use Rattle.std.proofs.Common.{◌≡◌, ◌⊎◌, inl, inr, ℕ, zero, suc, ◌+◌, ◌-◌, ◌*◌, ◌<◌, ◌≤◌, Bool, true, false, ◌&&◌, ◌||◌, ◌==◌, not}
-use Rattle.std.proofs.Common.{cond, ltb, eqb, ℤ, List, [], ◌∷◌, length, map, drop, get_or, Option, Some, None, is_some}
+use Rattle.std.proofs.Common.{cond, eqb, ℤ, List, [], ◌∷◌, length, map, drop, get_or, Option, Some, None, is_some}
 use Rattle.std.proofs.Common.{option_map, refl, sym, ap, subst, ◌∙◌, arith}
-use Rattle.std.specs.Prelude.{slice_get, slice_index, find, IsTrue, min, nat_lt, nat_le}
+use Rattle.std.specs.Prelude.{slice_get, slice_index, find, IfSome, min, nat_lt}
 use Rattle.std.specs.List.{list_all, list_any, range_with_len}
 use Rattle.std.proofs.Math.Nat.{min-le_right}
-use Rattle.std.proofs.lemmas.Bool.{and_parts, or_parts, eqb-true, leb-true, ltb-true, ltb-false, le-ltb, lt-ltb, cases_Bool}
+use Rattle.std.proofs.lemmas.Bool.{and_parts, or_parts, eqb-true, leb-true, ltb-true, ltb-false, le-ltb, lt-ltb}
 use Rattle.std.proofs.lemmas.Bool.{not-true, and_from, or_from, or_left, or_right, eq-eqb, cases_lt}
-use Rattle.std.proofs.lemmas.List.{get_or-drop, get_or_past}
+use Rattle.std.proofs.lemmas.List.{get_or-drop, get_or-set_same, get_or_past}
 use Rattle.std.proofs.lemmas.List.Folds.{Any-from_list_any}
 use Rattle.std.proofs.lemmas.List.FromFn.{length-map-range_with_len, get_or-map-range_with_len}
-use Rattle.std.proofs.lemmas.Option.{slice_get_cases, slice_get_within, slice_get-get_or}
+use Rattle.std.proofs.lemmas.Option.{slice_get_within, slice_get-get_or}
 use Rattle.turns.specs.Turns.{first_ready, least_from, next_in_turn, or_else, start_after}
 use Rattle.kahn_net.specs.Common.{Next, Gets, Puts, NoNext, next_of, Standing, Block, GetThen, AssignThen, PutThen}
 use Rattle.kahn_net.specs.Common.{StopThen, IfThen, RepeatThen, Nothing, sites_of, IsValid, block_puts, code_puts}
@@ -20,35 +20,36 @@ use Rattle.kahn_net.specs.Processes.Standing.{At, Done, NotBegun}
 use Rattle.kahn_net.specs.Valid.{body_puts}
 use Rattle.protocol.specs.Node.Common.{Network, Code, Channel, Port, Outside, Process, ImageView, SavedProcessView, SavedEnd, RunningNode, JobView}
 use Rattle.protocol.specs.Node.Common.{running_in, running_node, running_of, ModeView, Down, InDoubt, Runs, RecordView, received_of, sent_of, base_of, is_none, may_grant, MAX_COUNT, NodeView}
-use Rattle.protocol.specs.Node.Common.{log_end, log_share, log_of, LogState, has_process, is_on, End, received_at}
+use Rattle.protocol.specs.Node.Common.{log_end, log_share, log_of, LogState, has_process, is_on, received_at}
 use Rattle.protocol.specs.Node.Addresses.{consumer_node}
 use Rattle.protocol.specs.Node.Choosing.{has_item, has_room, can_go, next_at, is_ready, ready_process, ready_processes}
 use Rattle.protocol.specs.Node.Choosing.{process_at, next_process, job_at, job_of, job_up_to, next_job}
 use Rattle.protocol.specs.Node.Granting.{room_in, room_of}
-use Rattle.protocol.specs.Node.Sharing.{AreRooms, even_rooms, full_share, retained_share, wider}
-use Rattle.protocol.specs.Node.Layout.{is_node}
+use Rattle.protocol.specs.Node.Sharing.{even_rooms, full_share, retained_share, wider}
 use Rattle.protocol.specs.declared.limits.TheConstants.{MAX_JOB_ITEMS, MIN_ROOM}
 use Rattle.protocol.specs.declared.links.Inbox.{Inbox}
 use Rattle.protocol.specs.declared.links.Outbox.{Outbox}
 use Rattle.protocol.specs.declared.stance.Stance.{Stance}
 use Rattle.protocol.specs.declared.stance.Stance.TheVariants.{GoesOn, Ended, Waits, Held, Full}
 use Rattle.ckpt_codec.specs.declared.lengths.TheConstants.{MAX_RETAINED_ITEMS}
-use Rattle.protocol.specs.World.Common.{AreSound, IsNumbered, StationView, WorldView, OutputView, WorldInvariant, outputs_of, stands_still}
+use Rattle.protocol.specs.World.Common.{AreSound, IsNumbered, StationView, WorldView, OutputView, outputs_of}
 use Rattle.protocol.specs.World.Choice.{counts_rose, has_more}
 use Rattle.protocol.specs.World.Quiet.{have_all_left}
-use Rattle.protocol.specs.World.Stances.{comes_to, is_coming, got_by, got_at, has_what_was_got, lacks_items, is_leaving}
-use Rattle.protocol.specs.World.Stances.{is_of, stance_at_put, stance_before, stance_in, stance_there, stance_on, stance_at}
-use Rattle.protocol.specs.World.Stances.{stance_with, stance_of}
+use Rattle.protocol.specs.Node.Stances.{is_of, own_stance, stance_before, stance_in, stance_there}
+use Rattle.protocol.specs.World.Stances.{beside_others, comes_to, is_coming, got_by, got_at, has_what_was_got, lacks_items}
+use Rattle.protocol.specs.World.Stances.{is_leaving, stance_on, stance_at, stance_with, stance_of}
 use Rattle.protocol.specs.World.Still.{has_come_from, has_let_go, kept_by, kept_at, keeps_all, is_settled, is_settled_at}
 use Rattle.protocol.specs.World.Still.{is_still, wants_room}
-use Rattle.protocol.specs.World.RoomNeeds.{NeedsRoom, awaited, getter_of, is_going, held_on, need_by, needed_at, needed_for}
+use Rattle.protocol.specs.World.RoomByNeed.{PutIsHeld, StillNeedsRoom, NeedIsFound, NobodyNeedsMore, NeedIsHeld, NeedGetsMore}
+use Rattle.protocol.specs.World.RoomByNeed.{NodeNeedIsFound, NeedIsShown, StillShowsNeed}
+use Rattle.protocol.specs.World.RoomNeeds.{awaited, getter_of, is_going}
 use Rattle.protocol.specs.World.RoomNeeds.{process_on, putter_of}
 use Rattle.protocol_laws.specs.Node.GrantLaws.{fewer_places}
 use Rattle.protocol_laws.specs.Node.ImageLaws.{find_within, found_is}
 use Rattle.protocol_laws.specs.Node.NumberedLaws.{where_mark, where_find}
 use Rattle.protocol_laws.specs.Node.SharingLaws.{share_within}
 use Rattle.protocol_laws.specs.World.QuietLaws.{all_at, left_at}
-use Rattle.protocol_laws.specs.World.WayLaws.{held_needs, need_for_is_need, need_is_need, need_is_shown, none_in_need}
+use Rattle.protocol_laws.specs.World.WayLaws.{held_needs, need_at_node, need_for_is_need, need_is_need, none_in_need}
 
 -- ---- what is found
 
@@ -417,10 +418,6 @@ module _ (net : Network) (inputs : List (List ℤ)) (rooms : List ℕ) (stations
     pub stays : is_going stance ≡ false
     pub held : may_grant node ≡ true → could ≡ true → (c : ℕ) × (stance ≡ Held c)
 
-  stays_put : (c : ℕ) (b : Bool) → is_going (cond b (Held c) (Full c)) ≡ false
-  stays_put c true = refl
-  stays_put c false = refl
-
   none_out : (n : ℕ) (o : Option JobView) → is_none o ≡ true → is_of n o ≡ false
   none_out n None is = refl
   none_out n (Some job) is = absurd (cc)
@@ -439,10 +436,20 @@ module _ (net : Network) (inputs : List (List ℤ)) (rooms : List ℕ) (stations
         let bad : true ≡ false = sym job ∙ rest.none in
         absurd (cc)
 
+    -- what it waits for isn't under way
+    held_still : (c : ℕ) → beside_others net stations node outputs (Held c) ≡ Held c
+    held_still c = ap (λ (b : Bool). cond b GoesOn (Held c)) (none_leaves outputs node rest c)
+
+    full_still : (c : ℕ) → beside_others net stations node outputs (Full c) ≡ Full c
+    full_still c = ap (λ (b : Bool). cond b GoesOn (Full c)) (none_leaves outputs node rest c)
+
+    waits_still : (c : ℕ) → beside_others net stations node outputs (Waits c) ≡ Waits c
+    waits_still c = ap (λ (b : Bool). cond b GoesOn (Waits c)) (none_comes outputs node rest c)
+
     before_still : may_grant node ≡ true → (next : Next)
         → next_at (slice_get net.codes saved.number) saved.standing ≡ next
         → StaysPut node (can_go net inputs (full_share node.current) node.current node.inboxes next)
-        (stance_before net inputs rooms stations node outputs next)
+        (beside_others net stations node outputs (stance_before net inputs rooms node.current node.inboxes next))
     before_still may Begins comes = absurd (not_ready may Begins comes refl)
     before_still may NoNext comes = record { stays = refl; held = λ grants could. absurd (cc) }
     before_still may (Gets c) comes =
@@ -451,15 +458,12 @@ module _ (net : Network) (inputs : List (List ℤ)) (rooms : List ℕ) (stations
         at : (b : Bool) → has_item inputs node.current node.inboxes c (slice_get net.channels c) ≡ b
             → (has_item inputs node.current node.inboxes c (slice_get net.channels c) ≡ true → ⊥)
             → StaysPut node (has_item inputs node.current node.inboxes c (slice_get net.channels c))
-            (stance_before net inputs rooms stations node outputs (Gets c))
+            (beside_others net stations node outputs (stance_before net inputs rooms node.current node.inboxes (Gets c)))
         at true has never = absurd (never has)
-        at false has never = record {
-          stays =
-              ap (λ (b : Bool). is_going (cond b GoesOn (Waits c)))
-              (or_from (has_item inputs node.current node.inboxes c (slice_get net.channels c))
-              (is_coming net stations node.inboxes c) has (none_comes outputs node rest c));
-          held = λ grants could. absurd (never could);
-        }
+        at false has never =
+            (let same : beside_others net stations node outputs (stance_before net inputs rooms node.current node.inboxes (Gets c)) ≡ Waits c =
+            ap (λ (b : Bool). beside_others net stations node outputs (cond b GoesOn (Waits c))) has ∙ waits_still c in
+            record { stays = ap is_going same; held = λ grants could. absurd (never could) })
     before_still may (Puts c) comes =
         at (has_room (retained_share rooms node.current) node.current c (slice_get net.channels c)) refl
         (not_ready may (Puts c) comes)
@@ -469,55 +473,71 @@ module _ (net : Network) (inputs : List (List ℤ)) (rooms : List ℕ) (stations
 
         at : (b : Bool) → has_room (retained_share rooms node.current) node.current c (slice_get net.channels c) ≡ b
             → (has_room (retained_share rooms node.current) node.current c (slice_get net.channels c) ≡ true → ⊥)
-            → StaysPut node full (stance_before net inputs rooms stations node outputs (Puts c))
+            → StaysPut node full
+            (beside_others net stations node outputs (stance_before net inputs rooms node.current node.inboxes (Puts c)))
         at true has never = absurd (never has)
         at false has never =
-            (let none : (has_room (retained_share rooms node.current) node.current c (slice_get net.channels c) ||
-            is_leaving net stations node outputs c) ≡ false =
-            or_from (has_room (retained_share rooms node.current) node.current c (slice_get net.channels c))
-            (is_leaving net stations node outputs c) has (none_leaves outputs node rest c) in
-            let put : stance_before net inputs rooms stations node outputs (Puts c) ≡ cond full (Held c) (Full c) =
-            ap (λ (b : Bool). cond b GoesOn (cond full (Held c) (Full c))) none in
-            record {
-              stays = ap is_going put ∙ stays_put c full;
-              held = λ grants could. (c, put ∙ ap (λ (b : Bool). cond b (Held c) (Full c)) could);
-            })
+            (let put : beside_others net stations node outputs (stance_before net inputs rooms node.current node.inboxes (Puts c))
+            ≡ beside_others net stations node outputs (cond full (Held c) (Full c)) =
+            ap (λ (b : Bool). beside_others net stations node outputs (cond b GoesOn (cond full (Held c) (Full c)))) has in
+            by full refl put)
+          where
+            by : (f : Bool) → full ≡ f
+                → beside_others net stations node outputs (stance_before net inputs rooms node.current node.inboxes (Puts c))
+                ≡ beside_others net stations node outputs (cond full (Held c) (Full c))
+                → StaysPut node full
+                (beside_others net stations node outputs (stance_before net inputs rooms node.current node.inboxes (Puts c)))
+            by true fully put =
+                let same = put
+                ∙ (ap (λ (b : Bool). beside_others net stations node outputs (cond b (Held c) (Full c))) fully
+                ∙ held_still c) in
+                record { stays = ap is_going same; held = λ grants could. (c, same) }
+            by false fully put =
+                (let same = put
+                ∙ (ap (λ (b : Bool). beside_others net stations node outputs (cond b (Held c) (Full c))) fully
+                ∙ full_still c) in
+                record {
+                  stays = ap is_going same;
+                  held = λ grants could. (let bad : true ≡ false = sym could ∙ fully in absurd (cc));
+                })
 
     in_still : StaysPut node
         (can_go net inputs (full_share node.current) node.current node.inboxes
         (next_at (slice_get net.codes saved.number) saved.standing))
-        (stance_in net inputs rooms stations node outputs saved)
+        (beside_others net stations node outputs (stance_in net inputs rooms node saved))
     in_still = at (nat_lt node.version MAX_COUNT) refl
       where
         next : Next
         next = next_at (slice_get net.codes saved.number) saved.standing
 
         before : Stance
-        before = stance_before net inputs rooms stations node outputs next
+        before = stance_before net inputs rooms node.current node.inboxes next
 
         could : Bool
         could = can_go net inputs (full_share node.current) node.current node.inboxes next
 
-        free : stance_in net inputs rooms stations node outputs saved
-            ≡ cond (nat_lt node.version MAX_COUNT) before Ended
+        free : stance_in net inputs rooms node saved ≡ cond (nat_lt node.version MAX_COUNT) before Ended
         free =
             ap (λ (b : Bool). cond b GoesOn (cond (nat_lt node.version MAX_COUNT) before Ended))
             (none_out saved.number node.out rest.idle)
 
         at : (b : Bool) → nat_lt node.version MAX_COUNT ≡ b
-            → StaysPut node could (stance_in net inputs rooms stations node outputs saved)
+            → StaysPut node could
+            (beside_others net stations node outputs (stance_in net inputs rooms node saved))
         at true early =
             let may =
             and_from (is_none node.kept.tentative) (is_none node.out && nat_lt node.version MAX_COUNT) rest.free
             (and_from (is_none node.out) (nat_lt node.version MAX_COUNT) rest.idle early) in
             let found = before_still may next refl in
-            let same = free ∙ ap (λ (b : Bool). cond b before Ended) early in
+            let same =
+            ap (beside_others net stations node outputs) (free ∙ ap (λ (b : Bool). cond b before Ended) early) in
             record {
               stays = ap is_going same ∙ found.stays;
               held = λ grants can. (let one = found.held grants can in (one.0, same ∙ one.1));
             }
         at false late =
-            (let same = free ∙ ap (λ (b : Bool). cond b before Ended) late in
+            (let same =
+            ap (beside_others net stations node outputs) (free ∙ ap (λ (b : Bool). cond b before Ended) late) in
             record {
               stays = ap is_going same;
               held = λ grants can. (let bad : true ≡ false =
@@ -529,17 +549,18 @@ module _ (net : Network) (inputs : List (List ℤ)) (rooms : List ℕ) (stations
   -- ---- nobody goes on
 
   -- how a process stands, by what is there
-  stance_is : (p : ℕ) (code : Code) (station : StationView) (node : RunningNode) (saved : SavedProcessView)
+  stance_is : (p : ℕ) (code : Code) (station : StationView) (node : RunningNode) (o : Option SavedProcessView)
       → slice_get net.codes p ≡ Some code → slice_get stations code.node ≡ Some station
       → running_of station.node ≡ Some node
-      → find (λ (s : SavedProcessView). s.number == p) node.current.processes ≡ Some saved
+      → find (λ (s : SavedProcessView). s.number == p) node.current.processes ≡ o
       → stance_of net inputs rooms stations p
-      ≡ stance_in net inputs rooms stations node (outputs_of station.outlets) saved
-  stance_is p code station node saved coded there runs found =
+      ≡ beside_others net stations node (outputs_of station.outlets) (stance_there net inputs rooms node o)
+  stance_is p code station node o coded there runs found =
       ap (stance_with net inputs rooms stations p) coded
       ∙ (ap (stance_at net inputs rooms stations p) there
       ∙ (ap (stance_on net inputs rooms stations p (outputs_of station.outlets)) runs
-      ∙ ap (stance_there net inputs rooms stations node (outputs_of station.outlets)) found))
+      ∙ ap (λ (s : Option SavedProcessView). beside_others net stations node (outputs_of station.outlets)
+      (stance_there net inputs rooms node s)) found))
 
   nobody_goes : (p : ℕ) → is_going (stance_of net inputs rooms stations p) ≡ false
   nobody_goes p = coded (slice_get net.codes p) refl
@@ -562,18 +583,13 @@ module _ (net : Network) (inputs : List (List ℤ)) (rooms : List ℕ) (stations
                   → (o : Option SavedProcessView)
                   → find (λ (s : SavedProcessView). s.number == p) node.current.processes ≡ o
                   → is_going (stance_of net inputs rooms stations p) ≡ false
-              found node runs rest None here =
-                  ap is_going
-                  (ap (stance_with net inputs rooms stations p) is
-                  ∙ (ap (stance_at net inputs rooms stations p) at
-                  ∙ (ap (stance_on net inputs rooms stations p (outputs_of station.outlets)) runs
-                  ∙ ap (stance_there net inputs rooms stations node (outputs_of station.outlets)) here)))
+              found node runs rest None here = ap is_going (stance_is p code station node None is at runs here)
               found node runs rest (Some saved) here =
                   (let place = find_within (λ (s : SavedProcessView). s.number == p) node.current.processes saved here in
                   let number : saved.number ≡ p =
                   found_is (λ (s : SavedProcessView). s.number) node.current.processes p saved here in
                   let within = slice_get_within net.codes p code is in
-                  ap is_going (stance_is p code station node saved is at runs here)
+                  ap is_going (stance_is p code station node (Some saved) is at runs here)
                   ∙ (in_still (outputs_of station.outlets) node rest place.0 saved place.1
                   (omega (arith, number, within))).stays)
 
@@ -655,14 +671,13 @@ one_is_held net inputs rooms stations all numbered sound k station is wants =
           saved.number,
           held.0,
           below,
-          stance_is net inputs rooms stations all saved.number code.0 station node saved code.1
+          stance_is net inputs rooms stations all saved.number code.0 station node (Some saved) code.1
               (ap (slice_get stations) here ∙ is) runs found
               ∙ held.1,
         )
 
 -- Where a world stands still for want of room, a channel needs more.
-pub some_need : (world : WorldView) → WorldInvariant world → stands_still world ≡ true
-    → (c : ℕ) × (needed_at world ≡ Some c)
+pub some_need : StillNeedsRoom
 some_need world inv still =
     let all = list_all (is_still world.net world.inputs world.rooms world.stations) world.stations in
     let any = list_any (wants_room world.net world.inputs) world.stations in
@@ -678,62 +693,33 @@ some_need world inv still =
 
 -- ---- what is held
 
--- A process is held at a put on a channel for want of room: nothing is on its way out of the channel's log, there is no
--- place in it, and there would be one if the channel had all the room that it may have.
-pub record PutIsHeld (world : WorldView) (p c : ℕ) : Type 0 where
-  pub code : Code
-  pub station : StationView
-  pub node : RunningNode
-  pub saved : SavedProcessView
-  pub coded : slice_get world.net.codes p ≡ Some code
-  pub there : slice_get world.stations code.node ≡ Some station
-  pub runs : running_of station.node ≡ Some node
-  pub found : find (λ (s : SavedProcessView). s.number == p) node.current.processes ≡ Some saved
-  pub next : next_at (slice_get world.net.codes saved.number) saved.standing ≡ Puts c
-  pub settled : is_leaving world.net world.stations node (outputs_of station.outlets) c ≡ false
-  pub no_place : has_room (retained_share world.rooms node.current) node.current c (slice_get world.net.channels c)
-      ≡ false
-  pub place : has_room (full_share node.current) node.current c (slice_get world.net.channels c) ≡ true
-
--- what a process comes to that is held
-held_before : (world : WorldView) (node : RunningNode) (outputs : List OutputView) (c : ℕ) (next : Next)
-    → stance_before world.net world.inputs world.rooms world.stations node outputs next ≡ Held c
+-- what a process comes to at its node that is held
+own_held : (world : WorldView) (node : RunningNode) (c : ℕ) (next : Next)
+    → stance_before world.net world.inputs world.rooms node.current node.inboxes next ≡ Held c
     → (next ≡ Puts c)
-    × (is_leaving world.net world.stations node outputs c ≡ false)
     × (has_room (retained_share world.rooms node.current) node.current c (slice_get world.net.channels c) ≡ false)
     × (has_room (full_share node.current) node.current c (slice_get world.net.channels c) ≡ true)
-held_before world node outputs c Begins is = absurd (cc)
-held_before world node outputs c NoNext is = absurd (cc)
-held_before world node outputs c (Gets d) is =
-    at
-    (has_item world.inputs node.current node.inboxes d (slice_get world.net.channels d) ||
-    is_coming world.net world.stations node.inboxes d) is
+own_held world node c Begins is = absurd (cc)
+own_held world node c NoNext is = absurd (cc)
+own_held world node c (Gets d) is =
+    at (has_item world.inputs node.current node.inboxes d (slice_get world.net.channels d)) is
   where
     at : (b : Bool) → cond b GoesOn (Waits d) ≡ Held c
         → (Gets d ≡ Puts c)
-        × (is_leaving world.net world.stations node outputs c ≡ false)
         × (has_room (retained_share world.rooms node.current) node.current c (slice_get world.net.channels c) ≡ false)
         × (has_room (full_share node.current) node.current c (slice_get world.net.channels c) ≡ true)
     at true bad = absurd (cc)
     at false bad = absurd (cc)
-held_before world node outputs c (Puts d) is = at (now || leaves) refl full refl
+own_held world node c (Puts d) is = at now refl full refl
   where
     now : Bool
     now = has_room (retained_share world.rooms node.current) node.current d (slice_get world.net.channels d)
 
-    leaves : Bool
-    leaves = is_leaving world.net world.stations node outputs d
-
     full : Bool
     full = has_room (full_share node.current) node.current d (slice_get world.net.channels d)
 
-    stance : stance_before world.net world.inputs world.rooms world.stations node outputs (Puts d)
-        ≡ cond (now || leaves) GoesOn (cond full (Held d) (Full d))
-    stance = refl
-
-    at : (b : Bool) → (now || leaves) ≡ b → (f : Bool) → full ≡ f
+    at : (b : Bool) → now ≡ b → (f : Bool) → full ≡ f
         → (Puts d ≡ Puts c)
-        × (is_leaving world.net world.stations node outputs c ≡ false)
         × (has_room (retained_share world.rooms node.current) node.current c (slice_get world.net.channels c) ≡ false)
         × (has_room (full_share node.current) node.current c (slice_get world.net.channels c) ≡ true)
     at true some f fully =
@@ -751,15 +737,40 @@ held_before world node outputs c (Puts d) is = at (now || leaves) refl full refl
         sym (ap (λ (b : Bool). cond b GoesOn (cond full (Held d) (Full d))) none
         ∙ ap (λ (b : Bool). cond b (Held d) (Full d)) fully)
         ∙ is in
-        let same : d ≡ c = cc in
-        let parts = or_parts now leaves none in (
+        let same : d ≡ c = cc in (
           ap Puts same,
-          subst (λ (e : ℕ). is_leaving world.net world.stations node outputs e ≡ false) same parts.1,
           subst (λ (e : ℕ). has_room (retained_share world.rooms node.current) node.current e
-              (slice_get world.net.channels e) ≡ false) same parts.0,
+              (slice_get world.net.channels e) ≡ false) same none,
           subst (λ (e : ℕ). has_room (full_share node.current) node.current e (slice_get world.net.channels e) ≡ true)
               same fully,
         )
+
+-- one that is held beside the others is held at its node, and nothing is on its way out
+held_beside : (net : Network) (stations : List StationView) (node : RunningNode) (outputs : List OutputView)
+    (stance : Stance) (c : ℕ) → beside_others net stations node outputs stance ≡ Held c
+    → (stance ≡ Held c) × (is_leaving net stations node outputs c ≡ false)
+held_beside net stations node outputs GoesOn c is = absurd (cc)
+held_beside net stations node outputs Ended c is = absurd (cc)
+held_beside net stations node outputs (Waits d) c is = at (is_coming net stations node.inboxes d) is
+  where
+    at : (b : Bool) → cond b GoesOn (Waits d) ≡ Held c
+        → (Waits d ≡ Held c) × (is_leaving net stations node outputs c ≡ false)
+    at true bad = absurd (cc)
+    at false bad = absurd (cc)
+held_beside net stations node outputs (Full d) c is = at (is_leaving net stations node outputs d) is
+  where
+    at : (b : Bool) → cond b GoesOn (Full d) ≡ Held c
+        → (Full d ≡ Held c) × (is_leaving net stations node outputs c ≡ false)
+    at true bad = absurd (cc)
+    at false bad = absurd (cc)
+held_beside net stations node outputs (Held d) c is = at (is_leaving net stations node outputs d) refl is
+  where
+    at : (b : Bool) → is_leaving net stations node outputs d ≡ b → cond b GoesOn (Held d) ≡ Held c
+        → (Held d ≡ Held c) × (is_leaving net stations node outputs c ≡ false)
+    at true leaves bad = absurd (cc)
+    at false none same_stance =
+        let same : d ≡ c = cc in
+        (same_stance, subst (λ (e : ℕ). is_leaving net stations node outputs e ≡ false) same none)
 
 pub put_is_held : (world : WorldView) (p c : ℕ)
     → stance_of world.net world.inputs world.rooms world.stations p ≡ Held c → PutIsHeld world p c
@@ -788,28 +799,34 @@ put_is_held world p c is = coded (slice_get world.net.codes p) refl is
                 → PutIsHeld world p c
             runs None runs_is stance = absurd (cc)
             runs (Some node) runs_is stance =
-                found (find (λ (s : SavedProcessView). s.number == p) node.current.processes) refl stance
+                found (find (λ (s : SavedProcessView). s.number == p) node.current.processes) refl alone.0
               where
+                alone : (own_stance world.net world.inputs world.rooms p node ≡ Held c)
+                    × (is_leaving world.net world.stations node outputs c ≡ false)
+                alone =
+                    held_beside world.net world.stations node outputs
+                    (own_stance world.net world.inputs world.rooms p node) c stance
+
                 found : (o : Option SavedProcessView)
                     → find (λ (s : SavedProcessView). s.number == p) node.current.processes ≡ o
-                    → stance_there world.net world.inputs world.rooms world.stations node outputs o ≡ Held c
+                    → stance_there world.net world.inputs world.rooms node o ≡ Held c
                     → PutIsHeld world p c
-                found None found_is stance = absurd (cc)
-                found (Some saved) found_is stance =
-                    out (is_of saved.number node.out) (nat_lt node.version MAX_COUNT) stance
+                found None found_is bad = absurd (cc)
+                found (Some saved) found_is held =
+                    out (is_of saved.number node.out) (nat_lt node.version MAX_COUNT) held
                   where
                     next : Next
                     next = next_at (slice_get world.net.codes saved.number) saved.standing
 
                     before : Stance
-                    before = stance_before world.net world.inputs world.rooms world.stations node outputs next
+                    before = stance_before world.net world.inputs world.rooms node.current node.inboxes next
 
                     out : (own early : Bool) → cond own GoesOn (cond early before Ended) ≡ Held c
                         → PutIsHeld world p c
                     out true early bad = absurd (cc)
                     out false false bad = absurd (cc)
-                    out false true held =
-                        (let put = held_before world node outputs c next held in
+                    out false true it =
+                        (let put = own_held world node c next it in
                         record {
                           code = code;
                           station = station;
@@ -820,9 +837,9 @@ put_is_held world p c is = coded (slice_get world.net.codes p) refl is
                           runs = runs_is;
                           found = found_is;
                           next = put.0;
-                          settled = put.1;
-                          no_place = put.2;
-                          place = put.3;
+                          settled = alone.1;
+                          no_place = put.1;
+                          place = put.2;
                         })
 
 -- ---- more room makes a place
@@ -1008,65 +1025,68 @@ awaited_below net valid (Waits c) q is = putter_below net valid c q is
 awaited_below net valid (Held c) q is = getter_below net valid c q is
 awaited_below net valid (Full c) q is = getter_below net valid c q is
 
--- The channel that is found is one that a process needs, whose put there is held.
-pub needed_is_need : (world : WorldView) (c : ℕ) → IsValid world.net → needed_at world ≡ Some c
-    → (p : ℕ) × NeedsRoom world.net (stance_of world.net world.inputs world.rooms world.stations) p c
-    × PutIsHeld world p c
-needed_is_need world c valid is =
+-- The channel that is found is one for which a process needs more room.
+pub need_is_found : NeedIsFound
+need_is_found world c valid is =
     let stance = stance_of world.net world.inputs world.rooms world.stations in
     let found = need_is_need world.net stance c (λ p q waits. awaited_below world.net valid (stance p) q waits) is in
-    (found.0, found.2, put_is_held world found.0 c found.2.held)
+    (found.0, found.2)
 
--- And where none is found, no process needs more room.
-pub nobody_needs : (world : WorldView) → needed_at world ≡ None → (p c : ℕ) → p < length world.net.codes
-    → ¬ NeedsRoom world.net (stance_of world.net world.inputs world.rooms world.stations) p c
+-- And where none is found, no process needs more.
+pub nobody_needs : NobodyNeedsMore
 nobody_needs world none p c below needs =
     let found =
     none_in_need world.net (stance_of world.net world.inputs world.rooms world.stations) p c below needs in
     let bad : None ≡ Some found.0 = sym none ∙ found.1 in
     absurd (cc)
 
--- The channel that is found gets more, where it gets twice its room.
-pub gets_more : (world : WorldView) (c : ℕ) → IsValid world.net → AreRooms world.rooms → needed_at world ≡ Some c
-    → slice_index world.rooms c < wider (slice_index world.rooms c)
-gets_more world c valid rooms is =
-    let need = needed_is_need world c valid is in
-    let held = need.2 in
-    let below = below_share world need.0 c held in
+-- A process that needs more puts there, and is held.
+pub need_is_held : NeedIsHeld
+need_is_held world p c valid needs =
+    let held = put_is_held world p c needs.held in
+    let there = puts_there world p c valid held in (
+      held,
+      subst (λ (o : Option Channel). IfSome o (λ ends. ends.producer ≡ Process p)) (sym there.1) there.2,
+      below_share world p c held,
+    )
+
+-- That channel gets more.
+pub gets_more : NeedGetsMore
+gets_more world p c valid rooms needs =
+    let held = put_is_held world p c needs.held in
+    let below = below_share world p c held in
     let share = share_within held.node.current in
     let known = channel_there (full_share held.node.current) held.node.current world.net.channels c held.place in
     let here : c < length world.rooms = omega (arith, known, valid.channel_count, rooms.count) in
     let room = rooms.each c 0 here in
-    higher (slice_index world.rooms c) (omega (arith, below, share)) room.0
+    let set = get_or-set_same world.rooms c (wider (slice_index world.rooms c)) 0 here in
+    let more = higher (slice_index world.rooms c) (omega (arith, below, share)) room.0 in
+    omega (arith, set, more)
   where
     higher : (room : ℕ) → room < MAX_RETAINED_ITEMS → MIN_ROOM ≤ room → room < min (room * 2) MAX_RETAINED_ITEMS
     higher room few some = omega (arith, few, some)
 
 -- ---- by node
 
--- The channel that a node is found to need is one that a process needs, whose put there is held.
-pub needed_for_is_need : (world : WorldView) (node c : ℕ) → IsValid world.net → needed_for world node ≡ Some c
-    → (p : ℕ) × NeedsRoom world.net (stance_of world.net world.inputs world.rooms world.stations) p c
-    × PutIsHeld world p c
-needed_for_is_need world node c valid is =
+-- The channel that is found for a node is one for which a process needs more room.
+pub node_need_is_found : NodeNeedIsFound
+node_need_is_found world node c valid is =
     let stance = stance_of world.net world.inputs world.rooms world.stations in
     let found =
     need_for_is_need world.net stance node c (λ p q waits. awaited_below world.net valid (stance p) q waits) is in
-    (found.0, found.2, put_is_held world found.0 c found.2.held)
+    (found.0, found.2)
 
--- And a process that needs room is found by the node on which it is.
-pub need_shows : (world : WorldView) (p c : ℕ)
-    → (needs : NeedsRoom world.net (stance_of world.net world.inputs world.rooms world.stations) p c)
-    → (held : PutIsHeld world p c) → (d : ℕ) × (needed_for world held.code.node ≡ Some d)
-need_shows world p c needs held =
-    need_is_shown world.net (stance_of world.net world.inputs world.rooms world.stations) p c held.code held.coded
-    (slice_get_within world.net.codes p held.code held.coded) needs
+-- And a process that needs more room is found by its node.
+pub need_is_shown : NeedIsShown
+need_is_shown world p c code coded needs =
+    need_at_node world.net (stance_of world.net world.inputs world.rooms world.stations) p c code coded
+    (slice_get_within world.net.codes p code coded) needs
 
--- So where a world stands still for want of room, some node finds a channel that needs more.
-pub some_node_needs : (world : WorldView) → WorldInvariant world → stands_still world ≡ true
-    → (node c : ℕ) × (needed_for world node ≡ Some c)
-some_node_needs world inv still =
+-- So where a world stands still for want of room, some node finds a channel.
+pub still_shows_need : StillShowsNeed
+still_shows_need world inv still =
     let need = some_need world inv still in
-    let found = needed_is_need world need.0 inv.valid need.1 in
-    let shown = need_shows world found.0 need.0 found.1 found.2 in
-    (found.2.code.node, shown.0, shown.1)
+    let found = need_is_found world need.0 inv.valid need.1 in
+    let held = put_is_held world found.0 need.0 found.1.held in
+    let shown = need_is_shown world found.0 need.0 held.code held.coded found.1 in
+    (held.code.node, shown.0, shown.1)

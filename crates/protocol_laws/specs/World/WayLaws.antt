@@ -5,7 +5,7 @@ use Rattle.std.proofs.Common.{length, Option, Some, None, refl, sym, ap, ◌∙�
 use Rattle.std.proofs.lemmas.Bool.{cases_eq, cases_lt, cases_Bool, eq-eqb, eqb-true, or_parts}
 use Rattle.std.proofs.lemmas.List.Folds.{Any-from_list_any}
 use Rattle.std.proofs.lemmas.Map.Steps.{length-le_from_distinct_below}
-use Rattle.std.proofs.lemmas.Option.{slice_get_cases, slice_get_within, slice_get-get_or}
+use Rattle.std.proofs.lemmas.Option.{slice_get_within, slice_get-get_or}
 use Rattle.std.specs.List.{AllByRecursion, IsDistinct, list_any}
 use Rattle.std.specs.Prelude.{if◌then◌else◌, slice_get}
 use Rattle.protocol.specs.Node.Common.{Code, Network}
@@ -509,10 +509,10 @@ need_for_is_need net stance node c bound is =
     at false processes need = absurd (cc)
 
 -- And a process that needs room is found by its node.
-pub need_is_shown : (net : Network) (stance : ℕ → Stance) (p c : ℕ) (code : Code) → slice_get net.codes p ≡ Some code
+pub need_at_node : (net : Network) (stance : ℕ → Stance) (p c : ℕ) (code : Code) → slice_get net.codes p ≡ Some code
     → p < length net.codes → NeedsRoom net stance p c
     → (d : ℕ) × (first_of_any (need_of net stance code.node) 0 (length net.codes) ≡ Some d)
-need_is_shown net stance p c code coded below needs =
+need_at_node net stance p c code coded below needs =
     let on = needs_on_way net stance p c needs in
     let here : has_process net code.node p ≡ true = ap (is_on code.node) coded ∙ eq-eqb code.node code.node refl in
     let held : is_held (stance p) ≡ true = ap is_held needs.held in

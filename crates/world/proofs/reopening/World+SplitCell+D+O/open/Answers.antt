@@ -27,8 +27,8 @@ pub invariant_of-result : goal.invariant_of-result
 invariant_of-result g c = record {
   sound = (reopened_soundly g.O.Outlet.taken g.O.Outlet.failures c.deref.result.now c.args.net.value
       c.args.inputs.value c.args.disks.items c.args.outputs.items (map fresh c.args.outputs.items)
-      c.reopen_stations.new.stations.items (traffic_of c.in-Ok-Ok.wire) c.deref.ensures refl c.in-Ok-Ok.ensures
-      c.in-Ok.ensures.opened c.requires.left).0;
+      c.reopen_stations.new.stations.items (traffic_of c.in-Ok-Ok.wire) c.even.result c.deref.ensures refl c.in-Ok-Ok.ensures
+      c.even.ensures c.in-Ok.ensures.opened c.requires.left).0;
 }
 
 pub returns-in-Ok-clause-made : goal.returns-in-Ok-clause-made
@@ -42,16 +42,20 @@ returns-in-Ok-clause-made g c =
     let traffic = traffic_of c.in-Ok-Ok.wire in
     let all =
     reopened_all taken failures c.deref.result.now c.args.net.value c.args.inputs.value disks outputs
-    (map fresh outputs) stations traffic c.deref.ensures refl c.in-Ok-Ok.ensures c.in-Ok.ensures.opened in
+    (map fresh outputs) stations traffic c.even.result c.deref.ensures refl c.in-Ok-Ok.ensures c.even.ensures
+    c.in-Ok.ensures.opened in
     let sound =
     reopened_soundly taken failures c.deref.result.now c.args.net.value c.args.inputs.value disks outputs
-    (map fresh outputs) stations traffic c.deref.ensures refl c.in-Ok-Ok.ensures c.in-Ok.ensures.opened
+    (map fresh outputs) stations traffic c.even.result c.deref.ensures refl c.in-Ok-Ok.ensures c.even.ensures
+    c.in-Ok.ensures.opened
     c.requires.left in
     record {
       opening = reopened_world taken failures c.deref.result.now c.args.net.value c.args.inputs.value disks outputs
-          (map fresh outputs) stations traffic c.deref.ensures refl c.in-Ok-Ok.ensures c.in-Ok.ensures.opened;
+          (map fresh outputs) stations traffic c.even.result c.deref.ensures refl c.in-Ok-Ok.ensures c.even.ensures
+          c.in-Ok.ensures.opened;
       opens = reopened_opens taken failures c.deref.result.now c.args.net.value c.args.inputs.value disks outputs
-          (map fresh outputs) stations traffic c.deref.ensures refl c.in-Ok-Ok.ensures c.in-Ok.ensures.opened;
+          (map fresh outputs) stations traffic c.even.result c.deref.ensures refl c.in-Ok-Ok.ensures c.even.ensures
+          c.in-Ok.ensures.opened;
       same_left = sound.1;
       same = (refl, refl);
       outlets = reopened_outlets taken failures net outputs 0 disks stations all;
