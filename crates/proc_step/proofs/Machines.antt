@@ -8,9 +8,12 @@ use Rattle.kahn_net.specs.Common.{put_by, put_after, left_by, left_after}
 use Rattle.kahn_net.specs.Statements.{after_step}
 use Rattle.kahn_net.specs.Laws.Puts.{length-put_after}
 use Rattle.proc_code.specs.declared.instruction.Instruction.{Instruction}
-use Rattle.proc_code.specs.declared.instruction.Instruction.TheVariants.{Get, Put}
+use Rattle.proc_code.specs.declared.instruction.Instruction.TheVariants.{Apply, Get, Put}
+use Rattle.kahn_net.specs.Statements.{apply}
+use Rattle.kahn_net.specs.declared.program.Operator.{Operator}
+use Rattle.proc_code.specs.declared.instruction.Destination.{Destination}
 use Rattle.proc_code.specs.declared.instruction.Operand.{Operand}
-use Rattle.proc_code.specs.Machine.{behind_value, Continuation, innermost, round_it, perform, run, value_in}
+use Rattle.proc_code.specs.Machine.{behind_value, Continuation, innermost, round_it, perform, run, stack_with, value_in, vars_with}
 use Rattle.proc_code.specs.Laws.Blocks.{innermost_is, round_it_is}
 use Rattle.proc_step.specs.declared.machine.Flow.{Flow}
 use Rattle.proc_step.specs.declared.machine.Flow.TheVariants.{RanOut}
@@ -184,6 +187,22 @@ put_moves i channel site value room m s sent is can e f =
     (λ go. ap (λ (j : Instruction). trace_at (perform (Some j) go) m) is
     ∙ ap (λ (w : List ℤ). after_step act (go (m.place + 1) w m.left.items m.variables.items m.unread.items)) (sym f))
     can refl e
+
+-- what an operator does
+pub apply_moves : (i : Instruction) (operator : Operator) (left right : Operand) (to : Destination) (room : List ℕ)
+    (m : Machine) (s : List ℤ) (v : Vec ℤ Global) → i ≡ Apply operator left right to
+    → (let x = apply operator (value_in left (behind_value right m.stack) m.variables.items)
+    (value_in right m.stack m.variables.items) in
+    (s ≡ stack_with to x (behind_value left (behind_value right m.stack))) × (v.items ≡ vars_with to x m.variables.items))
+    → Moved i room m (record m { place = m.place + 1; stack = s; variables = v })
+apply_moves i operator left right to room m s v is made =
+    Quietly
+    (λ go. ap (λ (j : Instruction). trace_at (perform (Some j) go) m) is
+    ∙ (ap (λ (w : List ℤ). go (m.place + 1) w m.left.items (vars_with to (apply operator
+    (value_in left (behind_value right m.stack) m.variables.items) (value_in right m.stack m.variables.items))
+    m.variables.items) m.unread.items) (sym made.0)
+    ∙ ap (λ (w : List ℤ). go (m.place + 1) s m.left.items w m.unread.items) (sym made.1)))
+    refl refl
 
 -- the stack of passes behind a pass, by what was taken off it
 pub more_remain : (l rest : List ℕ) (k : ℕ) → l ≡ rest ++ k ∷ [] → 1 < k

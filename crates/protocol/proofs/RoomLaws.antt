@@ -1,8 +1,8 @@
 -- The rooms of channels, made and changed.
-use Rattle.std.proofs.Common.{ℕ, ◌*◌, List, map, ◌∙◌, arith}
+use Rattle.std.proofs.Common.{ℕ, ◌*◌, arith}
 use Rattle.std.proofs.Math.Nat.{min-le_right, le-min}
-use Rattle.std.proofs.lemmas.List.{length-map, length-replicate}
-use Rattle.std.proofs.lemmas.List.Elements.{All-map, All-replicate, All-weaker}
+use Rattle.std.proofs.lemmas.List.{length-replicate}
+use Rattle.std.proofs.lemmas.List.Elements.{All-replicate}
 use Rattle.ckpt_codec.specs.declared.lengths.TheConstants.{MAX_RETAINED_ITEMS}
 use Rattle.kahn_net.specs.declared.limits.TheConstants.{MAX_CHANNELS}
 use Rattle.protocol.specs.Node.Sharing.{AreRooms, IsRoom, even_rooms, wider}
@@ -22,10 +22,3 @@ wider_is_room room is =
       le-min (omega (arith, least)) (omega arith),
       most,
     )
-
--- twice the room for each
-pub widened_are_rooms : (rooms : List ℕ) → AreRooms rooms → AreRooms (map wider rooms)
-widened_are_rooms rooms are = record {
-  count = length-map rooms wider ∙ are.count;
-  each = All-map IsRoom wider rooms (All-weaker IsRoom (λ room. IsRoom (wider room)) wider_is_room rooms are.each);
-}

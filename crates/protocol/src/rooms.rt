@@ -1,6 +1,6 @@
 //! The rooms of channels.
-ghost use Rattle.std.specs.Prelude.{◌≡◌, map, slice_index, slice_set};
-ghost use Rattle.protocol.specs.Node.Sharing.{AreRooms, IsRoom, even_rooms, wider};
+ghost use Rattle.std.specs.Prelude.{◌≡◌, slice_index, slice_set};
+ghost use Rattle.protocol.specs.Node.Sharing.{AreRooms, IsRoom, even_rooms, wider, wider_at};
 
 use ckpt_codec::MAX_RETAINED_ITEMS;
 use kahn_net::MAX_CHANNELS;
@@ -26,13 +26,15 @@ impl Model for Rooms {
 }
 
 // Twice the room of a channel, and no more than a record has.
-fn wider(room: u16) -> u16
-    ensures { result ≡ wider room }
+fn wider(room: usize) -> usize
+    requires { IsRoom room }
+    ensures value { result ≡ wider room }
+    ensures room { IsRoom result }
 {
-    if usize::from(room) < MAX_RETAINED_ITEMS / 2 {
+    if room < MAX_RETAINED_ITEMS / 2 {
         room * 2
     } else {
-        MAX_RETAINED_ITEMS as u16
+        MAX_RETAINED_ITEMS
     }
 }
 
@@ -63,13 +65,12 @@ impl Rooms {
         self.items[usize::from(channel)] = items as u16;
     }
 
-    /// Gives each channel twice its room, up to `MAX_RETAINED_ITEMS`.
-    pub fn widen(&mut self)
-        ensures { self.new ≡ map wider self.old }
+    /// Gives a channel twice its room, up to `MAX_RETAINED_ITEMS`.
+    pub fn widen(&mut self, channel: u8)
+        ensures { self.new ≡ wider_at channel self.old }
     {
-        for room in &mut self.items {
-            *room = wider(*room);
-        }
+        let items = wider(self.of(channel));
+        self.set(channel, items);
     }
 
     /// Each number that a channel may have has a room that a channel may be given.

@@ -4,7 +4,7 @@ use mathlib.Core.Logic.{∥∥₁_map}
 use Rattle.protocol.specs.Node.Common.{RecordView}
 use Rattle.protocol.specs.World.Common.{ByNode, WorldInvariant, ReplyView, WorldView}
 use Rattle.protocol.specs.declared.event.Deed.TheVariants as event
-use Rattle.protocol.specs.World.RoomNeeds.{wider_at}
+use Rattle.protocol.specs.Node.Sharing.{wider_at}
 use Rattle.protocol_laws.specs.World.StepKeeps.{rooms_keep_world, step_keeps}
 use Rattle.replay.specs.Armed.{ArmedEvent, ArmedView, OfWorld, ArmCrash, IsArmedStep, EndsWith}
 use Rattle.replay.specs.Armed.{crash_after, delivered_to}

@@ -4,7 +4,7 @@ use Rattle.protocol.specs.Node.Common.{RecordView, IsOut}
 use Rattle.protocol.specs.World.Common.{DoneView, Install, event_node, WorldInvariant, ReplyView, StationView, IsStep}
 use Rattle.protocol.specs.World.Common.{WorldView}
 use Rattle.protocol.specs.declared.reply.Reply.TheVariants.{Installed, Discarded}
-use Rattle.protocol.specs.World.RoomNeeds.{wider_at}
+use Rattle.protocol.specs.Node.Sharing.{wider_at}
 use Rattle.replay.specs.Armed.{ArmedView}
 use Rattle.replay.specs.Replay.{Happening, Made, Silent, Widened, IsReplay, IsSilence, LeadsTo}
 use Rattle.replay.specs.declared.kept.ScriptedEvent.{ScriptedEvent}

@@ -8,7 +8,7 @@ ghost use Rattle.node_memory.specs.RunningView.{running_view};
 ghost use Rattle.protocol.specs.Node.Popping.{has_place};
 ghost use Rattle.protocol.specs.World.Common.{outputs_of};
 ghost use Rattle.protocol.specs.World.Quiet.{sent_at};
-ghost use Rattle.protocol.specs.World.Still.{has_come, has_come_from, has_let_go, is_settled_at, is_still, keeps_all, kept_at, kept_by, wants_room};
+ghost use Rattle.protocol.specs.World.Still.{has_come, has_come_from, has_let_go, is_settled_at, is_still, keeps_all, kept_at, kept_by};
 ghost use Rattle.station.specs.StationView.{outlet_views};
 ghost use Rattle.station.specs.StationView.{station_view};
 
@@ -16,7 +16,6 @@ use crate::output::Output;
 use crate::picking::has_more;
 use crate::quiet::have_all_left;
 use crate::station::Station;
-use ckpt_codec::MAX_RETAINED_ITEMS;
 use kahn_net::MAX_COUNT;
 use layout::{consumer_node, producer_node};
 use net_check::{Inputs, Net};
@@ -208,14 +207,5 @@ impl<C: SlotCell, O: Outlet> Station<C, O> {
             }
             Err(_) => false,
         }
-    }
-
-    /// Whether its node could grant a job where each channel had as much room as a record has. Takes no memory.
-    pub fn wants_room(&self, net: &Net, inputs: &Inputs) -> bool
-        ensures { result ≡ wants_room (network_of net.now.program) inputs.now
-            (station_view O.taken O.failures self.now) }
-    {
-        self.node
-            .has_job(net, inputs, &Rooms::even(MAX_RETAINED_ITEMS))
     }
 }

@@ -1,6 +1,6 @@
 -- How many items each log of an image may have: an equal share of those for which a record has room, and no more than
 -- the room that the world gives its channel.
-use Rattle.std.specs.Prelude.{◌≡◌, ℕ, ◌≤◌, ◌*◌, ◌/◌, min, Bool, true, false, List, length, replicate, All, slice_index}
+use Rattle.std.specs.Prelude.{◌≡◌, ℕ, ◌≤◌, ◌*◌, ◌/◌, min, Bool, true, false, List, length, replicate, All, slice_index, slice_set}
 use Rattle.std.specs.List.{count_by}
 use Rattle.kahn_net.specs.declared.limits.TheConstants.{MAX_CHANNELS}
 use Rattle.ckpt_codec.specs.Common.{LogState, ImageView, SavedEnd, Receives, Sends, MAX_COUNT}
@@ -43,6 +43,10 @@ even_rooms room = replicate MAX_CHANNELS room
 -- twice the room of a channel, and no more than a record has
 abbrev pub wider : ℕ → ℕ
 wider room = min (room * 2) MAX_RETAINED_ITEMS
+
+-- rooms of which this channel has twice what it had, and no more than a record has
+abbrev pub wider_at : ℕ → List ℕ → List ℕ
+wider_at channel rooms = slice_set rooms channel (wider (slice_index rooms channel))
 
 -- as far as its room a log may be filled, and no further than its share
 abbrev pub share_in : List ℕ → ℕ → ℕ → ℕ

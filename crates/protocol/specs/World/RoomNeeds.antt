@@ -7,12 +7,12 @@
 -- which a process on the way is held for want of it. Where that way goes round, this channel lies on the round. Where it
 -- ends, no other on the rest of the way would help.
 use Rattle.std.specs.Prelude.{◌≡◌, ◌&&◌, ◌⊎◌, ℕ, zero, suc, Bool, true, false, if◌then◌else◌, List, [], ◌∷◌, length, Option, Some, None}
-use Rattle.std.specs.Prelude.{slice_get, slice_index, slice_set}
+use Rattle.std.specs.Prelude.{slice_get}
 use Rattle.std.specs.List.{list_any}
 use Rattle.ckpt_codec.specs.Common.{Network, Channel, Port, Outside, Process}
 use Rattle.turns.specs.Turns.{or_else}
 use Rattle.protocol.specs.Node.Layout.{has_process}
-use Rattle.protocol.specs.Node.Sharing.{wider}
+use Rattle.protocol.specs.Node.Sharing.{wider_at}
 use Rattle.protocol.specs.World.Stances.{stance_of}
 use Rattle.protocol.specs.World.Steps.{WorldView, with_rooms}
 use Rattle.protocol.specs.declared.stance.Stance.{Stance}
@@ -136,10 +136,6 @@ needed_for world node =
     first_of_any (need_of world.net (stance_of world.net world.inputs world.rooms world.stations) node) 0 (length world.net.codes)
 
 -- ---- more room
-
--- rooms of which this channel has twice what it had, and no more than a record has
-abbrev pub wider_at : ℕ → List ℕ → List ℕ
-wider_at channel rooms = slice_set rooms channel (wider (slice_index rooms channel))
 
 -- a world in which this channel has so much
 abbrev pub widened_at : ℕ → WorldView → WorldView

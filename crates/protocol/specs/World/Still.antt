@@ -10,13 +10,13 @@ use Rattle.protocol.specs.Node.Choosing.{node_job}
 use Rattle.protocol.specs.Node.Modes.{is_none}
 use Rattle.protocol.specs.Node.NodeView.{RunningNode, running_of}
 use Rattle.protocol.specs.Node.Popping.{has_place}
-use Rattle.protocol.specs.Node.Sharing.{even_rooms, wider}
+use Rattle.protocol.specs.Node.Sharing.{even_rooms}
 use Rattle.protocol.specs.World.Choice.{has_more}
 use Rattle.protocol.specs.World.Invariant.{outputs_of}
 use Rattle.protocol.specs.World.OutputView.{OutputView}
 use Rattle.protocol.specs.World.Quiet.{have_all_left, sent_at}
 use Rattle.protocol.specs.World.StationView.{StationView}
-use Rattle.protocol.specs.World.Steps.{WorldView, with_rooms}
+use Rattle.protocol.specs.World.Steps.{WorldView}
 use Rattle.protocol.specs.declared.links.Inbox.{Inbox}
 use Rattle.protocol.specs.declared.links.Outbox.{Outbox}
 
@@ -81,11 +81,3 @@ abbrev pub stands_still : WorldView → Bool
 stands_still world =
     list_all (is_still world.net world.inputs world.rooms world.stations) world.stations &&
     list_any (wants_room world.net world.inputs) world.stations
-
--- a world in which each channel has twice the room, and no more than a record has
-abbrev pub widened : WorldView → WorldView
-widened world = with_rooms (map wider world.rooms) world
-
--- a world that gets more room for its channels where it stands still for want of it, and else stays as it is
-abbrev pub given_room : WorldView → WorldView
-given_room world = if stands_still world then widened world else world

@@ -1,13 +1,14 @@
-use Rattle.std.proofs.Common.{◌++◌, ◌∷◌, ◌<◌, [], List, ℤ, set, length, w64, FitsSigned, rules, ap, sym, subst, ◌∙◌}
+use Rattle.std.proofs.Common.{◌≡◌, ◌++◌, ◌∷◌, ◌<◌, [], List, ℤ, set, length, w64, to_z, of_z, FitsSigned, rules, ap, sym, subst, ◌∙◌}
 use Rattle.std.proofs.Common.{arith}
 use Rattle.std.specs.Prelude.{slice_index}
 use Rattle.std.specs.Vec.{with_items}
 use Rattle.std.proofs.lemmas.Int.{to_z-of_z}
 use Rattle.std.proofs.lemmas.List.{with_items_is}
 use Rattle.kahn_net.specs.Common.{history_of}
-use Rattle.proc_code.specs.Machine.{value_in}
+use Rattle.kahn_net.specs.Statements.{apply}
+use Rattle.proc_code.specs.Machine.{behind_value, stack_with, value_in, vars_with}
 use Rattle.proc_step.specs.Stepping.{held}
-use Rattle.proc_step.proofs.Machines.{get_moves, put_moves}
+use Rattle.proc_step.proofs.Machines.{apply_moves, get_moves, put_moves}
 use Rattle.proc_step.proofs.machine.Machine.perform.Goals as goal
 
 pub returns-in-Some : goal.returns-in-Some
@@ -48,3 +49,38 @@ returns-in_ok-send-in-Put c place =
     ∙ (ap (λ (v : ℤ). set before channel (history_of before channel ++ v ∷ [])) same
     ∙ ap (λ (l : List (List ℤ)). set l channel (history_of l channel ++ value_in value m.stack m.variables.items ∷ []))
     c.deref_mut-in-Put.ensures.value)) c.take_value-item.ensures.rest
+
+pub returns-in_ok-put_value-in-Apply : goal.returns-in_ok-put_value-in-Apply
+returns-in_ok-put_value-in-Apply c place =
+    let m = held c.args.self.now place c.args.stack.now in
+    let vars = m.variables.items in
+    let operator = c.in-Apply.operator in
+    let left = c.in-Apply.left in
+    let right = c.in-Apply.right in
+    let to = c.in-Apply.to in
+    let at_right = c.take_value-right in
+    let at_left = c.take_value-left in
+    let of_right : FitsSigned w64 at_right.result = search rules in
+    let of_left : FitsSigned w64 at_left.result = search rules in
+    let of_made : FitsSigned w64 c.operate.result = search rules in
+    let right_is = at_right.ensures.value ∙ ap (value_in right m.stack) c.deref-in-Apply.ensures.value in
+    let left_is =
+    at_left.ensures.value ∙ ap (λ (s : List ℤ). value_in left s c.deref-in-Apply-2.result.now) at_right.ensures.rest
+    ∙ ap (value_in left (behind_value right m.stack)) c.deref-in-Apply-2.ensures.value in
+    let x = apply operator (value_in left (behind_value right m.stack) vars) (value_in right m.stack vars) in
+    let made : c.operate.result ≡ x =
+    c.operate.ensures
+    ∙ (ap (λ (l : ℤ). apply operator l (to_z w64 (of_z w64 at_right.result))) (to_z-of_z w64 at_left.result of_left ∙ left_is)
+    ∙ ap (apply operator _) (to_z-of_z w64 at_right.result of_right ∙ right_is)) in
+    let value = to_z-of_z w64 c.operate.result of_made ∙ made in
+    apply_moves c.args.instruction.now operator left right to c.args.room.now m c.put_value-in-Apply.new.stack
+    (with_items m.variables c.put_value-in-Apply.new.variables) c.in-Apply.is (
+      c.in_ok-put_value-in-Apply.ensures.stack
+          ∙ (ap (λ (y : ℤ). stack_with to y at_left.new.stack) value
+          ∙ ap (stack_with to x) (at_left.ensures.rest ∙ ap (behind_value left) at_right.ensures.rest)),
+      with_items_is m.variables _
+          (omega (arith, c.put_value-in-Apply.auto.variables, c.deref_mut-in-Apply.ensures.len))
+          ∙ (c.in_ok-put_value-in-Apply.ensures.variables
+          ∙ (ap (λ (y : ℤ). vars_with to y c.deref_mut-in-Apply.result.now) value
+          ∙ ap (vars_with to x) c.deref_mut-in-Apply.ensures.value)),
+    )

@@ -1,0 +1,187 @@
+// Which channel of a world needs more room, and how it gets more.
+ghost use Rattle.std.specs.Prelude.{◌≡◌, map, slice_get};
+ghost use Rattle.protocol.specs.Node.Common.{network_of};
+ghost use Rattle.protocol.specs.Node.Layout.{has_process};
+ghost use Rattle.protocol.specs.World.RoomNeeds.{awaited, getter_of, is_held, need_of, need_on, needed_for, process_on, putter_of, way_from, widened_at};
+ghost use Rattle.protocol.specs.World.Stances.{stance_of};
+ghost use Rattle.station.specs.StationView.{station_view};
+ghost use Rattle.world.specs.WholeView.{inputs_in, net_in, stations_in, wire_in, world_of};
+
+use crate::world::World;
+use kahn_net::Port;
+use net_check::{Inputs, Net};
+use outlet::Outlet;
+use protocol::{Rooms, Stance};
+use slot_cell::SlotCell;
+use station::Station;
+
+// How the process of this number stands.
+fn stance_of<C: SlotCell, O: Outlet>(
+    net: &Net,
+    inputs: &Inputs,
+    rooms: &Rooms,
+    stations: &[Station<C, O>],
+    process: usize,
+) -> Stance
+    ensures { result ≡ stance_of (network_of net.now.program) inputs.now rooms.now
+        (map (station_view O.taken O.failures) stations.now) process }
+{
+    match net.program.processes.get(process) {
+        Some(code) => match stations.get(usize::from(code.node)) {
+            Some(station) => station.stance(net, inputs, rooms, stations, process),
+            None => Stance::Ended,
+        },
+        None => Stance::Ended,
+    }
+}
+
+// The process at an end of a channel.
+fn process_on(port: Port) -> Option<usize>
+    ensures { result ≡ process_on port }
+{
+    match port {
+        Port::Outside => None,
+        Port::Process(process) => Some(process),
+    }
+}
+
+// The process that puts on a channel.
+fn putter_of(net: &Net, channel: usize) -> Option<usize>
+    ensures { result ≡ putter_of (slice_get (network_of net.now.program).channels channel) }
+{
+    match net.program.channels.get(channel) {
+        Some(ends) => process_on(ends.producer),
+        None => None,
+    }
+}
+
+// The process that gets from a channel.
+fn getter_of(net: &Net, channel: usize) -> Option<usize>
+    ensures { result ≡ getter_of (slice_get (network_of net.now.program).channels channel) }
+{
+    match net.program.channels.get(channel) {
+        Some(ends) => process_on(ends.consumer),
+        None => None,
+    }
+}
+
+// The process for which one waits that stands so.
+fn awaited(net: &Net, stance: Stance) -> Option<usize>
+    ensures { result ≡ awaited (network_of net.now.program) stance }
+{
+    match stance {
+        Stance::GoesOn => None,
+        Stance::Ended => None,
+        Stance::Waits { channel } => putter_of(net, channel),
+        Stance::Held { channel } => getter_of(net, channel),
+        Stance::Full { channel } => getter_of(net, channel),
+    }
+}
+
+// The channel at which the last one is held on the way from a process, if nobody on it goes on. It asks how each one stands as it comes
+// to it, up to the first that goes on.
+fn need_from<C: SlotCell, O: Outlet>(
+    net: &Net,
+    inputs: &Inputs,
+    rooms: &Rooms,
+    stations: &[Station<C, O>],
+    process: usize,
+) -> Option<usize>
+    ensures { result ≡ need_on (stance_of (network_of net.now.program) inputs.now rooms.now
+        (map (station_view O.taken O.failures) stations.now))
+        (way_from (network_of net.now.program) (stance_of (network_of net.now.program) inputs.now rooms.now
+        (map (station_view O.taken O.failures) stations.now)) process) }
+{
+    let mut last = None;
+    let mut next = Some(process);
+    for _step in 0..net.program.processes.len() + 1 {
+        let Some(process) = next else {
+            return last;
+        };
+        let stance = stance_of(net, inputs, rooms, stations, process);
+        match stance {
+            Stance::GoesOn => return None,
+            Stance::Held { channel } => last = Some(channel),
+            Stance::Ended | Stance::Waits { .. } | Stance::Full { .. } => {}
+        }
+        next = awaited(net, stance);
+    }
+    last
+}
+
+// Whether a process is held that stands so.
+fn is_held(stance: Stance) -> bool
+    ensures { result ≡ is_held stance }
+{
+    match stance {
+        Stance::Held { .. } => true,
+        Stance::GoesOn | Stance::Ended | Stance::Waits { .. } | Stance::Full { .. } => false,
+    }
+}
+
+// Whether the process of this number is one of a node.
+fn has_process(net: &Net, node: u8, process: usize) -> bool
+    ensures { result ≡ has_process (network_of net.now.program) node process }
+{
+    match net.program.processes.get(process) {
+        Some(code) => code.node == node,
+        None => false,
+    }
+}
+
+// What is needed on the way from a process, if it is one of this node and is held for want of room.
+fn need_of<C: SlotCell, O: Outlet>(
+    net: &Net,
+    inputs: &Inputs,
+    rooms: &Rooms,
+    stations: &[Station<C, O>],
+    node: u8,
+    process: usize,
+) -> Option<usize>
+    ensures { result ≡ need_of (network_of net.now.program) (stance_of (network_of net.now.program) inputs.now rooms.now
+        (map (station_view O.taken O.failures) stations.now)) node process }
+{
+    if has_process(net, node, process)
+        && is_held(stance_of(net, inputs, rooms, stations, process))
+    {
+        need_from(net, inputs, rooms, stations, process)
+    } else {
+        None
+    }
+}
+
+impl<C: SlotCell, O: Outlet> World<C, O> {
+    /// The channel that needs more room, as a process of this node shows, if one does: a put of it is held for want of room, and nobody will
+    /// ever go on to whom the way leads from there, from each process to the one for which it waits, unless a channel gets more. Whatever
+    /// else goes on beside these processes plays no part. Where several puts are held on that way, it is the channel of the last one: of one
+    /// on the round, where the way goes round, so that no channel gets more for others' sake. Takes no memory.
+    pub fn needed_for(&self, node: u8) -> Option<u8>
+        ensures { result ≡ needed_for (world_of self.now) node }
+    {
+        for process in 0..self.net.program.processes.len() {
+            let need = need_of(
+                &self.net,
+                &self.inputs,
+                &self.channel_rooms,
+                &self.stations,
+                node,
+                process,
+            );
+            if let Some(channel) = need {
+                // (A network has at most 64 channels.)
+                return Some(channel as u8);
+            }
+        }
+        None
+    }
+
+    /// Doubles how many items a channel retains at most, up to `MAX_RETAINED_ITEMS`. Takes no memory.
+    pub fn widen_at(&mut self, channel: u8)
+        // Its room is what differs, and nothing else.
+        ensures set { world_of self.new ≡ widened_at channel (world_of self.old) }
+        ensures same { (net_in self.new ≡ net_in self.old) × (inputs_in self.new ≡ inputs_in self.old)
+            × (stations_in self.new ≡ stations_in self.old) × (wire_in self.new ≡ wire_in self.old) }
+    {
+        self.channel_rooms.widen(channel);
+    }
+}
