@@ -2,8 +2,9 @@
 ghost use Rattle.std.specs.Prelude.{◌≡◌, map, slice_get};
 ghost use Rattle.protocol.specs.Node.Common.{network_of};
 ghost use Rattle.protocol.specs.Node.Layout.{has_process};
-ghost use Rattle.protocol.specs.World.RoomNeeds.{awaited, getter_of, is_held, need_of, need_on, needed_for, process_on, putter_of, way_from, widened_at};
+ghost use Rattle.protocol.specs.World.RoomNeeds.{awaited, getter_of, held_on, is_going, is_held, need_of, need_on, needed_for, process_on, putter_of, way_from, widened_at};
 ghost use Rattle.protocol.specs.World.Stances.{stance_of};
+ghost use Rattle.turns.specs.Turns.{or_else};
 ghost use Rattle.station.specs.StationView.{station_view};
 ghost use Rattle.world.specs.WholeView.{inputs_in, net_in, stations_in, wire_in, world_of};
 
@@ -78,6 +79,26 @@ fn awaited(net: &Net, stance: Stance) -> Option<usize>
     }
 }
 
+// Whether a process goes on that stands so.
+fn is_going(stance: Stance) -> bool
+    ensures { result ≡ is_going stance }
+{
+    match stance {
+        Stance::GoesOn => true,
+        Stance::Ended | Stance::Waits { .. } | Stance::Held { .. } | Stance::Full { .. } => false,
+    }
+}
+
+// The channel at which a process is held that stands so; where it isn't, this one.
+fn held_or(stance: Stance, last: Option<usize>) -> Option<usize>
+    ensures { result ≡ or_else (held_on stance) last }
+{
+    match stance {
+        Stance::Held { channel } => Some(channel),
+        Stance::GoesOn | Stance::Ended | Stance::Waits { .. } | Stance::Full { .. } => last,
+    }
+}
+
 // The channel at which the last one is held on the way from a process, if nobody on it goes on. It asks how each one stands as it comes
 // to it, up to the first that goes on.
 fn need_from<C: SlotCell, O: Outlet>(
@@ -95,16 +116,17 @@ fn need_from<C: SlotCell, O: Outlet>(
     let mut last = None;
     let mut next = Some(process);
     for _step in 0..net.program.processes.len() + 1 {
-        let Some(process) = next else {
-            return last;
-        };
-        let stance = stance_of(net, inputs, rooms, stations, process);
-        match stance {
-            Stance::GoesOn => return None,
-            Stance::Held { channel } => last = Some(channel),
-            Stance::Ended | Stance::Waits { .. } | Stance::Full { .. } => {}
+        match next {
+            Some(process) => {
+                let stance = stance_of(net, inputs, rooms, stations, process);
+                if is_going(stance) {
+                    return None;
+                }
+                last = held_or(stance, last);
+                next = awaited(net, stance);
+            }
+            None => return last,
         }
-        next = awaited(net, stance);
     }
     last
 }
