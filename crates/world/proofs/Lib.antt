@@ -13,3 +13,4 @@ mod Places
 mod Restarts
 mod Held
 mod Collected
+mod Walks

@@ -10,3 +10,4 @@ pub mod ReopenedWorld
 pub mod Closing
 pub mod Stillness
 pub mod Applied
+pub mod Standing

@@ -7,6 +7,7 @@
 
 mod closing;
 mod laws;
+mod needs;
 mod opening;
 mod outputs;
 mod parts;
