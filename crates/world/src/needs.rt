@@ -195,12 +195,7 @@ impl<C: SlotCell, O: Outlet> World<C, O> {
         // Where the world stands still for want of room, there is one.
         ensures still { stands_still (world_of self.now) ≡ true → IsSome result }
     {
-        let stances = list_stances(
-            &self.net,
-            &self.inputs,
-            &self.channel_rooms,
-            &self.stations,
-        );
+        let stances = list_stances(&self.net, &self.inputs, &self.channel_rooms, &self.stations);
         match need_by(&self.net, &stances) {
             Some(channel) => Some(channel as u8),
             None => None,

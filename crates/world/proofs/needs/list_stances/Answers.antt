@@ -18,8 +18,14 @@ loop-process-preserved g c =
     one_listed (stance_of (network_of c.args.net.now.program) c.args.inputs.now c.args.rooms.now
     (map (station_view g.O.Outlet.taken g.O.Outlet.failures) c.args.stations.now)) c.loop-process.process
     c.loop-process.stances c.stance_of.result
-    (omega (arith, c.loop-process-test.true, c.len-process-end.ensures, processes.ok.0,
-    length-map processes.items code_of, c.args.net.now.valid.process_count))
+    (omega (
+      arith,
+      c.loop-process-test.true,
+      c.len-process-end.ensures,
+      processes.ok.0,
+      length-map processes.items code_of,
+      c.args.net.now.valid.process_count,
+    ))
     c.stance_of.ensures c.loop-process.invariant
 
 pub returns : goal.returns
@@ -31,5 +37,11 @@ returns g c =
     c.loop-process.stances c.loop-process.invariant
     (λ one past. ap (stance_with net c.args.inputs.now c.args.rooms.now stations one)
     (slice_get_past net.codes one
-    (omega (arith, past, c.loop-process-test.false, c.len-process-end.ensures, processes.ok.0,
-    length-map processes.items code_of))))
+    (omega (
+      arith,
+      past,
+      c.loop-process-test.false,
+      c.len-process-end.ensures,
+      processes.ok.0,
+      length-map processes.items code_of,
+    ))))

@@ -10,6 +10,11 @@ loop-process-preserved c =
     let processes = c.args.net.now.program.processes in
     next_sought (network_of c.args.net.now.program) (stance_by c.args.stances.now) c.loop-process.process
     c.loop-process.invariant
-    (omega (arith, c.loop-process-test.true, c.len-process-end.ensures, processes.ok.0,
-    length-map processes.items code_of))
+    (omega (
+      arith,
+      c.loop-process-test.true,
+      c.len-process-end.ensures,
+      processes.ok.0,
+      length-map processes.items code_of,
+    ))
     (sym c.in-None.is ∙ c.need_from.ensures)
