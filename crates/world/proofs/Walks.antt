@@ -6,9 +6,14 @@ use Rattle.std.proofs.lemmas.Option.{slice_get_within}
 use Rattle.std.proofs.Math.Path.{fun_ext}
 use Rattle.ckpt_codec.specs.Common.{MAX_CHANNELS, MAX_PROCESSES}
 use Rattle.kahn_net.specs.Common.{IsValid}
+use Rattle.std.proofs.lemmas.Option.{slice_get_within}
 use Rattle.std.specs.List.{list_any}
+use Rattle.kahn_net.specs.Common.{IsValid}
+use Rattle.protocol.specs.Node.Common.{MAX_CHANNELS}
+use Rattle.protocol.specs.World.Common.{WorldView}
+use Rattle.protocol_laws.specs.World.RoomNeedLaws.{node_need_is_found, put_is_held, puts_there}
 use Rattle.protocol.specs.Node.Common.{Network}
-use Rattle.protocol.specs.World.RoomNeeds.{awaited, first_of_any, held_on, is_going, last_held, need_on, way}
+use Rattle.protocol.specs.World.RoomNeeds.{awaited, first_of_any, held_on, is_going, last_held, need_on, needed_for, way}
 use Rattle.protocol.specs.World.RoomNeeds.{way_from}
 use Rattle.protocol.specs.declared.stance.Stance.{Stance}
 use Rattle.protocol.specs.World.Common.{StationView, WorldInvariant, WorldView, stands_still}
@@ -153,3 +158,14 @@ module _ (found : ℕ → Option ℕ) (count number : ℕ) (sought : IsSought fo
             ∙ (ap (λ (o : Option ℕ). or_else o (first_of_any found (suc number) more.0)) is
             ∙ (sym (ap (first_of_any found number) more.1) ∙ sought.is));
       }
+
+-- ---- of a world
+
+-- the channel that is found for a node is one of the network
+pub need_below : (world : WorldView) (node channel : ℕ) → IsValid world.net → needed_for world node ≡ Some channel
+    → channel < MAX_CHANNELS
+need_below world node channel valid is =
+    let need = node_need_is_found world node channel valid is in
+    let there = puts_there world need.0 channel valid (put_is_held world need.0 channel need.1.held) in
+    let within = slice_get_within world.net.channels channel there.0 there.1 in
+    omega (arith, within, valid.channel_count)

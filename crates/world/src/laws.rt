@@ -4,6 +4,7 @@ ghost use Rattle.protocol.specs.World.Agreeing.{StepsAgree};
 ghost use Rattle.protocol.specs.World.Coordination.{AsksWereReceived};
 ghost use Rattle.protocol.specs.World.InFlight.{EachWasSent, NothingAtFirst, NothingIsMadeUp, OnlyNodesThatAreUpSend};
 ghost use Rattle.protocol.specs.World.RecoveryLine.{LinesFollow};
+ghost use Rattle.protocol.specs.World.RoomByNeed.{NeedGetsMore, NeedIsHeld, NeedIsShown, NodeNeedIsFound, StillShowsNeed};
 
 /// A line that isn't behind a second one isn't behind any that the second isn't behind. Since no event leaves the line
 /// behind the one before it, none of a list of events does, at whatever moment of it all nodes crash.
@@ -34,4 +35,18 @@ pub fn need_law()
 /// that it hands back comes to what it would have come to at first.
 pub fn step_law()
     ensures { StepsAgree }
+{}
+
+/// Room is given where it is needed, and nowhere else. Where a world stands still for want of room, `World::needed_for` names a
+/// channel for some node. The channel that it names is one for which a process needs more room: its put there is held, and nothing is on its
+/// way out of the channel's log; nobody goes on to whom the way leads from it, from each process to the one for which it
+/// waits; and the way comes back to it, or nobody else on the way is held for want of room. Where a process needs more, a channel
+/// is named for its node. A channel for which a process needs more is that on which it puts, and hasn't all the room that it may have; so
+/// `World::widen_at` gives more to the channel that is named.
+pub fn room_law()
+    ensures still { StillShowsNeed }
+    ensures found { NodeNeedIsFound }
+    ensures shown { NeedIsShown }
+    ensures held { NeedIsHeld }
+    ensures more { NeedGetsMore }
 {}

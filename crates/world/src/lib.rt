@@ -20,7 +20,7 @@ mod still;
 mod world;
 
 pub use gate_cell::SECTORS;
-pub use laws::{line_law, need_law, step_law, traffic_law};
+pub use laws::{line_law, need_law, room_law, step_law, traffic_law};
 pub use node::{next_after, node_count};
 pub use opening::OpeningRefused;
 pub use outputs::{OutletMaker, list_outputs, outputs_of};
