@@ -4,3 +4,4 @@ mod Arming
 mod Rested
 mod Kept
 mod Stepped
+mod Needed

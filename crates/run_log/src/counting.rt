@@ -99,11 +99,7 @@ pub(crate) fn write_silence(
 }
 
 /// Notes that a channel got more room, where what happens is written.
-pub(crate) fn write_widened(
-    lines: &mut Vec<Line>,
-    keeps: bool,
-    channel: u8,
-) -> Result<(), HubFault>
+pub(crate) fn write_widened(lines: &mut Vec<Line>, keeps: bool, channel: u8) -> Result<(), HubFault>
     ensures added { OnOk result (keeps ≡ true → IsWidened channel lines.old.items lines.new.items) }
     ensures refused { OnErr result (lines.new.items ≡ lines.old.items) }
     ensures no_memory { IfErr result (λ fault. fault ≡ NoMemory) }

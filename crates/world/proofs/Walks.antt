@@ -10,10 +10,11 @@ use Rattle.std.proofs.lemmas.Option.{slice_get_within}
 use Rattle.std.specs.List.{list_any}
 use Rattle.kahn_net.specs.Common.{IsValid}
 use Rattle.protocol.specs.Node.Common.{MAX_CHANNELS}
-use Rattle.protocol.specs.World.Common.{WorldView}
+use Rattle.protocol.specs.World.Common.{StationView, WorldView}
+use Rattle.protocol.specs.World.Stances.{stance_of}
 use Rattle.protocol_laws.specs.World.RoomNeedLaws.{node_need_is_found, put_is_held, puts_there}
 use Rattle.protocol.specs.Node.Common.{Network}
-use Rattle.protocol.specs.World.RoomNeeds.{awaited, first_of_any, held_on, is_going, last_held, need_on, needed_for, way}
+use Rattle.protocol.specs.World.RoomNeeds.{awaited, first_of_any, held_on, is_going, last_held, need_of, need_on, needed_for, way}
 use Rattle.protocol.specs.World.RoomNeeds.{way_from}
 use Rattle.protocol.specs.declared.stance.Stance.{Stance}
 use Rattle.protocol.specs.World.Common.{StationView, WorldInvariant, WorldView, stands_still}
@@ -160,6 +161,15 @@ module _ (found : ℕ → Option ℕ) (count number : ℕ) (sought : IsSought fo
       }
 
 -- ---- of a world
+
+-- what a node needs, as it is read through other references
+pub seen_there : (net seen : Network) (inputs read : List (List ℤ)) (rooms : List ℕ) (stations others : List StationView)
+    (node process : ℕ) → seen ≡ net → read ≡ inputs → others ≡ stations
+    → need_of seen (stance_of seen read rooms others) node process ≡ need_of net (stance_of net inputs rooms stations) node process
+seen_there net seen inputs read rooms stations others node process e f g =
+    ap (λ (n : Network). need_of n (stance_of n read rooms others) node process) e
+    ∙ (ap (λ (i : List (List ℤ)). need_of net (stance_of net i rooms others) node process) f
+    ∙ ap (λ (s : List StationView). need_of net (stance_of net inputs rooms s) node process) g)
 
 -- the channel that is found for a node is one of the network
 pub need_below : (world : WorldView) (node channel : ℕ) → IsValid world.net → needed_for world node ≡ Some channel

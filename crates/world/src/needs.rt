@@ -189,9 +189,10 @@ impl<C: SlotCell, O: Outlet> World<C, O> {
                 node,
                 process,
             );
-            if let Some(channel) = need {
-                // (A network has at most 64 channels.)
-                return Some(channel as u8);
+            match need {
+                // (A network has at most 256 channels.)
+                Some(channel) => return Some(channel as u8),
+                None => {}
             }
         }
         None
