@@ -7,8 +7,8 @@ use Rattle.world.specs.WholeView.{world_of}
 use Rattle.run_log.proofs.run_log.RunLog.pass.Goals as goal
 
 -- a channel gets more room that a process needs
-pub widen-requires-in-Widen-clause-needed : goal.widen-requires-in-Widen-clause-needed
-widen-requires-in-Widen-clause-needed g c =
+pub widen-requires-clause-needed : goal.widen-requires-clause-needed
+widen-requires-clause-needed g c =
     let world = world_of c.args.self.now.armed.world in
     is_needed world c.args.node c.in-Widen.field-0 c.args.self.now.armed.world.sound
     (widening_is world c.args.node c.in-Widen.field-0 (sym c.next_turn.ensures ∙ c.in-Widen.is))
