@@ -10,8 +10,8 @@ use Rattle.run_log.proofs.run_log.RunLog.pass.Goals as goal
 pub widen-requires-clause-needed : goal.widen-requires-clause-needed
 widen-requires-clause-needed g c =
     let world = world_of c.args.self.now.armed.world in
-    is_needed world c.args.node c.in-Widen.field-0 c.args.self.now.armed.world.sound
-    (widening_is world c.args.node c.in-Widen.field-0 (sym c.next_turn.ensures ∙ c.in-Widen.is))
+    is_needed world c.args.node c.in-Widen.channel c.args.self.now.armed.world.sound
+    (widening_is world c.args.node c.in-Widen.channel (sym c.next_turn.ensures ∙ c.in-Widen.is))
 
 pub returns-in_ok-widen-in-Widen-clause-answered : goal.returns-in_ok-widen-in-Widen-clause-answered
 returns-in_ok-widen-in-Widen-clause-answered g c =

@@ -17,7 +17,7 @@ returns-in-Reply-clause-turn g c =
 pub returns-in-Widened-clause-turn : goal.returns-in-Widened-clause-turn
 returns-in-Widened-clause-turn g c =
     turn_widened g.ThisRun.Run.rooms g.ThisRun.Run.script c.args.self.now.log.passed c.args.node (armed_view c.args.self.now.log.armed) (armed_view c.turn.new.self.log.armed)
-    c.in_ok-answer.answer c.in-Widened.field-0 c.in-Widened.is c.in_ok-answer.ensures.turned
+    c.in_ok-answer.answer _ c.in-Widened.is c.in_ok-answer.ensures.turned
 
 pub returns-in-Nothing-clause-turn : goal.returns-in-Nothing-clause-turn
 returns-in-Nothing-clause-turn g c =
