@@ -7,7 +7,7 @@ use Rattle.cobaltmidge.proofs.Remaining.{far_of}
 use Rattle.cobaltmidge.proofs.run.Run.run.Goals as goal
 
 pub returns-clause-left : goal.returns-clause-left
-returns-clause-left c =
+returns-clause-left g c =
     let run = c.args.self in
     let net = network_of run.network.now.net.value.program in
     IfErr-weaker c.run_into.result
