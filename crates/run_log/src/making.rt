@@ -46,10 +46,10 @@ fn make_kept<C: SlotCell, O: Outlet>(
     if lines.reserve(1).is_err() {
         return Err(Refused { event });
     }
-    let Ok(room) = room_in(alloc, spare) else {
+    let Ok(kept) = keep(&event) else {
         return Err(Refused { event });
     };
-    let Ok(kept) = keep(&event) else {
+    let Ok(room) = room_in(alloc, spare) else {
         return Err(Refused { event });
     };
     let reply = world.apply(alloc, event)?;
