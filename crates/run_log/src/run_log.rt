@@ -30,7 +30,7 @@ ghost use Rattle.station.specs.declared.event.Event.TheVariants as event;
 use crate::answer::{FaultAnswer, HeldBack, HubFault, TurnAnswer};
 use crate::armed::ArmedWorld;
 use crate::counting::{write_silence, write_widened};
-use crate::history::{History, Line};
+use crate::history::{History, Line, LongLine};
 use crate::making::{make_event, make_next, make_scripted};
 use crate::resting::{Resting, has_passed, is_idle, none_rest, note_event};
 use crate::seat_count::{Counted, Run, RunCount, SeatCount};
@@ -62,6 +62,8 @@ pub struct RunLog<C: SlotCell, O: Outlet, ThisRun: Run> {
     // How many lines of the script are passed.
     passed: usize,
     lines: Vec<Line>,
+    // Room for the next line that has no short form.
+    spare: Option<Box<LongLine>>,
     // Whether what happens is written.
     keeps: bool,
     stopped: bool,
@@ -177,6 +179,7 @@ impl<C: SlotCell, O: Outlet, ThisRun: Run> RunLog<C, O, ThisRun> {
             script,
             passed: 0,
             lines: Vec::new(alloc),
+            spare: None,
             keeps,
             stopped: false,
             stops: 0,
@@ -217,6 +220,7 @@ impl<C: SlotCell, O: Outlet, ThisRun: Run> RunLog<C, O, ThisRun> {
         let RunLog {
             armed,
             lines,
+            spare,
             keeps,
             incomplete,
             resting,
@@ -225,7 +229,7 @@ impl<C: SlotCell, O: Outlet, ThisRun: Run> RunLog<C, O, ThisRun> {
         } = self;
         let round = armed.world.round();
         let passes = is_idle(&event);
-        let reply = match make_event(alloc, armed, lines, *keeps, node, event) {
+        let reply = match make_event(alloc, armed, lines, spare, *keeps, node, event) {
             Ok(reply) => reply,
             Err(Refused { event }) => {
                 return Err(HeldBack {
@@ -264,6 +268,7 @@ impl<C: SlotCell, O: Outlet, ThisRun: Run> RunLog<C, O, ThisRun> {
         let RunLog {
             armed,
             lines,
+            spare,
             keeps,
             passed,
             incomplete,
@@ -271,7 +276,7 @@ impl<C: SlotCell, O: Outlet, ThisRun: Run> RunLog<C, O, ThisRun> {
             totals,
             ..
         } = self;
-        let Ok(reply) = make_scripted(alloc, armed, lines, *keeps, event) else {
+        let Ok(reply) = make_scripted(alloc, armed, lines, spare, *keeps, event) else {
             return Err(HubFault::NoMemory);
         };
         *passed += 1;
@@ -454,6 +459,7 @@ impl<C: SlotCell, O: Outlet, ThisRun: Run> RunLog<C, O, ThisRun> {
         let RunLog {
             armed,
             lines,
+            spare,
             keeps,
             incomplete,
             resting,
@@ -461,7 +467,7 @@ impl<C: SlotCell, O: Outlet, ThisRun: Run> RunLog<C, O, ThisRun> {
             ..
         } = self;
         let round = armed.world.round();
-        let Ok(made) = make_next(alloc, armed, lines, *keeps, node) else {
+        let Ok(made) = make_next(alloc, armed, lines, spare, *keeps, node) else {
             return Err(HubFault::NoMemory);
         };
         let Some(reply) = made else {
