@@ -43,10 +43,12 @@ impl<ThisRun: HubRun, ItsMarks: MarksName> Desks<ThisRun, ItsMarks> {
         alloc: Global,
         seats: Vec<NodeSeats<ThisRun, ItsMarks>>,
     ) -> Result<Desks<ThisRun, ItsMarks>, AllocError> {
-        let mut desks = Vec::with_capacity(alloc, seats.len())?;
-        for node_seats in seats {
+        let count = seats.len();
+        let mut desks = Vec::with_capacity(alloc, count)?;
+        let mut seats = seats.into_iter();
+        for _number in 0..count {
             desks.push_reserved(Desk {
-                seats: Some(node_seats),
+                seats: seats.next(),
                 task: None,
             });
         }

@@ -6,6 +6,7 @@ ghost use Rattle.replay.specs.declared.kept.Maker.TheVariants as who;
 ghost use Rattle.run_log.specs.Answers.{IsToldEvent};
 ghost use Rattle.run_log.specs.SeatCounts.{seat_numbers};
 ghost use Rattle.station.specs.DoneView.{done_view};
+ghost use Rattle.std.proofs.Props.{props};
 ghost use Rattle.std.specs.Sync.Mutex.{mutex_guard_value};
 
 use crate::entered::Entered;
@@ -40,7 +41,7 @@ pub(crate) struct Ran<ThisRun: HubRun, ItsMarks: MarksName> {
     seats: NodeSeats<ThisRun, ItsMarks>,
     nth: u64,
     done: Result<Done, Refusal>,
-    pub ghost home: { IfOk done (λ come. event_node (Install (done_view come)) ≡ seats.seat.node) },
+    pub ghost home: { IfOk done (λ come. event_node (Install (done_view come)) ≡ seats.seat.node) } by { Prim.hlevel props },
 }
 
 /// The most instructions of a job for which no other thread is woken: some 50 microseconds, ten times what it takes to wake one.
