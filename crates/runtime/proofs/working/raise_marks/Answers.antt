@@ -39,9 +39,11 @@ loop-number-preserved g c =
           record {
             node = ap (λ s. node_of s) seat ∙ c.loop-number.invariant.node;
             marked = passed_next owners node left (known old) (known c.if-owns.seat) number c.loop-number.invariant.marked
-                (λ own. w.if-owns.ensures.1
+                (λ own.
+                let told = w.if-owns.ensures.1
                 (subst (λ (k : ℕ). IsOutputOf owners (node_of old) k) (sym is.1)
-                (subst (λ (at : Option ℕ). IsOutputOf owners at number) (sym c.loop-number.invariant.node) own)))
+                (subst (λ (at : Option ℕ). IsOutputOf owners at number) (sym c.loop-number.invariant.node) own)) in
+                cc)
                 (λ channel. ap (λ s. known s channel) seat);
           }
     ]
