@@ -1,26 +1,16 @@
 -- The way from a process, as far as it was walked, and what is left of it.
-use Rattle.std.proofs.Common.{◌≡◌, ◌≢◌, ◌⊎◌, inl, inr, replicate, set, ℕ, ℤ, zero, suc, ◌+◌, ◌<◌, ◌≤◌, Bool, true, false, ◌||◌, cond, List, [], ◌∷◌, length, Option, Some}
+use Rattle.std.proofs.Common.{◌≡◌, ◌≢◌, ℕ, ℤ, zero, suc, ◌+◌, ◌<◌, ◌≤◌, Bool, true, false, ◌||◌, cond, List, length, Option, Some}
 use Rattle.std.proofs.Common.{None, refl, sym, ap, ◌∙◌, arith}
-use Rattle.std.proofs.lemmas.List.{length-set}
-use Rattle.std.proofs.lemmas.Option.{slice_get_within}
-use Rattle.std.proofs.Math.Path.{fun_ext}
-use Rattle.ckpt_codec.specs.Common.{MAX_CHANNELS, MAX_PROCESSES}
-use Rattle.kahn_net.specs.Common.{IsValid}
 use Rattle.std.proofs.lemmas.Option.{slice_get_within}
 use Rattle.std.specs.List.{list_any}
 use Rattle.kahn_net.specs.Common.{IsValid}
-use Rattle.protocol.specs.Node.Common.{MAX_CHANNELS}
+use Rattle.protocol.specs.Node.Common.{MAX_CHANNELS, Network}
 use Rattle.protocol.specs.World.Common.{StationView, WorldView}
-use Rattle.protocol.specs.World.Stances.{stance_of}
-use Rattle.protocol_laws.specs.World.RoomNeedLaws.{node_need_is_found, put_is_held, puts_there}
-use Rattle.protocol.specs.Node.Common.{Network}
 use Rattle.protocol.specs.World.RoomNeeds.{awaited, first_of_any, held_on, is_going, last_held, need_of, need_on, needed_for, way}
 use Rattle.protocol.specs.World.RoomNeeds.{way_from}
-use Rattle.protocol.specs.declared.stance.Stance.{Stance}
-use Rattle.protocol.specs.World.Common.{StationView, WorldInvariant, WorldView, stands_still}
-use Rattle.protocol.specs.World.RoomNeeds.{needed_at}
 use Rattle.protocol.specs.World.Stances.{stance_of}
-use Rattle.protocol_laws.specs.World.RoomNeedLaws.{need_is_found, put_is_held, puts_there, some_need}
+use Rattle.protocol.specs.declared.stance.Stance.{Stance}
+use Rattle.protocol_laws.specs.World.RoomNeedLaws.{node_need_is_found, put_is_held, puts_there}
 use Rattle.turns.specs.Turns.{or_else}
 
 -- what the rest of a way needs, where this channel is that of the last one that is held so far

@@ -173,10 +173,11 @@ fn need_of<C: SlotCell, O: Outlet>(
 }
 
 impl<C: SlotCell, O: Outlet> World<C, O> {
-    /// The channel that needs more room, as a process of this node shows, if one does: a put of it is held for want of room, and nobody will
-    /// ever go on to whom the way leads from there, from each process to the one for which it waits, unless a channel gets more. Whatever
-    /// else goes on beside these processes plays no part. Where several puts are held on that way, it is the channel of the last one: of one
-    /// on the round, where the way goes round, so that no channel gets more for others' sake. Takes no memory.
+    /// The channel that needs more room, as a process of this node shows, if one does. That process is held at a put for want of room. A way
+    /// leads on from each process to the one for which it waits, and nobody on the way from this process goes on in the world as it stands.
+    /// Whatever else goes on beside these processes plays no part. The channel is that of the last put that is held on this way. Where the way
+    /// goes round by a put that is held, it is the channel of one on the round. Whether one of these processes goes on later without more
+    /// room, no clause says. Takes no memory.
     pub fn needed_for(&self, node: u8) -> Option<u8>
         ensures { result ≡ needed_for (world_of self.now) node }
     {
