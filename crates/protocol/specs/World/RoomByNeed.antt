@@ -1,5 +1,5 @@
 -- What is true of the channel that needs more room.
-use Rattle.std.specs.Prelude.{◌≡◌, ◌==◌, ℕ, ◌<◌, true, false, length, Some, None, IfSome, find, slice_get, slice_index}
+use Rattle.std.specs.Prelude.{◌≡◌, ◌==◌, ℕ, ◌<◌, true, false, Some, IfSome, find, slice_get, slice_index}
 use Rattle.ckpt_codec.specs.Common.{Code, Process, SavedProcessView}
 use Rattle.kahn_net.specs.Common.{IsValid, Puts}
 use Rattle.protocol.specs.Node.Choosing.{has_room, next_at}
