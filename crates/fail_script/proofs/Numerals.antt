@@ -1,5 +1,5 @@
 -- What is read of a numeral, digit by digit, is the number that it writes.
-use Rattle.std.proofs.Common.{◌≡◌, ℕ, ◌^◌, ◌<◌, ◌==◌, ◌+◌, ◌-◌, ◌*◌, ◌&&◌, Bool, true, false, List, [], ◌∷◌, length, take}
+use Rattle.std.proofs.Common.{◌≡◌, ℕ, ◌^◌, ◌<◌, ◌+◌, ◌-◌, ◌*◌, ◌&&◌, Bool, true, List, [], length, take}
 use Rattle.std.proofs.Common.{refl, ap, sym, ◌∙◌, arith, min, get_or}
 use Rattle.std.specs.List.{list_all}
 use Rattle.std.specs.Char.{is_ascii_digit, digit_value}
@@ -7,7 +7,7 @@ use Rattle.std.proofs.lemmas.Int.Digits.{digits_value_more}
 use Rattle.std.proofs.lemmas.List.Folds.{list_all_more}
 use Rattle.std.proofs.lemmas.Str.{digit_value_digit}
 use Rattle.net_text.proofs.Lexemes.{digit_bounds}
-use Rattle.net_text.specs.Numbers.{is_numeral, numeral_value}
+use Rattle.net_text.specs.Numbers.{numeral_value}
 
 -- these are digits alone, and the number is what they write, as far as 32 bits hold it
 pub record AreDigitsOf (digits : List ℕ) (number : ℕ) : Type 0 where
