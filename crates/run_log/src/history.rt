@@ -13,11 +13,21 @@ pub enum KeptEvent {
 }
 
 /// An event, with who made it and what was answered.
-#[derive(Drop)]
 pub struct Entry {
     pub maker: Maker,
     pub event: KeptEvent,
     pub reply: KeptReply,
+}
+
+// Written out, since each crate above would go through a derived one again.
+impl Drop for Entry {
+    fn drop(self) {
+        let Self {
+            maker,
+            event,
+            reply,
+        } = self;
+    }
 }
 
 /// What a node does most, and was answered as it mostly is.
@@ -82,8 +92,14 @@ pub enum Line {
 const _: () = prove!(size_of::<Line>() == 16);
 
 /// All that happened in a run, where it was kept, and how often a seat was answered `Stopped`.
-#[derive(Drop)]
 pub struct History {
     pub lines: Vec<Line>,
     pub stops: u64,
+}
+
+// Written out, since each crate above would go through a derived one again.
+impl Drop for History {
+    fn drop(self) {
+        let Self { lines, stops } = self;
+    }
 }

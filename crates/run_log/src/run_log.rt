@@ -55,7 +55,6 @@ pub struct Moment {
 }
 
 /// A world with its script and its history, and how often the seats were answered. Several threads share it under a lock.
-#[derive(Drop)]
 pub struct RunLog<C: SlotCell, O: Outlet, ThisRun: Run> {
     armed: ArmedWorld<C, O>,
     script: Vec<ScriptedEvent>,
@@ -90,6 +89,26 @@ pub struct RunLog<C: SlotCell, O: Outlet, ThisRun: Run> {
     pub ghost same_stops: { stops ≡ (run_numbers totals).stops },
     pub ghost still: { incomplete ≡ true → are_quiet (world_of armed.world) ≡ false },
     pub ghost rest: { ∥ AllRest resting (world_of armed.world) ∥₁ },
+}
+
+// Written out, since each crate above would go through a derived one again.
+impl<C: SlotCell, O: Outlet, ThisRun: Run> Drop for RunLog<C, O, ThisRun> {
+    fn drop(self) {
+        let Self {
+            armed,
+            script,
+            passed,
+            lines,
+            keeps,
+            stopped,
+            stops,
+            incomplete,
+            busy,
+            resting,
+            widened_at,
+            totals,
+        } = self;
+    }
 }
 
 fn counted_as(reason: Silence) -> Counted
@@ -744,11 +763,19 @@ impl<C: SlotCell, O: Outlet, ThisRun: Run> RunLog<C, O, ThisRun> {
         ensures stopped { 0 < (seat_numbers all.old).stops → self.stopped ≡ true }
     {
         self.totals.audit(all);
-        let RunLog {
+        let Self {
             armed,
+            script: _,
+            passed: _,
             lines,
+            keeps: _,
+            stopped: _,
             stops,
-            ..
+            incomplete: _,
+            busy: _,
+            resting: _,
+            widened_at: _,
+            totals: _,
         } = self;
         let ArmedWorld { world, .. } = armed;
         (world, History { lines, stops })
