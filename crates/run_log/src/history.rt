@@ -13,21 +13,11 @@ pub enum KeptEvent {
 }
 
 /// An event, with who made it and what was answered.
+#[derive(Drop)]
 pub struct Entry {
     pub maker: Maker,
     pub event: KeptEvent,
     pub reply: KeptReply,
-}
-
-// Written out, since each crate above would go through a derived one again.
-impl Drop for Entry {
-    fn drop(self) {
-        let Self {
-            maker,
-            event,
-            reply,
-        } = self;
-    }
 }
 
 /// What a node does most, and was answered as it mostly is.
