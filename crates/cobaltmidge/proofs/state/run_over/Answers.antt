@@ -1,13 +1,15 @@
 use Rattle.std.proofs.Common.{rules, ◌≡◌, inl, refl, subst, ℕ, length}
 use Rattle.std.proofs.Math.Logic.{∥∥₁_map}
 use Rattle.std.proofs.lemmas.Result.{err_from_is_err_and}
-use Rattle.protocol.specs.Node.Common.{Network}
+use Rattle.protocol.specs.Node.Common.{Network, network_of}
 use Rattle.world.specs.WholeView.{world_of}
 use Rattle.cobaltmidge.specs.KeptOutlets.{AreInFiles}
 use Rattle.cobaltmidge.specs.Reasons.{IsReasonOf}
 use Rattle.cobaltmidge.specs.Released.{AreReleased, lists_of}
 use Rattle.cobaltmidge.specs.Runs.{released_streams}
 use Rattle.cobaltmidge.specs.declared.settings.Settings.{Settings}
+use Rattle.cobaltmidge.specs.Names.{script_of}
+use Rattle.cobaltmidge.proofs.LeftKept.{left_so_far}
 use Rattle.cobaltmidge.proofs.state.run_over.Goals as goal
 
 pub returns-in-Err-run_into-clause-cause : goal.returns-in-Err-run_into-clause-cause
@@ -42,3 +44,8 @@ returns-clause-run g c =
       released = subst (λ (n : ℕ). AreReleased n now (lists_of lists)) channels c.in_ok-lists.ensures.released;
       has_kept = subst (λ (n : Network). AreInFiles outlets (released_streams n now.stations)) same.0 c.in_ok-close_world.ensures.kept;
     })
+
+pub returns-in_err-put_left-clause-cause : goal.returns-in_err-put_left-clause-cause
+returns-in_err-put_left-clause-cause g c =
+    let p = err_from_is_err_and c.from_residual-in_err-put_left.result c.from_residual-in_err-put_left.ensures.1 in
+    rw (p.1, p.2) (inl c.in_err-put_left.ensures.cause)
