@@ -21,12 +21,18 @@ use std::alloc::{AllocError, Global};
 ///
 /// A store serves for as long as its cell does. It is ready once it has been opened, and until it crashes or its device
 /// fails; until it is reopened then, it answers `Reopen` (23). What a crash leaves is always a record.
-#[derive(Drop)]
 pub struct Store<C: SlotCell> {
     cell: C,
     known: Option<Known>,
     // Whatever a crash may leave of the cell is a record. While the store is ready the cell is, and spells the one that is known.
     pub ghost kept: { IsKept C.is_ready C.whole C.may_leave_whole cell known },
+}
+
+// Written out, since each crate above would go through a derived one again.
+impl<C: SlotCell> Drop for Store<C> {
+    fn drop(self) {
+        let Self { cell, known } = self;
+    }
 }
 
 /// A cell on which no store was opened, and why.

@@ -36,11 +36,21 @@ pub struct Asked {
 
 /// A checkpoint that this node began, with what it asked, at the place of each channel, and who took part, in the order in
 /// which they first said so.
-#[derive(Drop)]
 pub struct Initiator {
     number: u64,
     questions: Vec<Option<Asked>>,
     takers: Vec<u8>,
+}
+
+// Written out, since each crate above would go through a derived one again.
+impl Drop for Initiator {
+    fn drop(self) {
+        let Self {
+            number,
+            questions,
+            takers,
+        } = self;
+    }
 }
 
 impl Model for Initiator {

@@ -5,5 +5,6 @@
 mod hearing;
 mod initiator;
 
+pub use ckpt_core::query;
 pub use hearing::{TookAnswer, answer_to_took, loses, may_decide, names, verdict_of};
 pub use initiator::{Answer, Asked, Initiator, commit_to};

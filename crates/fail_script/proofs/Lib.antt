@@ -3,5 +3,6 @@ mod Apart
 mod Forms
 mod LineLaws
 mod Numerals
+mod Parts
 mod ScriptLaws
 mod WordLaws

@@ -1,6 +1,6 @@
 -- The words of a line, as a walk over its bytes finds them.
 use Rattle.std.proofs.Common.{◌≡◌, ℕ, ◌<◌, ◌≤◌, ◌+◌, ◌-◌, ◌==◌, ◌⊎◌, Bool, true, false, cond, not, add-one, drop-cons}
-use Rattle.std.proofs.Common.{List, [], ◌∷◌, ◌++◌, length, take, drop, get_or, refl, ap, arith, sym, ◌∙◌, subst, inl, inr}
+use Rattle.std.proofs.Common.{List, [], ◌∷◌, ◌++◌, length, drop, get_or, refl, ap, arith, sym, ◌∙◌, subst, inl, inr}
 use Rattle.std.proofs.Common.{Bor, map, Some, Result, Ok, Err, OnOk}
 use Rattle.std.specs.List.{slice_split, slice_range, slice_get, filter, All}
 use Rattle.std.specs.Option.{option_map}

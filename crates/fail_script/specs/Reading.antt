@@ -1,5 +1,5 @@
 -- What the code reads of a script, function by function; `Lines` says what it should be.
-use Rattle.std.specs.Prelude.{◌≡◌, ℕ, Bool, ◌&&◌, ◌==◌, if◌then◌else◌, nat_le, nat_lt, min, ◌^◌, ◌-◌, codes}
+use Rattle.std.specs.Prelude.{◌≡◌, ℕ, Bool, ◌&&◌, ◌==◌, if◌then◌else◌, nat_le, nat_lt, min, codes}
 use Rattle.std.specs.Prelude.{List, [], ◌∷◌, ◌++◌, length, Option, Some, None, get_or, option_and_then}
 use Rattle.std.specs.List.{slice_get}
 use Rattle.net_text.specs.Numbers.{is_numeral, numeral_value}
@@ -13,11 +13,11 @@ use Rattle.fail_script.specs.declared.words.Form.{Form}
 use Rattle.fail_script.specs.declared.words.Form.TheVariants as form
 use Rattle.fail_script.specs.declared.fault.ScriptFault.{ScriptFault}
 use Rattle.fail_script.specs.declared.fault.ScriptFault.TheVariants.{NoMemory, BadLine, UnknownNode}
-use Rattle.fail_script.specs.declared.limits.TheConstants.{MAX_COUNT, MAX_FILL, MAX_ROUNDS, BEYOND_NODES}
+use Rattle.fail_script.specs.declared.limits.TheConstants.{MAX_COUNT, MAX_FILL, MAX_ROUNDS, BEYOND_NODES, PAST_NUMBERS}
 
--- the number that digits write, as far as 32 bits hold it
+-- the number that digits write, as far as 32 bits hold it; else the least that they don't hold
 abbrev pub numeral_in : List ℕ → Option ℕ
-numeral_in word = if is_numeral word then Some (min (numeral_value word) (2 ^ 32 - 1)) else None
+numeral_in word = if is_numeral word then Some (min (numeral_value word) PAST_NUMBERS) else None
 
 -- a number from the least to the greatest
 abbrev pub number_in : (least greatest : ℕ) → List ℕ → Option ℕ

@@ -17,3 +17,6 @@ pub const MAX_ROUNDS: u32 = 1_000_000;
 
 // The greatest number of a node that a line is read with: no network has as many, so a greater one is read as this.
 pub(crate) const BEYOND_NODES: u8 = 255;
+
+// The least number that 32 bits don't hold.
+pub(crate) const PAST_NUMBERS: u64 = 1 << 32;

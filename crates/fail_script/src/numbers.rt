@@ -5,35 +5,34 @@ ghost use Rattle.net_text.specs.Numbers.{is_numeral, numeral_value};
 ghost use Rattle.fail_script.specs.declared.limits.TheConstants.{MAX_FILL};
 ghost use Rattle.fail_script.specs.Reading.{numeral_in, number_in, node_in, without_zeros};
 
-use crate::limits::{BEYOND_NODES, MAX_FILL};
+use crate::limits::{BEYOND_NODES, MAX_FILL, PAST_NUMBERS};
 
-// The number that digits write, one or more and nothing else. One past 32 bits is read as the greatest that they hold.
-fn numeral(word: &[u8]) -> Option<u32>
+// The number that digits write, one or more and nothing else. One past 32 bits is read as the least such number.
+fn numeral(word: &[u8]) -> Option<u64>
     ensures { result ≡ numeral_in word.now }
 {
     if word.is_empty() {
         return None;
     }
-    let mut number: u32 = 0;
+    let mut number: u64 = 0;
     for digit in word {
         if !digit.is_ascii_digit() {
             return None;
         }
-        number = number
-            .saturating_mul(10)
-            .saturating_add(u32::from(*digit - b'0'));
+        number = (number * 10 + u64::from(*digit - b'0')).min(PAST_NUMBERS);
     }
     Some(number)
 }
 
-/// The number that a word writes, from the least to the greatest one, which has to be below the greatest of 32 bits.
+/// The number that a word writes, from the least to the greatest one.
 pub fn number_in(word: &[u8], least: u32, greatest: u32) -> Option<u32>
-    requires { greatest < 2 ^ 32 - 1 }
     ensures { result ≡ number_in least greatest word.now }
 {
-    match numeral(word) {
-        Some(number) if number <= greatest && least <= number => Some(number),
-        _ => None,
+    let number = u32::try_from(numeral(word)?).ok()?;
+    if least <= number && number <= greatest {
+        Some(number)
+    } else {
+        None
     }
 }
 

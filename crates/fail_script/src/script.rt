@@ -1,6 +1,6 @@
 //! Reading a failure script.
 
-ghost use Rattle.std.specs.Prelude.{◌≡◌, ◌<◌, ◌^◌, ◌==◌, List, length, map, IfOk, IfErr, OnOk};
+ghost use Rattle.std.specs.Prelude.{◌≡◌, ◌<◌, ◌^◌, ◌==◌, List, [], ◌∷◌, length, map, IfOk, IfErr, IfSome, IfNone, OnOk};
 ghost use Rattle.std.specs.List.{slice_split};
 ghost use Rattle.std.specs.Str.Lines.{strip_carriage_return};
 ghost use Rattle.fail_script.specs.Lines.{AreScriptLines, IsScript, IsScriptFault, AnswersLines, IsRefusedBy};
@@ -12,6 +12,7 @@ use crate::act::{Script, ScriptLine};
 use crate::fault::ScriptFault;
 use crate::limits::MAX_SCRIPT_BYTES;
 use crate::reading::read_line;
+use memchr::memchr;
 use std::alloc::{AllocError, Global};
 
 // A line without the carriage return at its end.
@@ -60,12 +61,32 @@ fn read_lines(alloc: Global, parts: &[&[u8]], nodes: u8) -> Result<Vec<ScriptLin
     Ok(lines)
 }
 
+// What stands before the first line feed, and what stands behind it.
+fn split_line(text: &[u8]) -> Option<(&[u8], &[u8])>
+    ensures some { IfSome result (λ parts. slice_split (λ b. b == 10) text.now
+        ≡ parts.0.now ∷ slice_split (λ b. b == 10) parts.1.now) }
+    ensures shorter { IfSome result (λ parts. length parts.1.now < length text.now) }
+    ensures none { IfNone result (slice_split (λ b. b == 10) text.now ≡ text.now ∷ []) }
+{
+    match memchr(b'\n', text) {
+        Some(at) => Some((&text[..at], &text[at + 1..])),
+        None => None,
+    }
+}
+
 // The parts of a text between its line feeds.
 fn split_lines(alloc: Global, text: &str) -> Result<Vec<&[u8]>, AllocError>
     ensures { IfOk result (λ parts. map (λ part. part.now) parts.items
         ≡ slice_split (λ b. b == 10) text.now) }
 {
-    text.as_bytes().split(|b| *b == b'\n').collect(alloc)
+    let mut parts = Vec::new(alloc);
+    let mut rest = text.as_bytes();
+    while let Some((line, behind)) = split_line(rest) {
+        parts.push(line)?;
+        rest = behind;
+    }
+    parts.push(rest)?;
+    Ok(parts)
 }
 
 /// The lines of a failure script for a network of so many nodes. Blank lines and lines that begin with `#` are passed over;

@@ -36,13 +36,24 @@ use std::alloc::{AllocError, Global};
 /// is Ok too, but loses the file, and `is_lost` tells. With a failure each nanosecond that takes 292 years.
 ///
 /// No call but `arm` takes memory, and none but `write`, `sync` and `crash` asks anything of the file.
-#[derive(Drop)]
 pub struct FileDisk<F: SectorFile> {
     sectors: Sectors,
     schedule: FaultSchedule,
     past: Past<Sectors>,
     backing: Backing<F>,
     ghost goes: { GoesWith F.history backing sectors },
+}
+
+// Written out, since each crate above would go through a derived one again.
+impl<F: SectorFile> Drop for FileDisk<F> {
+    fn drop(self) {
+        let Self {
+            sectors,
+            schedule,
+            past,
+            backing,
+        } = self;
+    }
 }
 
 impl<F: SectorFile> FileDisk<F> {
@@ -92,7 +103,13 @@ impl<F: SectorFile> FileDisk<F> {
     pub fn into_file(self) -> F
         ensures { F.history result ≡ history_of self }
     {
-        self.backing.file
+        let Self {
+            sectors: _,
+            schedule: _,
+            past: _,
+            backing,
+        } = self;
+        backing.file
     }
 }
 

@@ -17,10 +17,16 @@ pub enum Request {
 /// What a file held as it was opened, and each request since. A `SectorFile` keeps one, and notes each call in it.
 ///
 /// A request is kept as a `Snapshot`: at run time there is nothing, however long the file is used, and noting never refuses.
-#[derive(Drop)]
 pub struct FileLog {
     opened: Snapshot<Vec<u8>>,
     requests: Past<Request>,
+}
+
+// Written out, since each crate above would go through a derived one again.
+impl Drop for FileLog {
+    fn drop(self) {
+        let Self { opened, requests } = self;
+    }
 }
 
 impl FileLog {

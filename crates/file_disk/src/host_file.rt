@@ -12,12 +12,18 @@ use std::fs::File;
 
 /// A file of the host, and what it was asked: each put and each sync is calls of the system of the raw file below, and there are no others.
 /// The file is closed where this is let go of, and its lock goes with it.
-#[derive(Drop)]
 pub struct HostFile<F: RawFile = StdFile> {
     raw: F,
     log: FileLog,
     // What it notes was asked by the calls of the system that were made for it, and there were no others.
     pub ghost told: { ∥ IsAskedBy (logged log) (F.writes raw) ∥₁ },
+}
+
+// Written out, since each crate above would go through a derived one again.
+impl<F: RawFile> Drop for HostFile<F> {
+    fn drop(self) {
+        let Self { raw, log } = self;
+    }
 }
 
 impl HostFile<StdFile> {

@@ -6,11 +6,11 @@ use Rattle.std.proofs.lemmas.List.{at_drop_more}
 use Rattle.std.proofs.lemmas.List.Concat.{flat_map-append}
 use Rattle.std.specs.Io.KnownBytes.{Appends}
 use Rattle.std.specs.Prelude.{Option, codes}
-use Rattle.replay.specs.Replay.{KeptEventView, Made}
+use Rattle.std.specs.List.{flat_map}
+use Rattle.replay.specs.Replay.{Happening, KeptEventView, Made}
 use Rattle.replay.specs.Replies.{KeptReply}
 use Rattle.replay.specs.declared.kept.Maker.{Maker}
-use Rattle.run_log.specs.Lines.{happenings, happenings_of, made_times, nth_answer}
-use Rattle.run_log.specs.declared.history.Line.{Line}
+use Rattle.run_log.specs.Lines.{made_times, nth_answer}
 use Rattle.history_text.specs.Events.{event_text}
 use Rattle.history_text.specs.Histories.{happening_text, happenings_text, line_of}
 use Rattle.history_text.specs.Replies.{reply_text}
@@ -48,11 +48,10 @@ module _ (rises : Bool) (n : ℕ) (maker : Maker) (event : KeptEventView) (first
       (sym (next_line later words says behind))))
       (Appends-trans before now then_ _ _ written line)
 
--- what these lines say from one on
-pub lines_at : (lines : List Line) (i : ℕ) (line other : Line) → i < length lines → line ≡ get_or lines i other
-    → happenings_text (happenings (drop i lines))
-    ≡ happenings_text (happenings_of line) ++ happenings_text (happenings (drop (i + 1) lines))
-lines_at lines i line other few is =
-    at_drop_more (λ (x : List Line). happenings_text (happenings x)) lines i other few
-    ∙ (flat_map-append happening_text (happenings_of (get_or lines i other)) (happenings (drop (i + 1) lines))
-    ∙ ap (λ (l : Line). happenings_text (happenings_of l) ++ happenings_text (happenings (drop (i + 1) lines))) (sym is))
+-- what these say from one on, where each says so much
+pub parts_at : {X : Type 0} (said : X → List Happening) (parts : List X) (i : ℕ) (part other : X) → i < length parts → part ≡ get_or parts i other
+    → happenings_text (flat_map said (drop i parts)) ≡ happenings_text (said part) ++ happenings_text (flat_map said (drop (i + 1) parts))
+parts_at {X} said parts i part other few is =
+    at_drop_more (λ (x : List X). happenings_text (flat_map said x)) parts i other few
+    ∙ (flat_map-append happening_text (said (get_or parts i other)) (flat_map said (drop (i + 1) parts))
+    ∙ ap (λ (p : X). happenings_text (said p) ++ happenings_text (flat_map said (drop (i + 1) parts))) (sym is))

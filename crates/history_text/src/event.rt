@@ -1,8 +1,11 @@
 // An event, in the words of failure scripts where these have any.
 ghost use Rattle.std.specs.Prelude.{◌≡◌, Some};
 ghost use Rattle.history_text.specs.Events.{act_text, crash_text, deed_text, event_text, plain_text, rule_text, run_text, words_text};
+ghost use Rattle.node_memory.specs.JobView.{job_view};
+ghost use Rattle.replay.specs.Replay.{OfJob};
 ghost use Rattle.run_log.specs.Lines.{kept_view};
 
+use proc_step::Job;
 use protocol::{Deed, NetworkAct, PlainEvent};
 use replay::{ArmedCrash, RunEvent};
 use run_log::KeptEvent;
@@ -174,10 +177,17 @@ impl EventWords {
     {
         match event {
             KeptEvent::Plain(event) => EventWords::Plain(*event),
-            KeptEvent::Install(job) => EventWords::Install {
-                node: job.node(),
-                process: job.process,
-            },
+            KeptEvent::Install(job) => EventWords::of_job(job),
+        }
+    }
+
+    /// That a turn on this job came back.
+    pub fn of_job(job: &Job) -> EventWords
+        ensures { words_text result ≡ event_text (OfJob (job_view job.now)) }
+    {
+        EventWords::Install {
+            node: job.node(),
+            process: job.process,
         }
     }
 }

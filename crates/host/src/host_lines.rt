@@ -26,13 +26,24 @@ fn put<F: RawFile>(raw: &mut F, at: u64, bytes: &Vec<u8>, waits: bool) -> bool
 ///
 /// A `put` that succeeded is in the host's hands: it outlasts the process, also one that is killed. With a `sync` behind
 /// it that succeeded, or of a file that waits for each put, it outlasts a loss of power.
-#[derive(Drop)]
 pub struct HostLines {
     pub(crate) raw: StdFile,
     pub(crate) name: String,
     // whether a put waits until it stands on the disk
     waits: bool,
     pub(crate) asked: LinesAsked,
+}
+
+// Written out, since each crate above would go through a derived one again.
+impl Drop for HostLines {
+    fn drop(self) {
+        let Self {
+            raw,
+            name,
+            waits,
+            asked,
+        } = self;
+    }
 }
 
 impl HostLines {

@@ -22,13 +22,24 @@ enum WriteNoted {
 /// A file of the system that is open for writing, and what it was asked since.
 ///
 /// It may have a share of a lock, which then stays held as long as the file is there: a lock goes with the last of its shares.
-#[derive(Drop)]
 pub struct StdFile {
     pub(crate) file: File,
     lock: Option<File>,
     writes: Past<WriteNoted>,
     // what the system said of the last call that failed
     failed: Option<io::Error>,
+}
+
+// Written out, since each crate above would go through a derived one again.
+impl Drop for StdFile {
+    fn drop(self) {
+        let Self {
+            file,
+            lock,
+            writes,
+            failed,
+        } = self;
+    }
 }
 
 impl RawFile for StdFile {

@@ -69,13 +69,25 @@ pub enum Statement {
 }
 
 /// A process: its node, its variables' first values, what it does first, and what it does again and again.
-#[derive(Debug, Drop)]
+#[derive(Debug)]
 pub struct Process {
     pub node: u8,
     pub variables: Vec<i64>,
     pub prelude: Vec<Statement>,
     /// The body of the loop, unless the process finishes after its prelude.
     pub body: Option<Vec<Statement>>,
+}
+
+// Written out, since each crate above would go through a derived one again.
+impl Drop for Process {
+    fn drop(self) {
+        let Self {
+            node,
+            variables,
+            prelude,
+            body,
+        } = self;
+    }
 }
 
 /// What stands at an end of a channel.
@@ -94,8 +106,18 @@ pub struct Channel {
 }
 
 /// A network's channels and processes, by number.
-#[derive(Debug, Drop)]
+#[derive(Debug)]
 pub struct Program {
     pub channels: Vec<Channel>,
     pub processes: Vec<Process>,
+}
+
+// Written out, since each crate above would go through a derived one again.
+impl Drop for Program {
+    fn drop(self) {
+        let Self {
+            channels,
+            processes,
+        } = self;
+    }
 }

@@ -28,10 +28,17 @@ pub enum Mode {
 }
 
 /// A process's state: how far it is, and its variables there, in order of declaration.
-#[derive(Debug, Drop)]
+#[derive(Debug)]
 pub struct ProcState {
     pub mode: Mode,
     pub variables: Vec<i64>,
+}
+
+// Written out, since each crate above would go through a derived one again.
+impl Drop for ProcState {
+    fn drop(self) {
+        let Self { mode, variables } = self;
+    }
 }
 
 impl Place {

@@ -113,16 +113,30 @@ impl<N: MarksName> Marks<N> {
         }
     }
 
+    /// How many channels the network has.
+    pub fn channels(&self) -> usize
+        ensures { result ≡ length (owners_of self.now) }
+    {
+        self.owners.len()
+    }
+
+    /// Whether the channel is an output of the seat's node.
+    pub fn owns(&self, seat: &Seat<N>, channel: u8) -> bool
+        ensures { IsTrue result ↔ IsOutputOf (owners_of self.now) (node_of seat.now) channel }
+    {
+        match self.owner(channel) {
+            Some(owner) => seat.node() == Some(owner),
+            None => false,
+        }
+    }
+
     /// Whether the seat may raise what has left: the output is one of these marks' network, and the seat is that of its
     /// node.
     pub fn fits(&self, seat: &Seat<N>, freed: &Freed) -> bool
         ensures { IsTrue result
             ↔ IsOutputOf (owners_of self.now) (node_of seat.now) freed.now.output }
     {
-        match self.owner(freed.output) {
-            Some(owner) => seat.node() == Some(owner),
-            None => false,
-        }
+        self.owns(seat, freed.output)
     }
 
     /// Raises the mark of an output to the number of its items that have left, where it isn't as high yet. The seat then

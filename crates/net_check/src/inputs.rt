@@ -9,9 +9,16 @@ use kahn_net::{Channel, History, Port};
 use std::marker::Model;
 
 /// The items that come from outside: one list for each channel number, empty where the channel is no input.
-#[derive(Debug, Drop)]
+#[derive(Debug)]
 pub struct Inputs {
     lists: Vec<History>,
+}
+
+// Written out, since each crate above would go through a derived one again.
+impl Drop for Inputs {
+    fn drop(self) {
+        let Self { lists } = self;
+    }
 }
 
 impl Model for Inputs {

@@ -12,7 +12,7 @@ use proc_code::Code;
 
 /// A valid network, with the names of its channels and of its processes, in order of declaration, and with each
 /// process's code, so that whoever has a share of the network has one of the code.
-#[derive(Debug, Drop)]
+#[derive(Debug)]
 pub struct Net {
     pub program: Program,
     pub channel_names: Vec<Name>,
@@ -24,4 +24,16 @@ pub struct Net {
     pub ghost channels_differ: { AllDifferent channel_names.items },
     pub ghost processes_differ: { AllDifferent process_names.items },
     pub ghost compiled: { map code_view codes.items ≡ map flat_code (network_of program).codes },
+}
+
+// Written out, since each crate above would go through a derived one again.
+impl Drop for Net {
+    fn drop(self) {
+        let Self {
+            program,
+            channel_names,
+            process_names,
+            codes,
+        } = self;
+    }
 }

@@ -5,10 +5,17 @@ ghost use Rattle.std.specs.Prelude.{◌≡◌, ◌↔◌, IsTrue, string_bytes};
 use std::marker::Model;
 
 /// A name, and the line on which it stands.
-#[derive(Debug, Drop)]
+#[derive(Debug)]
 pub struct Name {
     text: String,
     line: usize,
+}
+
+// Written out, since each crate above would go through a derived one again.
+impl Drop for Name {
+    fn drop(self) {
+        let Self { text, line } = self;
+    }
 }
 
 impl Model for Name {

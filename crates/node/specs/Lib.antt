@@ -6,3 +6,4 @@ pub mod Then
 pub mod Planned
 pub mod Said
 pub mod Heard
+pub mod Memory

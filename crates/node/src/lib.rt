@@ -15,6 +15,7 @@ mod recover;
 mod restart;
 mod state;
 
+pub use decide_core::may_decide;
 pub use layout::{is_here, node_count};
 pub use mode::Mode;
 pub use node::Node;

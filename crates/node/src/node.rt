@@ -44,7 +44,6 @@ use std::sync::Arc;
 /// A node of a network, with its number there and the store of its record.
 ///
 /// While it is up its store is ready. In every state a crash leaves the record that it has, and no other.
-#[derive(Drop)]
 pub struct Node<C: SlotCell> {
     pub number: u8,
     pub state: NodeState,
@@ -53,8 +52,31 @@ pub struct Node<C: SlotCell> {
     pub ghost kept: { HasRecord number (mode_view state.mode) store },
 }
 
+// Written out, since each crate above would go through a derived one again.
+impl<C: SlotCell> Drop for Node<C> {
+    fn drop(self) {
+        let Self {
+            number,
+            state,
+            store,
+        } = self;
+    }
+}
+
 impl<C: SlotCell> Node<C> {
     ghost use Rattle.node.specs.NodeOf.{view_of};
+
+    /// Its store. All else is gone.
+    pub fn into_store(self) -> Store<C>
+        ensures { result ≡ self.store }
+    {
+        let Self {
+            number: _,
+            state: _,
+            store,
+        } = self;
+        store
+    }
 
     /// A node of a network that runs from the permanent image of its store's record, and never went down. Nothing has come to
     /// its inboxes, and nothing of its outboxes is under way. Refuses for want of memory alone (1), and hands the store back.

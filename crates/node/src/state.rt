@@ -40,7 +40,6 @@ pub fn next_after(number: u64) -> u64
 }
 
 /// All that a node has beside its record.
-#[derive(Drop)]
 pub struct NodeState {
     pub mode: Mode,
     /// Rises with each crash, and where the node goes back, so that a job from before can be told. At the greatest no job is granted.
@@ -50,6 +49,18 @@ pub struct NodeState {
     /// How long each fault that is armed on the node's disk keeps it down, in the order of arming. None is taken out: a call
     /// of the same count comes again only after a recount, and then the disk fails again.
     pub armed: Vec<ArmedRestart>,
+}
+
+// Written out, since each crate above would go through a derived one again.
+impl Drop for NodeState {
+    fn drop(self) {
+        let Self {
+            mode,
+            version,
+            restart,
+            armed,
+        } = self;
+    }
 }
 
 impl NodeState {

@@ -32,7 +32,6 @@ use std::alloc::{AllocError, Global};
 use std::sync::Arc;
 
 /// What a node has in memory while it runs. A crash loses it.
-#[derive(Drop)]
 pub struct Running {
     /// Where its processes and channels stand now.
     pub current: Image,
@@ -46,6 +45,20 @@ pub struct Running {
     pub outboxes: Vec<Outbox>,
     /// The checkpoint for which answers are collected, if there is one.
     pub live: Option<Initiator>,
+}
+
+// Written out, since each crate above would go through a derived one again.
+impl Drop for Running {
+    fn drop(self) {
+        let Self {
+            current,
+            out,
+            last,
+            inboxes,
+            outboxes,
+            live,
+        } = self;
+    }
 }
 
 impl Running {

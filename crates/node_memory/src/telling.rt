@@ -4,9 +4,8 @@ ghost use Rattle.std.specs.List.{flat_map};
 ghost use Rattle.protocol.specs.Node.Common.{network_of, live_asks, commit_to};
 ghost use Rattle.protocol.specs.Node.Telling.{decision_packets, verdicts_told};
 
-use ckpt_core::query;
 use datagram::Packet;
-use decide_core::{Initiator, commit_to};
+use decide_core::{Initiator, commit_to, query};
 use net_check::Net;
 use record::{Decision, Record};
 use std::alloc::AllocError;

@@ -24,7 +24,6 @@ use std::alloc::{AllocError, Global};
 /// An item that differs from the held one is refused with `Failed` (60), and so is every item behind it: the file is of
 /// another network, of other inputs, or damaged. Where a put fails, the item that caused it is refused with `Failed`, and
 /// so is every later one: what stands in the file behind the puts that succeeded is unknown.
-#[derive(Drop)]
 pub struct ResumedOutlet<F: LineFile> {
     items: Vec<i64>,
     held: usize,
@@ -45,6 +44,21 @@ pub struct ResumedOutlet<F: LineFile> {
         (F.asked lines.file) lines.end lines.block.items lines.broken },
     ghost small: { length lines.block.items ≤ BLOCK_BYTES },
     ghost room: { BLOCK_BYTES ≤ vec_capacity lines.block },
+}
+
+// Written out, since each crate above would go through a derived one again.
+impl<F: LineFile> Drop for ResumedOutlet<F> {
+    fn drop(self) {
+        let Self {
+            items,
+            held,
+            count,
+            difference,
+            differing,
+            lines,
+            failures,
+        } = self;
+    }
 }
 
 impl<F: LineFile> ResumedOutlet<F> {
@@ -143,7 +157,15 @@ impl<F: LineFile> ResumedOutlet<F> {
     pub fn into_file(self) -> F
         ensures { F.asked result ≡ asked_of self }
     {
-        let ResumedOutlet { lines, .. } = self;
+        let Self {
+            items: _,
+            held: _,
+            count: _,
+            difference: _,
+            differing: _,
+            lines,
+            failures: _,
+        } = self;
         let LineBlock { file, .. } = lines;
         file
     }

@@ -8,12 +8,24 @@ use crate::instruction::{Instruction, Site};
 
 /// The code of a process: its instructions, its sites by number, how many values its stack holds at most, and how many
 /// repetitions stand round an instruction at most.
-#[derive(Debug, Drop)]
+#[derive(Debug)]
 pub struct Code {
     pub instructions: Vec<Instruction>,
     pub sites: Vec<Site>,
     pub deepest: usize,
     pub nesting: usize,
+}
+
+// Written out, since each crate above would go through a derived one again.
+impl Drop for Code {
+    fn drop(self) {
+        let Self {
+            instructions,
+            sites,
+            deepest,
+            nesting,
+        } = self;
+    }
 }
 
 impl Code {

@@ -18,7 +18,7 @@ const NO_MEMORY: u8 = 1;
 /// state from which it goes on, the items at hand for each channel from which it gets, in order,
 /// and the places of room on each channel on which it puts. Items and room are lists by channel
 /// number; where one is too short, there is nothing at hand and no room.
-#[derive(Debug, Drop)]
+#[derive(Debug)]
 pub struct Job {
     pub net: Arc<Net>,
     pub process: usize,
@@ -27,6 +27,20 @@ pub struct Job {
     pub items: Vec<History>,
     pub room: Vec<usize>,
     pub ghost named: { process < length net.value.program.processes.items },
+}
+
+// Written out, since each crate above would go through a derived one again.
+impl Drop for Job {
+    fn drop(self) {
+        let Self {
+            net,
+            process,
+            version,
+            state,
+            items,
+            room,
+        } = self;
+    }
 }
 
 /// A share of a job that was run, with what the process's own turn on it came to: the state after it, how many items it

@@ -1,4 +1,4 @@
--- Which channel needs more room in small worlds, worked out by hand: each row says what `needed_at` comes to.
+-- Which channel needs more room in small worlds, worked out by hand: each row says what `needed_for` comes to for a node.
 use Rattle.std.proofs.Common.{◌≡◌, ℕ, ℤ, pos, List, [], ◌∷◌, Option, Some, None, refl, replicate}
 use Rattle.ckpt_codec.specs.Common.{Code, Network, Channel, Outside, Process, ImageView, RecordView, Receives, Sends}
 use Rattle.ckpt_codec.specs.Common.{SavedEnd, SavedProcessView, LogState, Tentative, MAX_COUNT}
@@ -8,7 +8,7 @@ use Rattle.record.specs.declared.image.End.TheVariants.{Both}
 use Rattle.wire.specs.Traffic.{opening_traffic}
 use Rattle.protocol.specs.Node.JobView.{JobView}
 use Rattle.protocol.specs.Node.NodeView.{ModeView, Down, Runs}
-use Rattle.protocol.specs.World.RoomNeeds.{needed_at}
+use Rattle.protocol.specs.World.RoomNeeds.{needed_for}
 use Rattle.protocol.specs.World.StationView.{OutletView, StationView}
 use Rattle.protocol.specs.World.Steps.{WorldView}
 use Rattle.protocol.specs.World.Turns.{no_turns}
@@ -94,79 +94,79 @@ alone channels codes processes ends =
 -- ---- on one node
 
 -- 0 is held at a put to 1, which has finished
-consumer_has_finished : needed_at
+consumer_has_finished : needed_for
     (alone (runs_to 0 1 ∷ []) (code_on 0 (puts 0) ∷ code_on 0 (gets 0) ∷ []) (before 0 ∷ done 1 ∷ [])
-    (inner 0 (zeros 5 2) ∷ [])) ≡ Some 0
+    (inner 0 (zeros 5 2) ∷ [])) 0 ≡ Some 0
 consumer_has_finished = refl
 
 -- there is a place yet
-has_a_place : needed_at
+has_a_place : needed_for
     (alone (runs_to 0 1 ∷ []) (code_on 0 (puts 0) ∷ code_on 0 (gets 0) ∷ []) (before 0 ∷ done 1 ∷ [])
-    (inner 0 (zeros 5 1) ∷ [])) ≡ None
+    (inner 0 (zeros 5 1) ∷ [])) 0 ≡ None
 has_a_place = refl
 
 -- 0 is held at a put to 1, which waits for an item from 0
-cycle_of_two : needed_at
+cycle_of_two : needed_for
     (alone (runs_to 0 1 ∷ runs_to 0 1 ∷ []) (code_on 0 (puts 0) ∷ code_on 0 (gets 1) ∷ []) (before 0 ∷ before 1 ∷ [])
-    (inner 0 (zeros 0 2) ∷ inner 1 (zeros 3 0) ∷ [])) ≡ Some 0
+    (inner 0 (zeros 0 2) ∷ inner 1 (zeros 3 0) ∷ [])) 0 ≡ Some 0
 cycle_of_two = refl
 
 -- 0 and 1 are held at puts to each other
-both_are_held : needed_at
+both_are_held : needed_for
     (alone (runs_to 0 1 ∷ runs_to 1 0 ∷ []) (code_on 0 (puts 0) ∷ code_on 0 (puts 1) ∷ []) (before 0 ∷ before 1 ∷ [])
-    (inner 0 (zeros 0 2) ∷ inner 1 (zeros 3 2) ∷ [])) ≡ Some 0
+    (inner 0 (zeros 0 2) ∷ inner 1 (zeros 3 2) ∷ [])) 0 ≡ Some 0
 both_are_held = refl
 
 -- 0 is held at a put to 1; and 1 is held at a put to 2, which waits for an item from 1
-chain_behind_cycle : needed_at
+chain_behind_cycle : needed_for
     (alone (runs_to 0 1 ∷ runs_to 1 2 ∷ runs_to 1 2 ∷ [])
     (code_on 0 (puts 0) ∷ code_on 0 (puts 1) ∷ code_on 0 (gets 2) ∷ []) (before 0 ∷ before 1 ∷ before 2 ∷ [])
-    (inner 0 (zeros 0 2) ∷ inner 1 (zeros 0 2) ∷ inner 2 (zeros 0 0) ∷ [])) ≡ Some 1
+    (inner 0 (zeros 0 2) ∷ inner 1 (zeros 0 2) ∷ inner 2 (zeros 0 0) ∷ [])) 0 ≡ Some 1
 chain_behind_cycle = refl
 
 -- 0 is held at a put to 1, and 1 at a put to 2, which has finished
-chain_to_an_end : needed_at
+chain_to_an_end : needed_for
     (alone (runs_to 0 1 ∷ runs_to 1 2 ∷ []) (code_on 0 (puts 0) ∷ code_on 0 (puts 1) ∷ code_on 0 (gets 1) ∷ [])
-    (before 0 ∷ before 1 ∷ done 2 ∷ []) (inner 0 (zeros 0 2) ∷ inner 1 (zeros 0 2) ∷ [])) ≡ Some 1
+    (before 0 ∷ before 1 ∷ done 2 ∷ []) (inner 0 (zeros 0 2) ∷ inner 1 (zeros 0 2) ∷ [])) 0 ≡ Some 1
 chain_to_an_end = refl
 
 -- 1 goes on, since an item is at hand
-consumer_is_slow : needed_at
+consumer_is_slow : needed_for
     (alone (runs_to 0 1 ∷ []) (code_on 0 (puts 0) ∷ code_on 0 (gets 0) ∷ []) (before 0 ∷ before 1 ∷ [])
-    (inner 0 (zeros 0 2) ∷ [])) ≡ None
+    (inner 0 (zeros 0 2) ∷ [])) 0 ≡ None
 consumer_is_slow = refl
 
 -- 0 is held at a put to 1, and 1 at a put to 2, which goes on
-last_one_is_slow : needed_at
+last_one_is_slow : needed_for
     (alone (runs_to 0 1 ∷ runs_to 1 2 ∷ []) (code_on 0 (puts 0) ∷ code_on 0 (puts 1) ∷ code_on 0 (gets 1) ∷ [])
-    (before 0 ∷ before 1 ∷ before 2 ∷ []) (inner 0 (zeros 0 2) ∷ inner 1 (zeros 0 2) ∷ [])) ≡ None
+    (before 0 ∷ before 1 ∷ before 2 ∷ []) (inner 0 (zeros 0 2) ∷ inner 1 (zeros 0 2) ∷ [])) 0 ≡ None
 last_one_is_slow = refl
 
 -- 2 goes on for ever beside the others
-endless_beside : needed_at
+endless_beside : needed_for
     (alone (runs_to 0 1 ∷ []) (code_on 0 (puts 0) ∷ code_on 0 (gets 0) ∷ code_on 0 (puts 1) ∷ [])
     (before 0 ∷ done 1 ∷ new 2 ∷ [])
-    (inner 0 (zeros 0 2) ∷ [])) ≡ Some 0
+    (inner 0 (zeros 0 2) ∷ [])) 0 ≡ Some 0
 endless_beside = refl
 
 -- 0 and 1 wait for an item from each other
-nobody_puts : needed_at
+nobody_puts : needed_for
     (alone (runs_to 0 1 ∷ runs_to 1 0 ∷ []) (code_on 0 (gets 1) ∷ code_on 0 (gets 0) ∷ []) (before 0 ∷ before 1 ∷ [])
-    (inner 0 (zeros 0 0) ∷ inner 1 (zeros 0 0) ∷ [])) ≡ None
+    (inner 0 (zeros 0 0) ∷ inner 1 (zeros 0 0) ∷ [])) 0 ≡ None
 nobody_puts = refl
 
 -- 0 is held at a put to 1, and 1 and 2 wait for an item from each other
-held_before_those : needed_at
+held_before_those : needed_for
     (alone (runs_to 0 1 ∷ runs_to 1 2 ∷ runs_to 2 1 ∷ [])
     (code_on 0 (puts 0) ∷ code_on 0 (gets 2) ∷ code_on 0 (gets 1) ∷ []) (before 0 ∷ before 1 ∷ before 2 ∷ [])
-    (inner 0 (zeros 0 2) ∷ inner 1 (zeros 0 0) ∷ inner 2 (zeros 0 0) ∷ [])) ≡ Some 0
+    (inner 0 (zeros 0 2) ∷ inner 1 (zeros 0 0) ∷ inner 2 (zeros 0 0) ∷ [])) 0 ≡ Some 0
 held_before_those = refl
 
 -- The way leads by way of one that can't have more, since positions end there: 0 is held at a put to 1, and 1 at one to
 -- 2, which has finished.
-next_is_full : needed_at
+next_is_full : needed_for
     (alone (runs_to 0 1 ∷ runs_to 1 2 ∷ []) (code_on 0 (puts 0) ∷ code_on 0 (puts 1) ∷ code_on 0 (gets 1) ∷ [])
-    (before 0 ∷ before 1 ∷ done 2 ∷ []) (inner 0 (zeros 0 2) ∷ inner 1 (zeros MAX_COUNT 0) ∷ [])) ≡ Some 0
+    (before 0 ∷ before 1 ∷ done 2 ∷ []) (inner 0 (zeros 0 2) ∷ inner 1 (zeros MAX_COUNT 0) ∷ [])) 0 ≡ Some 0
 next_is_full = refl
 
 -- ---- inputs and outputs
@@ -184,10 +184,10 @@ fed received =
     }) None [] []) [] ∷ [])
 
 -- 0 is held at a put to 1, which waits for an item of an input that is exhausted, or that isn't
-input_is_exhausted : needed_at (fed 2) ≡ Some 0
+input_is_exhausted : needed_for (fed 2) 0 ≡ Some 0
 input_is_exhausted = refl
 
-input_goes_on : needed_at (fed 1) ≡ None
+input_goes_on : needed_for (fed 1) 0 ≡ None
 input_goes_on = refl
 
 -- 0 is held at a put on an output that has let go of all before the last two items, and whose outlet has so many
@@ -202,10 +202,10 @@ putting_out taken =
     (record { processes = before 0 ∷ []; ends = record { channel = 0; end = Sends (zeros 1 2) } ∷ [] })
     None [] []) (record { channel = 0; taken = taken; failed = None; failures = 0 } ∷ []) ∷ [])
 
-items_leave : needed_at (putting_out (pos 0 ∷ pos 0 ∷ [])) ≡ None
+items_leave : needed_for (putting_out (pos 0 ∷ pos 0 ∷ [])) 0 ≡ None
 items_leave = refl
 
-all_has_left : needed_at (putting_out (pos 0 ∷ pos 0 ∷ pos 0 ∷ [])) ≡ Some 0
+all_has_left : needed_for (putting_out (pos 0 ∷ pos 0 ∷ pos 0 ∷ [])) 0 ≡ Some 0
 all_has_left = refl
 
 -- ---- on two nodes: 0 on node 0 is held at a put to 1 on node 1, which waits for an item from 0
@@ -251,19 +251,23 @@ getter got came =
 abbrev across : StationView → StationView → WorldView
 across first second = world_of pair [] (first ∷ second ∷ [])
 
-nothing_under_way : needed_at (across (sender 4 None None) (getter 4 3)) ≡ Some 0
+nothing_under_way : needed_for (across (sender 4 None None) (getter 4 3)) 0 ≡ Some 0
 nothing_under_way = refl
 
+-- and no process of node 1 is held
+none_of_node_1_is_held : needed_for (across (sender 4 None None) (getter 4 3)) 1 ≡ None
+none_of_node_1_is_held = refl
+
 -- an item is on its way to 1
-item_comes : needed_at (across (sender 4 None None) (getter 4 2)) ≡ None
+item_comes : needed_for (across (sender 4 None None) (getter 4 2)) 0 ≡ None
 item_comes = refl
 
 -- the log still has an item that was got, and lets go of it once that is kept for good
-item_is_let_go : needed_at (across (sender 3 None None) (getter 4 3)) ≡ None
+item_is_let_go : needed_for (across (sender 3 None None) (getter 4 3)) 0 ≡ None
 item_is_let_go = refl
 
 -- node 1 is down, and comes back
-comes_back : needed_at (across (sender 4 None None) (station_of 1 (keeping 1 no_image None) Down [])) ≡ None
+comes_back : needed_for (across (sender 4 None None) (station_of 1 (keeping 1 no_image None) Down [])) 0 ≡ None
 comes_back = refl
 
 abbrev job_of : ℕ → JobView
@@ -271,13 +275,13 @@ job_of process =
     record { process = process; code = None; version = 0; standing = Done []; items = []; room = [] }
 
 -- the job of 0 is out, or that of another process
-own_job_is_out : needed_at (across (sender 4 (Some (job_of 0)) None) (getter 4 3)) ≡ None
+own_job_is_out : needed_for (across (sender 4 (Some (job_of 0)) None) (getter 4 3)) 0 ≡ None
 own_job_is_out = refl
 
-another_is_out : needed_at (across (sender 4 (Some (job_of 2)) None) (getter 4 3)) ≡ Some 0
+another_is_out : needed_for (across (sender 4 (Some (job_of 2)) None) (getter 4 3)) 0 ≡ Some 0
 another_is_out = refl
 
 -- node 0 takes part in a checkpoint, which lets no process go on that waits
-holds_an_image : needed_at
-    (across (sender 4 None (Some (record { initiator = 0; number = 1; image = no_image }))) (getter 4 3)) ≡ Some 0
+holds_an_image : needed_for
+    (across (sender 4 None (Some (record { initiator = 0; number = 1; image = no_image }))) (getter 4 3)) 0 ≡ Some 0
 holds_an_image = refl

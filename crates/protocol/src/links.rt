@@ -6,7 +6,6 @@ use window_link::{RecvWindow, SendWindow};
 /// What came of a channel from another node, and wasn't got yet.
 ///
 /// The log begins behind what the node's process has got, and ends where the window goes on.
-#[derive(Drop)]
 pub struct Inbox {
     pub channel: u8,
     /// Which position of the channel is taken next.
@@ -16,6 +15,18 @@ pub struct Inbox {
     /// The last epoch of the channel's sender of which this end was told, and that was handled: 0 before the first, and
     /// where the node came back since.
     pub undone: u64,
+}
+
+// Written out, since each crate above would go through a derived one again.
+impl Drop for Inbox {
+    fn drop(self) {
+        let Self {
+            channel,
+            window,
+            log,
+            undone,
+        } = self;
+    }
 }
 
 /// The end of a channel on which the node puts, and from which another node gets. The items to be sent lie in the log of the

@@ -10,10 +10,16 @@ use std::alloc::{AllocError, Global};
 use std::marker::Model;
 
 /// A process's part of an image.
-#[derive(Drop)]
 pub struct SavedProcess {
     pub number: u8,
     pub state: ProcState,
+}
+
+// Written out, since each crate above would go through a derived one again.
+impl Drop for SavedProcess {
+    fn drop(self) {
+        let Self { number, state } = self;
+    }
 }
 
 impl Model for SavedProcess {
@@ -118,10 +124,16 @@ impl End {
 }
 
 /// A channel's part of an image.
-#[derive(Drop)]
 pub struct SavedEnd {
     pub channel: u8,
     pub end: End,
+}
+
+// Written out, since each crate above would go through a derived one again.
+impl Drop for SavedEnd {
+    fn drop(self) {
+        let Self { channel, end } = self;
+    }
 }
 
 impl SavedEnd {
@@ -137,11 +149,17 @@ impl SavedEnd {
 
 /// An image of a node: each process's state, and for each end of a channel its received count or its retained log. The ends
 /// stand in order of their channels.
-#[derive(Drop)]
 pub struct Image {
     pub processes: Vec<SavedProcess>,
     pub ends: Vec<SavedEnd>,
     pub ghost ordered: { AreAscending ends.items },
+}
+
+// Written out, since each crate above would go through a derived one again.
+impl Drop for Image {
+    fn drop(self) {
+        let Self { processes, ends } = self;
+    }
 }
 
 impl Model for Image {

@@ -9,10 +9,19 @@ use std::marker::Model;
 pub const MAX_DECISIONS: usize = 8;
 
 /// The coordinator's decision that a checkpoint is permanent, with the nodes that haven't confirmed it yet.
-#[derive(Drop)]
 pub struct Decision {
     pub number: u64,
     pub participants: Vec<u8>,
+}
+
+// Written out, since each crate above would go through a derived one again.
+impl Drop for Decision {
+    fn drop(self) {
+        let Self {
+            number,
+            participants,
+        } = self;
+    }
 }
 
 impl Model for Decision {
@@ -56,7 +65,6 @@ impl Tentative {
 }
 
 /// All that a node keeps over a crash.
-#[derive(Drop)]
 pub struct Record {
     /// The node that keeps it.
     pub node: u8,
@@ -68,6 +76,20 @@ pub struct Record {
     /// The last permanent checkpoint.
     pub permanent: Image,
     pub tentative: Option<Tentative>,
+}
+
+// Written out, since each crate above would go through a derived one again.
+impl Drop for Record {
+    fn drop(self) {
+        let Self {
+            node,
+            epoch,
+            highest,
+            decisions,
+            permanent,
+            tentative,
+        } = self;
+    }
 }
 
 impl Model for Record {

@@ -1,24 +1,24 @@
 -- What an event leaves of that by which a run ends.
 use Rattle.std.proofs.Common.{◌≡◌, ◌∙◌, ◌≤◌, ◌+◌, ℕ, zero, suc, ℤ, Bool, true, false, if◌then◌else◌, List, [], ◌∷◌, Option}
-use Rattle.std.proofs.Common.{Some, None, refl, sym, ap, subst, slice_get, arith}
+use Rattle.std.proofs.Common.{⊎_elim, Some, None, refl, sym, ap, subst, slice_get, arith}
 use Rattle.std.specs.Prelude.{◌==◌, find, nat_lt, slice_set}
 use Rattle.std.specs.List.{list_all}
 use Rattle.std.proofs.lemmas.Bool.{and_parts}
 use Rattle.protocol.specs.Node.Common.{Channel, Down, InDoubt, IsInstall, IsOut, JobView, ModeView, Network, NodeView, RecordView, Runs}
 use Rattle.protocol.specs.Node.Common.{next_number, running_in, running_of}
 use Rattle.protocol.specs.Node.Common.{MAX_COUNT, is_none}
-use Rattle.protocol.specs.World.Common.{DoneView, EventView, ByNode, Install, IsActOf, IsStep, OutletView, ReplyView, Setting, StationView}
+use Rattle.protocol.specs.World.Common.{DoneView, EventView, ByNetwork, ByNode, Install, IsActOf, IsStep, Release, OutletView, ReplyView, Setting, StationView}
 use Rattle.protocol.specs.World.Common.{WorldView, are_quiet, event_node, install_reply, moved_to, outputs_of, released_of, round_after}
 use Rattle.protocol.specs.World.Common.{setting_of, taken_or}
 use Rattle.protocol.specs.World.OutputView.{OutputView}
 use Rattle.protocol.specs.World.Quiet.{is_quiet_at}
-use Rattle.protocol.specs.World.Steps.{IsActAt, are_done_with}
+use Rattle.protocol.specs.World.Steps.{IsActAt, IsHanded, IsRelease, IsReleaseAt, IsStationStep, are_done_with, next_release}
 use Rattle.protocol.specs.declared.event.Deed.TheVariants as event
 use Rattle.protocol.specs.declared.outcome.Outcome.{Outcome}
 use Rattle.protocol.specs.declared.reply.Reply.TheVariants as reply
 use Rattle.replay.specs.Armed.{ArmCrash, ArmedView, EndsWith, OfWorld, crash_after, crash_at}
 use Rattle.replay.specs.Armed.{delivered_to, has_come}
-use Rattle.replay.specs.Endings.{InstallsEndNothing, RoundsAreNext}
+use Rattle.replay.specs.Endings.{InstallsEndNothing, OnlyReleasesLeave, RoundsAreNext, may_have_left}
 use Rattle.replay.specs.declared.kept.ArmedCrash.{ArmedCrash}
 
 -- ---- what has left
@@ -199,3 +199,70 @@ rounds_are_next fits (OfWorld event) old new answer step =
     (λ crash is. crash_comes (delivered_to event) step.said new.deliveries old.crashes crash is) step.ends
 rounds_are_next fits (ArmCrash crash) old new answer step =
     within old.world.round new.world.round (ap (λ (a : ArmedView). a.world.round) step.1)
+
+-- ---- what leaves by an event
+
+left_by : (said answer : ReplyView) → said ≡ answer → may_have_left said ≡ true → may_have_left answer ≡ false → ⊥
+left_by said answer is left none = absurd (cc)
+
+-- an outlet that was handed an item is told of
+handed : (round place : ℕ) (old : StationView) (answer : ReplyView) (new : StationView) → IsReleaseAt round place old answer new
+    → may_have_left answer ≡ false → ⊥
+handed round place old answer new released none =
+    ⊎_elim (λ taken. left_by _ answer (sym taken.0) refl none) (λ failed. left_by _ answer (sym failed.0) refl none) released.handed.came
+
+by_release : (round : ℕ) (next : Option ℕ) (old : StationView) (answer : ReplyView) (new : StationView)
+    → IsRelease round next old answer new → may_have_left answer ≡ false → new.outlets ≡ old.outlets
+by_release round None old answer new nothing none = ap (λ (s : StationView). s.outlets) nothing.1
+by_release round (Some place) old answer new released none = absurd (handed round place old answer new released none)
+
+outlets_stay : (setting : Setting) (fits : RecordView → Bool) (event : EventView) (came : Outcome) (old : StationView) (answer : ReplyView)
+    (new : StationView) → IsStationStep setting fits event came old answer new → may_have_left answer ≡ false → new.outlets ≡ old.outlets
+outlets_stay setting fits (ByNode k deed) came old answer new step none = ap (λ (s : StationView). s.outlets) step.same
+outlets_stay setting fits (Install done) came old answer new step none = ap (λ (s : StationView). s.outlets) step.same
+outlets_stay setting fits (Release k) came old answer new step none =
+    by_release setting.round (next_release setting.round old) old answer new step none
+outlets_stay setting fits (ByNetwork k place act) came old answer new step none = ap (λ (s : StationView). s.outlets) step.1
+
+act_leaves : (setting : Setting) (place : ℕ) (fits : Option (RecordView → Bool)) (found : Option StationView) (event : EventView)
+    (came : Outcome) (old : List StationView) (answer : ReplyView) (new : List StationView) → slice_get old place ≡ found
+    → IsActOf setting place fits found event came old answer new → may_have_left answer ≡ false
+    → (channel : ℕ) → released_of channel new ≡ released_of channel old
+act_leaves setting place (Some fits) (Some station) event came old answer new there act none channel =
+    ap (released_of channel) act.stations
+    ∙ released_set channel old place station act.later there
+    (outlets_stay setting fits event came station answer act.later act.step none)
+act_leaves setting place (Some fits) None event came old answer new there act none channel = ap (released_of channel) act.1
+act_leaves setting place None found event came old answer new there act none channel = ap (released_of channel) act.1
+
+step_leaves : (fits : List (RecordView → Bool)) (event : EventView) (old : WorldView) (answer : ReplyView) (new : WorldView)
+    → IsStep fits event old answer new → may_have_left answer ≡ false
+    → (channel : ℕ) → released_of channel new.stations ≡ released_of channel old.stations
+step_leaves fits event old answer new step none channel =
+    act_leaves (setting_of old) (event_node event) (slice_get fits (event_node event)) (slice_get old.stations (event_node event)) event
+    step.came old.stations answer new.stations refl step.act none channel
+
+-- a packet that came let nothing leave
+come_left : (said : ReplyView) → has_come said ≡ true → may_have_left said ≡ false
+come_left reply.Delivered come = refl
+come_left reply.Dropped come = refl
+come_left said come = absurd (cc)
+
+ends_leave : (fits : List (RecordView → Bool)) (happens : EventView) (crash : Option ArmedCrash) (said answer : ReplyView)
+    (old between new : WorldView) → IsStep fits happens old said between
+    → ((one : ArmedCrash) → crash ≡ Some one → has_come said ≡ true) → EndsWith fits crash said between answer new
+    → may_have_left answer ≡ false → (channel : ℕ) → released_of channel new.stations ≡ released_of channel old.stations
+ends_leave fits happens None said answer old between new step come ends none channel =
+    ap (λ (w : WorldView). released_of channel w.stations) ends.1
+    ∙ step_leaves fits happens old said between step (ap may_have_left (sym ends.0) ∙ none) channel
+ends_leave fits happens (Some crash) said answer old between new step come ends none channel =
+    step_leaves fits (ByNode crash.node (event.Crash crash.fill crash.rounds)) between answer new ends none channel
+    ∙ step_leaves fits happens old said between step (come_left said (come crash refl)) channel
+
+pub only_releases_leave : OnlyReleasesLeave
+only_releases_leave fits (OfWorld event) old new answer step none channel =
+    ends_leave fits event (crash_after (delivered_to event) step.said new.deliveries old.crashes) step.said answer old.world step.between
+    new.world step.step
+    (λ crash is. crash_comes (delivered_to event) step.said new.deliveries old.crashes crash is) step.ends none channel
+only_releases_leave fits (ArmCrash crash) old new answer step none channel =
+    ap (λ (a : ArmedView). released_of channel a.world.stations) step.1

@@ -1,5 +1,5 @@
 // Laws of histories.
-ghost use Rattle.replay.specs.Endings.{InstallsEndNothing, RoundsAreNext};
+ghost use Rattle.replay.specs.Endings.{InstallsEndNothing, OnlyReleasesLeave, RoundsAreNext};
 ghost use Rattle.replay.specs.Laws.{InstallsAreTold, ReplaysKeep, ReplaysStay, SilencesStay};
 ghost use Rattle.replay.specs.Out.{InstallsFollowGrants, JobsAreTold};
 ghost use Rattle.replay.specs.Rests.{PassingRests, RestIsSilence, RestsStay, SilenceIsRest};
@@ -38,8 +38,9 @@ pub fn rest_law()
 {}
 
 /// Where a run is over it stays so when a job comes back: the round is the same, what has left is, and where nothing was left to do nothing
-/// is. And an event ends one round at most.
+/// is. And an event ends one round at most, and lets nothing leave unless its answer says that something may have left.
 pub fn ending_law()
     ensures installs { InstallsEndNothing }
     ensures rounds { RoundsAreNext }
+    ensures leaves { OnlyReleasesLeave }
 {}

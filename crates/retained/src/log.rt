@@ -15,10 +15,16 @@ pub const MAX_LOG_ITEMS: usize = 65_536;
 /// The items of one history from the position `base` on: a base, and the items at the positions from it to the end.
 ///
 /// The items before the base are gone. No call moves the items that stay, unless `push` or `push_all` needs a larger room for them.
-#[derive(Drop)]
 pub struct Log {
     base: u64,
     items: VecDeque<i64>,
+}
+
+// Written out, since each crate above would go through a derived one again.
+impl Drop for Log {
+    fn drop(self) {
+        let Self { base, items } = self;
+    }
 }
 
 impl Model for Log {

@@ -1,4 +1,5 @@
 mod Raising
+mod Usuals
 mod Adding
 mod Arming
 mod Rested

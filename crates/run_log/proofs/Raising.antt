@@ -11,7 +11,7 @@ use Rattle.replay.specs.Replay.{Happening}
 use Rattle.run_log.specs.Lines.{happenings, happenings_of}
 use Rattle.run_log.specs.Numbers.{counted, numbers}
 use Rattle.run_log.specs.declared.history.Line.{Line}
-use Rattle.run_log.specs.declared.history.Line.TheVariants.{Made, Silent, Widened}
+use Rattle.run_log.specs.declared.history.Line.TheVariants.{Few, Left, CameBack, Long, Silent, Widened}
 
 -- ---- looking back
 
@@ -92,7 +92,10 @@ numbers_raised lines place reason count stops there =
 
 abbrev reason_in : Option Line → Silence
 reason_in None = NoMore
-reason_in (Some (Made entry times rises)) = NoMore
+reason_in (Some (Few rows)) = NoMore
+reason_in (Some (Left node output times first)) = NoMore
+reason_in (Some (CameBack node is_taken job)) = NoMore
+reason_in (Some (Long long)) = NoMore
 reason_in (Some (Silent reason count)) = reason
 reason_in (Some (Widened channel)) = NoMore
 

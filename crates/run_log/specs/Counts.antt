@@ -8,7 +8,8 @@ use Rattle.run_log.specs.Lines.{happenings}
 use Rattle.run_log.specs.Numbers.{Numbers, numbers}
 use Rattle.run_log.specs.Numbers as number
 use Rattle.run_log.specs.declared.history.Line.{Line}
-use Rattle.run_log.specs.declared.history.Line.TheVariants.{Made, Silent, Widened}
+use Rattle.run_log.specs.declared.history.Line.TheVariants.{Few, Left, CameBack, Long, Silent, Widened}
+use Rattle.run_log.specs.declared.history.Usual.{Usual}
 use Rattle.run_log.specs.declared.seat_count.Counted.{Counted}
 use Rattle.run_log.specs.declared.seat_count.Counted.TheVariants as counted
 
@@ -19,14 +20,23 @@ kind_of (Late node) = counted.Nothing
 kind_of NotYet = counted.NotYet
 kind_of NoMore = counted.NoMore
 
+abbrev pub times_of : Usual → ℕ
+times_of row = row.times
+
 -- that a channel got more room counts as an event
 abbrev pub events_in : Line → ℕ
-events_in (Made entry times rises) = times
+events_in (Few rows) = sum_by times_of rows
+events_in (Left node output times first) = times
+events_in (CameBack node is_taken job) = 1
+events_in (Long long) = long.value.times
 events_in (Silent reason count) = 0
 events_in (Widened channel) = 1
 
 abbrev pub nothings_in : Line → ℕ
-nothings_in (Made entry times rises) = 0
+nothings_in (Few rows) = 0
+nothings_in (Left node output times first) = 0
+nothings_in (CameBack node is_taken job) = 0
+nothings_in (Long long) = 0
 nothings_in (Silent (Nothing node) count) = count
 nothings_in (Silent (Late node) count) = count
 nothings_in (Silent NotYet count) = 0
@@ -34,7 +44,10 @@ nothings_in (Silent NoMore count) = 0
 nothings_in (Widened channel) = 0
 
 abbrev pub not_yets_in : Line → ℕ
-not_yets_in (Made entry times rises) = 0
+not_yets_in (Few rows) = 0
+not_yets_in (Left node output times first) = 0
+not_yets_in (CameBack node is_taken job) = 0
+not_yets_in (Long long) = 0
 not_yets_in (Silent (Nothing node) count) = 0
 not_yets_in (Silent (Late node) count) = 0
 not_yets_in (Silent NotYet count) = count
@@ -42,7 +55,10 @@ not_yets_in (Silent NoMore count) = 0
 not_yets_in (Widened channel) = 0
 
 abbrev pub no_mores_in : Line → ℕ
-no_mores_in (Made entry times rises) = 0
+no_mores_in (Few rows) = 0
+no_mores_in (Left node output times first) = 0
+no_mores_in (CameBack node is_taken job) = 0
+no_mores_in (Long long) = 0
 no_mores_in (Silent (Nothing node) count) = 0
 no_mores_in (Silent (Late node) count) = 0
 no_mores_in (Silent NotYet count) = 0

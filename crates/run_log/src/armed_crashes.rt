@@ -21,10 +21,16 @@ pub(crate) struct Delivery {
 }
 
 /// The crashes that are armed, in their order.
-#[derive(Drop)]
 pub(crate) struct ArmedCrashes {
     list: Vec<ArmedCrash>,
     firsts: HashMap<Delivery, ArmedCrash>,
+}
+
+// Written out, since each crate above would go through a derived one again.
+impl Drop for ArmedCrashes {
+    fn drop(self) {
+        let Self { list, firsts } = self;
+    }
 }
 
 impl Model for ArmedCrashes {

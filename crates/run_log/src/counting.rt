@@ -19,12 +19,12 @@ fn find_silence(lines: &[Line], reason: Silence) -> Option<usize>
     while place > 0 {
         place -= 1;
         match &lines[place] {
-            Line::Made { .. } | Line::Widened(_) => return None,
             Line::Silent { reason: said, .. } => {
                 if *said == reason {
                     return Some(place);
                 }
             }
+            _ => return None,
         }
     }
     None
@@ -40,7 +40,6 @@ fn raise(lines: &mut Vec<Line>, place: usize, reason: Silence) -> Result<(), Hub
     ensures full { IfErr result (λ fault. fault ≡ PastNumber → HasFullLine lines.old.items) }
 {
     match &mut lines[place] {
-        Line::Made { .. } | Line::Widened(_) => Ok(()),
         Line::Silent { count, .. } => {
             if *count >= MAX_COUNT {
                 return Err(HubFault::PastNumber);
@@ -48,6 +47,7 @@ fn raise(lines: &mut Vec<Line>, place: usize, reason: Silence) -> Result<(), Hub
             *count += 1;
             Ok(())
         }
+        _ => Ok(()),
     }
 }
 

@@ -3,7 +3,7 @@ ghost use Rattle.std.specs.Prelude.{◌≡◌, IfOk};
 ghost use Rattle.replay.specs.Armed.{OfWorld};
 ghost use Rattle.replay.specs.Replay.{IsKeptOf};
 ghost use Rattle.replay.specs.Replies.{kept_reply};
-ghost use Rattle.run_log.specs.Lines.{kept_view};
+ghost use Rattle.run_log.specs.Lines.{back_reply, kept_view};
 ghost use Rattle.station.specs.EventView.{event_view};
 ghost use Rattle.station.specs.ReplyView.{reply_view};
 
@@ -46,5 +46,16 @@ pub fn keep_reply(reply: &Reply) -> KeptReply
         Reply::Acted => KeptReply::Acted,
         Reply::Idled => KeptReply::Idled,
         Reply::NotDue => KeptReply::NotDue,
+    }
+}
+
+/// The answer to a turn that came back, as it is kept: it was taken in, or was of a job that isn't out.
+pub fn back_reply(is_taken: bool) -> KeptReply
+    ensures { result ≡ back_reply is_taken }
+{
+    if is_taken {
+        KeptReply::Installed
+    } else {
+        KeptReply::Discarded
     }
 }

@@ -16,11 +16,12 @@ mod making;
 mod resting;
 mod run_log;
 mod seat_count;
+mod usual;
 
 pub use answer::{FaultAnswer, HeldBack, HubFault, TurnAnswer};
 pub use armed::{ArmedWorld, no_deliveries};
-pub use history::{Entry, History, KeptEvent, Line};
-pub use keeping::keep_reply;
+pub use history::{Entry, History, KeptEvent, Line, LongLine, USUALS, Usual, UsualEvent};
+pub use keeping::{back_reply, keep_reply};
 pub use run_log::{Moment, RunLog};
 pub use seat_count::{
     Counted, Entries, NoMores, NotYets, Nothings, Run, RunCount, RunLedgers, SeatCount, Stops,

@@ -12,9 +12,9 @@ ghost use Rattle.station.specs.ReplyView.{reply_view};
 ghost use Rattle.world.specs.WholeView.{rooms_in, world_of};
 ghost use Rattle.world.specs.WorldView.{rooms};
 
-use crate::appending::put_entry;
+use crate::appending::{put_entry, room_in};
 use crate::armed::ArmedWorld;
-use crate::history::{Entry, KeptEvent, Line};
+use crate::history::{Entry, KeptEvent, Line, LongLine};
 use crate::keeping::{keep, keep_reply};
 use outlet::Outlet;
 use replay::{Maker, RunEvent};
@@ -27,6 +27,7 @@ fn make_kept<C: SlotCell, O: Outlet>(
     alloc: Global,
     world: &mut ArmedWorld<C, O>,
     lines: &mut Vec<Line>,
+    spare: &mut Option<Box<LongLine>>,
     node: u8,
     event: Event,
 ) -> Result<Reply, Refused>
@@ -48,10 +49,14 @@ fn make_kept<C: SlotCell, O: Outlet>(
     let Ok(kept) = keep(&event) else {
         return Err(Refused { event });
     };
+    let Ok(room) = room_in(alloc, spare) else {
+        return Err(Refused { event });
+    };
     let reply = world.apply(alloc, event)?;
     let said = keep_reply(&reply);
-    put_entry(
+    *spare = put_entry(
         lines,
+        room,
         Entry {
             maker: Maker::Node(node),
             event: kept,
@@ -66,6 +71,7 @@ pub(crate) fn make_event<C: SlotCell, O: Outlet>(
     alloc: Global,
     world: &mut ArmedWorld<C, O>,
     lines: &mut Vec<Line>,
+    spare: &mut Option<Box<LongLine>>,
     keeps: bool,
     node: u8,
     event: Event,
@@ -83,7 +89,7 @@ pub(crate) fn make_event<C: SlotCell, O: Outlet>(
     ensures handed_back { IfErr result (λ refused. refused.event ≡ event) }
 {
     if keeps {
-        make_kept(alloc, world, lines, node, event)
+        make_kept(alloc, world, lines, spare, node, event)
     } else {
         world.apply(alloc, event)
     }
@@ -94,6 +100,7 @@ fn make_kept_next<C: SlotCell, O: Outlet>(
     alloc: Global,
     world: &mut ArmedWorld<C, O>,
     lines: &mut Vec<Line>,
+    spare: &mut Option<Box<LongLine>>,
     node: u8,
 ) -> Result<Option<Reply>, AllocError>
     ensures passes { IfOk result
@@ -115,7 +122,7 @@ fn make_kept_next<C: SlotCell, O: Outlet>(
     if event.is_idle() {
         return Ok(None);
     }
-    match make_kept(alloc, world, lines, node, event) {
+    match make_kept(alloc, world, lines, spare, node, event) {
         Ok(reply) => Ok(Some(reply)),
         Err(_) => Err(AllocError),
     }
@@ -127,6 +134,7 @@ pub(crate) fn make_next<C: SlotCell, O: Outlet>(
     alloc: Global,
     world: &mut ArmedWorld<C, O>,
     lines: &mut Vec<Line>,
+    spare: &mut Option<Box<LongLine>>,
     keeps: bool,
     node: u8,
 ) -> Result<Option<Reply>, AllocError>
@@ -146,7 +154,7 @@ pub(crate) fn make_next<C: SlotCell, O: Outlet>(
         × (armed_view world.new ≡ armed_view world.old)) }
 {
     if keeps {
-        make_kept_next(alloc, world, lines, node)
+        make_kept_next(alloc, world, lines, spare, node)
     } else {
         world.step(alloc, node)
     }
@@ -157,6 +165,7 @@ fn make_kept_line<C: SlotCell, O: Outlet>(
     alloc: Global,
     world: &mut ArmedWorld<C, O>,
     lines: &mut Vec<Line>,
+    spare: &mut Option<Box<LongLine>>,
     event: RunEvent,
 ) -> Result<Reply, AllocError>
     ensures added { IfOk result (λ reply. IsAdded true who.Driver (run_view event) (reply_view reply)
@@ -168,10 +177,12 @@ fn make_kept_line<C: SlotCell, O: Outlet>(
         × (armed_view world.new ≡ armed_view world.old)) }
 {
     lines.reserve(1)?;
+    let room = room_in(alloc, spare)?;
     let reply = world.play(alloc, event)?;
     let said = keep_reply(&reply);
-    put_entry(
+    *spare = put_entry(
         lines,
+        room,
         Entry {
             maker: Maker::Driver,
             event: KeptEvent::Plain(event),
@@ -186,6 +197,7 @@ pub(crate) fn make_scripted<C: SlotCell, O: Outlet>(
     alloc: Global,
     world: &mut ArmedWorld<C, O>,
     lines: &mut Vec<Line>,
+    spare: &mut Option<Box<LongLine>>,
     keeps: bool,
     event: RunEvent,
 ) -> Result<Reply, AllocError>
@@ -198,7 +210,7 @@ pub(crate) fn make_scripted<C: SlotCell, O: Outlet>(
         × (armed_view world.new ≡ armed_view world.old)) }
 {
     if keeps {
-        make_kept_line(alloc, world, lines, event)
+        make_kept_line(alloc, world, lines, spare, event)
     } else {
         world.play(alloc, event)
     }

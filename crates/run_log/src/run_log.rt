@@ -30,7 +30,7 @@ ghost use Rattle.station.specs.declared.event.Event.TheVariants as event;
 use crate::answer::{FaultAnswer, HeldBack, HubFault, TurnAnswer};
 use crate::armed::ArmedWorld;
 use crate::counting::{write_silence, write_widened};
-use crate::history::{History, Line};
+use crate::history::{History, Line, LongLine};
 use crate::making::{make_event, make_next, make_scripted};
 use crate::resting::{Resting, has_passed, is_idle, none_rest, note_event};
 use crate::seat_count::{Counted, Run, RunCount, SeatCount};
@@ -55,13 +55,14 @@ pub struct Moment {
 }
 
 /// A world with its script and its history, and how often the seats were answered. Several threads share it under a lock.
-#[derive(Drop)]
 pub struct RunLog<C: SlotCell, O: Outlet, ThisRun: Run> {
     armed: ArmedWorld<C, O>,
     script: Vec<ScriptedEvent>,
     // How many lines of the script are passed.
     passed: usize,
     lines: Vec<Line>,
+    // Room for the next line that has no short form.
+    spare: Option<Box<LongLine>>,
     // Whether what happens is written.
     keeps: bool,
     stopped: bool,
@@ -88,6 +89,27 @@ pub struct RunLog<C: SlotCell, O: Outlet, ThisRun: Run> {
     pub ghost same_stops: { stops ≡ (run_numbers totals).stops },
     pub ghost still: { incomplete ≡ true → are_quiet (world_of armed.world) ≡ false },
     pub ghost rest: { ∥ AllRest resting (world_of armed.world) ∥₁ },
+}
+
+// Written out, since each crate above would go through a derived one again.
+impl<C: SlotCell, O: Outlet, ThisRun: Run> Drop for RunLog<C, O, ThisRun> {
+    fn drop(self) {
+        let Self {
+            armed,
+            script,
+            passed,
+            lines,
+            spare,
+            keeps,
+            stopped,
+            stops,
+            incomplete,
+            busy,
+            resting,
+            widened_at,
+            totals,
+        } = self;
+    }
 }
 
 fn counted_as(reason: Silence) -> Counted
@@ -177,6 +199,7 @@ impl<C: SlotCell, O: Outlet, ThisRun: Run> RunLog<C, O, ThisRun> {
             script,
             passed: 0,
             lines: Vec::new(alloc),
+            spare: None,
             keeps,
             stopped: false,
             stops: 0,
@@ -217,6 +240,7 @@ impl<C: SlotCell, O: Outlet, ThisRun: Run> RunLog<C, O, ThisRun> {
         let RunLog {
             armed,
             lines,
+            spare,
             keeps,
             incomplete,
             resting,
@@ -225,7 +249,7 @@ impl<C: SlotCell, O: Outlet, ThisRun: Run> RunLog<C, O, ThisRun> {
         } = self;
         let round = armed.world.round();
         let passes = is_idle(&event);
-        let reply = match make_event(alloc, armed, lines, *keeps, node, event) {
+        let reply = match make_event(alloc, armed, lines, spare, *keeps, node, event) {
             Ok(reply) => reply,
             Err(Refused { event }) => {
                 return Err(HeldBack {
@@ -264,6 +288,7 @@ impl<C: SlotCell, O: Outlet, ThisRun: Run> RunLog<C, O, ThisRun> {
         let RunLog {
             armed,
             lines,
+            spare,
             keeps,
             passed,
             incomplete,
@@ -271,7 +296,7 @@ impl<C: SlotCell, O: Outlet, ThisRun: Run> RunLog<C, O, ThisRun> {
             totals,
             ..
         } = self;
-        let Ok(reply) = make_scripted(alloc, armed, lines, *keeps, event) else {
+        let Ok(reply) = make_scripted(alloc, armed, lines, spare, *keeps, event) else {
             return Err(HubFault::NoMemory);
         };
         *passed += 1;
@@ -454,6 +479,7 @@ impl<C: SlotCell, O: Outlet, ThisRun: Run> RunLog<C, O, ThisRun> {
         let RunLog {
             armed,
             lines,
+            spare,
             keeps,
             incomplete,
             resting,
@@ -461,7 +487,7 @@ impl<C: SlotCell, O: Outlet, ThisRun: Run> RunLog<C, O, ThisRun> {
             ..
         } = self;
         let round = armed.world.round();
-        let Ok(made) = make_next(alloc, armed, lines, *keeps, node) else {
+        let Ok(made) = make_next(alloc, armed, lines, spare, *keeps, node) else {
             return Err(HubFault::NoMemory);
         };
         let Some(reply) = made else {
@@ -738,11 +764,20 @@ impl<C: SlotCell, O: Outlet, ThisRun: Run> RunLog<C, O, ThisRun> {
         ensures stopped { 0 < (seat_numbers all.old).stops → self.stopped ≡ true }
     {
         self.totals.audit(all);
-        let RunLog {
+        let Self {
             armed,
+            script: _,
+            passed: _,
             lines,
+            spare: _,
+            keeps: _,
+            stopped: _,
             stops,
-            ..
+            incomplete: _,
+            busy: _,
+            resting: _,
+            widened_at: _,
+            totals: _,
         } = self;
         let ArmedWorld { world, .. } = armed;
         (world, History { lines, stops })

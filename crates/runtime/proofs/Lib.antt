@@ -6,3 +6,4 @@ mod Beginnings
 mod Completeness
 mod Turns
 mod Causes
+mod Marked

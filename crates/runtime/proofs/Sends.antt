@@ -22,6 +22,7 @@ use Rattle.net_check.specs.contracts.net.Net.{the_row as net_row}
 use Rattle.replay.proofs.kept.RunEvent.TheSendSync.{the_send as run_s}
 use Rattle.run_log.specs.contracts.history.Entry.{the_field as entry_field}
 use Rattle.run_log.specs.contracts.history.Line.{the_row as line_row}
+use Rattle.run_log.specs.contracts.history.LongLine.{the_row as long_row}
 
 pub net_send : IsSend net_row
 net_send = search (sendable, crosses, channel_s, operator_t, name_s, send-Expr, send-Statement) depth 60 fits 100000
@@ -48,5 +49,8 @@ state_field_send = search (sendable, crosses, armed_s, mode_field_send) depth 60
 entry_field_send : IsSend (entry_field.row)
 entry_field_send = search (sendable, crosses, job_send, job_sync, run_s) depth 60 fits 100000
 
+pub long_send : IsSend long_row
+long_send = search (sendable, crosses, entry_field_send) depth 60 fits 100000
+
 pub line_send : IsSend line_row
-line_send = search (sendable, crosses, entry_field_send) depth 60 fits 100000
+line_send = search (sendable, crosses, job_send, job_sync, long_send) depth 60 fits 100000

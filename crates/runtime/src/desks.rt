@@ -1,64 +1,56 @@
 // Where the seats of nodes are while nobody has them.
 
+use crate::hub_run::HubRun;
+use crate::over::Over;
 use crate::seat::NodeSeat;
 use crate::task::Task;
 use crate::threads::NodeSeats;
 use marks::MarksName;
-use run_log::RunLedgers;
 use std::alloc::{AllocError, Global};
 use std::sync::{Mutex, MutexGuard, Wait};
 
 /// The desk of a node: its seats, or a job that waits for its thread, or neither while they are out.
-#[derive(Drop)]
-pub(crate) struct Desk<ThisRun: RunLedgers, ItsMarks: MarksName> {
+pub(crate) struct Desk<ThisRun: HubRun, ItsMarks: MarksName> {
     pub seats: Option<NodeSeats<ThisRun, ItsMarks>>,
     pub task: Option<Task<ThisRun, ItsMarks>>,
 }
 
-impl<ThisRun: RunLedgers, ItsMarks: MarksName> Desk<ThisRun, ItsMarks> {
-    // The seat that is here, by itself or with a job that nobody has run.
-    fn clear(self) -> Option<NodeSeat<ThisRun>> {
-        let Desk { seats, task } = self;
-        match seats {
-            Some(node_seats) => Some(node_seats.into_seat()),
-            None => match task {
-                Some(task) => Some(task.into_seat()),
-                None => None,
-            },
+impl<ThisRun: HubRun, ItsMarks: MarksName> Desk<ThisRun, ItsMarks> {
+    // The seat that is here, by itself or with a job that nobody has run, behind others.
+    fn clear(self, over: &Over<ThisRun>, seats: &mut Vec<NodeSeat<ThisRun>>) {
+        let Desk {
+            seats: at_desk,
+            task,
+        } = self;
+        if let Some(node_seats) = at_desk {
+            let _ = seats.push(node_seats.into_seat());
+        }
+        if let Some(task) = task {
+            let _ = seats.push(task.leave(over));
         }
     }
 }
 
-// The seats of desks, behind others.
-fn clear_all<ThisRun: RunLedgers, ItsMarks: MarksName>(
-    desks: Vec<Desk<ThisRun, ItsMarks>>,
-    seats: &mut Vec<NodeSeat<ThisRun>>,
-) {
-    for desk in desks {
-        if let Some(seat) = desk.clear() {
-            let _ = seats.push(seat);
-        }
-    }
-}
-
-/// The desks of nodes, by number. Whoever opens them has the hub's lock, so nobody ever waits for them.
-#[derive(Drop)]
-pub struct Desks<ThisRun: RunLedgers, ItsMarks: MarksName> {
+/// The desks of nodes, by number. Whoever opens them has the hub's lock, so nobody ever waits for them. They can't be dropped, since jobs may
+/// lie there: they are cleared, once the run is stopped.
+pub struct Desks<ThisRun: HubRun, ItsMarks: MarksName> {
     desks: Mutex<Vec<Desk<ThisRun, ItsMarks>>>,
 }
 
-impl<ThisRun: RunLedgers, ItsMarks: MarksName> Desks<ThisRun, ItsMarks> {
+impl<ThisRun: HubRun, ItsMarks: MarksName> Desks<ThisRun, ItsMarks> {
     /// A desk for each node, with its seats. Refuses for want of memory alone.
     pub fn new(
         alloc: Global,
         seats: Vec<NodeSeats<ThisRun, ItsMarks>>,
     ) -> Result<Desks<ThisRun, ItsMarks>, AllocError> {
-        let mut desks = Vec::with_capacity(alloc, seats.len())?;
-        for node_seats in seats {
-            desks.push(Desk {
-                seats: Some(node_seats),
+        let count = seats.len();
+        let mut desks = Vec::with_capacity(alloc, count)?;
+        let mut seats = seats.into_iter();
+        for _number in 0..count {
+            desks.push_reserved(Desk {
+                seats: seats.next(),
                 task: None,
-            })?;
+            });
         }
         Ok(Desks {
             desks: Mutex::new(desks),
@@ -70,9 +62,13 @@ impl<ThisRun: RunLedgers, ItsMarks: MarksName> Desks<ThisRun, ItsMarks> {
         self.desks.lock(rt)
     }
 
-    /// The seats that are at their desks, behind others, by number, where there is room for them.
-    pub fn clear(self, seats: &mut Vec<NodeSeat<ThisRun>>) {
+    /// The seats that are at their desks, behind others, where there is room for them.
+    pub fn clear(self, over: &Over<ThisRun>, seats: &mut Vec<NodeSeat<ThisRun>>) {
         let Desks { desks } = self;
-        clear_all(desks.into_inner(), seats);
+        let mut desks = desks.into_inner();
+        while let Some(desk) = desks.pop() {
+            desk.clear(over, seats);
+        }
+        desks.destroy_empty();
     }
 }

@@ -1,5 +1,5 @@
 // What the driver's thread does at the hub.
-ghost use Rattle.std.specs.Prelude.{◌≡◌, ◌<◌, [], true, false, IsTrue, OnOk};
+ghost use Rattle.std.specs.Prelude.{◌≡◌, ◌<◌, [], true, false, Err, IsTrue, OnOk};
 ghost use Rattle.run_log.specs.ArmedWorlds.{armed_view};
 ghost use Rattle.run_log.specs.RunLogs.{happened_in};
 ghost use Rattle.run_log.specs.SeatCounts.{seat_numbers};
@@ -11,6 +11,8 @@ ghost use Rattle.runtime.specs.Turning.{ArePassed, progress, was_passed};
 use crate::bounds::{Bounds, RunBounds};
 use crate::hub::Hub;
 use crate::hub_run::HubRun;
+use crate::over::Over;
+use crate::refusal::Refusal;
 use crate::seat::DriverSeat;
 use crate::seen::Seen;
 use crate::until::Until;
@@ -126,7 +128,7 @@ fn go_through<C: SlotCell, O: Outlet, ThisRun: HubRun, ItsMarks: MarksName, R: W
     marks: &Marks<ItsMarks>,
     marks_seat: &mut Seat<ItsMarks>,
     run: &RunBounds<'_, ThisRun>,
-) -> Result<(), HubFault>
+) -> Result<Over<ThisRun>, Refusal>
     ensures told { OnOk result (0 < (seat_numbers seat.new.count).stops) }
 {
     let bounds = run.bounds;
@@ -137,11 +139,17 @@ fn go_through<C: SlotCell, O: Outlet, ThisRun: HubRun, ItsMarks: MarksName, R: W
         if all_left {
             entered.end_if_over(run);
         }
-        let answer = entered.fault(alloc, seat)?;
+        let answer = match entered.fault(alloc, seat) {
+            Ok(answer) => answer,
+            Err(fault) => return Err(Refusal::new(fault)),
+        };
+        let over = entered.over();
         let next = entered.line_round();
         let seen = entered.leave();
-        if is_stopped(&answer) {
-            return Ok(());
+        if let Some(over) = over {
+            if is_stopped(&answer) {
+                return Ok(over);
+            }
         }
         let missing = count_missing(run.channels, marks, marks_seat, bounds.items);
         all_left = missing == Some(0);
@@ -154,13 +162,33 @@ fn go_through<C: SlotCell, O: Outlet, ThisRun: HubRun, ItsMarks: MarksName, R: W
     unreachable!()
 }
 
-/// The driver's seat once it has gone through the script, and whether a call was refused before the run was stopped.
+/// The driver's seat once the run is stopped, and whether a call was refused before.
 #[derive(Drop)]
 pub struct Driven<ThisRun: HubRun> {
     pub seat: DriverSeat<ThisRun>,
     pub end: Result<(), HubFault>,
+    pub over: Over<ThisRun>,
     // Where none was, it was told that the run is stopped.
     pub ghost told: { OnOk end (0 < (seat_numbers seat.count).stops) } by { Prim.hlevel props },
+}
+
+impl<ThisRun: HubRun> Driven<ThisRun> {
+    /// That of a driver of whom a call was refused, or who doesn't drive at all. The run is stopped for it.
+    pub(crate) fn refused<C: SlotCell, O: Outlet, R: Wait>(
+        rt: &R,
+        hub: &Hub<C, O, ThisRun>,
+        seat: DriverSeat<ThisRun>,
+        refusal: Refusal,
+    ) -> Driven<ThisRun>
+        ensures { result.end ≡ Err refusal.fault }
+    {
+        let (fault, over) = hub.refuse(rt, refusal);
+        Driven {
+            seat,
+            end: Err(fault),
+            over,
+        }
+    }
 }
 
 /// The driver's work: the script's lines, each once its round has come, until the run is stopped. It stops it where its rounds are over, and where
@@ -175,9 +203,12 @@ pub fn drive<C: SlotCell, O: Outlet, ThisRun: HubRun, ItsMarks: MarksName, R: Wa
     run: &RunBounds<'_, ThisRun>,
 ) -> Driven<ThisRun> {
     let mut seat = seat;
-    let end = go_through(rt, alloc, hub, &mut seat, marks, marks_seat, run);
-    if let Err(fault) = end {
-        hub.refuse(rt, fault);
+    match go_through(rt, alloc, hub, &mut seat, marks, marks_seat, run) {
+        Ok(over) => Driven {
+            seat,
+            end: Ok(()),
+            over,
+        },
+        Err(refusal) => Driven::refused(rt, hub, seat, refusal),
     }
-    Driven { seat, end }
 }

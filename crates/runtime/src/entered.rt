@@ -1,19 +1,25 @@
 // A hub's lock, held for calls in a row.
-ghost use Rattle.std.specs.Prelude.{◌≡◌, IfErr, IfOk, OnErr};
-ghost use Rattle.protocol.specs.World.Common.{event_node, Install};
+ghost use Rattle.std.specs.Prelude.{◌≡◌, false, true, is_some, length, IfErr, IfOk, OnErr};
+ghost use Rattle.std.specs.Sync.Mutex.{mutex_guard_value};
+ghost use Rattle.protocol.specs.World.Common.{event_node, Install, released_of};
 ghost use Rattle.replay.specs.declared.kept.Maker.TheVariants as who;
 ghost use Rattle.run_log.specs.Answers.{IsToldEvent, IsToldFault, IsToldTurn};
 ghost use Rattle.run_log.specs.SeatCounts.{seat_numbers};
 ghost use Rattle.station.specs.DoneView.{done_view};
 ghost use Rattle.station.specs.ReplyView.{reply_view};
 ghost use Rattle.station.specs.declared.event.Event.TheVariants as event;
+ghost use Rattle.runtime.specs.Marked.{HasLeftAsMuch, IsGrantAt, leaves_by, may_leave_by};
+ghost use Rattle.world.specs.WholeView.{world_of};
 
 use crate::bounds::RunBounds;
 use crate::hub_run::HubRun;
 use crate::locked::Locked;
+use crate::over::Over;
+use crate::refusal::Refusal;
 use crate::seat::{DriverSeat, NodeSeat};
 use crate::seen::Seen;
 use crate::sleepers::Sleepers;
+use crate::turned::Turned;
 use kahn_net::MAX_COUNT;
 use outlet::Outlet;
 use proc_step::Done;
@@ -58,6 +64,9 @@ impl<'hub, C: SlotCell, O: Outlet, ThisRun: HubRun> Entered<'hub, C, O, ThisRun>
             (seat_numbers seat.old.count) (seat_numbers seat.new.count)) }
         ensures refused { OnErr result
             (seat_numbers seat.new.count ≡ seat_numbers seat.old.count) }
+        // Where the answer doesn't say that an item may have left, none has.
+        ensures left { may_leave_by result ≡ false → HasLeftAsMuch (world_of (mutex_guard_value self.new.locked).log.armed.world)
+            (world_of (mutex_guard_value self.old.locked).log.armed.world) }
     {
         let NodeSeat { node, made, count } = seat;
         if *made >= MAX_COUNT {
@@ -75,6 +84,24 @@ impl<'hub, C: SlotCell, O: Outlet, ThisRun: HubRun> Entered<'hub, C, O, ThisRun>
             TurnAnswer::Nothing | TurnAnswer::Late | TurnAnswer::Stopped => {}
         }
         Ok(answer)
+    }
+
+    /// The same for a worker, who tells the hub of a refusal.
+    pub(crate) fn take_turn(
+        &mut self,
+        alloc: Global,
+        seat: &mut NodeSeat<ThisRun>,
+    ) -> Result<Turned, Refusal>
+        ensures node { seat.new.node ≡ seat.old.node }
+        // A job that was granted is of a process of the node.
+        ensures home { IfOk result (IsGrantAt seat.old.node) }
+        ensures left { leaves_by result ≡ false → HasLeftAsMuch (world_of (mutex_guard_value self.new.locked).log.armed.world)
+            (world_of (mutex_guard_value self.old.locked).log.armed.world) }
+    {
+        match self.turn(alloc, seat) {
+            Ok(answer) => Ok(Turned::of(answer)),
+            Err(fault) => Err(Refusal::new(fault)),
+        }
     }
 
     /// What came of a job of the seat's node comes back. A refusal hands it back.
@@ -120,6 +147,20 @@ impl<'hub, C: SlotCell, O: Outlet, ThisRun: HubRun> Entered<'hub, C, O, ThisRun>
         self.locked.fault(alloc, seat)
     }
 
+    /// The run is stopped, since a call was refused.
+    pub(crate) fn refuse(&mut self, refusal: Refusal)
+        ensures { (mutex_guard_value self.new.locked).log.stopped ≡ true }
+    {
+        let _fault = refusal.tell(&mut *self.locked);
+    }
+
+    /// That the run is stopped, if it is.
+    pub fn over(&self) -> Option<Over<ThisRun>>
+        ensures { is_some result ≡ (mutex_guard_value self.now.locked).log.stopped }
+    {
+        Over::seen(&self.locked)
+    }
+
     /// The run is stopped where it is over: nothing is left to do, the rounds are over, or each output has the items that are asked for.
     pub fn end_if_over(&mut self, run: &RunBounds<'_, ThisRun>) {
         self.locked.end_if_over(run);
@@ -127,7 +168,8 @@ impl<'hub, C: SlotCell, O: Outlet, ThisRun: HubRun> Entered<'hub, C, O, ThisRun>
 
     /// How far an output has come. Its type keeps that the channel's history has so many items in some approximation.
     pub fn freed(&self, channel: u8) -> Result<Freed, AllocError>
-        ensures { IfOk result (λ freed. freed.output ≡ channel) }
+        ensures { IfOk result (λ freed. (freed.output ≡ channel) × (freed.number
+            ≡ length (released_of channel (world_of (mutex_guard_value self.now.locked).log.armed.world).stations))) }
     {
         self.locked.log.freed(channel)
     }

@@ -28,6 +28,8 @@ use crate::cause::Cause;
 use crate::entered::Entered;
 use crate::hub_run::HubRun;
 use crate::locked::Locked;
+use crate::over::Over;
+use crate::refusal::Refusal;
 use crate::seat::{DriverSeat, NodeSeat, driver_seat, node_seat};
 use crate::seen::Seen;
 use crate::sleepers::{Sleepers, Woken};
@@ -374,9 +376,20 @@ impl<C: SlotCell, O: Outlet, ThisRun: HubRun> Hub<C, O, ThisRun> {
         self.end(rt, Cause::Asked);
     }
 
-    /// The same, since a call was refused.
-    pub(crate) fn refuse<R: Wait>(&self, rt: &R, fault: HubFault) {
-        self.end(rt, Cause::Refused(fault));
+    /// The same, since a call was refused. It answers why, and that the run is stopped.
+    pub(crate) fn refuse<R: Wait>(&self, rt: &R, refusal: Refusal) -> (HubFault, Over<ThisRun>)
+        ensures { result.0 ≡ refusal.fault }
+    {
+        let mut locked = self.locked.lock(rt);
+        let fault = refusal.tell(&mut *locked);
+        let over = Over::seen(&locked);
+        drop(locked);
+        self.sleepers.wake(Woken::all());
+        match over {
+            Some(over) => (fault, over),
+            // It is stopped by now.
+            None => unreachable!(),
+        }
     }
 
     /// The world, with the history that leads to it from the one with which the run began, if one was kept. Where these are all seats, the history

@@ -8,6 +8,7 @@ ghost use Rattle.run_log.specs.SeatCounts.{seat_numbers, seat_parts};
 ghost use Rattle.runtime.specs.Beginning.{first_lines, BeginsByDriver};
 ghost use Rattle.runtime.specs.Causes.{is_cause, is_caused, last_round};
 ghost use Rattle.runtime.specs.Ending.{is_over};
+ghost use Rattle.runtime.specs.Marked.{HasLeftAsMuch, may_leave_by};
 ghost use Rattle.station.specs.DoneView.{done_view};
 ghost use Rattle.station.specs.ReplyView.{reply_view};
 ghost use Rattle.station.specs.declared.event.Event.TheVariants as event;
@@ -119,6 +120,9 @@ impl<C: SlotCell, O: Outlet, ThisRun: HubRun> Locked<C, O, ThisRun> {
         ensures told { IfOk result (λ answer. IsToldTurn ThisRun.rooms ThisRun.script ThisRun.opening node answer
             (seat_numbers count.old) (seat_numbers count.new)) }
         ensures refused { OnErr result (seat_numbers count.new ≡ seat_numbers count.old) }
+        // Where the answer doesn't say that an item may have left, none has.
+        ensures left { may_leave_by result ≡ false → HasLeftAsMuch (world_of self.new.log.armed.world)
+            (world_of self.old.log.armed.world) }
     {
         self.end_by_rounds();
         self.log.turn(alloc, node, count)

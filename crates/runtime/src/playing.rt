@@ -20,7 +20,7 @@ use crate::hub::{Hub, HubParts, open_log};
 use crate::hub_run::HubRun;
 use crate::run_watch::RunWatch;
 use crate::seat::{DriverSeat, NodeSeat};
-use crate::threads::{DriverSeats, NodeSeats, SharedRun};
+use crate::threads::{DriverSeats, NodeSeats, SharedRun, unled};
 use crate::watching::run_watched;
 use kahn_net::Channel;
 use marks::{MarksName, Opened, Seat};
@@ -29,7 +29,7 @@ use outlet::Outlet;
 use replay::ScriptedEvent;
 use run_log::{HubFault, Run, RunLedgers, RunLog, UnusedLedgers};
 use slot_cell::SlotCell;
-use std::alloc::Global;
+use std::alloc::{AllocError, Global};
 use std::marker::Brand;
 use std::sync::{Arc, Wait};
 use std::thread::Threads;
@@ -40,14 +40,10 @@ fn list_seats<ThisRun: RunLedgers, ItsMarks: MarksName>(
     alloc: Global,
     seats: Vec<NodeSeat<ThisRun>>,
     marks_seats: Vec<Seat<ItsMarks>>,
-) -> Result<Vec<NodeSeats<ThisRun, ItsMarks>>, HubFault> {
-    let Ok(mut node_seats) = Vec::with_capacity(alloc, seats.len()) else {
-        return Err(HubFault::NoMemory);
-    };
+) -> Result<Vec<NodeSeats<ThisRun, ItsMarks>>, AllocError> {
+    let mut node_seats = Vec::with_capacity(alloc, seats.len())?;
     for (seat, marks) in seats.into_iter().zip(marks_seats) {
-        if node_seats.push(NodeSeats { seat, marks }).is_err() {
-            return Err(HubFault::NoMemory);
-        }
+        node_seats.push(NodeSeats { seat, marks })?;
     }
     Ok(node_seats)
 }
@@ -72,18 +68,6 @@ fn refused_at_once<C: SlotCell, O: Outlet, ThisRun: Run>(
     }
 }
 
-// The driver's seat where nobody drove.
-fn undriven<ThisRun: HubRun, ItsMarks: MarksName>(
-    driver: DriverSeats<ThisRun, ItsMarks>,
-    fault: HubFault,
-) -> Driven<ThisRun> {
-    let DriverSeats { seat, .. } = driver;
-    Driven {
-        seat,
-        end: Err(fault),
-    }
-}
-
 // The end of a run that began.
 fn close<C: SlotCell, O: Outlet, ThisRun: HubRun, ItsMarks: MarksName>(
     shared: SharedRun<C, O, ThisRun, ItsMarks>,
@@ -101,7 +85,7 @@ fn close<C: SlotCell, O: Outlet, ThisRun: HubRun, ItsMarks: MarksName>(
         → BeginsByDriver (first_lines ThisRun.script) (happenings result.history.lines.items) }
 {
     let SharedRun { hub, .. } = shared;
-    let Driven { seat, end } = driven;
+    let Driven { seat, end, .. } = driven;
     let (world, history, cause) = hub.close_stopped(seat);
     let end = end_for(run, &world, end, cause);
     Ended {
@@ -197,7 +181,7 @@ fn play<
             watch,
         )
         .driven,
-        Err(fault) => undriven(driver_seats, fault),
+        Err(_) => unled(rt, &shared, driver_seats),
     };
     close(shared, driven, &run)
 }

@@ -8,6 +8,8 @@ use crate::driving::{Driven, drive};
 use crate::hub::Hub;
 use crate::hub_run::HubRun;
 use crate::job_watch::JobWatch;
+use crate::over::Over;
+use crate::refusal::Refusal;
 use crate::seat::{DriverSeat, NodeSeat};
 use crate::working::work;
 use marks::{Marks, MarksName, Seat};
@@ -66,7 +68,7 @@ fn start<
     desks: &'s Desks<ThisRun, ItsMarks>,
     node: u8,
     watch: &'s W,
-) -> Option<JoinHandle<Result<(), HubFault>>> {
+) -> Option<JoinHandle<Over<ThisRun>>> {
     scope
         .spawn(move || work(rt, alloc, &shared.hub, &shared.marks, desks, node, watch))
         .ok()
@@ -90,7 +92,7 @@ fn start_all<
     desks: &'s Desks<ThisRun, ItsMarks>,
     nodes: u8,
     watch: &'s W,
-    running: &mut Vec<JoinHandle<Result<(), HubFault>>>,
+    running: &mut Vec<JoinHandle<Over<ThisRun>>>,
 ) {
     for node in 0..nodes {
         if let Some(handle) = start(rt, alloc, scope, shared, desks, node, watch) {
@@ -115,18 +117,15 @@ fn lead<C: SlotCell, O: Outlet, ThisRun: HubRun, ItsMarks: MarksName, R: Wait>(
     drive(rt, alloc, &shared.hub, seat, &shared.marks, &mut marks, run)
 }
 
-// A driver who doesn't drive, for want of memory.
-fn unled<C: SlotCell, O: Outlet, ThisRun: HubRun, ItsMarks: MarksName, R: Wait>(
+/// A driver who doesn't drive, for want of memory.
+pub(crate) fn unled<C: SlotCell, O: Outlet, ThisRun: HubRun, ItsMarks: MarksName, R: Wait>(
     rt: &R,
     shared: &SharedRun<C, O, ThisRun, ItsMarks>,
     driver: DriverSeats<ThisRun, ItsMarks>,
 ) -> Driven<ThisRun> {
-    shared.hub.refuse(rt, HubFault::NoMemory);
     let DriverSeats { seat, .. } = driver;
-    Driven {
-        seat,
-        end: Err(HubFault::NoMemory),
-    }
+    let refusal = Refusal::new(HubFault::NoMemory);
+    Driven::refused(rt, &shared.hub, seat, refusal)
 }
 
 /// What came of the threads: the seats that came back, the driver's, and why the driver ended, if a call of its own was refused.
@@ -203,7 +202,7 @@ fn run_seats<
         return unled(rt, shared, driver);
     };
     let driven = run_at_desks(rt, alloc, shared, &desks, nodes, driver, run, watch);
-    desks.clear(back);
+    desks.clear(&driven.over, back);
     driven
 }
 
@@ -218,7 +217,7 @@ fn join_all<ThisRun: HubRun>(
     if seats.len() == count {
         return Joined { seats, driven };
     }
-    let Driven { seat, end } = driven;
+    let Driven { seat, end, over } = driven;
     let fault = match end {
         Ok(()) => HubFault::NoMemory,
         Err(fault) => fault,
@@ -228,6 +227,7 @@ fn join_all<ThisRun: HubRun>(
         driven: Driven {
             seat,
             end: Err(fault),
+            over,
         },
     }
 }

@@ -1,41 +1,49 @@
 // What a node's thread does at the hub.
-ghost use Rattle.std.specs.Prelude.{◌≡◌, IfOk};
-ghost use Rattle.protocol.specs.World.Common.{event_node, Install};
-ghost use Rattle.run_log.specs.Answers.{IsGrantedIn};
-ghost use Rattle.station.specs.DoneView.{done_view};
+ghost use Rattle.std.specs.Prelude.{◌≡◌, false, IfOk, OnOk};
+ghost use Rattle.std.specs.Sync.Mutex.{mutex_guard_value};
+ghost use Rattle.marks.specs.Seats.{known, node_of, owners_of};
+ghost use Rattle.runtime.specs.Marked.{AreMarked, HasLeftAsMuch, IsGrantAt, IsMarkedBehind};
+ghost use Rattle.world.specs.WholeView.{world_of};
 
 use crate::desks::{Desk, Desks};
 use crate::entered::Entered;
 use crate::hub::Hub;
 use crate::hub_run::HubRun;
 use crate::job_watch::JobWatch;
+use crate::over::Over;
+use crate::refusal::Refusal;
 use crate::seat::NodeSeat;
-use crate::task::Task;
+use crate::task::{Ran, Task};
 use crate::threads::NodeSeats;
+use crate::turned::Turned;
 use marks::{Marks, MarksName, Seat};
 use outlet::Outlet;
-use proc_step::{Done, Job};
-use run_log::{HubFault, TurnAnswer};
+use run_log::HubFault;
 use slot_cell::SlotCell;
 use std::alloc::Global;
 use std::sync::Wait;
-use world::Reply;
 
-// Items have left by an output, if there is one here: its mark is raised to how far it has come, where it is one of the seat's node.
-fn raise<C: SlotCell, O: Outlet, ThisRun: HubRun, ItsMarks: MarksName>(
+// The marks of the node's outputs are raised to how far these have come.
+fn raise_marks<C: SlotCell, O: Outlet, ThisRun: HubRun, ItsMarks: MarksName>(
     entered: &Entered<'_, C, O, ThisRun>,
     marks: &Marks<ItsMarks>,
     seat: &mut Seat<ItsMarks>,
-    left_by: Option<u8>,
-) -> Result<(), HubFault> {
-    let Some(output) = left_by else {
-        return Ok(());
-    };
-    let Ok(freed) = entered.freed(output) else {
-        return Err(HubFault::NoMemory);
-    };
-    if marks.fits(seat, &freed) {
-        marks.raise(seat, freed);
+) -> Result<(), Refusal>
+    ensures node { node_of seat.new ≡ node_of seat.old }
+    ensures marked { OnOk result (AreMarked (owners_of marks.now) (node_of seat.old) (known seat.new)
+        (world_of (mutex_guard_value entered.now.locked).log.armed.world)) }
+{
+    for number in 0..marks.channels() {
+        let Ok(output) = u8::try_from(number) else {
+            // (A network has at most 256 channels.)
+            return Ok(());
+        };
+        if marks.owns(seat, output) {
+            let Ok(freed) = entered.freed(output) else {
+                return Err(Refusal::new(HubFault::NoMemory));
+            };
+            marks.raise(seat, freed);
+        }
     }
     Ok(())
 }
@@ -43,80 +51,66 @@ fn raise<C: SlotCell, O: Outlet, ThisRun: HubRun, ItsMarks: MarksName>(
 // How many turns in a row a node takes at most while it has the lock.
 const TURNS: u32 = 256;
 
-// Items leave by one output after another, mostly many in a row, so a mark is raised once for all of them: before items leave by another
-// output, and by who called for the output that is left in `left_by`.
-fn mark<C: SlotCell, O: Outlet, ThisRun: HubRun, ItsMarks: MarksName>(
-    entered: &Entered<'_, C, O, ThisRun>,
-    marks: &Marks<ItsMarks>,
-    marks_seat: &mut Seat<ItsMarks>,
-    left_by: &mut Option<u8>,
-    answer: &TurnAnswer,
-) -> Result<(), HubFault> {
-    if let TurnAnswer::Reply(Reply::Released(item)) = answer {
-        if *left_by != Some(item.output) {
-            raise(entered, marks, marks_seat, *left_by)?;
-            *left_by = Some(item.output);
-        }
-    }
-    Ok(())
-}
-
-// Whether a node takes no further turn behind this answer.
-fn is_last(answer: &TurnAnswer) -> bool {
-    match answer {
-        TurnAnswer::Reply(Reply::Granted(_)) => true,
-        TurnAnswer::Reply(_) | TurnAnswer::Widened(_) => false,
-        TurnAnswer::Nothing | TurnAnswer::Late | TurnAnswer::Stopped => true,
-    }
-}
-
-// Turns in a row, until a job is granted, nothing is to be done, or others have something to do. It answers what the last one came to.
-fn take_turns<C: SlotCell, O: Outlet, ThisRun: HubRun, ItsMarks: MarksName>(
+// Turns in a row, until a job is granted, nothing is to be done, or others have something to do. It answers what the last one came to, and
+// whether an item may have left by any.
+fn take_turns<C: SlotCell, O: Outlet, ThisRun: HubRun>(
     alloc: Global,
     entered: &mut Entered<'_, C, O, ThisRun>,
     seat: &mut NodeSeat<ThisRun>,
-    marks: &Marks<ItsMarks>,
-    marks_seat: &mut Seat<ItsMarks>,
-    left_by: &mut Option<u8>,
-) -> Result<TurnAnswer, HubFault>
+    left: &mut bool,
+) -> Result<Turned, Refusal>
+    requires { left.old ≡ false }
     ensures node { seat.new.node ≡ seat.old.node }
-    ensures home { IfOk result (IsGrantedIn seat.old.node) }
+    ensures home { IfOk result (IsGrantAt seat.old.node) }
+    ensures left { left.new ≡ false → HasLeftAsMuch (world_of (mutex_guard_value entered.new.locked).log.armed.world)
+        (world_of (mutex_guard_value entered.old.locked).log.armed.world) }
 {
-    let mut answer = entered.turn(alloc, seat)?;
-    for _ in 1..TURNS {
-        mark(entered, marks, marks_seat, left_by, &answer)?;
-        if is_last(&answer) || entered.has_moved_on() {
-            return Ok(answer);
+    for _ in 0..TURNS {
+        match entered.take_turn(alloc, seat) {
+            Ok(Turned::Acts { left: has_left }) => *left = *left || has_left,
+            turned => return turned,
         }
-        answer = entered.turn(alloc, seat)?;
+        if entered.has_moved_on() {
+            break;
+        }
     }
-    mark(entered, marks, marks_seat, left_by, &answer)?;
-    Ok(answer)
+    Ok(Turned::Acts { left: false })
 }
 
-// What a node's turns came to: its seats are at their desk again, or out with a job that was granted.
-fn put_down<C: SlotCell, O: Outlet, ThisRun: HubRun, ItsMarks: MarksName>(
+// Takes turns in a row, and raises the marks of the node's outputs where an item may have left by any of them. Where a call is refused the
+// run is stopped.
+fn take_marked_turns<C: SlotCell, O: Outlet, ThisRun: HubRun, ItsMarks: MarksName>(
+    alloc: Global,
     entered: &mut Entered<'_, C, O, ThisRun>,
-    desk: &mut Desk<ThisRun, ItsMarks>,
-    node: u8,
-    seats: NodeSeats<ThisRun, ItsMarks>,
-    answer: TurnAnswer,
-) -> Option<Task<ThisRun, ItsMarks>>
-    requires home { IsGrantedIn seats.seat.node answer }
+    marks: &Marks<ItsMarks>,
+    seats: &mut NodeSeats<ThisRun, ItsMarks>,
+) -> Turned
+    ensures node { seats.new.seat.node ≡ seats.old.seat.node }
+    ensures home { IsGrantAt seats.old.seat.node result }
+    // Behind the turns no mark is behind what has left.
+    ensures marked { IsMarkedBehind (HasLeftAsMuch (world_of (mutex_guard_value entered.new.locked).log.armed.world)
+        (world_of (mutex_guard_value entered.old.locked).log.armed.world))
+        (AreMarked (owners_of marks.now) (node_of seats.old.marks) (known seats.new.marks)
+        (world_of (mutex_guard_value entered.new.locked).log.armed.world)) (mutex_guard_value entered.new.locked).log.stopped }
 {
-    match answer {
-        TurnAnswer::Reply(Reply::Granted(job)) => {
-            let nth = entered.locked.workers.goes_out(node);
-            return Some(Task { seats, nth, job });
+    let NodeSeats {
+        seat,
+        marks: marks_seat,
+    } = seats;
+    let mut left = false;
+    let turned = match take_turns(alloc, entered, seat, &mut left) {
+        Ok(turned) => turned,
+        Err(refusal) => {
+            entered.refuse(refusal);
+            Turned::Waits
         }
-        TurnAnswer::Reply(_other) => entered.locked.workers.rests(node, None),
-        TurnAnswer::Late | TurnAnswer::Widened(_) | TurnAnswer::Stopped => {
-            entered.locked.workers.rests(node, None)
+    };
+    if left {
+        if let Err(refusal) = raise_marks(entered, marks, marks_seat) {
+            entered.refuse(refusal);
         }
-        TurnAnswer::Nothing => entered.locked.rests(node),
     }
-    desk.seats = Some(seats);
-    None
+    turned
 }
 
 // Takes a node's turns by the seats at its desk, until a job is granted, nothing is to be done, or others have something to do. The job, if
@@ -127,51 +121,32 @@ fn serve_node<C: SlotCell, O: Outlet, ThisRun: HubRun, ItsMarks: MarksName>(
     marks: &Marks<ItsMarks>,
     desk: &mut Desk<ThisRun, ItsMarks>,
     node: u8,
-) -> Result<Option<Task<ThisRun, ItsMarks>>, HubFault> {
-    let Some(node_seats) = desk.seats.take() else {
+) -> Option<Task<ThisRun, ItsMarks>> {
+    let Some(mut seats) = desk.seats.take() else {
         entered.locked.rests(node);
-        return Ok(None);
+        return None;
     };
-    let NodeSeats {
-        mut seat,
-        marks: mut marks_seat,
-    } = node_seats;
-    let mut left_by = None;
-    let answer = take_turns(
-        alloc,
-        entered,
-        &mut seat,
-        marks,
-        &mut marks_seat,
-        &mut left_by,
-    );
-    let raised = raise(entered, marks, &mut marks_seat, left_by);
-    let seats = NodeSeats {
-        seat,
-        marks: marks_seat,
-    };
-    match answer {
-        Ok(answer) => {
-            let task = put_down(entered, desk, node, seats, answer);
-            raised?;
-            Ok(task)
+    match take_marked_turns(alloc, entered, marks, &mut seats) {
+        Turned::Granted(grant) => {
+            let nth = entered.locked.workers.goes_out(node);
+            return Some(Task::new(seats, nth, grant));
         }
-        Err(fault) => {
-            desk.seats = Some(seats);
-            Err(fault)
-        }
+        Turned::Acts { left: _ } => entered.locked.workers.rests(node, None),
+        Turned::Waits => entered.locked.workers.rests(node, None),
+        Turned::Rests => entered.locked.rests(node),
     }
+    desk.seats = Some(seats);
+    None
 }
 
 // What a node's thread does next.
-#[derive(Drop)]
 enum Step<ThisRun: HubRun, ItsMarks: MarksName> {
     /// It runs this job.
     Run(Task<ThisRun, ItsMarks>),
     /// It takes the lock again, once there is something to do for it.
     GoOn,
-    /// It ends.
-    End,
+    /// It ends, since the run is stopped.
+    End(Over<ThisRun>),
 }
 
 // Who runs a job that was granted to a node while this thread is on duty. A short one this thread runs, and is on duty meanwhile; it is
@@ -191,9 +166,14 @@ fn assign<C: SlotCell, O: Outlet, ThisRun: HubRun, ItsMarks: MarksName>(
         entered.locked.workers.leaves_duty(own);
         return Step::Run(task);
     }
-    desk.task = Some(task);
-    entered.locked.workers.gives_job(node);
-    Step::GoOn
+    match desk.task.replace(task) {
+        None => {
+            entered.locked.workers.gives_job(node);
+            Step::GoOn
+        }
+        // A node has one seat, so one job of it is out at a time. If two were, this thread would run one of them.
+        Some(former) => Step::Run(former),
+    }
 }
 
 // Takes the turns of all nodes whose seats are at their desks, in ascending order, until a job is granted, nothing is to be done, or a
@@ -205,7 +185,7 @@ fn serve<C: SlotCell, O: Outlet, ThisRun: HubRun, ItsMarks: MarksName, R: Wait>(
     marks: &Marks<ItsMarks>,
     desks: &mut Vec<Desk<ThisRun, ItsMarks>>,
     own: u8,
-) -> Result<Step<ThisRun, ItsMarks>, HubFault> {
+) -> Step<ThisRun, ItsMarks> {
     for _ in rt.forever() {
         let Some(node) = entered.locked.next_due() else {
             break;
@@ -213,15 +193,15 @@ fn serve<C: SlotCell, O: Outlet, ThisRun: HubRun, ItsMarks: MarksName, R: Wait>(
         let Some(desk) = desks.get_mut(usize::from(node)) else {
             break;
         };
-        if let Some(task) = serve_node(alloc, entered, marks, desk, node)? {
-            return Ok(assign(entered, desk, node, own, task));
+        if let Some(task) = serve_node(alloc, entered, marks, desk, node) {
+            return assign(entered, desk, node, own, task);
         }
         if entered.has_moved_on() {
-            return Ok(Step::GoOn);
+            return Step::GoOn;
         }
     }
     entered.locked.workers.leaves_duty(own);
-    Ok(Step::GoOn)
+    Step::GoOn
 }
 
 // What a node's thread finds under the lock: a job that waits for it, the end of the run, or that it is on duty.
@@ -232,15 +212,15 @@ fn find_step<C: SlotCell, O: Outlet, ThisRun: HubRun, ItsMarks: MarksName, R: Wa
     marks: &Marks<ItsMarks>,
     desks: &mut Vec<Desk<ThisRun, ItsMarks>>,
     own: u8,
-) -> Result<Step<ThisRun, ItsMarks>, HubFault> {
+) -> Step<ThisRun, ItsMarks> {
     if let Some(desk) = desks.get_mut(usize::from(own)) {
         if let Some(task) = desk.task.take() {
             entered.locked.workers.takes_job(own);
-            return Ok(Step::Run(task));
+            return Step::Run(task);
         }
     }
-    if entered.is_stopped() {
-        return Ok(Step::End);
+    if let Some(over) = entered.over() {
+        return Step::End(over);
     }
     serve(rt, alloc, entered, marks, desks, own)
 }
@@ -253,7 +233,7 @@ fn stay<C: SlotCell, O: Outlet, ThisRun: HubRun, ItsMarks: MarksName, R: Wait>(
     marks: &Marks<ItsMarks>,
     desks: &Desks<ThisRun, ItsMarks>,
     own: u8,
-) -> Result<Step<ThisRun, ItsMarks>, HubFault> {
+) -> Step<ThisRun, ItsMarks> {
     let mut entered = hub.enter_worker(rt, own);
     let mut open = desks.open(rt);
     let step = find_step(rt, alloc, &mut entered, marks, &mut open, own);
@@ -269,27 +249,19 @@ fn bring_back<C: SlotCell, O: Outlet, ThisRun: HubRun, ItsMarks: MarksName, R: W
     hub: &Hub<C, O, ThisRun>,
     desks: &Desks<ThisRun, ItsMarks>,
     own: u8,
-    seats: NodeSeats<ThisRun, ItsMarks>,
-    done: Done,
-) -> Result<(), HubFault>
-    requires home { event_node (Install (done_view done)) ≡ seats.seat.node }
-{
-    let NodeSeats { mut seat, marks } = seats;
-    let node = seat.node();
+    ran: Ran<ThisRun, ItsMarks>,
+) {
+    let node = ran.node();
     let mut entered = hub.enter(rt);
-    let installed = entered.install(alloc, &mut seat, done);
+    let seats = ran.bring_back(alloc, &mut entered);
     let mut open = desks.open(rt);
     if let Some(desk) = open.get_mut(usize::from(node)) {
-        desk.seats = Some(NodeSeats { seat, marks });
+        desk.seats = Some(seats);
     }
     drop(open);
     entered.locked.workers.comes_back(node);
     entered.locked.workers.takes_duty(own);
     entered.leave();
-    match installed {
-        Ok(_) => Ok(()),
-        Err(held) => Err(held.fault),
-    }
 }
 
 // Runs a job outside the lock, and brings back what came of it.
@@ -301,41 +273,18 @@ fn run_task<C: SlotCell, O: Outlet, ThisRun: HubRun, ItsMarks: MarksName, W: Job
     own: u8,
     watch: &W,
     task: Task<ThisRun, ItsMarks>,
-) -> Result<(), HubFault> {
-    let Task { seats, nth, job } = task;
-    let node = seats.seat.node();
+) {
+    let node = task.node();
+    let nth = task.nth();
     watch.before_run(rt, node, nth);
-    let Ok(done) = Job::run(job, alloc) else {
-        return Err(HubFault::NoMemory);
-    };
-    bring_back(rt, alloc, hub, desks, own, seats, done)?;
+    let ran = task.run(alloc);
+    bring_back(rt, alloc, hub, desks, own, ran);
     watch.after_install(rt, node, nth);
-    Ok(())
 }
 
-// Takes turns and runs jobs until the hub is stopped, or a call is refused.
-fn work_on<C: SlotCell, O: Outlet, ThisRun: HubRun, ItsMarks: MarksName, W: JobWatch, R: Wait>(
-    rt: &R,
-    alloc: Global,
-    hub: &Hub<C, O, ThisRun>,
-    marks: &Marks<ItsMarks>,
-    desks: &Desks<ThisRun, ItsMarks>,
-    own: u8,
-    watch: &W,
-) -> Result<(), HubFault> {
-    for _ in rt.forever() {
-        match stay(rt, alloc, hub, marks, desks, own)? {
-            Step::Run(task) => run_task(rt, alloc, hub, desks, own, watch, task)?,
-            Step::GoOn => {}
-            Step::End => return Ok(()),
-        }
-    }
-    unreachable!()
-}
-
-/// Works as a node's thread until the hub is stopped. It runs the node's jobs outside the lock; and while it is on duty, it takes the turns of all
-/// nodes whose seats are at their desks, raises the marks of what leaves, and runs their short jobs. Where a call is refused, it stops the
-/// hub, and answers why.
+/// Works as a node's thread until the run is stopped, and answers that it is. It runs the node's jobs outside the lock; and while it is on
+/// duty, it takes the turns of all nodes whose seats are at their desks, raises the marks of what leaves, and runs their short jobs. Where
+/// a call is refused, it stops the run for it. A job that was granted can't be lost: its type has it run, and what came of it taken in.
 pub fn work<C: SlotCell, O: Outlet, ThisRun: HubRun, ItsMarks: MarksName, W: JobWatch, R: Wait>(
     rt: &R,
     alloc: Global,
@@ -344,10 +293,13 @@ pub fn work<C: SlotCell, O: Outlet, ThisRun: HubRun, ItsMarks: MarksName, W: Job
     desks: &Desks<ThisRun, ItsMarks>,
     own: u8,
     watch: &W,
-) -> Result<(), HubFault> {
-    let end = work_on(rt, alloc, hub, marks, desks, own, watch);
-    if let Err(fault) = end {
-        hub.refuse(rt, fault);
+) -> Over<ThisRun> {
+    for _ in rt.forever() {
+        match stay(rt, alloc, hub, marks, desks, own) {
+            Step::Run(task) => run_task(rt, alloc, hub, desks, own, watch, task),
+            Step::GoOn => {}
+            Step::End(over) => return over,
+        }
     }
-    end
+    unreachable!()
 }

@@ -20,11 +20,21 @@ use std::alloc::{AllocError, Global};
 /// The device call whose count since the last recount is that of an armed fault fails; of several faults armed for one
 /// call the first counts. A write that fails leaves its range in doubt and its content as it was; a read or a sync that
 /// fails does nothing. Once `GREATEST_COUNT` calls have failed, no further fault is obeyed.
-#[derive(Drop)]
 pub struct MemDisk {
     sectors: Sectors,
     schedule: FaultSchedule,
     past: Past<Sectors>,
+}
+
+// Written out, since each crate above would go through a derived one again.
+impl Drop for MemDisk {
+    fn drop(self) {
+        let Self {
+            sectors,
+            schedule,
+            past,
+        } = self;
+    }
 }
 
 impl MemDisk {

@@ -31,7 +31,6 @@ use std::alloc::{AllocError, Global};
 ///
 /// In its slot bytes come after their length, which is written in 8 bytes, the greatest first, and before zeros up to
 /// a whole sector. They are at most `MAX_VALUE_BYTES`, and fit the slot.
-#[derive(Drop)]
 pub struct SplitCell<D: Disk> {
     alloc: Global,
     disk: D,
@@ -43,6 +42,19 @@ pub struct SplitCell<D: Disk> {
     ghost stands: { AlwaysStands HEADER_SECTORS (D.may_leave disk) },
     ghost settled: { IsTrue ready
         → IsSettled (D.content disk) (D.may_leave disk) HEADER_SECTORS active header_len },
+}
+
+// Written out, since each crate above would go through a derived one again.
+impl<D: Disk> Drop for SplitCell<D> {
+    fn drop(self) {
+        let Self {
+            alloc,
+            disk,
+            active,
+            header_len,
+            ready,
+        } = self;
+    }
 }
 
 impl<D: Disk> SplitCell<D> {

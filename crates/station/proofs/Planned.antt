@@ -15,7 +15,7 @@ use Rattle.protocol.specs.Node.Common.{NodeView, ModeView, Down, InDoubt, Runs, 
 use Rattle.protocol.specs.Node.Common.{Exhausted, Planned, becoming, if_due, packets_by, putting, room_for}
 use Rattle.protocol.specs.Node.Common.{unless_spent, IsMade, IsPut, recover_prospect, restored, restored_mode}
 use Rattle.std.proofs.lemmas.List.Elements.{All-nil}
-use Rattle.node_memory.specs.JobView.{shared_view}
+use Rattle.node.specs.Memory.{shared_view}
 use Rattle.protocol.specs.Node.Delivering.{delivery_of}
 use Rattle.protocol.specs.Node.NodeView.{with_mode}
 use Rattle.protocol.specs.declared.round_turns.RoundTurns.{RoundTurns}

@@ -2,7 +2,7 @@
 use Rattle.protocol.specs.Node.Common.{standing_of}
 use Rattle.proc_step.specs.declared.job.Done.{Done}
 use Rattle.protocol.specs.World.Common.{DoneView}
-use Rattle.node_memory.specs.JobView.{job_view}
+pub use Rattle.node.specs.Memory.{job_view}
 
 -- a `Done` without pointers
 abbrev pub done_view : Done → DoneView

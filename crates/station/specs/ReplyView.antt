@@ -7,7 +7,7 @@ use Rattle.protocol.specs.World.Common.{ReplyView}
 use Rattle.protocol.specs.World.ReplyView.{reply_by}
 use Rattle.protocol.specs.declared.reply.Leaving.{Leaving}
 use Rattle.protocol.specs.declared.reply.Reply.{Reply as AnyReply}
-use Rattle.node_memory.specs.JobView.{shared_view}
+pub use Rattle.node.specs.Memory.{shared_view}
 
 -- what a world answers
 abbrev pub Reply : Type 0

@@ -2,7 +2,7 @@
 ghost use Rattle.std.specs.Prelude.{◌≡◌, ◌==◌, ℕ, Some, find, map, slice_get};
 ghost use Rattle.protocol.specs.Node.Common.{RecordView, network_of, running_node, running_of};
 ghost use Rattle.node.specs.NodeOf.{view_of};
-ghost use Rattle.node_memory.specs.RunningView.{running_view};
+ghost use Rattle.node.specs.Memory.{running_view};
 ghost use Rattle.protocol.specs.World.Common.{outputs_of};
 ghost use Rattle.protocol.specs.World.Stances.{beside_others, got_at, got_by, has_what_was_got, is_coming, is_leaving, lacks_items, stance_at};
 ghost use Rattle.station.specs.StationView.{outlet_views};

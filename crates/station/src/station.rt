@@ -2,17 +2,28 @@
 ghost use Rattle.std.specs.Prelude.{◌≡◌};
 
 use crate::output::Output;
+use ckpt_store::Store;
 use node::Node;
 use outlet::Outlet;
 use protocol::RoundTurns;
 use slot_cell::SlotCell;
 
 /// A node and the outputs on which its processes put.
-#[derive(Drop)]
 pub struct Station<C: SlotCell, O: Outlet> {
     pub node: Node<C>,
     pub outputs: Vec<Output<O>>,
     pub turns: RoundTurns,
+}
+
+// Written out, since each crate above would go through a derived one again.
+impl<C: SlotCell, O: Outlet> Drop for Station<C, O> {
+    fn drop(self) {
+        let Self {
+            node,
+            outputs,
+            turns,
+        } = self;
+    }
 }
 
 impl<C: SlotCell, O: Outlet> Station<C, O> {
@@ -31,6 +42,19 @@ impl<C: SlotCell, O: Outlet> Station<C, O> {
             outputs,
             turns: RoundTurns::new(0),
         }
+    }
+
+    /// The store of its node, and its outputs. All else is gone.
+    pub fn into_parts(self) -> (Store<C>, Vec<Output<O>>)
+        ensures store { result.0 ≡ self.node.store }
+        ensures outputs { result.1 ≡ self.outputs }
+    {
+        let Self {
+            node,
+            outputs,
+            turns: _,
+        } = self;
+        (node.into_store(), outputs)
     }
 
     /// Whether the round need not wait for this node: it has idled, or it is down and not to be recovered yet. Takes no memory.

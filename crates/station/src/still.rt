@@ -4,7 +4,7 @@ ghost use Rattle.std.specs.List.{list_all};
 ghost use Rattle.protocol.specs.Node.Common.{network_of, running_node, running_of};
 ghost use Rattle.node.specs.NodeOf.{view_of};
 ghost use Rattle.node.specs.NodeView.{node_view};
-ghost use Rattle.node_memory.specs.RunningView.{running_view};
+ghost use Rattle.node.specs.Memory.{running_view};
 ghost use Rattle.protocol.specs.Node.Popping.{has_place};
 ghost use Rattle.protocol.specs.World.Common.{outputs_of};
 ghost use Rattle.protocol.specs.World.Quiet.{sent_at};

@@ -2,7 +2,7 @@
 ghost use Rattle.std.specs.Prelude.{◌≡◌, true, if◌then◌else◌, is_some, IfOk, OnErr, Some, option_map};
 ghost use Rattle.protocol.specs.Node.Common.{fits_in, cell_in, node_job, IsOut, TakesTurn};
 ghost use Rattle.node.specs.NodeOf.{view_of};
-ghost use Rattle.node_memory.specs.JobView.{job_view, shared_view};
+ghost use Rattle.node.specs.Memory.{job_view, shared_view};
 ghost use Rattle.station.specs.DoneView.{done_view};
 ghost use Rattle.protocol.specs.World.Common.{grant_reply, turns_of, IsInstalled};
 ghost use Rattle.station.specs.Lending.{inputs_lent, net_lent};

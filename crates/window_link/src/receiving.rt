@@ -32,12 +32,18 @@ pub struct Ack {
 ///
 /// It has a place for each of so many positions, the next one being the first. An item of one of these is held until its
 /// turn comes.
-#[derive(Drop)]
 pub struct RecvWindow {
     epoch: u64,
     next: u64,
     // the place k is for the position `next + k`
     held: HeapCircularBuffer<Option<i64>>,
+}
+
+// Written out, since each crate above would go through a derived one again.
+impl Drop for RecvWindow {
+    fn drop(self) {
+        let Self { epoch, next, held } = self;
+    }
 }
 
 impl Model for RecvWindow {

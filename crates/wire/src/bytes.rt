@@ -9,9 +9,16 @@ use std::marker::Model;
 pub type PacketBytes = SmallVec<u8, 24>;
 
 /// The bytes of a packet, which contracts see as a list.
-#[derive(Debug, Drop)]
+#[derive(Debug)]
 pub struct Bytes {
     bytes: PacketBytes,
+}
+
+// Written out, since each crate above would go through a derived one again.
+impl Drop for Bytes {
+    fn drop(self) {
+        let Self { bytes } = self;
+    }
 }
 
 impl Model for Bytes {

@@ -23,13 +23,24 @@ pub(crate) struct Passage {
 }
 
 /// The rules that are armed, in their order.
-#[derive(Drop)]
 pub(crate) struct Rules {
     list: Vec<Rule>,
     fates: HashMap<Passage, Fate>,
     // The least number of a packet for which there is one, and the greatest.
     least: u64,
     most: u64,
+}
+
+// Written out, since each crate above would go through a derived one again.
+impl Drop for Rules {
+    fn drop(self) {
+        let Self {
+            list,
+            fates,
+            least,
+            most,
+        } = self;
+    }
 }
 
 impl Model for Rules {

@@ -18,10 +18,16 @@ use std::alloc::{AllocError, Global};
 use std::marker::Model;
 
 /// The packets in flight to each node, in the order in which they were sent, and the rules that were armed.
-#[derive(Drop)]
 pub struct Wire {
     queues: Vec<Queue>,
     rules: Rules,
+}
+
+// Written out, since each crate above would go through a derived one again.
+impl Drop for Wire {
+    fn drop(self) {
+        let Self { queues, rules } = self;
+    }
 }
 
 impl Model for Wire {

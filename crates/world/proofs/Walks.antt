@@ -1,26 +1,18 @@
 -- The way from a process, as far as it was walked, and what is left of it.
-use Rattle.std.proofs.Common.{◌≡◌, ◌≢◌, ◌⊎◌, inl, inr, replicate, set, ℕ, ℤ, zero, suc, ◌+◌, ◌<◌, ◌≤◌, Bool, true, false, ◌||◌, cond, List, [], ◌∷◌, length, Option, Some}
+use Rattle.std.proofs.Common.{◌≡◌, ℕ, ℤ, zero, suc, ◌+◌, ◌<◌, ◌≤◌, Bool, true, false, ◌||◌, cond, List, length, Option, Some}
 use Rattle.std.proofs.Common.{None, refl, sym, ap, ◌∙◌, arith}
-use Rattle.std.proofs.lemmas.List.{length-set}
-use Rattle.std.proofs.lemmas.Option.{slice_get_within}
-use Rattle.std.proofs.Math.Path.{fun_ext}
-use Rattle.ckpt_codec.specs.Common.{MAX_CHANNELS, MAX_PROCESSES}
-use Rattle.kahn_net.specs.Common.{IsValid}
+use Rattle.std.proofs.lemmas.List.{length-map}
 use Rattle.std.proofs.lemmas.Option.{slice_get_within}
 use Rattle.std.specs.List.{list_any}
+use Rattle.std.specs.Vec.{vec_len}
 use Rattle.kahn_net.specs.Common.{IsValid}
-use Rattle.protocol.specs.Node.Common.{MAX_CHANNELS}
+use Rattle.protocol.specs.Node.Common.{MAX_CHANNELS, Net, Network, code_of, network_of}
 use Rattle.protocol.specs.World.Common.{StationView, WorldView}
-use Rattle.protocol.specs.World.Stances.{stance_of}
-use Rattle.protocol_laws.specs.World.RoomNeedLaws.{node_need_is_found, put_is_held, puts_there}
-use Rattle.protocol.specs.Node.Common.{Network}
 use Rattle.protocol.specs.World.RoomNeeds.{awaited, first_of_any, held_on, is_going, last_held, need_of, need_on, needed_for, way}
 use Rattle.protocol.specs.World.RoomNeeds.{way_from}
-use Rattle.protocol.specs.declared.stance.Stance.{Stance}
-use Rattle.protocol.specs.World.Common.{StationView, WorldInvariant, WorldView, stands_still}
-use Rattle.protocol.specs.World.RoomNeeds.{needed_at}
 use Rattle.protocol.specs.World.Stances.{stance_of}
-use Rattle.protocol_laws.specs.World.RoomNeedLaws.{need_is_found, put_is_held, puts_there, some_need}
+use Rattle.protocol.specs.declared.stance.Stance.{Stance}
+use Rattle.protocol_laws.specs.World.RoomNeedLaws.{node_need_is_found, put_is_held, puts_there}
 use Rattle.turns.specs.Turns.{or_else}
 
 -- what the rest of a way needs, where this channel is that of the last one that is held so far
@@ -160,16 +152,30 @@ module _ (found : ℕ → Option ℕ) (count number : ℕ) (sought : IsSought fo
             ∙ (sym (ap (first_of_any found number) more.1) ∙ sought.is));
       }
 
+-- a number below the count of processes is one of the network's
+pub process_below : (net : Net) (p count : ℕ) → count ≡ vec_len net.program.processes → p < count
+    → p < length (network_of net.program).codes
+process_below net p count is below =
+    let processes = net.program.processes in
+    omega (arith, below, is, processes.ok.0, length-map processes.items code_of)
+
 -- ---- of a world
 
--- what a node needs, as it is read through other references
+-- what a node needs
+need_seen : (net : Network) (inputs : List (List ℤ)) (rooms : List ℕ) (stations : List StationView) (node : ℕ) → Option ℕ
+need_seen net inputs rooms stations node =
+    first_of_any (need_of net (stance_of net inputs rooms stations) node) 0 (length net.codes)
+
+-- it is the same as it is read through other references
 pub seen_there : (net seen : Network) (inputs read : List (List ℤ)) (rooms : List ℕ) (stations others : List StationView)
-    (node process : ℕ) → seen ≡ net → read ≡ inputs → others ≡ stations
-    → need_of seen (stance_of seen read rooms others) node process ≡ need_of net (stance_of net inputs rooms stations) node process
-seen_there net seen inputs read rooms stations others node process e f g =
-    ap (λ (n : Network). need_of n (stance_of n read rooms others) node process) e
-    ∙ (ap (λ (i : List (List ℤ)). need_of net (stance_of net i rooms others) node process) f
-    ∙ ap (λ (s : List StationView). need_of net (stance_of net inputs rooms s) node process) g)
+    (node : ℕ) → seen ≡ net → read ≡ inputs → others ≡ stations
+    → first_of_any (need_of seen (stance_of seen read rooms others) node) 0 (length seen.codes)
+    ≡ first_of_any (need_of net (stance_of net inputs rooms stations) node) 0 (length net.codes)
+unfolding need_seen
+seen_there net seen inputs read rooms stations others node e f g =
+    ap (λ (n : Network). need_seen n read rooms others node) e
+    ∙ (ap (λ (i : List (List ℤ)). need_seen net i rooms others node) f
+    ∙ ap (λ (s : List StationView). need_seen net inputs rooms s node) g)
 
 -- the channel that is found for a node is one of the network
 pub need_below : (world : WorldView) (node channel : ℕ) → IsValid world.net → needed_for world node ≡ Some channel

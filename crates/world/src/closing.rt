@@ -36,12 +36,7 @@ fn add_station<D: Disk, O: Outlet>(
     ensures outputs { OnOk result
         (outputs.new.items ≡ outputs.old.items ++ station.outputs.items) }
 {
-    let Station {
-        node,
-        outputs: own,
-        turns: _,
-    } = station;
-    let store = node.store;
+    let (store, own) = station.into_parts();
     disks.push(store.close().close())?;
     add_outputs(outputs, own)
 }
@@ -92,7 +87,8 @@ impl<D: Disk, O: Outlet> World<SplitCell<D>, O> {
             (network_of self.net.value.program) self.inputs.value closed.0.items closed.1.items) }
     {
         // There are no more outputs than channels.
-        let mut parts = parts_of(alloc, self.stations, self.net.program.channels.len())?;
+        let most = self.net.program.channels.len();
+        let mut parts = parts_of(alloc, self.into_stations(), most)?;
         sort_outputs(&mut parts.1);
         Ok(parts)
     }

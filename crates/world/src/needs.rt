@@ -1,8 +1,8 @@
 // Which channel of a world needs more room, and how it gets more.
-ghost use Rattle.std.specs.Prelude.{◌≡◌, map, slice_get};
+ghost use Rattle.std.specs.Prelude.{◌≡◌, length, map, slice_get};
 ghost use Rattle.protocol.specs.Node.Common.{network_of};
 ghost use Rattle.protocol.specs.Node.Layout.{has_process};
-ghost use Rattle.protocol.specs.World.RoomNeeds.{awaited, getter_of, held_on, is_going, is_held, need_of, need_on, needed_for, process_on, putter_of, way_from, widened_at};
+ghost use Rattle.protocol.specs.World.RoomNeeds.{awaited, first_of_any, getter_of, held_on, is_going, is_held, need_of, need_on, needed_for, process_on, putter_of, way_from, widened_at};
 ghost use Rattle.protocol.specs.World.Stances.{stance_of};
 ghost use Rattle.turns.specs.Turns.{or_else};
 ghost use Rattle.station.specs.StationView.{station_view};
@@ -172,30 +172,48 @@ fn need_of<C: SlotCell, O: Outlet>(
     }
 }
 
+// The channel that is needed, as the first process of a node that shows one has it.
+fn first_need<C: SlotCell, O: Outlet>(
+    net: &Net,
+    inputs: &Inputs,
+    rooms: &Rooms,
+    stations: &[Station<C, O>],
+    node: u8,
+) -> Option<usize>
+    ensures { result ≡ first_of_any (need_of (network_of net.now.program) (stance_of (network_of net.now.program) inputs.now
+        rooms.now (map (station_view O.taken O.failures) stations.now)) node) 0 (length (network_of net.now.program).codes) }
+{
+    for process in 0..net.program.processes.len() {
+        let need = need_of(net, inputs, rooms, stations, node, process);
+        match need {
+            Some(channel) => return Some(channel),
+            None => {}
+        }
+    }
+    None
+}
+
 impl<C: SlotCell, O: Outlet> World<C, O> {
-    /// The channel that needs more room, as a process of this node shows, if one does: a put of it is held for want of room, and nobody will
-    /// ever go on to whom the way leads from there, from each process to the one for which it waits, unless a channel gets more. Whatever
-    /// else goes on beside these processes plays no part. Where several puts are held on that way, it is the channel of the last one: of one
-    /// on the round, where the way goes round, so that no channel gets more for others' sake. Takes no memory.
+    /// The channel that needs more room, as a process of this node shows, if one does. That process is held at a put for want of room. A way
+    /// leads on from each process to the one for which it waits, and nobody on the way from this process goes on in the world as it stands.
+    /// Whatever else goes on beside these processes plays no part. The channel is that of the last put that is held on this way. Where the way
+    /// goes round by a put that is held, it is the channel of one on the round. Whether one of these processes goes on later without more
+    /// room, no clause says. Takes no memory.
     pub fn needed_for(&self, node: u8) -> Option<u8>
         ensures { result ≡ needed_for (world_of self.now) node }
     {
-        for process in 0..self.net.program.processes.len() {
-            let need = need_of(
-                &self.net,
-                &self.inputs,
-                &self.channel_rooms,
-                &self.stations,
-                node,
-                process,
-            );
-            match need {
-                // (A network has at most 256 channels.)
-                Some(channel) => return Some(channel as u8),
-                None => {}
-            }
+        let need = first_need(
+            &self.net,
+            &self.inputs,
+            &self.channel_rooms,
+            &self.stations,
+            node,
+        );
+        match need {
+            // (A network has at most 256 channels.)
+            Some(channel) => Some(channel as u8),
+            None => None,
         }
-        None
     }
 
     /// Doubles how many items a channel retains at most, up to `MAX_RETAINED_ITEMS`. Takes no memory.

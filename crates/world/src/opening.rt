@@ -291,8 +291,7 @@ fn open_stations<D: Disk, O: Outlet>(
             Ok(())
         }
         Err(fault) => {
-            let store = node.store;
-            disks.push_reserved(store.close().close());
+            disks.push_reserved(node.into_store().close().close());
             Err(fault)
         }
     }

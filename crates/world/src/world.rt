@@ -38,7 +38,6 @@ use wire::Wire;
 /// station stand where its processes have come on one approximation of the network's histories, that what its outlets took
 /// is a beginning of what the processes put there, that its permanent image covers all of that, and that steps of the
 /// abstract machine of recovery lines led to it.
-#[derive(Drop)]
 pub struct World<C: SlotCell, O: Outlet> {
     pub(crate) net: Arc<Net>,
     pub(crate) inputs: Arc<Inputs>,
@@ -49,6 +48,20 @@ pub struct World<C: SlotCell, O: Outlet> {
     pub(crate) channel_rooms: Rooms,
     pub ghost sound: { WorldInvariant
         (world_view O.taken O.failures net inputs stations.items (traffic_of wire) round channel_rooms) },
+}
+
+// Written out, since each crate above would go through a derived one again.
+impl<C: SlotCell, O: Outlet> Drop for World<C, O> {
+    fn drop(self) {
+        let Self {
+            net,
+            inputs,
+            stations,
+            wire,
+            round,
+            channel_rooms,
+        } = self;
+    }
 }
 
 // An event at the station of this number, where there is one.
@@ -128,6 +141,21 @@ fn round_after<C: SlotCell, O: Outlet>(reply: &Reply, round: u64, stations: &[St
 impl<C: SlotCell, O: Outlet> World<C, O> {
     ghost use Rattle.world.specs.Applied.{IsApplied};
     ghost use Rattle.world.specs.WholeView.{HaveGrown, capacities_in, inputs_in, net_in, rooms_in, stations_in, world_of};
+
+    // Its stations. All else is gone.
+    pub(crate) fn into_stations(self) -> Vec<Station<C, O>>
+        ensures { result ≡ self.stations }
+    {
+        let Self {
+            net: _,
+            inputs: _,
+            stations,
+            wire: _,
+            round: _,
+            channel_rooms: _,
+        } = self;
+        stations
+    }
 
     /// The round, from 0.
     pub fn round(&self) -> u64

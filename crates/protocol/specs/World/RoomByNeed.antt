@@ -1,12 +1,12 @@
 -- What is true of the channel that needs more room.
-use Rattle.std.specs.Prelude.{◌≡◌, ◌==◌, ℕ, ◌<◌, true, false, length, Some, None, IfSome, find, slice_get, slice_index}
+use Rattle.std.specs.Prelude.{◌≡◌, ◌==◌, ℕ, ◌<◌, true, false, Some, IfSome, find, slice_get, slice_index}
 use Rattle.ckpt_codec.specs.Common.{Code, Process, SavedProcessView}
 use Rattle.kahn_net.specs.Common.{IsValid, Puts}
 use Rattle.protocol.specs.Node.Choosing.{has_room, next_at}
 use Rattle.protocol.specs.Node.NodeView.{RunningNode, running_of}
 use Rattle.protocol.specs.Node.Sharing.{AreRooms, full_share, log_share, retained_share}
 use Rattle.protocol.specs.World.Invariant.{WorldInvariant, outputs_of}
-use Rattle.protocol.specs.World.RoomNeeds.{NeedsRoom, needed_at, needed_for, widened_at}
+use Rattle.protocol.specs.World.RoomNeeds.{NeedsRoom, needed_for, widened_at}
 use Rattle.protocol.specs.World.Stances.{is_leaving, stance_of}
 use Rattle.protocol.specs.World.StationView.{StationView}
 use Rattle.protocol.specs.World.Steps.{WorldView}
@@ -29,24 +29,25 @@ pub record PutIsHeld (world : WorldView) (p c : ℕ) : Type 0 where
       ≡ false
   pub place : has_room (full_share node.current) node.current c (slice_get world.net.channels c) ≡ true
 
--- Where a world stands still for want of room, a channel needs more.
-abbrev pub StillNeedsRoom : Type 0
-StillNeedsRoom =
+-- Where a world stands still for want of room, some node finds a channel.
+abbrev pub StillShowsNeed : Type 0
+StillShowsNeed =
     (world : WorldView) → WorldInvariant world → stands_still world ≡ true
-    → (channel : ℕ) × (needed_at world ≡ Some channel)
+    → (node channel : ℕ) × (needed_for world node ≡ Some channel)
 
--- The channel that is found is one for which a process needs more room.
-abbrev pub NeedIsFound : Type 0
-NeedIsFound =
-    (world : WorldView) (channel : ℕ) → IsValid world.net → needed_at world ≡ Some channel
+-- The channel that is found for a node is one for which a process needs more room.
+abbrev pub NodeNeedIsFound : Type 0
+NodeNeedIsFound =
+    (world : WorldView) (node channel : ℕ) → IsValid world.net → needed_for world node ≡ Some channel
     → (process : ℕ)
     × NeedsRoom world.net (stance_of world.net world.inputs world.rooms world.stations) process channel
 
--- And where none is found, no process needs more room.
-abbrev pub NobodyNeedsMore : Type 0
-NobodyNeedsMore =
-    (world : WorldView) → needed_at world ≡ None → (process channel : ℕ) → process < length world.net.codes
-    → ¬ NeedsRoom world.net (stance_of world.net world.inputs world.rooms world.stations) process channel
+-- And a process that needs more room is found by its node: a channel is found there that some process needs.
+abbrev pub NeedIsShown : Type 0
+NeedIsShown =
+    (world : WorldView) (process channel : ℕ) (code : Code) → slice_get world.net.codes process ≡ Some code
+    → NeedsRoom world.net (stance_of world.net world.inputs world.rooms world.stations) process channel
+    → (found : ℕ) × (needed_for world code.node ≡ Some found)
 
 -- A process that needs more room for a channel puts there, its put is held for want of it, and the channel hasn't all the
 -- room that it may have.
@@ -64,25 +65,3 @@ NeedGetsMore =
     (world : WorldView) (process channel : ℕ) → IsValid world.net → AreRooms world.rooms
     → NeedsRoom world.net (stance_of world.net world.inputs world.rooms world.stations) process channel
     → slice_index world.rooms channel < slice_index (widened_at channel world).rooms channel
-
--- ---- by node
-
--- The channel that is found for a node is one for which a process needs more room.
-abbrev pub NodeNeedIsFound : Type 0
-NodeNeedIsFound =
-    (world : WorldView) (node channel : ℕ) → IsValid world.net → needed_for world node ≡ Some channel
-    → (process : ℕ)
-    × NeedsRoom world.net (stance_of world.net world.inputs world.rooms world.stations) process channel
-
--- And a process that needs more room is found by its node: a channel is found there that some process needs.
-abbrev pub NeedIsShown : Type 0
-NeedIsShown =
-    (world : WorldView) (process channel : ℕ) (code : Code) → slice_get world.net.codes process ≡ Some code
-    → NeedsRoom world.net (stance_of world.net world.inputs world.rooms world.stations) process channel
-    → (found : ℕ) × (needed_for world code.node ≡ Some found)
-
--- So where a world stands still for want of room, some node finds a channel.
-abbrev pub StillShowsNeed : Type 0
-StillShowsNeed =
-    (world : WorldView) → WorldInvariant world → stands_still world ≡ true
-    → (node channel : ℕ) × (needed_for world node ≡ Some channel)

@@ -1,11 +1,13 @@
 -- Which channel needs more room.
 --
--- A process that is held at a put waits for the consumer of that channel, and one that gets where nothing is at hand waits
--- for the channel's producer. So one way leads on from each process, from one that waits to the one for which it waits. It
--- ends where a process has finished, an input is exhausted, or what is put goes outside; or it goes round and round. Where
--- nobody on it goes on, nobody on it ever will, whatever the others do, unless a channel gets more room: the last one at
--- which a process on the way is held for want of it. Where that way goes round, this channel lies on the round. Where it
--- ends, no other on the rest of the way would help.
+-- A process that puts where there is no place waits for the consumer of that channel, and one that gets where nothing is at
+-- hand waits for the channel's producer. So one way leads on from each process, from one that waits to the one for which it
+-- waits. It ends at a process that goes on or has ended, at an input that is exhausted, or where what is put goes outside; or
+-- it goes round and round. Where nobody on it goes on, a channel needs more room: that of the last process on the way that
+-- is held for want of it. The way from this process comes back to it, or nobody else whom it comes to is held.
+--
+-- All this is said of the world as it stands. Whether one of these processes goes on later, though no channel gets more room,
+-- is not said.
 use Rattle.std.specs.Prelude.{◌≡◌, ◌&&◌, ◌⊎◌, ℕ, zero, suc, Bool, true, false, if◌then◌else◌, List, [], ◌∷◌, length, Option, Some, None}
 use Rattle.std.specs.Prelude.{slice_get}
 use Rattle.std.specs.List.{list_any}
@@ -106,17 +108,6 @@ pub record NeedsRoom (net : Network) (stance : ℕ → Stance) (process channel 
 abbrev pub first_of_any : (ℕ → Option ℕ) → ℕ → ℕ → Option ℕ
 first_of_any found first zero = None
 first_of_any found first (suc count) = or_else (found first) (first_of_any found (suc first) count)
-
--- the channel that needs more room, by the first process that needs it
-abbrev pub need_by : Network → (ℕ → Stance) → Option ℕ
-need_by net stance =
-    first_of_any (λ (process : ℕ). need_on stance (way_from net stance process)) 0 (length net.codes)
-
--- the channel of a world that needs more room
-abbrev pub needed_at : WorldView → Option ℕ
-needed_at world = need_by world.net (stance_of world.net world.inputs world.rooms world.stations)
-
--- ---- by node
 
 abbrev pub is_held : Stance → Bool
 is_held GoesOn = false

@@ -1,5 +1,5 @@
--- Where a world stands still for want of room, some channel needs more; and a channel that needs more is one at which a put
--- is held for want of it.
+-- Where a world stands still for want of room, some node finds a channel that needs more; and a channel that needs more is
+-- one at which a put is held for want of it.
 use Rattle.std.proofs.Common.{◌≡◌, ◌⊎◌, inl, inr, ℕ, zero, suc, ◌+◌, ◌-◌, ◌*◌, ◌<◌, ◌≤◌, Bool, true, false, ◌&&◌, ◌||◌, ◌==◌, not}
 use Rattle.std.proofs.Common.{cond, eqb, ℤ, List, [], ◌∷◌, length, map, drop, get_or, Option, Some, None, is_some}
 use Rattle.std.proofs.Common.{option_map, refl, sym, ap, subst, ◌∙◌, arith}
@@ -40,8 +40,7 @@ use Rattle.protocol.specs.World.Stances.{beside_others, comes_to, is_coming, got
 use Rattle.protocol.specs.World.Stances.{is_leaving, stance_on, stance_at, stance_with, stance_of}
 use Rattle.protocol.specs.World.Still.{has_come_from, has_let_go, kept_by, kept_at, keeps_all, is_settled, is_settled_at}
 use Rattle.protocol.specs.World.Still.{is_still, wants_room}
-use Rattle.protocol.specs.World.RoomByNeed.{PutIsHeld, StillNeedsRoom, NeedIsFound, NobodyNeedsMore, NeedIsHeld, NeedGetsMore}
-use Rattle.protocol.specs.World.RoomByNeed.{NodeNeedIsFound, NeedIsShown, StillShowsNeed}
+use Rattle.protocol.specs.World.RoomByNeed.{PutIsHeld, NeedIsHeld, NeedGetsMore, NodeNeedIsFound, NeedIsShown, StillShowsNeed}
 use Rattle.protocol.specs.World.RoomNeeds.{awaited, getter_of, is_going}
 use Rattle.protocol.specs.World.RoomNeeds.{process_on, putter_of}
 use Rattle.protocol_laws.specs.Node.GrantLaws.{fewer_places}
@@ -49,7 +48,7 @@ use Rattle.protocol_laws.specs.Node.ImageLaws.{find_within, found_is}
 use Rattle.protocol_laws.specs.Node.NumberedLaws.{where_mark, where_find}
 use Rattle.protocol_laws.specs.Node.SharingLaws.{share_within}
 use Rattle.protocol_laws.specs.World.QuietLaws.{all_at, left_at}
-use Rattle.protocol_laws.specs.World.WayLaws.{held_needs, need_at_node, need_for_is_need, need_is_need, none_in_need}
+use Rattle.protocol_laws.specs.World.WayLaws.{need_at_node, need_for_is_need}
 
 -- ---- what is found
 
@@ -639,13 +638,15 @@ one_is_held : (net : Network) (inputs : List (List ℤ)) (rooms : List ℕ) (sta
     → list_all (is_still net inputs rooms stations) stations ≡ true → IsNumbered stations → AreSound net inputs stations
     → (k : ℕ) (station : StationView) → slice_get stations k ≡ Some station
     → wants_room net inputs station ≡ true
-    → (p c : ℕ) × (p < length net.codes) × (stance_of net inputs rooms stations p ≡ Held c)
+    → (p c : ℕ) × (code : Code) × (slice_get net.codes p ≡ Some code)
+    × (stance_of net inputs rooms stations p ≡ Held c)
 one_is_held net inputs rooms stations all numbered sound k station is wants =
     at (still_at net inputs rooms stations all k station is)
   where
     at : ((node : RunningNode) × (running_of station.node ≡ Some node)
         × IsAtRest net inputs rooms stations (outputs_of station.outlets) node)
-        → (p c : ℕ) × (p < length net.codes) × (stance_of net inputs rooms stations p ≡ Held c)
+        → (p c : ℕ) × (code : Code) × (slice_get net.codes p ≡ Some code)
+        × (stance_of net inputs rooms stations p ≡ Held c)
     at (node, runs, rest) =
         let even = even_rooms MAX_RETAINED_ITEMS in
         let share = retained_share even node.current in
@@ -670,15 +671,16 @@ one_is_held net inputs rooms stations all numbered sound k station is wants =
         says.4) in (
           saved.number,
           held.0,
-          below,
+          code.0,
+          code.1,
           stance_is net inputs rooms stations all saved.number code.0 station node (Some saved) code.1
               (ap (slice_get stations) here ∙ is) runs found
               ∙ held.1,
         )
 
--- Where a world stands still for want of room, a channel needs more.
-pub some_need : StillNeedsRoom
-some_need world inv still =
+-- Where a world stands still for want of room, some node finds a channel.
+pub still_shows_need : StillShowsNeed
+still_shows_need world inv still =
     let all = list_all (is_still world.net world.inputs world.rooms world.stations) world.stations in
     let any = list_any (wants_room world.net world.inputs) world.stations in
     let parts = and_parts all any still in
@@ -688,8 +690,10 @@ some_need world inv still =
     let held =
     one_is_held world.net world.inputs world.rooms world.stations parts.0 inv.numbered inv.stations one.0 one.1 there
     one.4 in
-    held_needs world.net (stance_of world.net world.inputs world.rooms world.stations) held.0 held.1
-    (nobody_goes world.net world.inputs world.rooms world.stations parts.0) held.2 held.3
+    let shown =
+    need_at_node world.net (stance_of world.net world.inputs world.rooms world.stations) held.0 held.1 held.2 held.3
+    held.4 (λ steps q comes. nobody_goes world.net world.inputs world.rooms world.stations parts.0 q) in
+    (held.2.node, shown.0, shown.1)
 
 -- ---- what is held
 
@@ -987,34 +991,33 @@ puts_there world p c valid held = at (slice_get world.net.channels c) refl held.
 
 -- ---- of a world
 
--- who gets from a channel is a process of the network, and who puts there
-getter_below : (net : Network) → IsValid net → (c q : ℕ) → getter_of (slice_get net.channels c) ≡ Some q
-    → q < length net.codes
-getter_below net valid c q is = at (slice_get net.channels c) refl is
+-- The process at an end of a channel is one of the network, where each process that stands at that end of one is.
+end_below : (net : Network) (end : Channel → Port) (process_at : Option Channel → Option ℕ) → process_at None ≡ None
+    → ((ends : Channel) → process_at (Some ends) ≡ process_on (end ends))
+    → ((c p : ℕ) (ends : Channel) → slice_get net.channels c ≡ Some ends → end ends ≡ Process p → p < length net.codes)
+    → (c q : ℕ) → process_at (slice_get net.channels c) ≡ Some q → q < length net.codes
+end_below net end process_at none some here c q is = at (slice_get net.channels c) refl is
   where
-    at : (o : Option Channel) → slice_get net.channels c ≡ o → getter_of o ≡ Some q → q < length net.codes
-    at None there bad = absurd (cc)
-    at (Some ends) there own = by ends.consumer refl own
+    at : (o : Option Channel) → slice_get net.channels c ≡ o → process_at o ≡ Some q → q < length net.codes
+    at None there own = (let bad : None ≡ Some q = sym none ∙ own in absurd (cc))
+    at (Some ends) there own = by (end ends) refl (sym (some ends) ∙ own)
       where
-        by : (port : Port) → ends.consumer ≡ port → process_on port ≡ Some q → q < length net.codes
+        by : (port : Port) → end ends ≡ port → process_on port ≡ Some q → q < length net.codes
         by Outside same bad = absurd (cc)
         by (Process p) same it =
             let own : p ≡ q = cc in
-            valid.consumer_is_here c q ends there (same ∙ ap Process own)
+            here c q ends there (same ∙ ap Process own)
 
+-- so is who puts on a channel, and who gets from one
 putter_below : (net : Network) → IsValid net → (c q : ℕ) → putter_of (slice_get net.channels c) ≡ Some q
     → q < length net.codes
-putter_below net valid c q is = at (slice_get net.channels c) refl is
-  where
-    at : (o : Option Channel) → slice_get net.channels c ≡ o → putter_of o ≡ Some q → q < length net.codes
-    at None there bad = absurd (cc)
-    at (Some ends) there own = by ends.producer refl own
-      where
-        by : (port : Port) → ends.producer ≡ port → process_on port ≡ Some q → q < length net.codes
-        by Outside same bad = absurd (cc)
-        by (Process p) same it =
-            let own : p ≡ q = cc in
-            valid.producer_is_here c q ends there (same ∙ ap Process own)
+putter_below net valid =
+    end_below net (λ (ends : Channel). ends.producer) putter_of refl (λ ends. refl) valid.producer_is_here
+
+getter_below : (net : Network) → IsValid net → (c q : ℕ) → getter_of (slice_get net.channels c) ≡ Some q
+    → q < length net.codes
+getter_below net valid =
+    end_below net (λ (ends : Channel). ends.consumer) getter_of refl (λ ends. refl) valid.consumer_is_here
 
 -- so whoever is awaited is one
 awaited_below : (net : Network) → IsValid net → (stance : Stance) (q : ℕ) → awaited net stance ≡ Some q
@@ -1025,20 +1028,19 @@ awaited_below net valid (Waits c) q is = putter_below net valid c q is
 awaited_below net valid (Held c) q is = getter_below net valid c q is
 awaited_below net valid (Full c) q is = getter_below net valid c q is
 
--- The channel that is found is one for which a process needs more room.
-pub need_is_found : NeedIsFound
-need_is_found world c valid is =
+-- The channel that is found for a node is one for which a process needs more room.
+pub node_need_is_found : NodeNeedIsFound
+node_need_is_found world node c valid is =
     let stance = stance_of world.net world.inputs world.rooms world.stations in
-    let found = need_is_need world.net stance c (λ p q waits. awaited_below world.net valid (stance p) q waits) is in
+    let found =
+    need_for_is_need world.net stance node c (λ p q waits. awaited_below world.net valid (stance p) q waits) is in
     (found.0, found.2)
 
--- And where none is found, no process needs more.
-pub nobody_needs : NobodyNeedsMore
-nobody_needs world none p c below needs =
-    let found =
-    none_in_need world.net (stance_of world.net world.inputs world.rooms world.stations) p c below needs in
-    let bad : None ≡ Some found.0 = sym none ∙ found.1 in
-    absurd (cc)
+-- And a process that needs more room is found by its node.
+pub need_is_shown : NeedIsShown
+need_is_shown world p c code coded needs =
+    need_at_node world.net (stance_of world.net world.inputs world.rooms world.stations) p c code coded needs.held
+    needs.stuck
 
 -- A process that needs more puts there, and is held.
 pub need_is_held : NeedIsHeld
@@ -1065,28 +1067,3 @@ gets_more world p c valid rooms needs =
   where
     higher : (room : ℕ) → room < MAX_RETAINED_ITEMS → MIN_ROOM ≤ room → room < min (room * 2) MAX_RETAINED_ITEMS
     higher room few some = omega (arith, few, some)
-
--- ---- by node
-
--- The channel that is found for a node is one for which a process needs more room.
-pub node_need_is_found : NodeNeedIsFound
-node_need_is_found world node c valid is =
-    let stance = stance_of world.net world.inputs world.rooms world.stations in
-    let found =
-    need_for_is_need world.net stance node c (λ p q waits. awaited_below world.net valid (stance p) q waits) is in
-    (found.0, found.2)
-
--- And a process that needs more room is found by its node.
-pub need_is_shown : NeedIsShown
-need_is_shown world p c code coded needs =
-    need_at_node world.net (stance_of world.net world.inputs world.rooms world.stations) p c code coded
-    (slice_get_within world.net.codes p code coded) needs
-
--- So where a world stands still for want of room, some node finds a channel.
-pub still_shows_need : StillShowsNeed
-still_shows_need world inv still =
-    let need = some_need world inv still in
-    let found = need_is_found world need.0 inv.valid need.1 in
-    let held = put_is_held world found.0 need.0 found.1.held in
-    let shown = need_is_shown world found.0 need.0 held.code held.coded found.1 in
-    (held.code.node, shown.0, shown.1)

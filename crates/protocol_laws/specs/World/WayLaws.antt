@@ -12,7 +12,7 @@ use Rattle.protocol.specs.Node.Common.{Code, Network}
 use Rattle.protocol.specs.Node.Layout.{has_process, is_on}
 use Rattle.turns.specs.Turns.{or_else}
 use Rattle.protocol.specs.World.RoomNeeds.{is_going, held_on, awaited, way, last_held, need_on, way_from, first_of_any}
-use Rattle.protocol.specs.World.RoomNeeds.{IsLastHeld, NeedsRoom, is_held, need_by, need_of, onward}
+use Rattle.protocol.specs.World.RoomNeeds.{IsLastHeld, NeedsRoom, is_held, need_of, onward}
 use Rattle.protocol.specs.declared.stance.Stance.{Stance}
 use Rattle.protocol.specs.declared.stance.Stance.TheVariants.{GoesOn, Ended, Waits, Held, Full}
 
@@ -74,26 +74,6 @@ module _ (stance : ℕ → Stance) where
           → (d : ℕ) × (or_else (last_held stance others) (held_on (stance p)) ≡ Some d)
       at (Some d) later = (d, ap (λ (o : Option ℕ). or_else o (held_on (stance p))) later)
       at None later = (c, ap (λ (o : Option ℕ). or_else o (held_on (stance p))) later ∙ ap held_on is)
-
-  none_goes_on : (processes : List ℕ) → ((q : ℕ) → is_going (stance q) ≡ false)
-      → list_any (λ (q : ℕ). is_going (stance q)) processes ≡ false
-  none_goes_on [] none = refl
-  none_goes_on (q ∷ processes) none =
-      ap (λ (b : Bool). b || list_any (λ (r : ℕ). is_going (stance r)) processes) (none q)
-      ∙ none_goes_on processes none
-
--- where nobody goes on and a process is held for want of room, some channel needs it
-pub held_needs : (net : Network) (stance : ℕ → Stance) (p c : ℕ) → ((q : ℕ) → is_going (stance q) ≡ false)
-    → p < length net.codes → stance p ≡ Held c → (d : ℕ) × (need_by net stance ≡ Some d)
-held_needs net stance p c none below is =
-    let last =
-    last_there stance p c (way (λ (q : ℕ). awaited net (stance q)) (length net.codes) (awaited net (stance p))) is in
-    let here : need_on stance (way_from net stance p) ≡ Some last.0 =
-    ap (λ (b : Bool). cond b None (last_held stance (way_from net stance p)))
-    (none_goes_on stance (way_from net stance p) none)
-    ∙ last.1 in
-    found_there (λ (q : ℕ). need_on stance (way_from net stance q)) 0 (length net.codes) p last.0 (omega arith)
-    (omega (arith, below)) here
 
 -- ---- how far a way leads
 
@@ -453,23 +433,16 @@ on_way_is_need net stance c bound p below need =
           record { held = last.held; stuck = needs.stays; last = needs.last_one },
         ))
 
--- The channel that is found is one that a process needs.
-pub need_is_need : (net : Network) (stance : ℕ → Stance) (c : ℕ)
-    → ((p q : ℕ) → awaited net (stance p) ≡ Some q → q < length net.codes) → need_by net stance ≡ Some c
-    → (p : ℕ) × (p < length net.codes) × NeedsRoom net stance p c
-need_is_need net stance c bound is =
-    let found =
-    found_of (λ (q : ℕ). need_on stance (way_from net stance q)) 0 (length net.codes) c is in
-    on_way_is_need net stance c bound found.0 (omega (arith, found.2)) found.3
-
--- On the way from a process that needs room some is needed.
-pub needs_on_way : (net : Network) (stance : ℕ → Stance) (p c : ℕ) → NeedsRoom net stance p c
+-- On the way from a process that is held for want of room some is needed, where nobody on it goes on.
+needs_on_way : (net : Network) (stance : ℕ → Stance) (p c : ℕ) → stance p ≡ Held c
+    → ((steps q : ℕ) → onward (λ (one : ℕ). awaited net (stance one)) steps (Some p) ≡ Some q
+    → is_going (stance q) ≡ false)
     → (d : ℕ) × (need_on stance (way_from net stance p) ≡ Some d)
-needs_on_way net stance p c needs =
+needs_on_way net stance p c held stuck =
     let next : ℕ → Option ℕ = λ (q : ℕ). awaited net (stance q) in
-    let last = last_there stance p c (way next (length net.codes) (next p)) needs.held in
+    let last = last_there stance p c (way next (length net.codes) (next p)) held in
     let going : list_any (λ (q : ℕ). is_going (stance q)) (way_from net stance p) ≡ false =
-    none_goes next (suc (length net.codes)) (Some p) needs.stuck in (
+    none_goes next (suc (length net.codes)) (Some p) stuck in (
       last.0,
       ap (λ (b : Bool). cond b None (last_held stance (way_from net stance p))) going ∙ last.1,
     )
@@ -482,16 +455,6 @@ needs_on_way net stance p c needs =
     none_goes next (suc count) (Some q) none =
         ap (λ (b : Bool). b || list_any (λ (r : ℕ). is_going (stance r)) (way next count (next q))) (none 0 q refl)
         ∙ none_goes next count (next q) (λ steps r comes. none (suc steps) r comes)
-
--- and where none is found, nobody needs any
-pub none_in_need : (net : Network) (stance : ℕ → Stance) (p c : ℕ) → p < length net.codes
-    → NeedsRoom net stance p c → (d : ℕ) × (need_by net stance ≡ Some d)
-none_in_need net stance p c below needs =
-    let on = needs_on_way net stance p c needs in
-    found_there (λ (q : ℕ). need_on stance (way_from net stance q)) 0 (length net.codes) p on.0 (omega arith)
-    (omega (arith, below)) on.1
-
--- ---- by node
 
 -- The channel that a node is found to need is one that a process needs.
 pub need_for_is_need : (net : Network) (stance : ℕ → Stance) (node c : ℕ)
@@ -508,15 +471,18 @@ need_for_is_need net stance node c bound is =
     at true processes need = need
     at false processes need = absurd (cc)
 
--- And a process that needs room is found by its node.
+-- And by a process that is held for want of room its node finds a channel, where nobody on the way from it goes on.
 pub need_at_node : (net : Network) (stance : ℕ → Stance) (p c : ℕ) (code : Code) → slice_get net.codes p ≡ Some code
-    → p < length net.codes → NeedsRoom net stance p c
+    → stance p ≡ Held c
+    → ((steps q : ℕ) → onward (λ (one : ℕ). awaited net (stance one)) steps (Some p) ≡ Some q
+    → is_going (stance q) ≡ false)
     → (d : ℕ) × (first_of_any (need_of net stance code.node) 0 (length net.codes) ≡ Some d)
-need_at_node net stance p c code coded below needs =
-    let on = needs_on_way net stance p c needs in
+need_at_node net stance p c code coded held stuck =
+    let on = needs_on_way net stance p c held stuck in
+    let below = slice_get_within net.codes p code coded in
     let here : has_process net code.node p ≡ true = ap (is_on code.node) coded ∙ eq-eqb code.node code.node refl in
-    let held : is_held (stance p) ≡ true = ap is_held needs.held in
+    let is : is_held (stance p) ≡ true = ap is_held held in
     let shown : need_of net stance code.node p ≡ Some on.0 =
     ap (λ (b : Bool). if b && is_held (stance p) then need_on stance (way_from net stance p) else None) here
-    ∙ (ap (λ (b : Bool). if b then need_on stance (way_from net stance p) else None) held ∙ on.1) in
+    ∙ (ap (λ (b : Bool). if b then need_on stance (way_from net stance p) else None) is ∙ on.1) in
     found_there (need_of net stance code.node) 0 (length net.codes) p on.0 (omega arith) (omega (arith, below)) shown

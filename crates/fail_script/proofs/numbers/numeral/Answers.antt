@@ -1,10 +1,9 @@
-use Rattle.std.proofs.Common.{ap, ◌∙◌, ◌+◌, ◌^◌, ◌-◌, min, rules, tests}
+use Rattle.std.proofs.Common.{ap, ◌∙◌, ◌+◌, ◌*◌, ◌^◌, min, rules, tests}
 use Rattle.fail_script.proofs.Numerals.{one_digit_more}
 use Rattle.fail_script.proofs.numbers.numeral.Goals as goal
 
 pub loop-digit-preserved : goal.loop-digit-preserved
 loop-digit-preserved c =
-    one_digit_more c.args.word.now c.loop-digit.digit-index c.loop-digit.number c.saturating_mul.result
-    c.saturating_add-number.result c.loop-digit-test.true (search (rules, tests)) c.loop-digit.invariant
-    c.saturating_mul.ensures
-    (c.saturating_add-number.ensures ∙ ap (λ d. min (c.saturating_mul.result + d) (2 ^ 32 - 1)) c.from.ensures)
+    one_digit_more c.args.word.now c.loop-digit.digit-index c.loop-digit.number c.min-number.result
+    c.loop-digit-test.true (search (rules, tests)) c.loop-digit.invariant
+    (c.min-number.ensures ∙ ap (λ d. min (c.loop-digit.number * 10 + d) (2 ^ 32)) c.from.ensures)

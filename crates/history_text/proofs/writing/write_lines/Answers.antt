@@ -1,9 +1,9 @@
 use Rattle.std.proofs.Common.{List}
 use Rattle.std.proofs.lemmas.List.{at_drop_all}
-use Rattle.run_log.specs.Lines.{happenings}
+use Rattle.run_log.specs.Lines.{happenings, happenings_of}
 use Rattle.run_log.specs.declared.history.Line.{Line}
 use Rattle.history_text.specs.Histories.{happenings_text}
-use Rattle.history_text.proofs.Lines.{lines_at}
+use Rattle.history_text.proofs.Lines.{parts_at}
 use Rattle.history_text.proofs.Writes.{all_written, nothing_yet, one_more}
 use Rattle.history_text.proofs.writing.write_lines.Goals as goal
 
@@ -13,7 +13,7 @@ loop-line-init g c = nothing_yet _ _
 pub loop-line-preserved : goal.loop-line-preserved
 loop-line-preserved g c =
     one_more _ _ _ _ _ _ _ c.loop-line.invariant c.in_ok-write_line.ensures
-    (lines_at c.args.lines.now c.loop-line.line-index c.line-item.result _ c.loop-line-test.true c.line-item.is)
+    (parts_at happenings_of c.args.lines.now c.loop-line.line-index c.line-item.result _ c.loop-line-test.true c.line-item.is)
 
 pub returns : goal.returns
 returns g c =

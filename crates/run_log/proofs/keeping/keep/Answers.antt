@@ -1,5 +1,5 @@
 use Rattle.std.proofs.Common.{ap, sym}
-use Rattle.node_memory.specs.JobView.{job_view}
+use Rattle.station.specs.DoneView.{job_view}
 use Rattle.replay.specs.Armed.{OfWorld}
 use Rattle.station.specs.EventView.{event_view}
 use Rattle.station.specs.DoneView.{done_view}

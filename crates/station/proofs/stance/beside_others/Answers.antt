@@ -1,7 +1,7 @@
 use Rattle.std.proofs.Common.{map, true, false}
 use Rattle.protocol.specs.Node.Common.{network_of, running_node}
 use Rattle.protocol.specs.World.Common.{outputs_of}
-use Rattle.node_memory.specs.RunningView.{running_view}
+use Rattle.node.specs.Memory.{running_view}
 use Rattle.station.specs.StationView.{outlet_views, station_view}
 use Rattle.station.proofs.Stances.{held_beside, full_beside}
 use Rattle.station.proofs.stance.beside_others.Goals as goal

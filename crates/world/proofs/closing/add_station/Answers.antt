@@ -1,5 +1,6 @@
 use Rattle.std.proofs.Common.{[], ◌∷◌, ◌++◌, Result, Ok, Err, OnOk, ap, ◌∙◌}
 use Rattle.slot_cell.specs.SplitCell.{disk_in}
+use Rattle.protocol.specs.Node.Common.{cell_in}
 use Rattle.world.proofs.closing.add_station.Goals as goal
 
 -- what holds is so where a result is Ok, too
@@ -10,4 +11,4 @@ held P (Err e) p = tt
 pub returns-clause-disks : goal.returns-clause-disks
 returns-clause-disks g c =
     held _ _ (c.in_ok-push.ensures.items
-    ∙ ap (λ disk. c.args.disks.now.items ++ disk ∷ []) (c.close-2.ensures ∙ ap disk_in c.close.ensures))
+    ∙ ap (λ disk. c.args.disks.now.items ++ disk ∷ []) (c.close-2.ensures ∙ ap disk_in (c.close.ensures ∙ ap cell_in c.into_parts-store.ensures.store)))

@@ -1,6 +1,6 @@
-use Rattle.std.proofs.Common.{◌≡◌, ◌∙◌, true, sym}
+use Rattle.std.proofs.Common.{◌≡◌, ◌∙◌, true, sym, ap}
 use Rattle.std.proofs.lemmas.Result.{IfOk-weaker}
-use Rattle.protocol.specs.World.Common.{WorldView}
+use Rattle.protocol.specs.World.Common.{WorldView, released_of}
 use Rattle.run_log.specs.Answers.{IsTurnWritten}
 use Rattle.run_log.specs.ArmedWorlds.{armed_view}
 use Rattle.run_log.specs.Turns.{IsTurn}
@@ -10,6 +10,7 @@ use Rattle.runtime.specs.Ending.{is_over}
 use Rattle.runtime.proofs.Beginnings.{turned}
 use Rattle.runtime.proofs.Calls.{either_so, refused_so}
 use Rattle.runtime.proofs.Causes.{bound_within, err_so, turn_keeps, turn_within}
+use Rattle.runtime.proofs.Marked.{turn_leaves}
 use Rattle.runtime.proofs.locked.Locked.turn.Goals as goal
 
 pub invariant_of-self : goal.invariant_of-self
@@ -41,3 +42,17 @@ invariant_of-self g c =
           c.end_by_rounds.ensures.over (bound_within opening script run.bounds) mid.in_rounds c.turn.ensures.stopped done
           refused;
     }
+
+-- where the answer doesn't say that an item may have left, none has
+pub returns-clause-left : goal.returns-clause-left
+returns-clause-left g c none channel =
+    let run = g.ThisRun.Run in
+    let mid = c.end_by_rounds.new.self in
+    let old = armed_view mid.log.armed in
+    let new = armed_view c.turn.new.self.armed in
+    turn_leaves run.rooms run.script mid.log.passed c.args.node c.turn.result old new
+    (IfOk-weaker c.turn.result _ (λ (answer : TurnAnswer). IsTurn run.rooms run.script mid.log.passed c.args.node answer old new)
+    (λ answer told. told.turned) c.turn.ensures.answered)
+    (err_so c.turn.result (λ same. same.world) (refused_so c.turn.result (λ fault refused. refused.same) c.turn.ensures.refused))
+    none channel
+    ∙ ap (λ armed. released_of channel (armed_view armed).world.stations) c.end_by_rounds.ensures.same

@@ -1,0 +1,15 @@
+use Rattle.std.proofs.Common.{inl, inr}
+use Rattle.runtime.proofs.working.take_marked_turns.Goals as goal
+use Rattle.runtime.proofs.working.take_marked_turns.Goals.{in-Ok, in-Err}
+
+-- the marks were raised
+pub returns-in_default-clause-marked : goal.returns-in_default-clause-marked
+returns-in_default-clause-marked g c = ∣ inr (inl c.in_default.ensures.marked) ∣₁
+
+-- nothing has left, or the run is stopped
+pub returns-else-left-clause-marked : goal.returns-else-left-clause-marked
+returns-else-left-clause-marked g c =
+    elim c.match-take_turns.branch [
+      | in-Ok w ↦ rw w.entered-is (∣ inl (c.take_turns.ensures.left c.if-left.false) ∣₁)
+      | in-Err w ↦ rw w.entered-is (∣ inr (inr w.refuse.ensures) ∣₁)
+    ]
