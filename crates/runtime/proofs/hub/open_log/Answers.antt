@@ -16,6 +16,8 @@ loop-node-preserved g c =
       numbers = search rules;
       room = search rules;
       count = search rules;
+      same_journal = search rules;
+      unwritten = search rules;
       numbered = ap (map number) c.push_reserved.ensures.items
           ∙ (map-append number c.loop-node.seats.items (seat ∷ [])
           ∙ (ap (λ (front : List ℕ). front ++ number seat ∷ []) loop.numbered

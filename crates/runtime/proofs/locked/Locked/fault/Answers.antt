@@ -1,15 +1,18 @@
-use Rattle.std.proofs.Common.{◌≡◌, ◌∙◌, true, sym}
+use Rattle.std.proofs.Common.{◌≡◌, ◌∙◌, true, List, sym, subst}
 use Rattle.std.proofs.lemmas.Result.{IfOk-weaker}
+use Rattle.journal.specs.Histories.{Begins, seen}
 use Rattle.protocol.specs.World.Common.{WorldView}
 use Rattle.run_log.specs.Answers.{IsFaultWritten}
 use Rattle.run_log.specs.ArmedWorlds.{armed_view}
 use Rattle.run_log.specs.Turns.{IsFault}
 use Rattle.run_log.specs.declared.answer.FaultAnswer.{FaultAnswer}
+use Rattle.run_log.specs.declared.history.Line.{Line}
 use Rattle.runtime.specs.Causes.{is_caused, last_round}
 use Rattle.runtime.specs.Ending.{is_over}
 use Rattle.runtime.proofs.Beginnings.{faulted}
 use Rattle.runtime.proofs.Calls.{either_so}
 use Rattle.runtime.proofs.Causes.{bound_within, err_so, fault_keeps, fault_within}
+use Rattle.runtime.proofs.Shown as shown
 use Rattle.runtime.proofs.locked.Locked.fault.Goals as goal
 
 pub invariant_of-self : goal.invariant_of-self
@@ -39,4 +42,32 @@ invariant_of-self g c =
       in_rounds = fault_within rooms script mid.log.passed run.bounds.rounds (last_round opening script run.bounds) mid.log.stopped
           c.fault.result old new c.end_by_rounds.ensures.over (bound_within opening script run.bounds) mid.in_rounds c.fault.ensures.stopped
           played refused;
+      same_journal = c.show.ensures.same ∙ mid.same_journal;
+      written = c.show.ensures.written;
     }
+
+-- what is written in the journal goes on
+pub show-requires : goal.show-requires
+show-requires g c =
+    let mid = c.end_by_rounds.new.self in
+    let now = c.fault.new.log.lines.items in
+    record {
+      here = mid.same_journal;
+      reads_here = c.args.seat.now.here;
+      grows = λ keeps. subst (λ (all : List Line). Begins all now) (sym (mid.written keeps))
+          (shown.faulted mid.log.lines.items now _ (mid.log.same_keeps ∙ keeps) (λ same. same.lines) c.fault.result
+          (IfOk-weaker c.fault.result _ (IsFaultWritten mid.log.keeps mid.log.lines.items now)
+          (λ answer told. told.written) c.fault.ensures.answered)
+          c.fault.ensures.unchanged);
+    }
+
+pub returns-clause-shown : goal.returns-clause-shown
+returns-clause-shown g c = λ keeps.
+    let mid = c.end_by_rounds.new.self in
+    let now = c.fault.new.log.lines.items in
+    let reader = c.args.seat.now.reader in
+    let began = subst (λ (all : List Line). Begins (seen reader) all) (mid.written keeps) (c.show.ensures.began keeps) in
+    shown.shown_fault (seen reader) mid.log.lines.items now (seen c.show.new.reader) began (c.show.ensures.shown keeps) _
+    (mid.log.same_keeps ∙ keeps) c.fault.result
+    (IfOk-weaker c.fault.result _ (IsFaultWritten mid.log.keeps mid.log.lines.items now)
+    (λ answer told. told.written) c.fault.ensures.answered)

@@ -1,4 +1,5 @@
-use Rattle.std.proofs.Common.{◌≡◌, ◌∙◌, true, sym}
+use Rattle.std.proofs.Common.{◌≡◌, ◌∙◌, true, List, sym, subst}
+use Rattle.journal.specs.Histories.{Begins, seen}
 use Rattle.run_log.specs.ArmedWorlds.{armed_view}
 use Rattle.runtime.specs.Causes.{last_round}
 use Rattle.station.specs.DoneView.{done_view}
@@ -8,9 +9,11 @@ use Rattle.protocol.specs.World.Common.{Install}
 use Rattle.replay.specs.Armed.{IsArmedStep, OfWorld}
 use Rattle.replay.specs.declared.kept.Maker.TheVariants.{Node}
 use Rattle.run_log.specs.Added.{IsAdded}
+use Rattle.run_log.specs.declared.history.Line.{Line}
 use Rattle.runtime.proofs.Beginnings.{installed}
 use Rattle.runtime.proofs.Calls.{either_so, refused_so}
 use Rattle.runtime.proofs.Causes.{err_so, install_keeps, install_within}
+use Rattle.runtime.proofs.Shown as shown
 use Rattle.runtime.proofs.locked.Locked.install.Goals as goal
 
 pub invariant_of-self : goal.invariant_of-self
@@ -40,4 +43,36 @@ invariant_of-self g c =
       same_rounds = locked.same_rounds;
       in_rounds = install_within rooms (last_round g.ThisRun.Run.opening g.ThisRun.Run.script run.bounds) done c.install.result old new
           installs refused locked.in_rounds;
+      same_journal = c.show.ensures.same ∙ locked.same_journal;
+      written = c.show.ensures.written;
     }
+
+-- what is written in the journal goes on
+pub show-requires : goal.show-requires
+show-requires g c =
+    let locked = c.args.self.now in
+    let now = c.install.new.self.lines.items in
+    let event = OfWorld (Install (done_view c.args.done)) in
+    record {
+      here = locked.same_journal;
+      reads_here = c.requires.here;
+      grows = λ keeps. subst (λ (all : List Line). Begins all now) (sym (locked.written keeps))
+          (shown.installed locked.log.lines.items now _ (locked.log.same_keeps ∙ keeps) (λ same. same.lines) (Node c.args.node) event
+          c.install.result
+          (IfOk-weaker c.install.result _
+          (λ (reply : Reply). IsAdded locked.log.keeps (Node c.args.node) event (reply_view reply) locked.log.lines.items now)
+          (λ reply made. made.added) c.install.ensures.made)
+          (refused_so c.install.result (λ held refused. refused.same) c.install.ensures.refused));
+    }
+
+pub returns-clause-shown : goal.returns-clause-shown
+returns-clause-shown g c = λ keeps.
+    let locked = c.args.self.now in
+    let now = c.install.new.self.lines.items in
+    let event = OfWorld (Install (done_view c.args.done)) in
+    let began = subst (λ (all : List Line). Begins (seen c.args.reader.now) all) (locked.written keeps) (c.show.ensures.began keeps) in
+    shown.shown_event (seen c.args.reader.now) locked.log.lines.items now (seen c.show.new.reader) began (c.show.ensures.shown keeps) _
+    (locked.log.same_keeps ∙ keeps) (Node c.args.node) event c.install.result
+    (IfOk-weaker c.install.result _
+    (λ (reply : Reply). IsAdded locked.log.keeps (Node c.args.node) event (reply_view reply) locked.log.lines.items now)
+    (λ reply made. made.added) c.install.ensures.made)

@@ -1,16 +1,19 @@
-use Rattle.std.proofs.Common.{◌≡◌, ◌∙◌, true, sym, ap}
+use Rattle.std.proofs.Common.{◌≡◌, ◌∙◌, true, List, sym, ap, subst}
 use Rattle.std.proofs.lemmas.Result.{IfOk-weaker}
+use Rattle.journal.specs.Histories.{Begins, seen}
 use Rattle.protocol.specs.World.Common.{WorldView, released_of}
 use Rattle.run_log.specs.Answers.{IsTurnWritten}
 use Rattle.run_log.specs.ArmedWorlds.{armed_view}
 use Rattle.run_log.specs.Turns.{IsTurn}
 use Rattle.run_log.specs.declared.answer.TurnAnswer.{TurnAnswer}
+use Rattle.run_log.specs.declared.history.Line.{Line}
 use Rattle.runtime.specs.Causes.{is_caused, last_round}
 use Rattle.runtime.specs.Ending.{is_over}
 use Rattle.runtime.proofs.Beginnings.{turned}
 use Rattle.runtime.proofs.Calls.{either_so, refused_so}
 use Rattle.runtime.proofs.Causes.{bound_within, err_so, turn_keeps, turn_within}
 use Rattle.runtime.proofs.Marked.{turn_leaves}
+use Rattle.runtime.proofs.Shown as shown
 use Rattle.runtime.proofs.locked.Locked.turn.Goals as goal
 
 pub invariant_of-self : goal.invariant_of-self
@@ -41,7 +44,34 @@ invariant_of-self g c =
       in_rounds = turn_within rooms script mid.log.passed c.args.node run.bounds.rounds (last_round opening script run.bounds) mid.log.stopped c.turn.result old new
           c.end_by_rounds.ensures.over (bound_within opening script run.bounds) mid.in_rounds c.turn.ensures.stopped done
           refused;
+      same_journal = c.show.ensures.same ∙ mid.same_journal;
+      written = c.show.ensures.written;
     }
+
+-- what is written in the journal goes on
+pub show-requires : goal.show-requires
+show-requires g c =
+    let mid = c.end_by_rounds.new.self in
+    let now = c.turn.new.self.lines.items in
+    record {
+      here = mid.same_journal;
+      reads_here = c.requires.here;
+      grows = λ keeps. subst (λ (all : List Line). Begins all now) (sym (mid.written keeps))
+          (shown.turned mid.log.lines.items now _ (mid.log.same_keeps ∙ keeps) (λ same. same.lines) c.args.node c.turn.result
+          (IfOk-weaker c.turn.result _ (IsTurnWritten mid.log.keeps c.args.node mid.log.lines.items now)
+          (λ answer told. told.written) c.turn.ensures.answered)
+          (refused_so c.turn.result (λ fault refused. refused.same) c.turn.ensures.refused));
+    }
+
+pub returns-clause-shown : goal.returns-clause-shown
+returns-clause-shown g c = λ keeps.
+    let mid = c.end_by_rounds.new.self in
+    let now = c.turn.new.self.lines.items in
+    let began = subst (λ (all : List Line). Begins (seen c.args.reader.now) all) (mid.written keeps) (c.show.ensures.began keeps) in
+    shown.shown_turn (seen c.args.reader.now) mid.log.lines.items now (seen c.show.new.reader) began (c.show.ensures.shown keeps) _
+    (mid.log.same_keeps ∙ keeps) c.args.node c.turn.result
+    (IfOk-weaker c.turn.result _ (IsTurnWritten mid.log.keeps c.args.node mid.log.lines.items now)
+    (λ answer told. told.written) c.turn.ensures.answered)
 
 -- where the answer doesn't say that an item may have left, none has
 pub returns-clause-left : goal.returns-clause-left
