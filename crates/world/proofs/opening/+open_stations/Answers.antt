@@ -1,5 +1,6 @@
 use Rattle.std.proofs.Common.{rules, ◌≡◌, ◌++◌, vec_len, ◌≤◌, length, map, sym, ap, subst, ◌∙◌, arith}
 use Rattle.protocol.specs.Node.Common.{node_count, network_of, MAX_NODES, slot_room_on}
+use Rattle.ckpt_store.specs.StoreView.{cell_in}
 use Rattle.slot_cell.specs.SplitCell.{disk_in}
 use Rattle.protocol.specs.World.Common.{is_output}
 use Rattle.protocol_laws.specs.Node.PlaceLaws.{nodes_few}
@@ -110,9 +111,9 @@ returns-in-Err-open_stations-clause-handed_back g t c =
     c.close-in-Err-open_stations.result c.in-Err-open_stations.fault c.in-Some.ensures.items
     c.push_reserved-in-Err-open_stations.ensures.items c.in-Err-open_stations.ensures.handed_back
     (ap (λ disk. slot_room_on (g.D.Disk.sector_count disk))
-    (c.close-in-Err-open_stations.ensures ∙ ap disk_in c.close.ensures)
+    (c.close-in-Err-open_stations.ensures ∙ (ap disk_in c.close.ensures ∙ ap (λ store. disk_in (cell_in store)) c.into_store.ensures))
     ∙ c.in-Ok.ensures.opened.room)
-    (ap g.D.Disk.failure_count (c.close-in-Err-open_stations.ensures ∙ ap disk_in c.close.ensures)
+    (ap g.D.Disk.failure_count (c.close-in-Err-open_stations.ensures ∙ (ap disk_in c.close.ensures ∙ ap (λ store. disk_in (cell_in store)) c.into_store.ensures))
     ∙ c.in-Ok.ensures.opened.failures)
 
 pub returns-in-Err-open_stations-clause-refused : goal.returns-in-Err-open_stations-clause-refused

@@ -1,5 +1,6 @@
 use Rattle.std.proofs.Common.{rules, ℕ, ◌≡◌, ◌++◌, vec_len, ◌≤◌, length, map, sym, ap, subst, ◌∙◌, arith}
 use Rattle.protocol.specs.Node.Common.{node_count, network_of, MAX_NODES, slot_room_on}
+use Rattle.ckpt_store.specs.StoreView.{cell_in}
 use Rattle.slot_cell.specs.SplitCell.{disk_in}
 use Rattle.protocol.specs.World.Common.{is_output}
 use Rattle.protocol_laws.specs.Node.PlaceLaws.{nodes_few}
@@ -117,9 +118,9 @@ returns-in-Err-reopen_stations-clause-handed_back g t c =
     c.close-in-Err-reopen_stations.result c.in-Err-reopen_stations.fault c.in-Some.ensures.items
     c.push_reserved-in-Err-reopen_stations.ensures.items c.in-Err-reopen_stations.ensures.handed_back
     (ap (λ disk. slot_room_on (g.D.Disk.sector_count disk))
-    (c.close-in-Err-reopen_stations.ensures ∙ ap disk_in c.close.ensures)
+    (c.close-in-Err-reopen_stations.ensures ∙ (ap disk_in c.close.ensures ∙ ap (λ store. disk_in (cell_in store)) c.into_store.ensures))
     ∙ c.in-Ok.ensures.opened.room)
-    (ap g.D.Disk.failure_count (c.close-in-Err-reopen_stations.ensures ∙ ap disk_in c.close.ensures)
+    (ap g.D.Disk.failure_count (c.close-in-Err-reopen_stations.ensures ∙ (ap disk_in c.close.ensures ∙ ap (λ store. disk_in (cell_in store)) c.into_store.ensures))
     ∙ c.in-Ok.ensures.opened.failures)
 
 pub returns-in-Err-reopen_stations-clause-as_left : goal.returns-in-Err-reopen_stations-clause-as_left
@@ -128,7 +129,7 @@ returns-in-Err-reopen_stations-clause-as_left g t c =
     c.push_reserved-in-Err-reopen_stations.new.self.items c.in-Some.disk c.close-in-Err-reopen_stations.result
     c.in-Some.ensures.items c.push_reserved-in-Err-reopen_stations.ensures.items
     c.in-Err-reopen_stations.ensures.as_left
-    (subst (AsLeft g.D.Disk c.in-Some.disk) (sym (c.close-in-Err-reopen_stations.ensures ∙ ap disk_in c.close.ensures))
+    (subst (AsLeft g.D.Disk c.in-Some.disk) (sym (c.close-in-Err-reopen_stations.ensures ∙ (ap disk_in c.close.ensures ∙ ap (λ store. disk_in (cell_in store)) c.into_store.ensures)))
     c.in-Ok.ensures.opened.as_left)
 
 pub returns-in-Err-reopen_stations-clause-refused : goal.returns-in-Err-reopen_stations-clause-refused
