@@ -1,5 +1,5 @@
 -- Each step keeps the rule.
-use Rattle.std.proofs.Common.{◌≡◌, ◌≢◌, ℕ, ◌==◌, ◌⊎◌, List, [], ◌∷◌, ◌++◌, length, set, refl, sym, ap, ◌∙◌, subst, inl, inr}
+use Rattle.std.proofs.Common.{◌≡◌, ◌≢◌, ℕ, ◌==◌, List, [], ◌∷◌, ◌++◌, length, set, refl, sym, ap, ◌∙◌, subst}
 use Rattle.std.proofs.Common.{⊎_elim, append_assoc, append-nil, zero, suc}
 use Rattle.std.proofs.Math.ListN.{length-set}
 use Rattle.std.specs.Prelude.{Vec}
@@ -17,19 +17,21 @@ use Rattle.replay.specs.Replay.{Happening}
 use Rattle.run_log.specs.Lines.{happenings}
 use Rattle.run_log.specs.declared.history.Line.{Line}
 
-pub prefix_self : {A : Type 0} (xs : List A) → IsPrefix xs xs
-prefix_self xs = ([], append-nil xs)
+-- a history begins itself, and what begins a beginning of it
+begins_itself : {A : Type 0} (whole : List A) → IsPrefix whole whole
+begins_itself whole = ([], append-nil whole)
 
-pub prefix_trans : {A : Type 0} (xs ys zs : List A) → IsPrefix xs ys → IsPrefix ys zs → IsPrefix xs zs
-prefix_trans xs ys zs p q = (p.0 ++ q.0, sym (append_assoc xs p.0 q.0) ∙ (ap (λ w. w ++ q.0) p.1 ∙ q.1))
+begins_more : {A : Type 0} (part whole more : List A) → IsPrefix part whole → IsPrefix whole more → IsPrefix part more
+begins_more {A} part whole more (rest, is) (further, goes) =
+    (rest ++ further, sym (append_assoc part rest further) ∙ subst (λ (all : List A). all ++ further ≡ more) (sym is) goes)
 
 knows_nothing : (all : List Happening) → KnowsHistory all nothing_seen
 knows_nothing all = record { lines = (all, refl); seen = (all, refl) }
 
 knows_more : (all more : List Happening) (v : View) → IsPrefix all more → KnowsHistory all v → KnowsHistory more v
 knows_more all more v longer k = record {
-  lines = prefix_trans (happenings v.lines) all more k.lines longer;
-  seen = prefix_trans (happenings v.seen) all more k.seen longer;
+  lines = begins_more (happenings v.lines) all more k.lines longer;
+  seen = begins_more (happenings v.seen) all more k.seen longer;
 }
 
 -- the history goes on
@@ -53,8 +55,8 @@ writes slots id me lines first grows s k _ at _ =
             (at_set s.views id 0 w u e);
         views = λ j u e. ⊎_elim
             (λ (t : (j ≡ id) × (w ≡ u)). subst (λ z. KnowsHistory (happenings lines.items) z) t.1 (record {
-              lines = prefix_self (happenings lines.items);
-              seen = prefix_trans (happenings v.seen) k.all (happenings lines.items) (k.views id v at).seen longer;
+              lines = begins_itself (happenings lines.items);
+              seen = begins_more (happenings v.seen) k.all (happenings lines.items) (k.views id v at).seen longer;
             }))
             (λ (t : (j ≢ id) × (get_elem? s.views j ≡ some u)). knows_more k.all (happenings lines.items) u longer
             (k.views j u t.1))

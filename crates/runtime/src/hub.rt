@@ -29,7 +29,7 @@ ghost use Rattle.station.specs.declared.event.Event.TheVariants as event;
 use crate::cause::Cause;
 use crate::entered::Entered;
 use crate::hub_run::HubRun;
-use crate::locked::Locked;
+use crate::locked::{Locked, write};
 use crate::over::Over;
 use crate::refusal::Refusal;
 use crate::seat::{DriverSeat, NodeSeat, driver_seat, node_seat};
@@ -203,9 +203,7 @@ impl<C: SlotCell, O: Outlet, ThisRun: HubRun> Hub<C, O, ThisRun> {
             ≤ last_round ThisRun.opening ThisRun.script ThisRun.bounds }
     {
         let mut journal = journal;
-        if let Some(lines) = log.kept() {
-            journal.write(lines);
-        }
+        write(&log, &mut journal);
         Hub {
             locked: Mutex::new(Locked {
                 log,

@@ -64,7 +64,21 @@ pub(crate) struct Locked<C: SlotCell, O: Outlet, ThisRun: HubRun> {
         ≤ last_round ThisRun.opening ThisRun.script ThisRun.bounds },
 }
 
-// The history is written in its journal, and shown to a reader, where it is kept.
+/// The history is written in its journal, where it is kept.
+pub(crate) fn write<C: SlotCell, O: Outlet, ThisRun: HubRun>(
+    log: &RunLog<C, O, ThisRun>,
+    journal: &mut Journal,
+)
+    requires grows { ThisRun.keeps ≡ true → Begins (written journal.old) log.now.lines.items }
+    ensures same { journal_id journal.new ≡ journal_id journal.old }
+    ensures written { ThisRun.keeps ≡ true → written journal.new ≡ log.now.lines.items }
+{
+    if let Some(lines) = log.kept() {
+        journal.write(lines);
+    }
+}
+
+// The same, and it is shown to a reader.
 fn show<C: SlotCell, O: Outlet, ThisRun: HubRun>(
     log: &RunLog<C, O, ThisRun>,
     journal: &mut Journal,

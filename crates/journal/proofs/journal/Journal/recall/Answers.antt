@@ -1,4 +1,4 @@
-use Rattle.std.proofs.Common.{◌<◌, arith, ap, ◌∙◌}
+use Rattle.std.proofs.Common.{◌<◌, arith, ◌∙◌}
 use Rattle.journal.proofs.Moves.{joins, recalls}
 use Rattle.journal.proofs.journal.Journal.recall.Goals as goal
 

@@ -1,4 +1,4 @@
-use Rattle.std.proofs.Common.{◌<◌, arith, ap, ◌∙◌}
+use Rattle.std.proofs.Common.{◌<◌, arith, ◌∙◌}
 use Rattle.journal.proofs.Moves.{writes}
 use Rattle.journal.proofs.journal.Journal.write.Goals as goal
 
