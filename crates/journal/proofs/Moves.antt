@@ -1,10 +1,11 @@
 -- Each step keeps the rule.
 use Rattle.std.proofs.Common.{◌≡◌, ◌≢◌, ℕ, ◌==◌, List, [], ◌∷◌, ◌++◌, length, set, refl, sym, ap, ◌∙◌, subst}
-use Rattle.std.proofs.Common.{⊎_elim, append_assoc, append-nil, zero, suc}
+use Rattle.std.proofs.Common.{⊎_elim, append_assoc, append-nil, arith, zero, suc}
 use Rattle.std.proofs.Math.ListN.{length-set}
 use Rattle.std.specs.Prelude.{Vec}
 use Rattle.std.specs.declared.alloc.Global.{Global}
 use mathlib.Core.List.{IsPrefix}
+use mathlib.Core.Logic.{∥∥₁_elim, ∥∥₁_map, ∥∥₁_prop}
 use mathlib.Core.Option.{some, some-injective, some-ne-none}
 use prog.Atomic.{either}
 use lib.ListN.{get_elem?}
@@ -18,17 +19,24 @@ use Rattle.run_log.specs.Lines.{happenings}
 use Rattle.run_log.specs.declared.history.Line.{Line}
 
 -- a history begins itself, and what begins a beginning of it
-begins_itself : {A : Type 0} (whole : List A) → IsPrefix whole whole
-begins_itself whole = ([], append-nil whole)
+begins_itself : {A : Type 0} (whole : List A) → ∥ IsPrefix whole whole ∥₁
+begins_itself whole = ∣ ([], append-nil whole) ∣₁
 
-begins_more : {A : Type 0} (part whole more : List A) → IsPrefix part whole → IsPrefix whole more → IsPrefix part more
-begins_more {A} part whole more (rest, is) (further, goes) =
+joined : {A : Type 0} (part whole more : List A) → IsPrefix part whole → IsPrefix whole more → IsPrefix part more
+joined {A} part whole more (rest, is) (further, goes) =
     (rest ++ further, sym (append_assoc part rest further) ∙ subst (λ (all : List A). all ++ further ≡ more) (sym is) goes)
 
-knows_nothing : (all : List Happening) → KnowsHistory all nothing_seen
-knows_nothing all = record { lines = (all, refl); seen = (all, refl) }
+begins_more : {A : Type 0} (part whole more : List A) → ∥ IsPrefix part whole ∥₁ → ∥ IsPrefix whole more ∥₁ → ∥ IsPrefix part more ∥₁
+begins_more part whole more part_is whole_is =
+    ∥∥₁_elim part_is ∥∥₁_prop (λ is. ∥∥₁_map whole_is (λ goes. joined part whole more is goes))
 
-knows_more : (all more : List Happening) (v : View) → IsPrefix all more → KnowsHistory all v → KnowsHistory more v
+begun : (all : List Happening) → ∥ IsPrefix [] all ∥₁
+begun all = ∣ (all, refl) ∣₁
+
+knows_nothing : (all : List Happening) → KnowsHistory all nothing_seen
+knows_nothing all = record { lines = begun all; seen = begun all }
+
+knows_more : (all more : List Happening) (v : View) → ∥ IsPrefix all more ∥₁ → KnowsHistory all v → KnowsHistory more v
 knows_more all more v longer k = record {
   lines = begins_more (happenings v.lines) all more k.lines longer;
   seen = begins_more (happenings v.seen) all more k.seen longer;
@@ -41,8 +49,8 @@ writes slots id me lines first grows s k _ at _ =
     let v = me.0 in
     let w : View = record v { lines = lines.items } in
     let whole : happenings v.lines ≡ k.all = k.own v (subst (λ (i : ℕ). get_elem? s.views i ≡ some v) first at) in
-    let longer : IsPrefix k.all (happenings lines.items) =
-    subst (λ (h : List Happening). IsPrefix h (happenings lines.items)) whole grows in (
+    let longer : ∥ IsPrefix k.all (happenings lines.items) ∥₁ =
+    subst (λ (h : List Happening). ∥ IsPrefix h (happenings lines.items) ∥₁) whole grows in (
       w,
       keeps,
       tt,
@@ -88,7 +96,7 @@ recalls slots id me first s k _ at _ =
       },
       record {
         same = refl;
-        begins = subst (λ (h : List Happening). IsPrefix (happenings v.seen) h) (sym whole) (k.views id v at).seen;
+        begins = subst (λ (h : List Happening). ∥ IsPrefix (happenings v.seen) h ∥₁) (sym whole) (k.views id v at).seen;
       },
     )
 
@@ -112,7 +120,7 @@ deals id v first s k at =
           (λ (t : (j ≡ id) × (v ≡ u)). subst (λ z. KnowsHistory k.all z) t.1 (k.views id v at))
           (λ (t : (j ≢ id) × (get_elem? s.views j ≡ some u)). k.views j u t.1)
           (at_set s.views id j v u there))
-          (λ new. subst (λ z. KnowsHistory k.all z) new (record { lines = (k.views id v at).lines; seen = (k.all, refl) }))
+          (λ new. subst (λ z. KnowsHistory k.all z) new (record { lines = (k.views id v at).lines; seen = begun k.all }))
           (at_snoc vs (reader_of v) u j e);
     }
 
@@ -122,7 +130,7 @@ pub joins : (id : ℕ) (v : View) (other : ℕ) (w : View) → id ≡ 0
 joins id v other w first s k at apart theirs =
     let both = taken_in v w in
     let whole : happenings v.lines ≡ k.all = k.own v (subst (λ (i : ℕ). get_elem? s.views i ≡ some v) first at) in
-    let known : IsPrefix (happenings w.lines) k.all = ⊎_elim
+    let known : ∥ IsPrefix (happenings w.lines) k.all ∥₁ = ⊎_elim
     (λ (t : (other ≡ id) × (both ≡ w)). absurd (apart t.0))
     (λ (t : (other ≢ id) × (get_elem? s.views other ≡ some w)). (k.views other w t.1).lines)
     (at_set s.views id other both w theirs) in
@@ -158,3 +166,9 @@ opens words one = record {
     here : (place : ℕ) (view : View) → get_elem? (nothing_seen ∷ []) place ≡ some view → KnowsHistory [] view
     here zero view e = subst (λ z. KnowsHistory [] z) (some-injective nothing_seen view e) (knows_nothing [])
     here (suc place) view e = absurd (some-ne-none view (sym e))
+
+-- the view of a reader
+pub one_view : (views : List View) → length views ≡ 1 → (view : View) × (views ≡ view ∷ [])
+one_view [] one = absurd (omega (arith, one))
+one_view (view ∷ []) one = (view, refl)
+one_view (view ∷ more ∷ others) one = absurd (omega (arith, one))

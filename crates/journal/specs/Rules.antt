@@ -17,8 +17,8 @@ nothing_seen = record { lines = []; seen = [] }
 
 -- a seat knows only what happened
 pub record KnowsHistory (all : List Happening) (view : View) : Type 0 where
-  pub lines : IsPrefix (happenings view.lines) all
-  pub seen : IsPrefix (happenings view.seen) all
+  pub lines : ∥ IsPrefix (happenings view.lines) all ∥₁
+  pub seen : ∥ IsPrefix (happenings view.seen) all ∥₁
 
 -- There is one history. The first seat, the journal's own, knows the whole of it, and each one a beginning.
 pub record HoldsOfJournal (table : State (Vec Line Global) View) : Type 0 where
@@ -35,7 +35,7 @@ HasWritten (some lines) before after = after ≡ record before { lines = lines.i
 -- what the journal's seat took in begins the history
 pub record HasRecalled (before after : View) : Type 0 where
   pub same : after ≡ before
-  pub begins : IsPrefix (happenings before.seen) (happenings before.lines)
+  pub begins : ∥ IsPrefix (happenings before.seen) (happenings before.lines) ∥₁
 
 -- the journal's seat, once it has made another one
 abbrev pub writer_of : View → View

@@ -1,9 +1,9 @@
 //! The history of a run as those see it who take part.
 
-ghost use Rattle.std.specs.Prelude.{◌≡◌, [], IfOk};
+ghost use Rattle.std.specs.Prelude.{◌≡◌, [], length, IfOk};
 
 use crate::view::{Dealing, Growing, Recalling, TakingIn, View, Writing};
-use atomic_table::{Seat, Table};
+use atomic_table::{Badge, Seat, Table};
 use run_log::Line;
 use std::alloc::{AllocError, Global};
 use std::mem;
@@ -21,8 +21,8 @@ pub struct Journal {
 /// What somebody has seen of the history of one journal.
 #[derive(Drop)]
 pub struct Reader {
-    seat: Seat<Vec<Line>, View>,
-    ghost no_slots: { seat.me.1 ≡ [] },
+    badge: Badge<View>,
+    ghost one_view: { length badge.views ≡ 1 },
 }
 
 impl Journal {
@@ -45,8 +45,9 @@ impl Journal {
         ensures seen { seen result ≡ written self.old }
     {
         let Journal { table, seat } = self;
+        let fresh = table.shared.split_seat::<Dealing>(seat);
         Reader {
-            seat: table.shared.split_seat::<Dealing>(seat),
+            badge: fresh.into_badge(),
         }
     }
 
@@ -70,7 +71,8 @@ impl Journal {
         ensures begins { Begins (seen reader) (written self.old) }
     {
         let Journal { table, seat } = self;
-        let Reader { seat: other } = reader;
+        let Reader { badge } = reader;
+        let other = badge.into_seat();
         table.shared.join_seat::<TakingIn>(seat, other);
         table.shared.load::<Recalling>(seat, 0);
     }

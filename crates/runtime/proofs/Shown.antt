@@ -26,22 +26,22 @@ use Rattle.station.specs.ReplyView.{Reply, reply_view}
 
 module _ (before now : List Line) where
   by_event : (maker : Maker) (event : ArmedEvent) (answer : ReplyView) → IsAdded true maker event answer before now → Begins before now
-  by_event maker event answer added = (_, sym (added.happened refl))
+  by_event maker event answer added = ∣ (_, sym (added.happened refl)) ∣₁
 
   told : (reason : Silence)
       → ((happenings now ≡ happenings before) ⊎ (happenings now ≡ happenings before ++ Silent reason ∷ [])) → Begins before now
-  told reason (inl same) = ([], append-nil (happenings before) ∙ sym same)
-  told reason (inr more) = (_, sym more)
+  told reason (inl same) = ∣ ([], append-nil (happenings before) ∙ sym same) ∣₁
+  told reason (inr more) = ∣ (_, sym more) ∣₁
 
   same_lines : now ≡ before → Begins before now
-  same_lines same = ([], append-nil (happenings before) ∙ sym (ap happenings same))
+  same_lines same = ∣ ([], append-nil (happenings before) ∙ sym (ap happenings same)) ∣₁
 
   by_turn : (node : ℕ) (answer : TurnAnswer) → IsTurnWritten true node before now answer → Begins before now
   by_turn node (turn.Reply reply) written = by_event _ written.0 _ written.1
   by_turn node turn.Nothing written = told _ (written refl).lines
   by_turn node turn.Late written = told _ (written refl).lines
   by_turn node (turn.Widened channel) written =
-      (_, sym (ap happenings (written refl) ∙ flat_map-append happenings_of before (line.Widened channel ∷ [])))
+      ∣ (_, sym (ap happenings (written refl) ∙ flat_map-append happenings_of before (line.Widened channel ∷ []))) ∣₁
   by_turn node turn.Stopped written = same_lines written
 
   by_fault : (answer : FaultAnswer) → IsFaultWritten true before now answer → Begins before now

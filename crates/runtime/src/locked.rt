@@ -59,7 +59,7 @@ pub(crate) struct Locked<C: SlotCell, O: Outlet, ThisRun: HubRun> {
         (world_of log.armed.world) cause ≡ true },
     pub ghost same_rounds: { rounds ≡ ThisRun.bounds.rounds },
     pub ghost same_journal: { journal_id journal ≡ ThisRun.journal },
-    pub ghost written: { ThisRun.keeps ≡ true → written journal ≡ log.lines.items },
+    pub ghost written: { ThisRun.keeps ≡ true → ∥ written journal ≡ log.lines.items ∥₁ },
     pub ghost in_rounds: { (world_of log.armed.world).round
         ≤ last_round ThisRun.opening ThisRun.script ThisRun.bounds },
 }

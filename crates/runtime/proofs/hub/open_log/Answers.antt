@@ -10,7 +10,7 @@ pub loop-node-preserved : goal.loop-node-preserved
 loop-node-preserved g c =
     let loop = c.loop-node.invariant in
     let seat = c.node_seat.result in
-    let number = λ (s : NodeSeat _). s.node in
+    let number = λ (s : NodeSeat _ _ _). s.node in
     record {
       parts = search rules;
       numbers = search rules;
