@@ -1,5 +1,5 @@
 // The log of a run, with the world to which it leads.
-ghost use Rattle.std.specs.Prelude.{◌≡◌, ◌==◌, ◌≢◌, ◌+◌, ◌-◌, ◌<◌, ◌≤◌, [], true, false, is_none, length, IfErr, IfOk, IfSome, IsNone, IsTrue, OnOk, slice_get};
+ghost use Rattle.std.specs.Prelude.{◌≡◌, ◌==◌, ◌≢◌, ◌+◌, ◌-◌, ◌<◌, ◌≤◌, [], true, false, is_none, is_some, length, IfErr, IfOk, IfSome, IsNone, IsTrue, OnOk, slice_get};
 ghost use Rattle.protocol.specs.World.Common.{choice, event_node, Install, are_quiet, released_of, IsGrantedAt};
 ghost use Rattle.replay.specs.Armed.{OfWorld, armed_at_first, armed_widened};
 ghost use Rattle.replay.specs.Plain.{run_view};
@@ -701,6 +701,14 @@ impl<C: SlotCell, O: Outlet, ThisRun: Run> RunLog<C, O, ThisRun> {
         ensures { result ≡ self.now.stopped }
     {
         self.stopped
+    }
+
+    /// The lines in which what happens is written, where it is.
+    pub fn kept(&self) -> Option<&Vec<Line>>
+        ensures lines { IfSome result (λ lines. lines.now.items ≡ self.now.lines.items) }
+        ensures exact { is_some result ≡ ThisRun.keeps }
+    {
+        if self.keeps { Some(&self.lines) } else { None }
     }
 
     /// The world to which the log leads.

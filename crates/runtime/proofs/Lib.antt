@@ -7,3 +7,4 @@ mod Completeness
 mod Turns
 mod Causes
 mod Marked
+mod Shown

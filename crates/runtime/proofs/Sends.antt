@@ -1,6 +1,7 @@
 -- That a node's state, a network, a job and a line of a history may cross threads. (A network has recursive types in it, and so no proof of its own on which
 -- others could stand: each type above it would be searched from the ground, and a search ends after 1,000 lemmas.)
 use denote.Param.Send.{IsSend, IsSync, sendable}
+use denote.RattleType.{RattleType}
 use Rattle.std.proofs.Crossing.{crosses}
 use Rattle.kahn_net.proofs.history.History.TheSendSync.{the_send as history_s, the_sync as history_y}
 use Rattle.kahn_net.proofs.program.Channel.TheSendSync.{the_send as channel_s, the_sync as channel_y}
@@ -23,6 +24,15 @@ use Rattle.replay.proofs.kept.RunEvent.TheSendSync.{the_send as run_s}
 use Rattle.run_log.specs.contracts.history.Entry.{the_field as entry_field}
 use Rattle.run_log.specs.contracts.history.Line.{the_row as line_row}
 use Rattle.run_log.specs.contracts.history.LongLine.{the_row as long_row}
+use Rattle.atomic_table.proofs.owned.Table.TheSendSync.{the_send as table_s, the_field_send as table_t}
+use Rattle.atomic_table.proofs.shared.Seat.TheSendSync.{the_send as table_seat_s}
+use Rattle.journal.specs.contracts.journal.Journal.{the_field as journal_field}
+use Rattle.marks.specs.declared.seat.MarksName.{Ghosts as MarksWords}
+use Rattle.run_log.specs.declared.seat_count.Run.{Ghosts as RunWords}
+use Rattle.run_log.specs.declared.seat_count.RunLedgers.{Ghosts as LedgerWords}
+use Rattle.runtime.specs.contracts.desks.Desk.{the_row as desk_row}
+use Rattle.runtime.specs.declared.hub_run.HubRun.{Ghosts as HubWords}
+use Rattle.runtime.proofs.threads.NodeSeats.TheSendSync.{the_field_send as seats_t, the_send as seats_s}
 
 pub net_send : IsSend net_row
 net_send = search (sendable, crosses, channel_s, operator_t, name_s, send-Expr, send-Statement) depth 60 fits 100000
@@ -54,3 +64,12 @@ long_send = search (sendable, crosses, entry_field_send) depth 60 fits 100000
 
 pub line_send : IsSend line_row
 line_send = search (sendable, crosses, job_send, job_sync, long_send) depth 60 fits 100000
+
+pub journal_field_send : IsSend (journal_field.row)
+journal_field_send = search (sendable, crosses, table_s, table_t, table_seat_s, line_send) depth 60 fits 100000
+
+-- a desk, with the seats of a node or a job that waits there
+pub desk_send : (ThisRun ItsMarks : RattleType) (hub : HubWords ThisRun.Denot) (run : RunWords ThisRun.Denot)
+    (marks : MarksWords ItsMarks.Denot) (ledgers : LedgerWords ThisRun.Denot) → IsSend (desk_row ThisRun ItsMarks hub run marks ledgers)
+desk_send ThisRun ItsMarks hub run marks ledgers =
+    search (sendable, crosses, job_send, job_sync, seats_s, seats_t) depth 60 fits 1000000

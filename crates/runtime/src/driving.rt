@@ -2,7 +2,7 @@
 ghost use Rattle.std.specs.Prelude.{◌≡◌, ◌<◌, [], true, false, Err, IsTrue, OnOk};
 ghost use Rattle.run_log.specs.ArmedWorlds.{armed_view};
 ghost use Rattle.run_log.specs.RunLogs.{happened_in};
-ghost use Rattle.run_log.specs.SeatCounts.{seat_numbers};
+ghost use Rattle.run_log.specs.SeatCounts.{seat_numbers, seat_parts};
 ghost use Rattle.run_log.specs.declared.answer.FaultAnswer.TheVariants as faults;
 ghost use Rattle.std.proofs.Props.{props};
 ghost use Rattle.runtime.specs.Beginning.{first_lines, BeginsByDriver};
@@ -13,14 +13,14 @@ use crate::hub::Hub;
 use crate::hub_run::HubRun;
 use crate::over::Over;
 use crate::refusal::Refusal;
-use crate::seat::DriverSeat;
+use crate::seat::{DriverSeat, fault};
 use crate::seen::Seen;
 use crate::until::Until;
 use kahn_net::{Channel, Port};
 use marks::{Marks, MarksName, Seat};
 use outlet::Outlet;
 use replay::ScriptedEvent;
-use run_log::{FaultAnswer, HubFault, Run, RunLog};
+use run_log::{FaultAnswer, HubFault, Run, RunLog, SeatCount};
 use slot_cell::SlotCell;
 use std::alloc::Global;
 use std::sync::Wait;
@@ -79,24 +79,30 @@ fn is_stopped(answer: &FaultAnswer) -> bool
     }
 }
 
-/// Makes the events of the script's lines of round 0, of which there are so many, in a log in which nothing is written yet.
+/// Makes the events of the script's lines of round 0, of which there are so many, in a log in which nothing is written yet, for a seat
+/// that made so many events.
 pub(crate) fn begin<C: SlotCell, O: Outlet, ThisRun: Run>(
     alloc: Global,
     log: &mut RunLog<C, O, ThisRun>,
-    seat: &mut DriverSeat<ThisRun>,
+    made: &mut u64,
+    count: &mut SeatCount<ThisRun>,
     lines: usize,
 ) -> Result<(), HubFault>
+    requires part { 0 < seat_parts count.old }
+    requires counts { made.old ≡ (seat_numbers count.old).entries }
     requires none { happened_in log.old ≡ [] }
     requires running { log.old.stopped ≡ false }
     requires unpassed { log.old.passed ≡ 0 }
     requires lines { lines ≡ first_lines ThisRun.script }
+    ensures parts { seat_parts count.new ≡ seat_parts count.old }
+    ensures counts { made.new ≡ (seat_numbers count.new).entries }
     ensures running { log.new.stopped ≡ false }
     ensures begun { OnOk result (ThisRun.keeps ≡ true → BeginsByDriver lines (happened_in log.new)) }
     ensures passed { OnOk result (ArePassed ThisRun.rooms ThisRun.script lines
         (progress (armed_view log.old.armed) 0) (progress (armed_view log.new.armed) log.new.passed)) }
 {
     for _line in 0..lines {
-        let answer = seat.fault(alloc, log)?;
+        let answer = fault(alloc, log, made, count)?;
         if !was_passed(&answer) {
             // A line of round 0 is due from the beginning on.
             unreachable!();

@@ -1,7 +1,9 @@
 // A hub's lock, held for calls in a row.
 ghost use Rattle.std.specs.Prelude.{◌≡◌, false, true, is_some, length, IfErr, IfOk, OnErr};
 ghost use Rattle.std.specs.Sync.Mutex.{mutex_guard_value};
+ghost use Rattle.journal.specs.Histories.{seen};
 ghost use Rattle.protocol.specs.World.Common.{event_node, Install, released_of};
+ghost use Rattle.replay.specs.Armed.{OfWorld};
 ghost use Rattle.replay.specs.declared.kept.Maker.TheVariants as who;
 ghost use Rattle.run_log.specs.Answers.{IsToldEvent, IsToldFault, IsToldTurn};
 ghost use Rattle.run_log.specs.SeatCounts.{seat_numbers};
@@ -9,6 +11,7 @@ ghost use Rattle.station.specs.DoneView.{done_view};
 ghost use Rattle.station.specs.ReplyView.{reply_view};
 ghost use Rattle.station.specs.declared.event.Event.TheVariants as event;
 ghost use Rattle.runtime.specs.Marked.{HasLeftAsMuch, IsGrantAt, leaves_by, may_leave_by};
+ghost use Rattle.runtime.specs.Shown.{IsShownEvent, IsShownFault, IsShownTurn};
 ghost use Rattle.world.specs.WholeView.{world_of};
 
 use crate::bounds::RunBounds;
@@ -62,17 +65,25 @@ impl<'hub, C: SlotCell, O: Outlet, ThisRun: HubRun> Entered<'hub, C, O, ThisRun>
         // node, and a silence its own, in a world to which a history of this run leads.
         ensures told { IfOk result (λ answer. IsToldTurn ThisRun.rooms ThisRun.script ThisRun.opening seat.old.node answer
             (seat_numbers seat.old.count) (seat_numbers seat.new.count)) }
+        // And where a history is kept, the seat is shown that of this very run: what it was shown before, and behind it this answer.
+        ensures shown { ThisRun.keeps ≡ true → IfOk result
+            (λ answer. IsShownTurn seat.old.node answer (seen seat.old.reader) (seen seat.new.reader)) }
         ensures refused { OnErr result
             (seat_numbers seat.new.count ≡ seat_numbers seat.old.count) }
         // Where the answer doesn't say that an item may have left, none has.
         ensures left { may_leave_by result ≡ false → HasLeftAsMuch (world_of (mutex_guard_value self.new.locked).log.armed.world)
             (world_of (mutex_guard_value self.old.locked).log.armed.world) }
     {
-        let NodeSeat { node, made, count } = seat;
+        let NodeSeat {
+            node,
+            made,
+            count,
+            reader,
+        } = seat;
         if *made >= MAX_COUNT {
             return Err(HubFault::PastNumber);
         }
-        let answer = self.locked.turn(alloc, *node, count)?;
+        let answer = self.locked.turn(alloc, *node, count, reader)?;
         match &answer {
             TurnAnswer::Reply(reply) => {
                 *made += 1;
@@ -115,18 +126,25 @@ impl<'hub, C: SlotCell, O: Outlet, ThisRun: HubRun> Entered<'hub, C, O, ThisRun>
         ensures node { seat.new.node ≡ seat.old.node }
         ensures told { IfOk result (λ reply. IsToldEvent ThisRun.rooms ThisRun.script ThisRun.opening
             (who.Node seat.old.node) (reply_view reply) (seat_numbers seat.old.count) (seat_numbers seat.new.count)) }
+        ensures shown { ThisRun.keeps ≡ true → IfOk result (λ reply. IsShownEvent (who.Node seat.old.node)
+            (OfWorld (Install (done_view done))) (reply_view reply) (seen seat.old.reader) (seen seat.new.reader)) }
         ensures refused { OnErr result
             (seat_numbers seat.new.count ≡ seat_numbers seat.old.count) }
         ensures handed_back { IfErr result (λ held. held.event ≡ event.Install done) }
     {
-        let NodeSeat { node, made, count } = seat;
+        let NodeSeat {
+            node,
+            made,
+            count,
+            reader,
+        } = seat;
         if *made >= MAX_COUNT {
             return Err(HeldBack {
                 event: Event::Install(done),
                 fault: HubFault::PastNumber,
             });
         }
-        let reply = self.locked.install(alloc, *node, done, count)?;
+        let reply = self.locked.install(alloc, *node, done, count, reader)?;
         *made += 1;
         Ok(reply)
     }
@@ -141,6 +159,8 @@ impl<'hub, C: SlotCell, O: Outlet, ThisRun: HubRun> Entered<'hub, C, O, ThisRun>
         // history of this run leads.
         ensures told { IfOk result (λ answer. IsToldFault ThisRun.rooms ThisRun.script ThisRun.opening answer
             (seat_numbers seat.old.count) (seat_numbers seat.new.count)) }
+        ensures shown { ThisRun.keeps ≡ true
+            → IfOk result (λ answer. IsShownFault answer (seen seat.old.reader) (seen seat.new.reader)) }
         ensures refused { OnErr result
             (seat_numbers seat.new.count ≡ seat_numbers seat.old.count) }
     {

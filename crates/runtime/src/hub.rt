@@ -1,8 +1,9 @@
 // A world that threads share.
 ghost use Rattle.std.specs.Prelude.{◌≡◌, ◌+◌, ◌<◌, ◌≤◌, true, [], replicate, vec_len, IfErr, IfOk, OnErr, false};
 ghost use Rattle.std.specs.Vec.{vec_capacity};
+ghost use Rattle.journal.specs.Histories.{journal_id, seen, written};
 ghost use Rattle.protocol.specs.World.Common.{event_node, Install, WorldView};
-ghost use Rattle.replay.specs.Armed.{armed_at_first};
+ghost use Rattle.replay.specs.Armed.{OfWorld, armed_at_first};
 ghost use Rattle.replay.specs.Replay.{LeadsTo};
 ghost use Rattle.replay.specs.declared.kept.Maker.TheVariants as who;
 ghost use Rattle.run_log.specs.Answers.{IsToldEvent, IsToldFault, IsToldTurn};
@@ -16,7 +17,8 @@ ghost use Rattle.runtime.specs.Beginning.{first_lines, BeginsByDriver};
 ghost use Rattle.run_log.specs.Numbers.{added};
 ghost use Rattle.runtime.specs.Causes.{is_cause, is_caused, last_round};
 ghost use Rattle.runtime.specs.Ending.{HasBeenComplete, is_over};
-ghost use Rattle.runtime.specs.Seats.{AreOfNodes, numbers_of_seats};
+ghost use Rattle.runtime.specs.Seats.{AreOfNodes, AreShown, numbers_of_seats};
+ghost use Rattle.runtime.specs.Shown.{IsShownEvent, IsShownFault, IsShownTurn};
 ghost use Rattle.run_log.specs.SeatCounts.{seat_numbers};
 ghost use Rattle.station.specs.DoneView.{done_view};
 ghost use Rattle.station.specs.ReplyView.{reply_view};
@@ -27,7 +29,7 @@ ghost use Rattle.station.specs.declared.event.Event.TheVariants as event;
 use crate::cause::Cause;
 use crate::entered::Entered;
 use crate::hub_run::HubRun;
-use crate::locked::Locked;
+use crate::locked::{Locked, write};
 use crate::over::Over;
 use crate::refusal::Refusal;
 use crate::seat::{DriverSeat, NodeSeat, driver_seat, node_seat};
@@ -36,11 +38,12 @@ use crate::sleepers::{Sleepers, Woken};
 use crate::status::Status;
 use crate::until::Until;
 use crate::workers::Workers;
+use journal::Journal;
 use outlet::Outlet;
 use proc_step::Done;
 use replay::ScriptedEvent;
 use run_log::{
-    ArmedWorld, FaultAnswer, HeldBack, History, HubFault, Run, RunLog, TurnAnswer, UnusedLedgers,
+    ArmedWorld, FaultAnswer, HeldBack, History, HubFault, RunLog, TurnAnswer, UnusedLedgers,
     no_deliveries,
 };
 use slot_cell::SlotCell;
@@ -58,13 +61,13 @@ pub struct Hub<C: SlotCell, O: Outlet, ThisRun: HubRun> {
 
 /// What a hub asks memory for before it takes a world.
 #[derive(Drop)]
-pub(crate) struct HubParts<ThisRun: Run> {
+pub(crate) struct HubParts<ThisRun: HubRun> {
     pub deliveries: Vec<u64>,
     pub sleepers: Sleepers,
     pub seats: Vec<NodeSeat<ThisRun>>,
 }
 
-impl<ThisRun: Run> HubParts<ThisRun> {
+impl<ThisRun: HubRun> HubParts<ThisRun> {
     /// That of a hub over a world of so many stations, with as many seats as are said.
     pub(crate) fn new(
         alloc: Global,
@@ -85,13 +88,14 @@ impl<ThisRun: Run> HubParts<ThisRun> {
 
 /// The log of a run, with a seat for each of so many nodes, by number, and the driver's, over what it asks memory for: so a world
 /// isn't lost for want of memory.
-pub(crate) fn open_log<C: SlotCell, O: Outlet, ThisRun: Run>(
+pub(crate) fn open_log<C: SlotCell, O: Outlet, ThisRun: HubRun>(
     alloc: Global,
     world: World<C, O>,
     deliveries: Vec<u64>,
     script: Vec<ScriptedEvent>,
     nodes: u8,
     ledgers: UnusedLedgers,
+    journal: &mut Journal,
     seats: Vec<NodeSeat<ThisRun>>,
     keeps: bool,
 ) -> (
@@ -109,6 +113,9 @@ pub(crate) fn open_log<C: SlotCell, O: Outlet, ThisRun: Run>(
     requires none { seats.items ≡ [] }
     requires room { nodes ≤ vec_capacity seats }
     requires keeps { keeps ≡ ThisRun.keeps }
+    requires journal { journal_id journal.old ≡ ThisRun.journal }
+    ensures same_journal { journal_id journal.new ≡ journal_id journal.old }
+    ensures unwritten { written journal.new ≡ written journal.old }
     ensures none { happened_in result.0 ≡ [] }
     ensures first { armed_view result.0.armed ≡ armed_at_first ThisRun.opening }
     ensures unpassed { result.0.passed ≡ 0 }
@@ -120,10 +127,10 @@ pub(crate) fn open_log<C: SlotCell, O: Outlet, ThisRun: Run>(
     let armed = ArmedWorld::over(alloc, world, deliveries);
     let (totals, mut all) = ledgers.open::<ThisRun>();
     for node in 0..nodes {
-        seats.push_reserved(node_seat(node, all.split_off()));
+        seats.push_reserved(node_seat(node, all.split_off(), journal.reader()));
     }
     let log = RunLog::new(alloc, armed, script, totals, keeps);
-    (log, seats, driver_seat(all))
+    (log, seats, driver_seat(all, journal.reader()))
 }
 
 impl<C: SlotCell, O: Outlet, ThisRun: HubRun> Hub<C, O, ThisRun> {
@@ -136,6 +143,7 @@ impl<C: SlotCell, O: Outlet, ThisRun: HubRun> Hub<C, O, ThisRun> {
         nodes: u8,
         rounds: u64,
         ledgers: UnusedLedgers,
+        journal: Journal,
     ) -> Result<
         (
             Hub<C, O, ThisRun>,
@@ -153,6 +161,8 @@ impl<C: SlotCell, O: Outlet, ThisRun: HubRun> Hub<C, O, ThisRun> {
         requires keeps { ThisRun.keeps ≡ true }
         requires unbegun { ThisRun.begun ≡ false }
         requires rounds { rounds ≡ ThisRun.bounds.rounds }
+        requires journal { journal_id journal ≡ ThisRun.journal }
+        requires unwritten { written journal ≡ [] }
         ensures seats { IfOk result (λ hub. vec_len hub.1 ≡ nodes) }
         ensures numbered { IfOk result (λ hub. AreOfNodes nodes hub.1.items) }
     {
@@ -161,18 +171,30 @@ impl<C: SlotCell, O: Outlet, ThisRun: HubRun> Hub<C, O, ThisRun> {
             sleepers,
             seats,
         } = HubParts::new(alloc, world.nodes(), nodes)?;
+        let mut journal = journal;
         let (log, seats, driver) = open_log(
-            alloc, world, deliveries, script, nodes, ledgers, seats, true,
+            alloc,
+            world,
+            deliveries,
+            script,
+            nodes,
+            ledgers,
+            &mut journal,
+            seats,
+            true,
         );
-        Ok((Hub::over(log, sleepers, rounds), seats, driver))
+        Ok((Hub::over(log, journal, sleepers, rounds), seats, driver))
     }
 
     /// A hub over a log that goes on.
     pub(crate) fn over(
         log: RunLog<C, O, ThisRun>,
+        journal: Journal,
         sleepers: Sleepers,
         rounds: u64,
     ) -> Hub<C, O, ThisRun>
+        requires journal { journal_id journal ≡ ThisRun.journal }
+        requires unwritten { written journal ≡ [] }
         requires begun { ThisRun.begun ≡ true → ThisRun.keeps ≡ true
             → BeginsByDriver (first_lines ThisRun.script) (happened_in log) }
         requires running { log.stopped ≡ false }
@@ -180,9 +202,12 @@ impl<C: SlotCell, O: Outlet, ThisRun: HubRun> Hub<C, O, ThisRun> {
         requires in_rounds { (world_of log.armed.world).round
             ≤ last_round ThisRun.opening ThisRun.script ThisRun.bounds }
     {
+        let mut journal = journal;
+        write(&log, &mut journal);
         Hub {
             locked: Mutex::new(Locked {
                 log,
+                journal,
                 left: 0,
                 workers: Workers::new(),
                 until: Until::never(),
@@ -284,6 +309,9 @@ impl<C: SlotCell, O: Outlet, ThisRun: HubRun> Hub<C, O, ThisRun> {
         // node, and a silence its own, in a world to which a history of this run leads.
         ensures told { IfOk result (λ answer. IsToldTurn ThisRun.rooms ThisRun.script ThisRun.opening seat.old.node answer
             (seat_numbers seat.old.count) (seat_numbers seat.new.count)) }
+        // Where a history is kept, the seat is shown that of this very run: what it was shown before, and behind it this answer.
+        ensures shown { ThisRun.keeps ≡ true → IfOk result
+            (λ answer. IsShownTurn seat.old.node answer (seen seat.old.reader) (seen seat.new.reader)) }
         ensures refused { OnErr result
             (seat_numbers seat.new.count ≡ seat_numbers seat.old.count) }
     {
@@ -305,6 +333,8 @@ impl<C: SlotCell, O: Outlet, ThisRun: HubRun> Hub<C, O, ThisRun> {
         ensures node { seat.new.node ≡ seat.old.node }
         ensures told { IfOk result (λ reply. IsToldEvent ThisRun.rooms ThisRun.script ThisRun.opening
             (who.Node seat.old.node) (reply_view reply) (seat_numbers seat.old.count) (seat_numbers seat.new.count)) }
+        ensures shown { ThisRun.keeps ≡ true → IfOk result (λ reply. IsShownEvent (who.Node seat.old.node)
+            (OfWorld (Install (done_view done))) (reply_view reply) (seen seat.old.reader) (seen seat.new.reader)) }
         ensures refused { OnErr result
             (seat_numbers seat.new.count ≡ seat_numbers seat.old.count) }
         ensures handed_back { IfErr result (λ held. held.event ≡ event.Install done) }
@@ -326,6 +356,8 @@ impl<C: SlotCell, O: Outlet, ThisRun: HubRun> Hub<C, O, ThisRun> {
         // history of this run leads.
         ensures told { IfOk result (λ answer. IsToldFault ThisRun.rooms ThisRun.script ThisRun.opening answer
             (seat_numbers seat.old.count) (seat_numbers seat.new.count)) }
+        ensures shown { ThisRun.keeps ≡ true
+            → IfOk result (λ answer. IsShownFault answer (seen seat.old.reader) (seen seat.new.reader)) }
         ensures refused { OnErr result
             (seat_numbers seat.new.count ≡ seat_numbers seat.old.count) }
     {
@@ -406,10 +438,16 @@ impl<C: SlotCell, O: Outlet, ThisRun: HubRun> Hub<C, O, ThisRun> {
         ensures numbers { vec_len seats + 1 ≡ ThisRun.seats → ThisRun.keeps ≡ true
             → numbers_in result.1.lines.items result.1.stops
             ≡ added (numbers_of_seats seats.items) (seat_numbers driver.count) }
+        // What a seat was shown begins this history: so each answer that it got stands there.
+        ensures shown { ThisRun.keeps ≡ true → AreShown result.1.lines.items seats.items driver }
     {
         let Hub { locked, .. } = self;
-        let Locked { log, .. } = locked.into_inner();
-        let mut all = driver.with_all(seats);
+        let Locked {
+            log,
+            mut journal,
+            ..
+        } = locked.into_inner();
+        let mut all = driver.with_all(seats, &mut journal);
         log.close(&mut all)
     }
 

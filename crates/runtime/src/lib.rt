@@ -43,6 +43,7 @@ pub use entered::Entered;
 pub use hub::Hub;
 pub use hub_run::HubRun;
 pub use job_watch::{JobWatch, NoWatch};
+pub use journal::Journal;
 pub use over::Over;
 pub use playing::run_world;
 pub use run_handle::RunHandle;

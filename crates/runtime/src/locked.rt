@@ -1,6 +1,8 @@
 // What is under a hub's lock.
 ghost use Rattle.std.specs.Prelude.{◌≡◌, ◌<◌, ◌≤◌, false, true, Some, IfErr, IfOk, OnErr, OnOk};
+ghost use Rattle.journal.specs.Histories.{Begins, journal_id, journal_of, seen, written};
 ghost use Rattle.protocol.specs.World.Common.{are_quiet, event_node, Install};
+ghost use Rattle.replay.specs.Armed.{OfWorld};
 ghost use Rattle.replay.specs.declared.kept.Maker.TheVariants as who;
 ghost use Rattle.run_log.specs.Answers.{IsToldEvent, IsToldFault, IsToldTurn};
 ghost use Rattle.run_log.specs.RunLogs.{happened_in};
@@ -9,6 +11,7 @@ ghost use Rattle.runtime.specs.Beginning.{first_lines, BeginsByDriver};
 ghost use Rattle.runtime.specs.Causes.{is_cause, is_caused, last_round};
 ghost use Rattle.runtime.specs.Ending.{is_over};
 ghost use Rattle.runtime.specs.Marked.{HasLeftAsMuch, may_leave_by};
+ghost use Rattle.runtime.specs.Shown.{IsShownEvent, IsShownFault, IsShownTurn};
 ghost use Rattle.station.specs.DoneView.{done_view};
 ghost use Rattle.station.specs.ReplyView.{reply_view};
 ghost use Rattle.station.specs.declared.event.Event.TheVariants as event;
@@ -19,11 +22,12 @@ use crate::cause::Cause;
 use crate::ending::end_by;
 use crate::hub_run::HubRun;
 use crate::quiet::Quiet;
-use crate::seat::DriverSeat;
+use crate::seat::{DriverSeat, fault};
 use crate::seen::Seen;
 use crate::sleepers::Woken;
 use crate::until::Until;
 use crate::workers::Workers;
+use journal::{Journal, Reader};
 use outlet::Outlet;
 use proc_step::Done;
 use run_log::{FaultAnswer, HeldBack, HubFault, RunLog, SeatCount, TurnAnswer};
@@ -36,6 +40,8 @@ use world::Reply;
 #[derive(Drop)]
 pub(crate) struct Locked<C: SlotCell, O: Outlet, ThisRun: HubRun> {
     pub log: RunLog<C, O, ThisRun>,
+    // What is written of the history, for those to whom it is shown.
+    pub journal: Journal,
     pub left: u64,
     // Who takes the turns of the nodes whose seats are at their desks.
     pub workers: Workers,
@@ -52,8 +58,44 @@ pub(crate) struct Locked<C: SlotCell, O: Outlet, ThisRun: HubRun> {
     pub ghost caused: { log.stopped ≡ true → is_caused (is_over ThisRun.channels ThisRun.bounds) ThisRun.may_stop
         (world_of log.armed.world) cause ≡ true },
     pub ghost same_rounds: { rounds ≡ ThisRun.bounds.rounds },
+    pub ghost same_journal: { journal_id journal ≡ ThisRun.journal },
+    pub ghost written: { ThisRun.keeps ≡ true → ∥ written journal ≡ log.lines.items ∥₁ },
     pub ghost in_rounds: { (world_of log.armed.world).round
         ≤ last_round ThisRun.opening ThisRun.script ThisRun.bounds },
+}
+
+/// The history is written in its journal, where it is kept.
+pub(crate) fn write<C: SlotCell, O: Outlet, ThisRun: HubRun>(
+    log: &RunLog<C, O, ThisRun>,
+    journal: &mut Journal,
+)
+    requires grows { ThisRun.keeps ≡ true → Begins (written journal.old) log.now.lines.items }
+    ensures same { journal_id journal.new ≡ journal_id journal.old }
+    ensures written { ThisRun.keeps ≡ true → written journal.new ≡ log.now.lines.items }
+{
+    if let Some(lines) = log.kept() {
+        journal.write(lines);
+    }
+}
+
+// The same, and it is shown to a reader.
+fn show<C: SlotCell, O: Outlet, ThisRun: HubRun>(
+    log: &RunLog<C, O, ThisRun>,
+    journal: &mut Journal,
+    reader: &mut Reader,
+)
+    requires here { journal_id journal.old ≡ ThisRun.journal }
+    requires reads_here { journal_of reader.old ≡ ThisRun.journal }
+    requires grows { ThisRun.keeps ≡ true → Begins (written journal.old) log.now.lines.items }
+    ensures same { journal_id journal.new ≡ journal_id journal.old }
+    ensures written { ThisRun.keeps ≡ true → written journal.new ≡ log.now.lines.items }
+    ensures reads_here { journal_of reader.new ≡ ThisRun.journal }
+    ensures shown { ThisRun.keeps ≡ true → seen reader.new ≡ log.now.lines.items }
+    ensures began { ThisRun.keeps ≡ true → Begins (seen reader.old) (written journal.old) }
+{
+    if let Some(lines) = log.kept() {
+        journal.show(lines, reader);
+    }
 }
 
 impl<C: SlotCell, O: Outlet, ThisRun: HubRun> Locked<C, O, ThisRun> {
@@ -114,9 +156,14 @@ impl<C: SlotCell, O: Outlet, ThisRun: HubRun> Locked<C, O, ThisRun> {
         alloc: Global,
         node: u8,
         count: &mut SeatCount<ThisRun>,
+        reader: &mut Reader,
     ) -> Result<TurnAnswer, HubFault>
         requires part { 0 < seat_parts count.old }
+        requires here { journal_of reader.old ≡ ThisRun.journal }
         ensures parts { seat_parts count.new ≡ seat_parts count.old }
+        ensures here { journal_of reader.new ≡ ThisRun.journal }
+        ensures shown { ThisRun.keeps ≡ true
+            → IfOk result (λ answer. IsShownTurn node answer (seen reader.old) (seen reader.new)) }
         ensures told { IfOk result (λ answer. IsToldTurn ThisRun.rooms ThisRun.script ThisRun.opening node answer
             (seat_numbers count.old) (seat_numbers count.new)) }
         ensures refused { OnErr result (seat_numbers count.new ≡ seat_numbers count.old) }
@@ -125,7 +172,9 @@ impl<C: SlotCell, O: Outlet, ThisRun: HubRun> Locked<C, O, ThisRun> {
             (world_of self.old.log.armed.world) }
     {
         self.end_by_rounds();
-        self.log.turn(alloc, node, count)
+        let answer = self.log.turn(alloc, node, count);
+        show(&self.log, &mut self.journal, reader);
+        answer
     }
 
     /// What came of a job of this node comes back. A refusal hands it back.
@@ -135,16 +184,23 @@ impl<C: SlotCell, O: Outlet, ThisRun: HubRun> Locked<C, O, ThisRun> {
         node: u8,
         done: Done,
         count: &mut SeatCount<ThisRun>,
+        reader: &mut Reader,
     ) -> Result<Reply, HeldBack>
         requires part { 0 < seat_parts count.old }
         requires home { event_node (Install (done_view done)) ≡ node }
+        requires here { journal_of reader.old ≡ ThisRun.journal }
         ensures parts { seat_parts count.new ≡ seat_parts count.old }
+        ensures here { journal_of reader.new ≡ ThisRun.journal }
+        ensures shown { ThisRun.keeps ≡ true → IfOk result (λ reply. IsShownEvent (who.Node node)
+            (OfWorld (Install (done_view done))) (reply_view reply) (seen reader.old) (seen reader.new)) }
         ensures told { IfOk result (λ reply. IsToldEvent ThisRun.rooms ThisRun.script ThisRun.opening (who.Node node)
             (reply_view reply) (seat_numbers count.old) (seat_numbers count.new)) }
         ensures refused { OnErr result (seat_numbers count.new ≡ seat_numbers count.old) }
         ensures handed_back { IfErr result (λ held. held.event ≡ event.Install done) }
     {
-        self.log.install(alloc, node, done, count)
+        let reply = self.log.install(alloc, node, done, count);
+        show(&self.log, &mut self.journal, reader);
+        reply
     }
 
     /// The event of the script's next line, `NotYet`, `NoMore` or `Stopped`.
@@ -155,11 +211,20 @@ impl<C: SlotCell, O: Outlet, ThisRun: HubRun> Locked<C, O, ThisRun> {
     ) -> Result<FaultAnswer, HubFault>
         ensures told { IfOk result (λ answer. IsToldFault ThisRun.rooms ThisRun.script ThisRun.opening answer
             (seat_numbers seat.old.count) (seat_numbers seat.new.count)) }
+        ensures shown { ThisRun.keeps ≡ true
+            → IfOk result (λ answer. IsShownFault answer (seen seat.old.reader) (seen seat.new.reader)) }
         ensures refused { OnErr result
             (seat_numbers seat.new.count ≡ seat_numbers seat.old.count) }
     {
         self.end_by_rounds();
-        seat.fault(alloc, &mut self.log)
+        let DriverSeat {
+            made,
+            count,
+            reader,
+        } = seat;
+        let answer = fault(alloc, &mut self.log, made, count);
+        show(&self.log, &mut self.journal, reader);
+        answer
     }
 
     pub fn seen(&self) -> Seen {

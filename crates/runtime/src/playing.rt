@@ -1,5 +1,6 @@
 // A run by threads, from its world to its history.
-ghost use Rattle.std.specs.Prelude.{◌≡◌, ◌+◌, ◌≤◌, false, true, length};
+ghost use Rattle.std.specs.Prelude.{◌≡◌, ◌+◌, ◌≤◌, [], false, true, length};
+ghost use Rattle.journal.specs.Histories.{journal_id, written};
 ghost use Rattle.marks.specs.Seats.{table_of};
 ghost use Rattle.protocol.specs.Node.Common.{MAX_CHANNELS, network_of};
 ghost use Rattle.replay.specs.Replay.{LeadsTo};
@@ -22,12 +23,13 @@ use crate::run_watch::RunWatch;
 use crate::seat::{DriverSeat, NodeSeat};
 use crate::threads::{DriverSeats, NodeSeats, SharedRun, unled};
 use crate::watching::run_watched;
+use journal::Journal;
 use kahn_net::Channel;
 use marks::{MarksName, Opened, Seat};
 use net_check::Net;
 use outlet::Outlet;
 use replay::ScriptedEvent;
-use run_log::{HubFault, Run, RunLedgers, RunLog, UnusedLedgers};
+use run_log::{HubFault, RunLog, UnusedLedgers};
 use slot_cell::SlotCell;
 use std::alloc::{AllocError, Global};
 use std::marker::Brand;
@@ -36,7 +38,7 @@ use std::thread::Threads;
 use world::World;
 
 // The seats of each node, side by side.
-fn list_seats<ThisRun: RunLedgers, ItsMarks: MarksName>(
+fn list_seats<ThisRun: HubRun, ItsMarks: MarksName>(
     alloc: Global,
     seats: Vec<NodeSeat<ThisRun>>,
     marks_seats: Vec<Seat<ItsMarks>>,
@@ -49,7 +51,7 @@ fn list_seats<ThisRun: RunLedgers, ItsMarks: MarksName>(
 }
 
 // A run of which a line of round 0 was refused.
-fn refused_at_once<C: SlotCell, O: Outlet, ThisRun: Run>(
+fn refused_at_once<C: SlotCell, O: Outlet, ThisRun: HubRun>(
     log: RunLog<C, O, ThisRun>,
     driver: DriverSeat<ThisRun>,
     fault: HubFault,
@@ -112,6 +114,7 @@ fn play<
     world: World<C, O>,
     script: Vec<ScriptedEvent>,
     ledgers: UnusedLedgers,
+    journal: Journal,
     opened: Opened,
     watch: &W,
     nodes: u8,
@@ -130,6 +133,8 @@ fn play<
     requires keeps { keeps ≡ ThisRun.keeps }
     requires watch { ThisRun.may_stop ≡ W.may_stop }
     requires begun { ThisRun.begun ≡ true }
+    requires journal { journal_id journal ≡ ThisRun.journal }
+    requires unwritten { written journal ≡ [] }
     ensures run { HasRun ThisRun.rooms ThisRun.script ThisRun.opening (world_of result.world) }
     ensures leads { ThisRun.keeps ≡ true → LeadsTo ThisRun.rooms ThisRun.script ThisRun.opening
         (happenings result.history.lines.items) (world_of result.world) }
@@ -155,14 +160,24 @@ fn play<
         seats,
     } = parts;
     let lines = first_lines(&script);
+    let mut journal = journal;
     let (mut log, seats, mut driver) = open_log::<C, O, ThisRun>(
-        alloc, world, deliveries, script, nodes, ledgers, seats, keeps,
+        alloc,
+        world,
+        deliveries,
+        script,
+        nodes,
+        ledgers,
+        &mut journal,
+        seats,
+        keeps,
     );
-    let begun = begin(alloc, &mut log, &mut driver, lines);
+    let DriverSeat { made, count, .. } = &mut driver;
+    let begun = begin(alloc, &mut log, made, count, lines);
     if let Err(fault) = begun {
         return refused_at_once(log, driver, fault);
     }
-    let hub = Hub::over(log, sleepers, bounds.rounds);
+    let hub = Hub::over(log, journal, sleepers, bounds.rounds);
     let run = RunBounds::<ThisRun>::new(channels, bounds);
     let shared = SharedRun { hub, marks };
     let driver_seats = DriverSeats {
@@ -227,6 +242,9 @@ pub fn run_world<
     let Ok(opened) = Opened::new(alloc, &net) else {
         return Ended::unbegun(alloc, world, HubFault::NoMemory);
     };
+    let Ok(journal) = Journal::new(alloc) else {
+        return Ended::unbegun(alloc, world, HubFault::NoMemory);
+    };
     // (A network has at most 16 nodes.)
     let nodes = world.nodes() as u8;
     let ledgers = UnusedLedgers::new(u64::from(nodes) + 1);
@@ -240,6 +258,7 @@ pub fn run_world<
         world,
         script,
         ledgers,
+        journal,
         opened,
         watch,
         nodes,

@@ -14,7 +14,7 @@ use crate::seat::{DriverSeat, NodeSeat};
 use crate::working::work;
 use marks::{Marks, MarksName, Seat};
 use outlet::Outlet;
-use run_log::{HubFault, RunLedgers};
+use run_log::HubFault;
 use slot_cell::SlotCell;
 use std::alloc::Global;
 use std::sync::Wait;
@@ -23,12 +23,12 @@ use std::thread::{JoinHandle, Scope, Threads};
 
 /// A node's seat at the hub, and its seat at the marks.
 #[derive(Drop)]
-pub struct NodeSeats<ThisRun: RunLedgers, ItsMarks: MarksName> {
+pub struct NodeSeats<ThisRun: HubRun, ItsMarks: MarksName> {
     pub seat: NodeSeat<ThisRun>,
     pub marks: Seat<ItsMarks>,
 }
 
-impl<ThisRun: RunLedgers, ItsMarks: MarksName> NodeSeats<ThisRun, ItsMarks> {
+impl<ThisRun: HubRun, ItsMarks: MarksName> NodeSeats<ThisRun, ItsMarks> {
     /// The seat at the hub alone.
     pub(crate) fn into_seat(self) -> NodeSeat<ThisRun> {
         let NodeSeats { seat, .. } = self;
@@ -38,7 +38,7 @@ impl<ThisRun: RunLedgers, ItsMarks: MarksName> NodeSeats<ThisRun, ItsMarks> {
 
 /// The driver's.
 #[derive(Drop)]
-pub struct DriverSeats<ThisRun: RunLedgers, ItsMarks: MarksName> {
+pub struct DriverSeats<ThisRun: HubRun, ItsMarks: MarksName> {
     pub seat: DriverSeat<ThisRun>,
     pub marks: Seat<ItsMarks>,
 }

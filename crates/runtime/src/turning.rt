@@ -24,7 +24,6 @@ ghost use Rattle.protocol.specs.declared.reply.Reply.TheVariants.{Granted};
 use crate::bounds::Bounds;
 use crate::driving::{begin, first_lines};
 use crate::ending::{Ended, RunEnd, end_by};
-use crate::seat::{DriverSeat, driver_seat};
 use crate::turn_watch::TurnWatch;
 use kahn_net::{Channel, MAX_NODES};
 use outlet::Outlet;
@@ -295,9 +294,9 @@ fn play_by_turns<C: SlotCell, O: Outlet, ThisRun: Run, W: TurnWatch>(
     let armed = ArmedWorld::over(alloc, world, deliveries);
     let (totals, all) = ledgers.open::<ThisRun>();
     let mut log = RunLog::new(alloc, armed, script, totals, keeps);
-    let mut driver = driver_seat(all);
-    let begun = begin(alloc, &mut log, &mut driver, lines);
-    let DriverSeat { mut count, .. } = driver;
+    let mut count = all;
+    let mut made = 0;
+    let begun = begin(alloc, &mut log, &mut made, &mut count, lines);
     if let Err(fault) = begun {
         watch.over();
         let (world, history) = log.close(&mut count);

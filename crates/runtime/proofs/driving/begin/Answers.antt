@@ -1,4 +1,4 @@
-use Rattle.std.proofs.Common.{rules, ◌≡◌, ◌<◌, ◌∙◌, ◌+◌, ℕ, true, sym, ap, subst, arith}
+use Rattle.std.proofs.Common.{rules, ◌≡◌, ◌<◌, ◌∙◌, ◌+◌, ℕ, true, refl, sym, ap, subst, arith}
 use Rattle.run_log.specs.ArmedWorlds.{armed_view}
 use Rattle.run_log.specs.Turns.{passed_then}
 use Rattle.run_log.specs.declared.answer.FaultAnswer.{FaultAnswer}
@@ -10,6 +10,8 @@ use Rattle.runtime.proofs.driving.begin.Goals as goal
 
 pub loop-line-init : goal.loop-line-init
 loop-line-init g c = record {
+  parts = refl;
+  counts = c.requires.counts;
   running = c.requires.running;
   at = c.requires.unpassed;
   passed = ap (progress (armed_view c.args.log.now.armed)) c.requires.unpassed;
@@ -25,6 +27,8 @@ loop-line-preserved g c =
     let now : c.fault.new.log.passed ≡ passed_then c.in_ok-answer.answer c.loop-line.log.passed = c.in_ok-answer.ensures.answered.passed in
     let few : line < first_lines g.ThisRun.Run.script = omega (arith, c.requires.lines, c.loop-line-test.true) in
     record {
+      parts = c.fault.ensures.parts ∙ loop.parts;
+      counts = c.fault.ensures.counts;
       running = c.in_ok-answer.ensures.answered.running ∙ loop.running;
       at = now ∙ (ap (λ (a : FaultAnswer). passed_then a c.loop-line.log.passed) reply.1 ∙ ap (λ (n : ℕ). n + 1) loop.at);
       passed = one_passed g.ThisRun.Run.rooms g.ThisRun.Run.script line c.loop-line.log.passed c.fault.new.log.passed

@@ -10,12 +10,14 @@ pub loop-node-preserved : goal.loop-node-preserved
 loop-node-preserved g c =
     let loop = c.loop-node.invariant in
     let seat = c.node_seat.result in
-    let number = λ (s : NodeSeat _). s.node in
+    let number = λ (s : NodeSeat _ _ _). s.node in
     record {
       parts = search rules;
       numbers = search rules;
       room = search rules;
       count = search rules;
+      same_journal = search rules;
+      unwritten = search rules;
       numbered = ap (map number) c.push_reserved.ensures.items
           ∙ (map-append number c.loop-node.seats.items (seat ∷ [])
           ∙ (ap (λ (front : List ℕ). front ++ number seat ∷ []) loop.numbered

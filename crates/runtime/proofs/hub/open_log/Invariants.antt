@@ -1,4 +1,5 @@
 use Rattle.std.proofs.Common.{◌≡◌, ◌+◌, ◌≤◌, vec_len}
+use Rattle.journal.specs.Histories.{journal_id, written}
 use Rattle.std.specs.Vec.{vec_capacity}
 use Rattle.run_log.specs.Numbers.{no_numbers}
 use Rattle.runtime.specs.Seats.{AreOfNodes}
@@ -12,4 +13,6 @@ invariant-loop-node g l = record {
   room : l.nodes ≤ vec_capacity l.seats;
   count : vec_len l.seats ≡ l.node;
   numbered : AreOfNodes l.node l.seats.items;
+  same_journal : journal_id l.journal ≡ journal_id l.fn.journal;
+  unwritten : written l.journal ≡ written l.fn.journal;
 }

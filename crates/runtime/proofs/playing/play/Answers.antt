@@ -52,6 +52,8 @@ over-hub-requires g c =
     let passed = unrefused (ArePassed rooms script lines first begun) c.begin-begun.result c.in_default-begun.not-Err
     c.begin-begun.ensures.passed in
     record {
+      journal = search rules;
+      unwritten = search rules;
       begun = λ told keeps.
           subst (λ (n : ℕ). BeginsByDriver n (happened_in log)) are
           (unrefused (g.ThisRun.Run.keeps ≡ true → BeginsByDriver lines (happened_in log)) c.begin-begun.result c.in_default-begun.not-Err

@@ -18,6 +18,12 @@ returns-in_default-new-clause-leads g c = λ kept. leads_nowhere _ _ _ _ _ c.unb
 pub returns-in_default-new-clause-run : goal.returns-in_default-new-clause-run
 returns-in_default-new-clause-run g c = runs_nowhere _ _ _ _ (rw c.unbegun-in_default-new.ensures.same refl)
 
+pub returns-in_default-new-2-clause-leads : goal.returns-in_default-new-2-clause-leads
+returns-in_default-new-2-clause-leads g c = λ kept. leads_nowhere _ _ _ _ _ c.unbegun-in_default-new-2.ensures.none (rw c.unbegun-in_default-new-2.ensures.same refl)
+
+pub returns-in_default-new-2-clause-run : goal.returns-in_default-new-2-clause-run
+returns-in_default-new-2-clause-run g c = runs_nowhere _ _ _ _ (rw c.unbegun-in_default-new-2.ensures.same refl)
+
 -- the share that was taken is of the world's own network
 pub returns-clause-over : goal.returns-clause-over
 returns-clause-over g c =

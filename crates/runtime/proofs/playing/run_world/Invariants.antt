@@ -1,4 +1,5 @@
 use Rattle.std.proofs.Common.{◌+◌, true}
+use Rattle.journal.specs.Histories.{journal_id}
 use Rattle.marks.specs.Seats.{table_of}
 use Rattle.run_log.specs.LedgerNames.{names_of}
 use Rattle.world.specs.WholeView.{world_of}
@@ -25,4 +26,5 @@ ghosts-play-ThisRun-HubRun g a = record {
   bounds = a.bounds;
   may_stop = g.W.RunWatch.may_stop;
   begun = true;
+  journal = journal_id a.journal;
 }

@@ -9,11 +9,10 @@ use Rattle.marks.proofs.marks.Marks.TheSendSync.{the_field_sync as marks_z}
 use Rattle.replay.proofs.kept.ScriptedEvent.TheSendSync.{the_send as script_s}
 use Rattle.run_log.proofs.armed_crashes.ArmedCrashes.TheSendSync.{the_send as crashes_s}
 use Rattle.run_log.proofs.seat_count.RunCount.TheSendSync.{the_field_send as totals_t}
-use Rattle.runtime.proofs.threads.NodeSeats.TheSendSync.{the_field_send as seats_t, the_send as seats_s}
 use Rattle.runtime.proofs.cause.Cause.TheSendSync.{the_send as cause_s, the_field_send as cause_t}
 use Rattle.runtime.proofs.workers.Workers.TheSendSync.{the_field_send as workers_t}
 use Rattle.runtime.proofs.seen.Seen.TheSendSync.{the_send as seen_s}
-use Rattle.runtime.proofs.Sends.{job_send, job_sync, line_send, long_send, net_send, net_sync, state_field_send}
+use Rattle.runtime.proofs.Sends.{desk_send, job_send, job_sync, journal_field_send, line_send, long_send, net_send, net_sync, state_field_send}
 use Rattle.runtime.proofs.threads.start.Goals as goal
 
 -- what a worker takes with it may cross threads
@@ -27,4 +26,4 @@ spawn-requires-send-F g c κs within =
     let e = c.type_bounds.sync-ItsMarks in
     let h = c.type_bounds.sync-W in
     let r = c.type_bounds.sync-R in
-    search (sendable, crosses, workers_t, seen_s, cause_s, cause_t, state_field_send, job_send, job_sync, net_send, net_sync, store_t, wire_s, output_t, turns_t, inputs_s, inputs_y, marks_z, crashes_s, line_send, long_send, script_s, totals_t, seats_t, seats_s) depth 200 fits 12000000
+    search (sendable, crosses, workers_t, seen_s, cause_s, cause_t, state_field_send, job_send, job_sync, net_send, net_sync, store_t, wire_s, output_t, turns_t, inputs_s, inputs_y, marks_z, crashes_s, line_send, long_send, journal_field_send, script_s, totals_t, desk_send) depth 200 fits 12000000
