@@ -10,7 +10,8 @@ use Rattle.run_log.specs.declared.answer.FaultAnswer.{FaultAnswer}
 use Rattle.run_log.specs.declared.answer.TurnAnswer.{TurnAnswer}
 use Rattle.run_log.specs.declared.history.Line.{Line}
 
--- A node's turn is answered so, and its seat is shown the history: that begins with what it was shown before, and ends with this answer.
+-- A node's turn is answered so, and its seat is shown the history as it is then. That begins with what the seat was shown before. A reply
+-- stands last in it, and a silence is counted there; `Stopped` isn't written.
 pub record IsShownTurn (node : ℕ) (answer : TurnAnswer) (old new : List Line) : Type 0 where
   pub before : List Line
   pub begins : Begins old before
@@ -22,7 +23,7 @@ pub record IsShownEvent (maker : Maker) (event : ArmedEvent) (reply : ReplyView)
   pub begins : Begins old before
   pub written : IsAdded true maker event reply before new
 
--- The driver's turn is answered so, and its seat is shown the history, which ends with this answer.
+-- The driver's turn is answered so, and its seat is shown the history as it is then, in which the answer stands as a node's does.
 pub record IsShownFault (answer : FaultAnswer) (old new : List Line) : Type 0 where
   pub before : List Line
   pub begins : Begins old before
