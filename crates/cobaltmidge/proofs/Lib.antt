@@ -1,5 +1,6 @@
 pub mod Turns
 mod Remaining
+mod LeftKept
 pub mod Streams
 pub mod Named
 mod Filed

@@ -1,5 +1,5 @@
 -- What a run came to of which what left is kept.
-use Rattle.std.specs.Prelude.{◌≡◌, ℤ, List, length}
+use Rattle.std.specs.Prelude.{◌≡◌, ℤ, Bool, List, length}
 use Rattle.protocol.specs.Node.Common.{Network}
 use Rattle.protocol.specs.World.Common.{WorldView, are_quiet}
 use Rattle.replay.specs.declared.kept.ScriptedEvent.{ScriptedEvent}
@@ -10,6 +10,8 @@ use Rattle.cobaltmidge.specs.Released.{AreReleased, lists_of}
 use Rattle.cobaltmidge.specs.Runs.{IsEnd, IsRun, bounds_of, released_streams}
 use Rattle.cobaltmidge.specs.declared.kept_run.KeptRun.{KeptRun}
 use Rattle.cobaltmidge.specs.declared.settings.Settings.{Settings}
+use Rattle.cobaltmidge.specs.declared.state_error.StateFault.{StateFault}
+use Rattle.cobaltmidge.specs.declared.state_error.StateFault.TheVariants.{Unread, NotText, Refused, Files, Kept}
 
 -- The world at the run's end, of which all is told. What has left are prefixes of the outputs' histories in one approximation, and where the
 -- run is complete whole, in the least solution. It is kept, as `kept` says.
@@ -23,3 +25,18 @@ pub record IsKeptRun (settings : Settings) (net : Network) (inputs : List (List 
   pub complete : run.complete ≡ are_quiet now
   pub released : AreReleased (length net.channels) now (lists_of run.lists.items)
   pub has_kept : kept (released_streams net now.stations)
+
+-- What had left of a run that came to no end: prefixes of the outputs' histories in one approximation. It is kept, as `kept` says.
+pub record IsKeptSoFar (net : Network) (inputs : List (List ℤ)) (kept : List (List ℤ) → Type 0) : Type 0 where
+  pub streams : List (List ℤ)
+  pub complete : Bool
+  pub is_run : IsRun net inputs streams complete
+  pub has_kept : kept streams
+
+-- Where it was the run that was refused, what had left of it is kept.
+abbrev pub IsKeptWhereRefused : Network → List (List ℤ) → (List (List ℤ) → Type 0) → StateFault → Type 0
+IsKeptWhereRefused net inputs kept (Unread fault) = Unit {0}
+IsKeptWhereRefused net inputs kept NotText = Unit {0}
+IsKeptWhereRefused net inputs kept (Refused error) = ∥ IsKeptSoFar net inputs kept ∥₁
+IsKeptWhereRefused net inputs kept (Files fault) = Unit {0}
+IsKeptWhereRefused net inputs kept (Kept fault) = Unit {0}

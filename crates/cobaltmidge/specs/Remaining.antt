@@ -1,12 +1,13 @@
 -- What is left of a run that came to no end.
 use Rattle.std.specs.Prelude.{◌≡◌, ℤ, List}
-use Rattle.protocol.specs.Node.Common.{Network}
+use Rattle.protocol.specs.Node.Common.{Network, network_of}
 use Rattle.protocol.specs.World.Common.{are_quiet}
 use Rattle.outlet.specs.declared.outlet.Outlet.{Ghosts as OutletWords}
 use Rattle.replay.specs.declared.kept.ScriptedEvent.{ScriptedEvent}
 use Rattle.runtime.specs.Logs.{happenings}
 use Rattle.station.specs.declared.output.Output.{Output}
-use Rattle.world.specs.WholeView.{world_of}
+use Rattle.world.specs.WholeView.{net_in, world_of}
+use Rattle.cobaltmidge.specs.KeptOutlets.{taken_streams}
 use Rattle.cobaltmidge.specs.Runs.{HasCome, IsRun, released_streams}
 use Rattle.cobaltmidge.specs.declared.settings.Settings.{Settings}
 use Rattle.cobaltmidge.specs.declared.unfinished.Left.{Left}
@@ -30,3 +31,8 @@ module _ {O : Type 0} {outlet : OutletWords O} where
   abbrev pub IsLeft : Settings → Network → List (List ℤ) → List ScriptedEvent → List (Output O) → Left O outlet → Type 0
   IsLeft settings net inputs script outputs (left.Outputs back) = back.items ≡ outputs
   IsLeft settings net inputs script outputs (left.World world history) = IsFar settings net inputs script (left.World world history)
+
+  -- what has left of it, which is what its outlets took
+  abbrev pub streams_left : Left O outlet → List (List ℤ)
+  streams_left (left.Outputs back) = taken_streams outlet.taken back.items
+  streams_left (left.World world history) = released_streams (network_of (net_in world).value.program) (world_of world).stations

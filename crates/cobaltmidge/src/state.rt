@@ -13,9 +13,10 @@ ghost use Rattle.cobaltmidge.specs.declared.state_error.StateFault.TheVariants.{
 ghost use Rattle.cobaltmidge.specs.Accepting.{IsAccepted};
 ghost use Rattle.cobaltmidge.specs.FileNames.{file_names};
 ghost use Rattle.cobaltmidge.specs.KeptOutlets.{AreInFiles, IsPutFault, IsRunStop};
-ghost use Rattle.cobaltmidge.specs.KeptRuns.{IsKeptRun};
+ghost use Rattle.cobaltmidge.specs.KeptRuns.{IsKeptRun, IsKeptWhereRefused};
 ghost use Rattle.cobaltmidge.specs.KeptStreams.{AreKept, AreKeptIn, IsStateCause};
 ghost use Rattle.cobaltmidge.specs.Names.{script_of};
+ghost use Rattle.cobaltmidge.specs.Remaining.{streams_left};
 ghost use Rattle.cobaltmidge.specs.Runs.{released_streams};
 ghost use Rattle.cobaltmidge.specs.Texts.{AreInputsOf, IsNetOf};
 
@@ -30,6 +31,7 @@ use crate::reason::reason_of;
 use crate::run::Run;
 use crate::state_error::{StateError, StateFault};
 use crate::texts::{Accepted, Texts};
+use crate::unfinished::{Left, Unfinished};
 use host::{Host, LineFile};
 use outlet::Outlet;
 use output_file::ResumedOutlet;
@@ -62,6 +64,23 @@ fn close_world<F: LineFile>(
     put_each(alloc, folder, outputs, outlets)
 }
 
+// What had left of a run that came to no end is put to its files, which are added to `outlets`.
+fn put_left<F: LineFile>(
+    alloc: Global,
+    folder: &String,
+    left: Left<ResumedOutlet<F>>,
+    outlets: &mut Vec<ResumedOutlet<F>>,
+) -> Result<(), NotKept>
+    requires { outlets.old.items ≡ [] }
+    ensures kept { OnOk result (AreInFiles outlets.new.items (streams_left left)) }
+    ensures cause { IfErr result (λ refused. IsPutFault outlets.new.items refused.fault) }
+{
+    match left {
+        Left::Outputs(outputs) => put_each(alloc, folder, outputs, outlets),
+        Left::World(world, _) => close_world(alloc, folder, world, outlets),
+    }
+}
+
 // A run that comes to no end, as what a run with a folder is refused for.
 fn run_refused(fault: RunFault) -> StateError
     ensures { result.fault ≡ RefusedBy (run_error fault) }
@@ -72,7 +91,8 @@ fn run_refused(fault: RunFault) -> StateError
     }
 }
 
-// Runs it so that the items leave into these files, one for each output, which are added to `outlets`.
+// Runs it so that the items leave into these files, one for each output, which are added to `outlets`. Where the run is refused, what had left
+// by then is put there all the same.
 fn run_over<'a, F: LineFile + Send, R: Threads + Wait + Sync>(
     run: Run<'a>,
     rt: &R,
@@ -86,6 +106,8 @@ fn run_over<'a, F: LineFile + Send, R: Threads + Wait + Sync>(
         run.entry.inputs (script_of run.entry.script) (AreInFiles outlets.new.items) kept ∥₁) }
     ensures network { IfOk result (λ kept. kept.network ≡ run.entry.network) }
     ensures cause { IfErr result (λ error. IsRunStop true outlets.new.items error.fault) }
+    ensures left { IfErr result (λ error. IsKeptWhereRefused (network_of run.entry.network.now.net.value.program)
+        run.entry.inputs (AreInFiles outlets.new.items) error.fault) }
 {
     let outputs = match outlets_over(alloc, &run.network.net, files) {
         Ok(outputs) => outputs,
@@ -98,7 +120,11 @@ fn run_over<'a, F: LineFile + Send, R: Threads + Wait + Sync>(
     };
     let finished = match run.run_into(rt, alloc, outputs) {
         Ok(finished) => finished,
-        Err(unfinished) => return Err(run_refused(unfinished.fault)),
+        Err(unfinished) => {
+            let Unfinished { fault, left } = unfinished;
+            put_left(alloc, folder, left, outlets)?;
+            return Err(run_refused(fault));
+        }
     };
     let complete = finished.complete();
     let Finished {
@@ -140,6 +166,9 @@ fn run_locked<'a, H: Host, R: Threads + Wait + Sync>(
         (AreKeptIn names.now.sync (string_bytes folder.now) (opened_names opened.now) (H.asked host.new)) kept ∥₁) }
     ensures network { IfOk result (λ kept. kept.network ≡ run.entry.network) }
     ensures cause { IfErr result (λ error. IsStateCause true (wanted_of names.now) (H.asked host.new) error.fault) }
+    ensures left { IfErr result (λ error. IsKeptWhereRefused (network_of run.entry.network.now.net.value.program)
+        run.entry.inputs (AreKeptIn names.now.sync (string_bytes folder.now) (opened_names opened.now) (H.asked host.new))
+        error.fault) }
 {
     let mut outlets = Vec::new(alloc);
     let kept = run_over(run, rt, alloc, folder, files, &mut outlets);
@@ -189,6 +218,11 @@ impl<'a> Run<'a> {
         // Why it comes to no end stands in the log, or is a fault of the run.
         ensures cause { IfErr result (λ error. IsStateCause true (wanted_of names.now) (H.asked host.new)
             error.fault) }
+        // Where the run itself is refused, what had left by then is kept too.
+        ensures left { IfErr result (λ error. IsKeptWhereRefused (network_of self.entry.network.now.net.value.program)
+            self.entry.inputs (AreKept names.now.sync (Some (string_bytes folder.now))
+            (file_names self.entry.network.now.net.value.program.channels.items self.entry.network.now.net.value.channel_names.items)
+            (H.asked host.new)) error.fault) }
     {
         let outputs = file_names(alloc, &self.network.net)?;
         let folder_texts = FolderTexts {

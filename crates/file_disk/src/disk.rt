@@ -1,11 +1,13 @@
 //! A disk in a file.
-ghost use Rattle.std.specs.Prelude.{◌≡◌, ◌⊎◌, ◌*◌, ◌/◌, ◌%◌, ◌<◌, ◌≤◌, ◌++◌, ◌↔◌, [], ◌∷◌, ℕ, Bool, List, false, true, length, take, drop, IsSome, IfOk, OnOk, OnErr, IsErrOf};
+ghost use Rattle.std.specs.Prelude.{◌≡◌, ◌⊎◌, ◌*◌, ◌/◌, ◌%◌, ◌<◌, ◌≤◌, ◌++◌, ◌↔◌, [], ◌∷◌, ℕ, Bool, List, false, true, length, take, drop, IsSome, IfOk, OnOk, OnErr, IsErrOf, IsTrue};
 ghost use Rattle.std.proofs.Common.{inl};
 ghost use Rattle.sector_disk.specs.declared.TheConstants.{GREATEST_COUNT, SECTOR_BYTES};
 ghost use Rattle.sector_disk.specs.Clock.{Only, TimePasses};
 ghost use Rattle.sector_disk.specs.Disk.{IsInRange, SameOutside, IsOverwritten, OneStepFrom, IsQuiet, IsCounted, SameCounts, SameSetup};
+ghost use Rattle.sector_disk.specs.FaultSchedule.{state_of};
 ghost use Rattle.sector_disk.specs.Images.{may_lose_nothing};
 ghost use Rattle.sector_disk.specs.Past.{now_alone};
+ghost use Rattle.sector_disk.specs.Schedule.{after_failing};
 ghost use Rattle.file_disk.specs.History.{HasRefused, HasSynced, HoldsOnly, MayHold, Put};
 ghost use Rattle.file_disk.specs.InStep.{GoesWith};
 
@@ -113,9 +115,20 @@ impl<F: SectorFile> FileDisk<F> {
     }
 }
 
+// Whether a call failed that the file was to do. It didn't where the file did it, and it can't be told where failures are counted out.
+fn has_failed(schedule: &mut FaultSchedule, done: bool) -> bool
+    ensures refused { IsTrue result → done ≡ false }
+    ensures counted { IsTrue result → state_of schedule.new ≡ after_failing (state_of schedule.old) }
+    ensures below { IsTrue result → schedule.old.failures < GREATEST_COUNT }
+    ensures same { result ≡ false → schedule.new ≡ schedule.old }
+    ensures counted_out { result ≡ false → done ≡ false → GREATEST_COUNT ≤ schedule.old.failures }
+{
+    !done && schedule.fail()
+}
+
 impl<F: SectorFile> Disk for FileDisk<F> {
     ghost use Rattle.sector_disk.specs.Doubt.{NoneInDoubt, marked};
-    ghost use Rattle.sector_disk.specs.Schedule.{after_arming, after_call, after_crash, after_failing, after_recount, fault_met};
+    ghost use Rattle.sector_disk.specs.Schedule.{after_arming, after_call, after_crash, after_recount, fault_met};
     ghost use Rattle.sector_disk.specs.SectorsLeft.{left_of};
     ghost use Rattle.file_disk.specs.FileDisk.{IsFileUntouched, KeepsUp, armed_of, calls_of, content_of, doubt_of, failed_call_of, failures_of, faults_of, history_of, left_since_of, lost_of, may_leave_of, moment_of, past_of, sectors_of, settles_to_of};
 
@@ -272,7 +285,7 @@ impl<F: SectorFile> Disk for FileDisk<F> {
         self.sectors.write(first, bytes);
         let at = SECTOR_BYTES * first;
         let done = self.backing.put(&self.sectors, at, bytes.len());
-        if !done && self.schedule.fail() {
+        if has_failed(&mut self.schedule, done) {
             return Err(DiskFault::Device);
         }
         Ok(())
@@ -327,7 +340,7 @@ impl<F: SectorFile> Disk for FileDisk<F> {
             return Err(DiskFault::Device);
         }
         let settled = self.backing.settle(&self.sectors);
-        if !settled && self.schedule.fail() {
+        if has_failed(&mut self.schedule, settled) {
             return Err(DiskFault::Device);
         }
         self.backing.lose_unless(settled);

@@ -238,10 +238,12 @@ impl StdHost {
         }
     }
 
-    fn note(&mut self, noted: &Noted)
-        ensures { requests_of self.new ≡ request_of noted.now ∷ requests_of self.old }
+    // It is handed over, and let go of here: so no call has in its own proof how a `Noted` is dropped.
+    fn note(&mut self, noted: Noted)
+        ensures { requests_of self.new ≡ request_of noted ∷ requests_of self.old }
     {
-        self.asked.note(noted);
+        self.asked.note(&noted);
+        drop(noted);
     }
 }
 
@@ -261,83 +263,83 @@ impl Host for StdHost {
     fn read(&mut self, path: &String) -> Result<Vec<u8>, HostFault> {
         let rt = self.rt;
         let answer = self.kept(fs::read(&rt, path.as_str()));
-        self.note(&Noted::Read(Snapshot::of(path), Snapshot::of(&answer)));
+        self.note(Noted::Read(Snapshot::of(path), Snapshot::of(&answer)));
         answer
     }
 
     fn look(&mut self, path: &String) -> Result<Standing, HostFault> {
         let rt = self.rt;
         let answer = self.kept(standing(&rt, path.as_str()));
-        self.note(&Noted::Looked(Snapshot::of(path), answer));
+        self.note(Noted::Looked(Snapshot::of(path), answer));
         answer
     }
 
     fn place(&mut self, path: &String) -> Result<String, HostFault> {
         let rt = self.rt;
         let answer = self.kept(place(&rt, path.as_str()));
-        self.note(&Noted::Placed(Snapshot::of(path), Snapshot::of(&answer)));
+        self.note(Noted::Placed(Snapshot::of(path), Snapshot::of(&answer)));
         answer
     }
 
     fn make_file(&mut self, path: &String) -> Result<MadeFile, HostFault> {
         let rt = self.rt;
         let made = self.kept(make_file(&rt, path));
-        self.note(&Noted::MadeFile(Snapshot::of(path), answer_of(&made)));
+        self.note(Noted::MadeFile(Snapshot::of(path), answer_of(&made)));
         made
     }
 
     fn open_device(&mut self, path: &String) -> Result<MadeFile, HostFault> {
         let rt = self.rt;
         let opened = self.kept(open_device(&rt, path));
-        self.note(&Noted::OpenedDevice(Snapshot::of(path), answer_of(&opened)));
+        self.note(Noted::OpenedDevice(Snapshot::of(path), answer_of(&opened)));
         opened
     }
 
     fn make_folder(&mut self, path: &String) -> Answer {
         let rt = self.rt;
         let answer = self.kept(fs::create_dir(&rt, path.as_str()));
-        self.note(&Noted::MadeFolder(Snapshot::of(path), answer));
+        self.note(Noted::MadeFolder(Snapshot::of(path), answer));
         answer
     }
 
     fn write(&mut self, file: &mut MadeFile, bytes: &Vec<u8>) -> Answer {
         let answer = self.kept(file.file.write_all(bytes));
-        self.note(&Noted::Wrote(Snapshot::of(&file.path), Snapshot::of(bytes), answer));
+        self.note(Noted::Wrote(Snapshot::of(&file.path), Snapshot::of(bytes), answer));
         answer
     }
 
     fn sync(&mut self, path: &String) -> Answer {
         let rt = self.rt;
         let answer = self.kept(sync(&rt, path.as_str()));
-        self.note(&Noted::Synced(Snapshot::of(path), answer));
+        self.note(Noted::Synced(Snapshot::of(path), answer));
         answer
     }
 
     fn rename(&mut self, from: &String, to: &String) -> Answer {
         let rt = self.rt;
         let answer = self.kept(fs::rename(&rt, from.as_str(), to.as_str()));
-        self.note(&Noted::Renamed(Snapshot::of(from), Snapshot::of(to), answer));
+        self.note(Noted::Renamed(Snapshot::of(from), Snapshot::of(to), answer));
         answer
     }
 
     fn remove_file(&mut self, path: &String) -> Answer {
         let rt = self.rt;
         let answer = self.kept(fs::remove_file(&rt, path.as_str()));
-        self.note(&Noted::RemovedFile(Snapshot::of(path), answer));
+        self.note(Noted::RemovedFile(Snapshot::of(path), answer));
         answer
     }
 
     fn remove_folder(&mut self, path: &String) -> Answer {
         let rt = self.rt;
         let answer = self.kept(fs::remove_dir(&rt, path.as_str()));
-        self.note(&Noted::RemovedFolder(Snapshot::of(path), answer));
+        self.note(Noted::RemovedFolder(Snapshot::of(path), answer));
         answer
     }
 
     fn lock(&mut self, folder: &String) -> Result<HeldLock, HostFault> {
         let rt = self.rt;
         let locked = self.kept(lock(&rt, folder));
-        self.note(&Noted::Locked(Snapshot::of(folder), answer_of(&locked)));
+        self.note(Noted::Locked(Snapshot::of(folder), answer_of(&locked)));
         locked
     }
 
@@ -345,7 +347,7 @@ impl Host for StdHost {
         // Closed, and not unlocked: that would end the shares of others too.
         let HeldLock { file, folder } = lock;
         drop(file);
-        self.note(&Noted::Unlocked(Snapshot::of(&folder)));
+        self.note(Noted::Unlocked(Snapshot::of(&folder)));
     }
 
     fn open_lines(
@@ -356,7 +358,7 @@ impl Host for StdHost {
     ) -> Result<(HostLines, Vec<u8>), HostFault> {
         let rt = self.rt;
         let opened = self.kept(open_lines(&rt, lock, name, waits));
-        self.note(&Noted::Opened(
+        self.note(Noted::Opened(
             Snapshot::of(&lock.folder),
             Snapshot::of(name),
             waits,
@@ -367,25 +369,25 @@ impl Host for StdHost {
 
     fn cut(&mut self, lines: &mut HostLines, len: u64) -> Answer {
         let answer = self.kept(lines.raw.file.set_len(len));
-        self.note(&Noted::Cut(Snapshot::of(&lines.name), len, answer));
+        self.note(Noted::Cut(Snapshot::of(&lines.name), len, answer));
         answer
     }
 
     fn take_back(&mut self, lines: HostLines) {
-        self.note(&Noted::Used(Snapshot::of(&lines.name), Snapshot::of(&lines.asked)));
+        self.note(Noted::Used(Snapshot::of(&lines.name), Snapshot::of(&lines.asked)));
     }
 
     fn say(&mut self, bytes: &Vec<u8>) -> Answer {
         let answer = say(&mut self.rt.stdout(), bytes);
         let answer = self.kept(answer);
-        self.note(&Noted::Said(Snapshot::of(bytes), answer));
+        self.note(Noted::Said(Snapshot::of(bytes), answer));
         answer
     }
 
     fn tell(&mut self, bytes: &Vec<u8>) -> Answer {
         let answer = say(&mut self.rt.stderr(), bytes);
         let answer = self.kept(answer);
-        self.note(&Noted::Told(Snapshot::of(bytes), answer));
+        self.note(Noted::Told(Snapshot::of(bytes), answer));
         answer
     }
 

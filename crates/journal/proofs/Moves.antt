@@ -19,14 +19,14 @@ use Rattle.run_log.specs.Lines.{happenings}
 use Rattle.run_log.specs.declared.history.Line.{Line}
 
 -- a history begins itself, and what begins a beginning of it
-begins_itself : {A : Type 0} (whole : List A) → ∥ IsPrefix whole whole ∥₁
+pub begins_itself : {A : Type 0} (whole : List A) → ∥ IsPrefix whole whole ∥₁
 begins_itself whole = ∣ ([], append-nil whole) ∣₁
 
 joined : {A : Type 0} (part whole more : List A) → IsPrefix part whole → IsPrefix whole more → IsPrefix part more
 joined {A} part whole more (rest, is) (further, goes) =
     (rest ++ further, sym (append_assoc part rest further) ∙ subst (λ (all : List A). all ++ further ≡ more) (sym is) goes)
 
-begins_more : {A : Type 0} (part whole more : List A) → ∥ IsPrefix part whole ∥₁ → ∥ IsPrefix whole more ∥₁ → ∥ IsPrefix part more ∥₁
+pub begins_more : {A : Type 0} (part whole more : List A) → ∥ IsPrefix part whole ∥₁ → ∥ IsPrefix whole more ∥₁ → ∥ IsPrefix part more ∥₁
 begins_more part whole more part_is whole_is =
     ∥∥₁_elim part_is ∥∥₁_prop (λ is. ∥∥₁_map whole_is (λ goes. joined part whole more is goes))
 

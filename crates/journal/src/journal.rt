@@ -87,6 +87,8 @@ impl Journal {
         ensures seen { seen reader.new ≡ lines.now.items }
         // What the reader was shown before begins what was written before.
         ensures began { Begins (seen reader.old) (written self.old) }
+        // And so it begins what it is shown now.
+        ensures begins { Begins (seen reader.old) (seen reader.new) }
     {
         let fresh = self.reader();
         let former = mem::replace(reader, fresh);

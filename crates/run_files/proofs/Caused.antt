@@ -1,7 +1,7 @@
 -- Causes of refusals, which stay so.
 use Rattle.std.proofs.lemmas.Bool.Decides.{eqb_tells}
 use Rattle.std.specs.Fmt.{decimal}
-use Rattle.std.proofs.Common.{◌≡◌, ◌≢◌, ◌+◌, ◌<◌, ◌≤◌, zero, suc, arith, codes, inl, inr, ap, ◌∙◌, subst, sym, ℕ, Bool, List, ◌∷◌, ◌++◌, Result, Some, Ok, Err, refl}
+use Rattle.std.proofs.Common.{◌≡◌, ◌≢◌, ◌+◌, ◌<◌, zero, suc, arith, codes, inl, inr, ap, ◌∙◌, subst, sym, ℕ, Bool, List, ◌∷◌, ◌++◌, Result, Some, Ok, Err, refl}
 use Rattle.std.specs.Prelude.{IfErr}
 use Rattle.host.specs.Requests.{Request, Has, Later}
 use Rattle.host.specs.declared.fault.HostFault.{HostFault}
@@ -9,9 +9,8 @@ use Rattle.host.specs.declared.fault.HostFault.TheVariants as host
 use Rattle.host.specs.Requests.{Locked, MadeFile, MadeFolder, Opened, Read, Wrote}
 use Rattle.run_files.specs.Making.{IsNotMade}
 use Rattle.run_files.specs.Causes.{HasSuch, IsCaused, IsOther, IsTextOf, IsUnreadable, no_folder, taken, other_text, no_text, no_lines, bad_line}
-use Rattle.run_files.specs.Causes.{AreFilesTaken, AreFoldersTaken, IsUndone, IsUnwritable, IsUnwritten, is_text, in_folder, is_folder, undone, all_taken}
+use Rattle.run_files.specs.Causes.{IsUndone, IsUnwritable, IsUnwritten, is_text, in_folder, is_folder, undone, all_taken}
 use Rattle.run_files.specs.Causes.{tried_name}
-use Rattle.run_files.specs.declared.happened.TheConstants.{LAST_NAME}
 use Rattle.run_files.specs.Faults.{of_missing, or_memory}
 use Rattle.run_files.specs.Wanted.{Wanted}
 use Rattle.run_files.specs.declared.fault.FilesFault.{FilesFault}

@@ -1,5 +1,5 @@
 -- What is left of what was made.
-use Rattle.std.proofs.Common.{◌≡◌, ◌∙◌, append_assoc, ◌⊎◌, inl, inr, ◌+◌, ◌<◌, add-one, get_or, slice_get, take, Result, ◌==◌, ◌&&◌, ◌≤◌, ℕ, zero, suc, Bool, true, false, List, [], ◌∷◌, ◌++◌, Option, Some, None, Ok, Err, refl, ap, sym, subst, arith, length, map, codes, string_bytes}
+use Rattle.std.proofs.Common.{◌≡◌, ◌∙◌, append_assoc, ◌⊎◌, inl, inr, ◌+◌, ◌<◌, add-one, get_or, slice_get, take, Result, ◌==◌, ℕ, zero, suc, true, List, [], ◌∷◌, ◌++◌, Some, Ok, Err, refl, sym, subst, arith, length, map, codes, string_bytes}
 use Rattle.std.proofs.lemmas.Bool.{eq-eqb}
 use Rattle.std.proofs.lemmas.Option.{slice_get_read}
 use Rattle.std.specs.Prelude.{IfErr, IfOk, OnOk}

@@ -23,7 +23,7 @@ use crate::fault::{FilesFault, Refused, is_there};
 use crate::happened::{LAST_NAME, fresh_name};
 use crate::held_file::{HeldFile, OpenedName};
 use crate::names::{Judge, Names};
-use crate::words::{no_memory, refused, refused_by};
+use crate::words::{no_memory, refused, refused_at, refused_by};
 use host::{Host, HostFault, LineFile, Standing};
 use output_file::{HeldItems, LinesFault, ResumedOutlet, read_items};
 use std::alloc::{AllocError, Global};
@@ -125,11 +125,11 @@ fn other_text(
     text: &Vec<u8>,
 ) -> Result<String, AllocError> {
     let mut line: u64 = 1;
-    for (a, b) in held.iter().zip(text.iter()) {
-        if *a != *b {
+    for (place, byte) in held.iter().enumerate() {
+        if place >= text.len() || text[place] != *byte {
             break;
         }
-        if *a == b'\n' {
+        if *byte == b'\n' {
             line = line.wrapping_add(1);
         }
     }
@@ -177,18 +177,17 @@ fn make_beside<H: Host, J: Judge>(
     ensures cause { IfErr result (λ refused. IsCaused (wanted_of names.now) (H.asked host.new) refused.fault) }
 {
     let stem = folder.as_str().trim_end_matches('/');
-    for nth in 0..LAST_NAME {
+    for nth in 0..LAST_NAME + 1 {
         if let Some(making) = make_nth::<H, J>(host, alloc, names, stem, nth)? {
             return Ok(making);
         }
     }
-    match make_nth::<H, J>(host, alloc, names, stem, LAST_NAME)? {
-        Some(making) => Ok(making),
-        None => Err(refused(
-            FilesFault::Failed,
-            format!(in alloc; "{folder}.making: too many folders of this name are left"),
-        )),
-    }
+    Err(refused_at(
+        alloc,
+        FilesFault::Failed,
+        folder,
+        ".making: too many folders of this name are left",
+    ))
 }
 
 // The path of an output's file in a folder.
@@ -205,11 +204,11 @@ fn paths_of(alloc: Global, folder: &String, outputs: &[String]) -> Result<Vec<St
     ensures { IfOk result (λ paths. map string_bytes paths.items
         ≡ paths_in (string_bytes folder.now) (map string_bytes outputs.now)) }
 {
-    let mut paths = Vec::new(alloc);
-    paths.push(in_folder(alloc, folder, "/net")?)?;
-    paths.push(in_folder(alloc, folder, "/inputs")?)?;
+    let mut paths = Vec::with_capacity(alloc, outputs.len() + 2)?;
+    paths.push_reserved(in_folder(alloc, folder, "/net")?);
+    paths.push_reserved(in_folder(alloc, folder, "/inputs")?);
     for output in outputs {
-        paths.push(file_in(alloc, folder, output)?)?;
+        paths.push_reserved(file_in(alloc, folder, output)?);
     }
     Ok(paths)
 }
@@ -460,9 +459,11 @@ fn is_made<H: Host, J: Judge>(
     match look::<H, J>(host, names, &path) {
         Ok(Standing::Nothing) | Err(HostFault::NotThere) => Ok(false),
         Ok(_) => Ok(true),
-        Err(HostFault::NoFolder) => Err(refused(
+        Err(HostFault::NoFolder) => Err(refused_at(
+            alloc,
             FilesFault::OtherState,
-            format!(in alloc; "{folder} is no folder"),
+            folder,
+            " is no folder",
         )),
         Err(fault) => Err(refused_by(host, alloc, FilesFault::Failed, fault, &path)),
     }
@@ -487,15 +488,16 @@ fn make_if_missing<H: Host, J: Judge>(
     }
     if make::<H, J>(host, alloc, names, folder, texts, outputs)? {
         let home = home_of(alloc, folder.as_str())?;
-        settle_one::<H, J>(host, alloc, names, &home)?;
-        return Ok(());
+        return settle_one::<H, J>(host, alloc, names, &home);
     }
     if is_made::<H, J>(host, alloc, names, folder)? {
         return Ok(());
     }
-    Err(refused(
+    Err(refused_at(
+        alloc,
         FilesFault::OtherState,
-        format!(in alloc; "{folder} is there, and has no file net"),
+        folder,
+        " is there, and has no file net",
     ))
 }
 
@@ -567,7 +569,7 @@ fn open_one<H: Host, J: Judge>(
     ensures cut { IfOk result (λ one. IsCutTo (string_bytes name.now) one.0.held.bytes (length one.1.value.items) (H.asked host.new)) }
     ensures cause { IfErr result (λ refused. IsCaused (wanted_of names.now) (H.asked host.new) refused.fault) }
 {
-    let path = format!(in alloc; "{folder}/{name}")?;
+    let path = file_in(alloc, folder, name)?;
     let (mut file, bytes) = match open_lines::<H, J>(host, names, lock, folder, name) {
         Ok(opened) => opened,
         Err(fault) => {
@@ -606,13 +608,43 @@ fn open_each<H: Host, J: Judge>(
     let mut opened = Vec::with_capacity(alloc, outputs.len())?;
     for name in outputs {
         let (file, bytes) = open_one::<H, J>(host, alloc, names, lock, folder, &name)?;
-        files.push(file)?;
-        opened.push(OpenedName { name, bytes })?;
+        files.push_reserved(file);
+        opened.push_reserved(OpenedName { name, bytes });
     }
     Ok((files, opened))
 }
 
-// All that is done under the lock: the texts are compared, what was found is synced where that is asked for, and the outputs' files opened.
+// What is done under the lock before an output's file is opened: the texts are compared, and what was found is synced where that is asked
+// for.
+fn check_and_settle<H: Host, J: Judge>(
+    host: &mut H,
+    alloc: Global,
+    names: &Names,
+    folder: &String,
+    texts: FolderTexts<'_>,
+    outputs: &[String],
+) -> Result<(), Refused>
+    requires ready { IsReady J.accepts (wanted_of names.now) (H.asked host.old) }
+    requires wanted { (wanted_of names.now).state ≡ Some (string_bytes folder.now) }
+    requires held { IsHeld (string_bytes folder.now) (H.asked host.old) }
+    requires net { Has (Read (wanted_of names.now).net (Ok texts.net.now.items)) (H.asked host.old) }
+    requires inputs { Has (Read (wanted_of names.now).inputs (Ok texts.inputs.now.items)) (H.asked host.old) }
+    ensures goes { GoesOn J.accepts (wanted_of names.now) (H.asked host.old) (H.asked host.new) }
+    ensures same { OnOk result (HasSameTexts (wanted_of names.now) (string_bytes folder.now) (H.asked host.new)) }
+    ensures synced { OnOk result (AreSyncedIf names.now.sync
+        (paths_in (string_bytes folder.now) (map string_bytes outputs.now) ++ string_bytes folder.now ∷ []) (H.asked host.new)) }
+    ensures cause { IfErr result (λ refused. IsCaused (wanted_of names.now) (H.asked host.new) refused.fault) }
+{
+    compare::<H, J>(host, alloc, names, folder, "/net", texts.net)?;
+    compare::<H, J>(host, alloc, names, folder, "/inputs", texts.inputs)?;
+    let paths = paths_of(alloc, folder, outputs)?;
+    settle::<H, J>(host, alloc, names, &paths)?;
+    settle_one::<H, J>(host, alloc, names, folder)?;
+    let home = home_of(alloc, folder.as_str())?;
+    settle_one::<H, J>(host, alloc, names, &home)
+}
+
+// All that is done under the lock: what was found is checked, and the outputs' files are opened.
 fn open_locked<H: Host, J: Judge>(
     host: &mut H,
     alloc: Global,
@@ -636,13 +668,7 @@ fn open_locked<H: Host, J: Judge>(
         (paths_in (string_bytes folder.now) (map string_bytes outputs.items) ++ string_bytes folder.now ∷ []) (H.asked host.new)) }
     ensures cause { IfErr result (λ refused. IsCaused (wanted_of names.now) (H.asked host.new) refused.fault) }
 {
-    compare::<H, J>(host, alloc, names, folder, "/net", texts.net)?;
-    compare::<H, J>(host, alloc, names, folder, "/inputs", texts.inputs)?;
-    let paths = paths_of(alloc, folder, &outputs)?;
-    settle::<H, J>(host, alloc, names, &paths)?;
-    settle_one::<H, J>(host, alloc, names, folder)?;
-    let home = home_of(alloc, folder.as_str())?;
-    settle_one::<H, J>(host, alloc, names, &home)?;
+    check_and_settle::<H, J>(host, alloc, names, folder, texts, &outputs)?;
     open_each::<H, J>(host, alloc, names, lock, folder, outputs)
 }
 
@@ -745,9 +771,11 @@ fn give_one<H: Host, J: Judge>(
     let file = outlet.into_file();
     let OpenedName { name, bytes } = opened;
     if !file.is_named(name) {
-        return Err(refused(
+        return Err(refused_at(
+            alloc,
             FilesFault::Astray,
-            format!(in alloc; "{name} came back as another file"),
+            name,
+            " came back as another file",
         ));
     }
     take_back::<H, J>(host, names, folder, name, bytes, file);
@@ -780,9 +808,11 @@ pub fn give_back<H: Host, J: Judge>(
     let mut next = 0;
     for outlet in outlets {
         let Some(one) = nth_of(opened, next) else {
-            return Err(refused(
+            return Err(refused_at(
+                alloc,
                 FilesFault::Astray,
-                format!(in alloc; "{folder}: more files came back than were opened"),
+                folder,
+                ": more files came back than were opened",
             ));
         };
         give_one::<H, J>(host, alloc, names, folder, one, outlet)?;

@@ -16,7 +16,7 @@ ghost use Rattle.run_files.specs.Wanted.{wanted_of};
 use crate::asking::{look, make, remove_file, rename_file, write};
 use crate::fault::{FilesFault, Refused, is_there};
 use crate::names::{Judge, Names};
-use crate::words::{refused, refused_by};
+use crate::words::{refused_at, refused_by};
 use host::{Host, HostFault, Standing};
 use std::alloc::{AllocError, Global};
 
@@ -112,19 +112,18 @@ fn make_beside<H: Host, J: Judge>(
     ensures cause { IfErr result (λ refused. IsCaused (wanted_of names.now) (H.asked host.new) refused.fault) }
 {
     let stem = path.as_str().trim_end_matches('/');
-    for nth in 0..LAST_NAME {
+    for nth in 0..LAST_NAME + 1 {
         match make_nth::<H, J>(host, alloc, names, path, stem, nth)? {
             Some(history) => return Ok(history),
             None => {}
         }
     }
-    match make_nth::<H, J>(host, alloc, names, path, stem, LAST_NAME)? {
-        Some(history) => Ok(history),
-        None => Err(refused(
-            FilesFault::Unwritten,
-            format!(in alloc; "{path}.new: too many files of this name are left"),
-        )),
-    }
+    Err(refused_at(
+        alloc,
+        FilesFault::Unwritten,
+        path,
+        ".new: too many files of this name are left",
+    ))
 }
 
 // A device of this name.
@@ -165,10 +164,7 @@ pub fn open_history<H: Host, J: Judge>(
 {
     match look::<H, J>(host, names, path) {
         Ok(Standing::Device) => open_device::<H, J>(host, alloc, names, path),
-        Ok(Standing::Folder) => Err(refused(
-            FilesFault::Unwritten,
-            format!(in alloc; "{path} is a folder"),
-        )),
+        Ok(Standing::Folder) => Err(refused_at(alloc, FilesFault::Unwritten, path, " is a folder")),
         Ok(Standing::File) | Ok(Standing::Nothing) => make_beside::<H, J>(host, alloc, names, path),
         Err(fault) => Err(refused_by(host, alloc, FilesFault::Unwritten, fault, path)),
     }

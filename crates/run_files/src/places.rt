@@ -10,7 +10,7 @@ ghost use Rattle.run_files.specs.Wanted.{wanted_of};
 use crate::asking::place;
 use crate::fault::{FilesFault, Refused};
 use crate::names::{Judge, Names};
-use crate::words::{refused, refused_by};
+use crate::words::{refused, refused_at, refused_by};
 use host::Host;
 use std::alloc::Global;
 
@@ -63,10 +63,7 @@ fn differ<H: Host, J: Judge>(
 {
     match place::<H, J>(host, names, name) {
         Ok(other) => if is_same(&other, at) {
-            Err(refused(
-                FilesFault::Unwritten,
-                format!(in alloc; "{at} is a text of the run"),
-            ))
+            Err(refused_at(alloc, FilesFault::Unwritten, at, " is a text of the run"))
         } else {
             Ok(())
         },

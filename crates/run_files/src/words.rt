@@ -37,6 +37,13 @@ pub fn refused(fault: FilesFault, words: Result<String, AllocError>) -> Refused
     }
 }
 
+/// A refusal with a name and these words behind it, where there is memory for them.
+pub fn refused_at(alloc: Global, fault: FilesFault, name: &String, words: &str) -> Refused
+    ensures { result.fault ≡ fault }
+{
+    refused(fault, format!(in alloc; "{name}{words}"))
+}
+
 /// A refusal since the host didn't do what it was asked for a file: the file's name, and the host's own words.
 pub fn refused_by<H: Host>(
     host: &H,

@@ -11,10 +11,8 @@ use Rattle.replay.specs.declared.kept.RunEvent.{RunEvent}
 use Rattle.replay.specs.declared.kept.RunEvent.TheVariants as run
 use Rattle.run_log.specs.Added.{IsAdded}
 use Rattle.run_log.specs.declared.history.Line.{Line}
-use Rattle.station.specs.DoneView.{done_view}
-use Rattle.station.specs.EventView.{event_view}
-use Rattle.station.specs.declared.event.Event.{Event}
-use Rattle.station.specs.declared.event.Event.TheVariants as event_is
+use Rattle.world.specs.Events.{Event, done_view, event_view}
+use Rattle.world.specs.EventKinds as event_is
 
 record IsKept (event : ArmedEvent) : Type 0 where
   pub kept : KeptEventView

@@ -12,7 +12,7 @@ use Rattle.replay.specs.Rests.{AllRest, next_by, next_turn, rest_after}
 use Rattle.replay.specs.Rests as rests
 use Rattle.replay.specs.declared.kept.NextTurn.TheVariants as next
 use Rattle.replay.specs.declared.kept.ScriptedEvent.{ScriptedEvent}
-use Rattle.station.specs.EventView as event_is
+use Rattle.world.specs.Events as event_is
 use Rattle.run_log.specs.Answers.{turn_kind, IsTurnWritten}
 use Rattle.run_log.specs.ArmedWorlds.{armed_view}
 use Rattle.run_log.specs.Calls.{IsRefused, IsTurnAnswer, IsUntouched}

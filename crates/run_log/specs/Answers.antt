@@ -23,7 +23,7 @@ use Rattle.run_log.specs.declared.answer.HubFault.{HubFault}
 use Rattle.run_log.specs.declared.answer.HubFault.TheVariants.{NoMemory, PastNumber}
 use Rattle.run_log.specs.declared.seat_count.Counted.{Counted}
 use Rattle.run_log.specs.declared.seat_count.Counted.TheVariants as counted
-use Rattle.station.specs.ReplyView.{reply_view}
+use Rattle.world.specs.Events.{reply_view}
 
 -- as what an answer counts
 abbrev pub turn_kind : TurnAnswer → Counted

@@ -1,7 +1,7 @@
 -- A history as data.
 use Rattle.std.specs.Prelude.{◌≡◌, ℕ, zero, suc, ◌+◌, Bool, true, false, List, [], ◌∷◌, ◌++◌, drop, Some, slice_get}
 use Rattle.std.specs.List.{flat_map}
-use Rattle.station.specs.ReplyView.{shared_view}
+use Rattle.world.specs.Events.{shared_view}
 use Rattle.protocol.specs.declared.event.Deed.{Deed}
 use Rattle.protocol.specs.declared.event.Deed.TheVariants as deed
 use Rattle.protocol.specs.declared.event.PlainEvent.TheVariants as plain

@@ -13,7 +13,7 @@ use Rattle.run_log.specs.declared.answer.FaultAnswer.{FaultAnswer}
 use Rattle.run_log.specs.declared.answer.FaultAnswer.TheVariants as fault
 use Rattle.run_log.specs.declared.answer.TurnAnswer.{TurnAnswer}
 use Rattle.run_log.specs.declared.answer.TurnAnswer.TheVariants as turn
-use Rattle.station.specs.ReplyView.{reply_view}
+use Rattle.world.specs.Events.{reply_view}
 
 -- A node's turn is what comes next there: a line of the script that is late comes before it, so nothing is done; else the event that is next for
 -- the node, more room for a channel, where a process of the node is held that needs it, or nothing, where all that the node could do is to let

@@ -4,8 +4,7 @@ ghost use Rattle.protocol.specs.World.Choice.{choice};
 ghost use Rattle.protocol.specs.World.Common.{event_node, IsGrantedAt, has_happened};
 ghost use Rattle.replay.specs.Armed.{ArmCrash, EndsWith, IsArmedStep, OfWorld, armed_at_first, crash_after, deliveries_after, delivered_to, has_come, one_more};
 ghost use Rattle.replay.specs.Plain.{run_view};
-ghost use Rattle.station.specs.EventView.{event_view, is_idle};
-ghost use Rattle.station.specs.ReplyView.{reply_view};
+ghost use Rattle.world.specs.Events.{event_view, is_idle, reply_view};
 ghost use Rattle.world.specs.WholeView.{capacities_in, inputs_in, net_in, nodes_in, rooms_in, world_of};
 ghost use Rattle.world.specs.WorldView.{capacities, rooms};
 

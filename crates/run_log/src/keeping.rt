@@ -4,8 +4,7 @@ ghost use Rattle.replay.specs.Armed.{OfWorld};
 ghost use Rattle.replay.specs.Replay.{IsKeptOf};
 ghost use Rattle.replay.specs.Replies.{kept_reply};
 ghost use Rattle.run_log.specs.Lines.{back_reply, kept_view};
-ghost use Rattle.station.specs.EventView.{event_view};
-ghost use Rattle.station.specs.ReplyView.{reply_view};
+ghost use Rattle.world.specs.Events.{event_view, reply_view};
 
 use crate::history::KeptEvent;
 use replay::{KeptReply, RunEvent};

@@ -7,8 +7,7 @@ ghost use Rattle.replay.specs.Plain.{run_view};
 ghost use Rattle.replay.specs.declared.kept.Maker.TheVariants as who;
 ghost use Rattle.run_log.specs.ArmedWorlds.{armed_view};
 ghost use Rattle.run_log.specs.Added.{IsAdded};
-ghost use Rattle.station.specs.EventView.{event_view, is_idle};
-ghost use Rattle.station.specs.ReplyView.{reply_view};
+ghost use Rattle.world.specs.Events.{event_view, is_idle, reply_view};
 ghost use Rattle.world.specs.WholeView.{rooms_in, world_of};
 ghost use Rattle.world.specs.WorldView.{rooms};
 

@@ -2,8 +2,7 @@
 ghost use Rattle.std.specs.Prelude.{◌≡◌, ◌==◌, true, if◌then◌else◌};
 ghost use Rattle.replay.specs.Rests.{is_idle, none_rest, rest_after};
 ghost use Rattle.protocol.specs.declared.reply.Reply.TheVariants.{Idled};
-ghost use Rattle.station.specs.EventView.{event_view};
-ghost use Rattle.station.specs.ReplyView.{reply_view};
+ghost use Rattle.world.specs.Events.{event_view, reply_view};
 
 use kahn_net::MAX_NODES;
 use world::{Deed, Event, PlainEvent, Reply};

@@ -19,13 +19,11 @@ ghost use Rattle.run_log.specs.declared.answer.TurnAnswer.TheVariants as turns;
 ghost use Rattle.run_log.specs.Numbers.{counted, no_numbers};
 ghost use Rattle.run_log.specs.SeatCounts.{run_numbers, seat_numbers, seat_parts};
 ghost use Rattle.run_log.specs.declared.seat_count.Counted.TheVariants as kind;
-ghost use Rattle.station.specs.DoneView.{done_view};
-ghost use Rattle.station.specs.EventView.{event_view, is_idle};
-ghost use Rattle.station.specs.ReplyView.{reply_view};
+ghost use Rattle.world.specs.Events.{done_view, event_view, is_idle, reply_view};
 ghost use Rattle.world.specs.WholeView.{rooms_in, world_of};
 ghost use Rattle.world.specs.WorldView.{rooms};
 ghost use Rattle.wire.specs.declared.queue.TheConstants.{NODES};
-ghost use Rattle.station.specs.declared.event.Event.TheVariants as event;
+ghost use Rattle.world.specs.EventKinds as event;
 
 use crate::answer::{FaultAnswer, HeldBack, HubFault, TurnAnswer};
 use crate::armed::ArmedWorld;

@@ -33,7 +33,7 @@ module _ (before now : List Line) where
   told reason (inl same) = ∣ ([], append-nil (happenings before) ∙ sym same) ∣₁
   told reason (inr more) = ∣ (_, sym more) ∣₁
 
-  same_lines : now ≡ before → Begins before now
+  pub same_lines : now ≡ before → Begins before now
   same_lines same = ∣ ([], append-nil (happenings before) ∙ sym (ap happenings same)) ∣₁
 
   by_turn : (node : ℕ) (answer : TurnAnswer) → IsTurnWritten true node before now answer → Begins before now

@@ -1,7 +1,7 @@
 // A hub's lock, held for calls in a row.
 ghost use Rattle.std.specs.Prelude.{◌≡◌, false, true, is_some, length, IfErr, IfOk, OnErr};
 ghost use Rattle.std.specs.Sync.Mutex.{mutex_guard_value};
-ghost use Rattle.journal.specs.Histories.{seen};
+ghost use Rattle.journal.specs.Histories.{Begins, seen};
 ghost use Rattle.protocol.specs.World.Common.{event_node, Install, released_of};
 ghost use Rattle.replay.specs.Armed.{OfWorld};
 ghost use Rattle.replay.specs.declared.kept.Maker.TheVariants as who;
@@ -68,6 +68,8 @@ impl<'hub, C: SlotCell, O: Outlet, ThisRun: HubRun> Entered<'hub, C, O, ThisRun>
         // And where a history is kept, the seat is shown that of this very run: what it was shown before, and behind it this answer.
         ensures shown { ThisRun.keeps ≡ true → IfOk result
             (λ answer. IsShownTurn seat.old.node answer (seen seat.old.reader) (seen seat.new.reader)) }
+        // Also where the call is refused, what the seat was shown before stays shown.
+        ensures begins { ThisRun.keeps ≡ true → Begins (seen seat.old.reader) (seen seat.new.reader) }
         ensures refused { OnErr result
             (seat_numbers seat.new.count ≡ seat_numbers seat.old.count) }
         // Where the answer doesn't say that an item may have left, none has.
@@ -128,6 +130,7 @@ impl<'hub, C: SlotCell, O: Outlet, ThisRun: HubRun> Entered<'hub, C, O, ThisRun>
             (who.Node seat.old.node) (reply_view reply) (seat_numbers seat.old.count) (seat_numbers seat.new.count)) }
         ensures shown { ThisRun.keeps ≡ true → IfOk result (λ reply. IsShownEvent (who.Node seat.old.node)
             (OfWorld (Install (done_view done))) (reply_view reply) (seen seat.old.reader) (seen seat.new.reader)) }
+        ensures begins { ThisRun.keeps ≡ true → Begins (seen seat.old.reader) (seen seat.new.reader) }
         ensures refused { OnErr result
             (seat_numbers seat.new.count ≡ seat_numbers seat.old.count) }
         ensures handed_back { IfErr result (λ held. held.event ≡ event.Install done) }
@@ -161,6 +164,7 @@ impl<'hub, C: SlotCell, O: Outlet, ThisRun: HubRun> Entered<'hub, C, O, ThisRun>
             (seat_numbers seat.old.count) (seat_numbers seat.new.count)) }
         ensures shown { ThisRun.keeps ≡ true
             → IfOk result (λ answer. IsShownFault answer (seen seat.old.reader) (seen seat.new.reader)) }
+        ensures begins { ThisRun.keeps ≡ true → Begins (seen seat.old.reader) (seen seat.new.reader) }
         ensures refused { OnErr result
             (seat_numbers seat.new.count ≡ seat_numbers seat.old.count) }
     {

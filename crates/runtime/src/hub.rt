@@ -1,7 +1,7 @@
 // A world that threads share.
 ghost use Rattle.std.specs.Prelude.{◌≡◌, ◌+◌, ◌<◌, ◌≤◌, true, [], replicate, vec_len, IfErr, IfOk, OnErr, false};
 ghost use Rattle.std.specs.Vec.{vec_capacity};
-ghost use Rattle.journal.specs.Histories.{journal_id, seen, written};
+ghost use Rattle.journal.specs.Histories.{Begins, journal_id, seen, written};
 ghost use Rattle.protocol.specs.World.Common.{event_node, Install, WorldView};
 ghost use Rattle.replay.specs.Armed.{OfWorld, armed_at_first};
 ghost use Rattle.replay.specs.Replay.{LeadsTo};
@@ -312,6 +312,8 @@ impl<C: SlotCell, O: Outlet, ThisRun: HubRun> Hub<C, O, ThisRun> {
         // Where a history is kept, the seat is shown that of this very run: what it was shown before, and behind it this answer.
         ensures shown { ThisRun.keeps ≡ true → IfOk result
             (λ answer. IsShownTurn seat.old.node answer (seen seat.old.reader) (seen seat.new.reader)) }
+        // Also where the call is refused, what the seat was shown before stays shown.
+        ensures begins { ThisRun.keeps ≡ true → Begins (seen seat.old.reader) (seen seat.new.reader) }
         ensures refused { OnErr result
             (seat_numbers seat.new.count ≡ seat_numbers seat.old.count) }
     {
@@ -335,6 +337,7 @@ impl<C: SlotCell, O: Outlet, ThisRun: HubRun> Hub<C, O, ThisRun> {
             (who.Node seat.old.node) (reply_view reply) (seat_numbers seat.old.count) (seat_numbers seat.new.count)) }
         ensures shown { ThisRun.keeps ≡ true → IfOk result (λ reply. IsShownEvent (who.Node seat.old.node)
             (OfWorld (Install (done_view done))) (reply_view reply) (seen seat.old.reader) (seen seat.new.reader)) }
+        ensures begins { ThisRun.keeps ≡ true → Begins (seen seat.old.reader) (seen seat.new.reader) }
         ensures refused { OnErr result
             (seat_numbers seat.new.count ≡ seat_numbers seat.old.count) }
         ensures handed_back { IfErr result (λ held. held.event ≡ event.Install done) }
@@ -358,6 +361,7 @@ impl<C: SlotCell, O: Outlet, ThisRun: HubRun> Hub<C, O, ThisRun> {
             (seat_numbers seat.old.count) (seat_numbers seat.new.count)) }
         ensures shown { ThisRun.keeps ≡ true
             → IfOk result (λ answer. IsShownFault answer (seen seat.old.reader) (seen seat.new.reader)) }
+        ensures begins { ThisRun.keeps ≡ true → Begins (seen seat.old.reader) (seen seat.new.reader) }
         ensures refused { OnErr result
             (seat_numbers seat.new.count ≡ seat_numbers seat.old.count) }
     {

@@ -92,6 +92,7 @@ fn show<C: SlotCell, O: Outlet, ThisRun: HubRun>(
     ensures reads_here { journal_of reader.new ≡ ThisRun.journal }
     ensures shown { ThisRun.keeps ≡ true → seen reader.new ≡ log.now.lines.items }
     ensures began { ThisRun.keeps ≡ true → Begins (seen reader.old) (written journal.old) }
+    ensures begins { ThisRun.keeps ≡ true → Begins (seen reader.old) (seen reader.new) }
 {
     if let Some(lines) = log.kept() {
         journal.show(lines, reader);
@@ -164,6 +165,8 @@ impl<C: SlotCell, O: Outlet, ThisRun: HubRun> Locked<C, O, ThisRun> {
         ensures here { journal_of reader.new ≡ ThisRun.journal }
         ensures shown { ThisRun.keeps ≡ true
             → IfOk result (λ answer. IsShownTurn node answer (seen reader.old) (seen reader.new)) }
+        // Also where it is refused, what was shown before stays shown.
+        ensures begins { ThisRun.keeps ≡ true → Begins (seen reader.old) (seen reader.new) }
         ensures told { IfOk result (λ answer. IsToldTurn ThisRun.rooms ThisRun.script ThisRun.opening node answer
             (seat_numbers count.old) (seat_numbers count.new)) }
         ensures refused { OnErr result (seat_numbers count.new ≡ seat_numbers count.old) }
@@ -193,6 +196,7 @@ impl<C: SlotCell, O: Outlet, ThisRun: HubRun> Locked<C, O, ThisRun> {
         ensures here { journal_of reader.new ≡ ThisRun.journal }
         ensures shown { ThisRun.keeps ≡ true → IfOk result (λ reply. IsShownEvent (who.Node node)
             (OfWorld (Install (done_view done))) (reply_view reply) (seen reader.old) (seen reader.new)) }
+        ensures begins { ThisRun.keeps ≡ true → Begins (seen reader.old) (seen reader.new) }
         ensures told { IfOk result (λ reply. IsToldEvent ThisRun.rooms ThisRun.script ThisRun.opening (who.Node node)
             (reply_view reply) (seat_numbers count.old) (seat_numbers count.new)) }
         ensures refused { OnErr result (seat_numbers count.new ≡ seat_numbers count.old) }
@@ -213,6 +217,7 @@ impl<C: SlotCell, O: Outlet, ThisRun: HubRun> Locked<C, O, ThisRun> {
             (seat_numbers seat.old.count) (seat_numbers seat.new.count)) }
         ensures shown { ThisRun.keeps ≡ true
             → IfOk result (λ answer. IsShownFault answer (seen seat.old.reader) (seen seat.new.reader)) }
+        ensures begins { ThisRun.keeps ≡ true → Begins (seen seat.old.reader) (seen seat.new.reader) }
         ensures refused { OnErr result
             (seat_numbers seat.new.count ≡ seat_numbers seat.old.count) }
     {

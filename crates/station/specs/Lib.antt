@@ -6,3 +6,4 @@ pub mod StationView
 pub mod Lending
 pub mod Leaving
 pub mod Coming
+pub mod Nodes

@@ -23,5 +23,6 @@ mod turning;
 
 pub use event::{Event, Refused, Reply};
 pub use lent::Lent;
+pub use node::{Mode, Node, NodeState, is_here, next_after, node_count, opening_record};
 pub use output::Output;
 pub use station::Station;

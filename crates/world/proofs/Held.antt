@@ -8,7 +8,7 @@ use Rattle.protocol.specs.Node.Common.{Only, Whole, cell_in, Store}
 use Rattle.sector_disk.specs.Clock.{LeavesOnly}
 use Rattle.gate_cell.specs.declared.cell.StableCell.{Ghosts as CellWords}
 use Rattle.slot_cell.specs.declared.slot_cell.SlotCell.{Ghosts as SlotWords}
-use Rattle.node.specs.StoredView.{LeavesAsBefore}
+use Rattle.station.specs.Nodes.{LeavesAsBefore}
 use Rattle.protocol.specs.World.Common.{ByNode, EventView}
 use Rattle.protocol.specs.declared.event.Deed.TheVariants as event
 use Rattle.protocol.specs.World.Replies.{LeavesCells, TakesMemory}

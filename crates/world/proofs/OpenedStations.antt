@@ -12,8 +12,7 @@ use Rattle.sector_disk.specs.declared.disk.Disk.{Ghosts as DiskWords}
 use Rattle.gate_cell.specs.declared.cell.StableCell.{Ghosts as CellWords}
 use Rattle.slot_cell.specs.declared.slot_cell.SlotCell.{Ghosts as SlotWords}
 use Rattle.slot_cell.specs.declared.split.SplitCell.{SplitCell}
-use Rattle.node.specs.NodeOf.{view_of}
-use Rattle.node.specs.declared.node.Node.{Node}
+use Rattle.station.specs.Nodes.{Node, view_of}
 use Rattle.protocol.specs.World.Common.{Traffic, opening_traffic, opening_world, WorldInvariant, is_output}
 use Rattle.protocol.specs.World.Common.{output_channels, OutletView, StationView, WorldView}
 use Rattle.protocol.specs.Node.Opening.{opening_node}

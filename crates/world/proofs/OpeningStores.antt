@@ -20,7 +20,7 @@ use Rattle.ckpt_codec.specs.HeaderText.{header_text, IsHeaderTextIn}
 use Rattle.ckpt_codec.specs.SizeLaws.{IsRecordWithin}
 use Rattle.ckpt_codec.proofs.Headers.{told_is_header}
 use Rattle.ckpt_store.proofs.Parts.{parts_of}
-use Rattle.node.specs.declared.node.Node.{Node}
+use Rattle.station.specs.Nodes.{Node}
 use Rattle.protocol_laws.specs.World.RoomLaws.{bounded_is_short}
 use Rattle.ckpt_codec.specs.declared.lengths.TheConstants.{MAX_HEADER_BYTES, MAX_RECORD_BYTES}
 use Rattle.ckpt_store.specs.Loading.{IsLoad, IsOfCell}

@@ -11,8 +11,7 @@ use Rattle.gate_cell.specs.declared.cell.StableCell.{Ghosts as CellWords}
 use Rattle.slot_cell.specs.declared.slot_cell.SlotCell.{Ghosts as SlotWords}
 use Rattle.slot_cell.specs.declared.split.SplitCell.{SplitCell}
 use Rattle.ckpt_store.specs.StoreView.{record_spelled}
-use Rattle.node.specs.NodeOf.{view_of}
-use Rattle.node.specs.declared.node.Node.{Node}
+use Rattle.station.specs.Nodes.{Node, view_of}
 use Rattle.protocol.specs.Node.Common.{cell_in, Net, Network, network_of, node_count, NodeView, RecordView, slot_room_on}
 use Rattle.protocol.specs.World.Common.{is_output, opening_traffic, outputs_of, OutputView, OutletView}
 use Rattle.protocol.specs.World.Common.{records_of, StationView, Traffic, WorldInvariant, WorldView}

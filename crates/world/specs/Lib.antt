@@ -10,3 +10,5 @@ pub mod ReopenedWorld
 pub mod Closing
 pub mod Stillness
 pub mod Applied
+pub mod Events
+pub mod EventKinds

@@ -18,8 +18,7 @@ use Rattle.ckpt_store.specs.declared.fault.StoreFault.TheVariants.{Version, Malf
 use Rattle.ckpt_store.specs.declared.fault.StoreFault.TheVariants.{Unsettled, Spent}
 use Rattle.station.specs.declared.output.Output.{Output}
 use Rattle.station.specs.declared.station.Station.{Station}
-use Rattle.node.specs.NodeOf.{view_of}
-use Rattle.node.specs.declared.node.Node.{Node}
+use Rattle.station.specs.Nodes.{Node, view_of}
 use Rattle.protocol.specs.Node.Opening.{opening_node}
 use Rattle.protocol.specs.World.OpeningWorld.{outlets_on, opening_station}
 use Rattle.protocol.specs.World.Common.{is_output}

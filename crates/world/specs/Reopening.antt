@@ -11,8 +11,7 @@ use Rattle.slot_cell.specs.declared.split.SplitCell.{SplitCell}
 use Rattle.ckpt_store.specs.Loading.{IsOfReopening}
 use Rattle.ckpt_store.specs.StoreView.{Holds}
 use Rattle.ckpt_store.specs.declared.fault.StoreFault.TheVariants.{Device}
-use Rattle.node.specs.NodeOf.{view_of}
-use Rattle.node.specs.declared.node.Node.{Node}
+use Rattle.station.specs.Nodes.{Node, view_of}
 use Rattle.protocol.specs.Node.Common.{cell_in, Down, Network, NodeView, Only, record_in, RecordView, slot_room_on}
 use Rattle.protocol.specs.Node.Common.{Spells, Store, StoreFault, Whole}
 use Rattle.protocol.specs.World.Common.{opening_traffic, OutletView, StationView, WorldView}

@@ -3,7 +3,7 @@ use Rattle.std.specs.Prelude.{ℕ, ℤ, ◌≡◌, List, map, Bool, Option, Some
 use Rattle.protocol.specs.Node.Common.{network_of, RecordView, fits_in, cell_in, Net}
 use Rattle.gate_cell.specs.declared.cell.StableCell.{Ghosts as CellWords}
 use Rattle.slot_cell.specs.declared.slot_cell.SlotCell.{Ghosts as SlotWords}
-use Rattle.node.specs.StoredView.{LeavesAsBefore}
+use Rattle.station.specs.Nodes.{LeavesAsBefore}
 use Rattle.std.specs.declared.sync.Arc.{Arc}
 use Rattle.std.specs.declared.alloc.Global.{Global}
 use Rattle.net_check.specs.declared.inputs.Inputs.{Inputs}

@@ -21,11 +21,10 @@ mod world;
 
 pub use gate_cell::SECTORS;
 pub use laws::{line_law, need_law, room_law, step_law, traffic_law};
-pub use node::{next_after, node_count};
 pub use opening::OpeningRefused;
 pub use outputs::{OutletMaker, list_outputs, outputs_of};
 pub use protocol::{DEFAULT_ROOM, Deed, MIN_ROOM, NetworkAct, PlainEvent, Rooms, RoundTurns};
 pub use room::RoomOutOfRange;
-pub use station::{Event, Output, Refused, Reply, Station};
+pub use station::{Event, Output, Refused, Reply, Station, next_after, node_count};
 pub use stream_eq::Freed;
 pub use world::World;

@@ -24,13 +24,12 @@ use ckpt_codec::{FIRST_VERSION, VERSION, spelled_image_length, write_header_in, 
 use ckpt_store::{Store, StoreFault};
 use kahn_net::Port;
 use net_check::{Inputs, Net};
-use node::{Node, is_here, opening_record};
 use outlet::Outlet;
 use protocol::{DEFAULT_ROOM, Rooms};
 use record::{Image, Record};
 use sector_disk::Disk;
 use slot_cell::{LEAST_SPLIT_SECTORS, SlotCell, SplitCell, slot_room_of};
-use station::{Output, Station};
+use station::{Node, Output, Station, is_here, opening_record};
 use std::alloc::Global;
 use std::sync::Arc;
 use wire::Wire;

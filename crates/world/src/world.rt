@@ -22,11 +22,10 @@ ghost use Rattle.station.specs.Leaving.{IsCellUnchanged};
 ghost use Rattle.station.specs.StationView.{station_view};
 
 use net_check::{Inputs, Net};
-use node::next_after;
 use outlet::Outlet;
 use protocol::Rooms;
 use slot_cell::SlotCell;
-use station::{Event, Lent, Refused, Reply, Station};
+use station::{Event, Lent, Refused, Reply, Station, next_after};
 use std::alloc::{AllocError, Global};
 use std::sync::Arc;
 use wire::Wire;

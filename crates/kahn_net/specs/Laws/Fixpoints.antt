@@ -1,6 +1,6 @@
 -- Laws of networks at rest: where no process does more on what all have put, that is the least solution.
 use Rattle.std.proofs.Common.{◌≡◌, ℕ, zero, suc, ◌+◌, ◌≤◌, List, ℤ, [], ◌∷◌, ◌++◌, length, Some, refl, sym, ap, ◌∙◌}
-use Rattle.std.proofs.Common.{subst, arith, append-nil}
+use Rattle.std.proofs.Common.{arith, append-nil}
 use Rattle.std.specs.Prelude.{slice_get}
 use Rattle.std.proofs.lemmas.List.{ext_get_or, get_or_past, length-append}
 use Rattle.kahn_net.specs.Streams.{history_of, IsPrefix, ArePrefixes}
@@ -40,49 +40,36 @@ length-put_so_far_from inputs acts number (x ∷ channels) =
 put_so_far_from-at : (inputs : List (List ℤ)) (acts : ℕ → List Step) (number : ℕ) (channels : List Channel) (c : ℕ)
     (channel : Channel) → slice_get channels c ≡ Some channel
     → history_of (put_so_far_from inputs acts number channels) c ≡ put_so_far inputs acts (number + c) channel.producer
-put_so_far_from-at inputs acts number [] c channel is = absurd (cc)
-put_so_far_from-at inputs acts number (x ∷ channels) zero channel is =
-    let same : x ≡ channel = cc in
-    let here : number ≡ number + 0 = omega arith in
-    ap (λ (y : Channel). put_so_far inputs acts number y.producer) same
-    ∙ ap (λ (n : ℕ). put_so_far inputs acts n channel.producer) here
+put_so_far_from-at inputs acts number [] c channel is = absurd cc
+put_so_far_from-at inputs acts number (x ∷ channels) zero channel is = let here : number ≡ number + 0 = omega arith in cc
 put_so_far_from-at inputs acts number (x ∷ channels) (suc c) channel is =
     let there : suc number + c ≡ number + suc c = omega arith in
-    put_so_far_from-at inputs acts (suc number) channels c channel is
-    ∙ ap (λ (n : ℕ). put_so_far inputs acts n channel.producer) there
+    rw there at (put_so_far_from-at inputs acts (suc number) channels c channel is)
 
 pub put_by_now-at : (net : Network) (inputs : List (List ℤ)) (acts : ℕ → List Step) (c : ℕ) (channel : Channel)
     → slice_get net.channels c ≡ Some channel
     → history_of (put_by_now net inputs acts) c ≡ put_so_far inputs acts c channel.producer
 put_by_now-at net inputs acts c channel is =
     let here : 0 + c ≡ c = omega arith in
-    put_so_far_from-at inputs acts 0 net.channels c channel is
-    ∙ ap (λ (n : ℕ). put_so_far inputs acts n channel.producer) here
+    rw here at (put_so_far_from-at inputs acts 0 net.channels c channel is)
 
 pub put_by_now_past : (net : Network) (inputs : List (List ℤ)) (acts : ℕ → List Step) (c : ℕ) → length net.channels ≤ c
     → history_of (put_by_now net inputs acts) c ≡ []
 put_by_now_past net inputs acts c past =
-    let count = length-put_so_far_from inputs acts 0 net.channels in
-    get_or_past (put_by_now net inputs acts) c [] (omega (arith, count, past))
+    get_or_past (put_by_now net inputs acts) c [] (omega (arith, length-put_so_far_from inputs acts 0 net.channels))
 
 -- a prefix that is as long as the whole is the whole
 pub prefix_whole : (part whole : List ℤ) → IsPrefix part whole → length whole ≤ length part → part ≡ whole
-prefix_whole part whole p few = let parts = followed part whole p in at parts.rest parts.is
+prefix_whole part whole p few = at (followed part whole p).rest (followed part whole p).is
   where
     at : (rest : List ℤ) → whole ≡ part ++ rest → part ≡ whole
     at [] is = sym (is ∙ append-nil part)
-    at (x ∷ rest) is =
-        let count : length whole ≡ length (part ++ x ∷ rest) = ap (length {A = ℤ}) is in
-        let sum : length (part ++ x ∷ rest) ≡ length part + suc (length rest) = length-append part (x ∷ rest) in
-        absurd (omega (arith, few, count, sum))
+    at (x ∷ rest) is = absurd (omega (arith, few, simp length-append at (ap (length {A = ℤ}) is)))
 
 -- two that are prefixes of one another are the same
 pub prefix_both : (xs ys : List ℤ) → IsPrefix xs ys → IsPrefix ys xs → xs ≡ ys
 prefix_both xs ys p front =
-    let q = followed ys xs front in
-    let count : length xs ≡ length (ys ++ q.rest) = ap (length {A = ℤ}) q.is in
-    let sum : length (ys ++ q.rest) ≡ length ys + length q.rest = length-append ys q.rest in
-    prefix_whole xs ys p (omega (arith, count, sum))
+    prefix_whole xs ys p (omega (arith, simp length-append at (ap (length {A = ℤ}) (followed ys xs front).is)))
 
 module _ (net : Network) (inputs : List (List ℤ)) (acts : ℕ → List Step) (valid : IsValid net) (fits : Fits net inputs)
     (all : (p : ℕ) (code : Code) → slice_get net.codes p ≡ Some code
@@ -91,27 +78,21 @@ module _ (net : Network) (inputs : List (List ℤ)) (acts : ℕ → List Step) (
   settled_is_solution : IsSolution net inputs (put_by_now net inputs acts)
   settled_is_solution = record {
     count = length-put_so_far_from inputs acts 0 net.channels;
-    inputs_agree = λ c channel is from. put_by_now-at net inputs acts c channel is ∙ ap (put_so_far inputs acts c) from;
-    equations =
-        λ c p channel code is there from. put_by_now-at net inputs acts c channel is
-        ∙ (ap (put_so_far inputs acts c) from ∙ ap (sent_on c) (sym (all p code there)));
+    inputs_agree = λ c channel is from. rw (put_by_now-at net inputs acts c channel is, from) refl;
+    equations = λ c p channel code is there from. rw (put_by_now-at net inputs acts c channel is, from, ← all p code there) refl;
   }
 
   -- and it is the approximation of which it is a beginning, since every approximation is below every solution
   pub settled_is_reached : (n : ℕ) → ArePrefixes (put_by_now net inputs acts) (approximation net inputs (suc n))
       → approximation net inputs (suc n) ≡ put_by_now net inputs acts
   settled_is_reached n below =
-      let count : length (approximation net inputs (suc n)) ≡ length net.channels =
-      length-next_from net.codes inputs (approximation net inputs n) 0 net.channels in
+      let count = length-next_from net.codes inputs (approximation net inputs n) 0 net.channels in
       let above = below_solutions net valid inputs fits (suc n) (put_by_now net inputs acts) settled_is_solution in
-      ext_get_or [] (approximation net inputs (suc n)) (put_by_now net inputs acts)
-      (count ∙ sym (length-put_so_far_from inputs acts 0 net.channels))
-      (λ c lt. prefix_both (history_of (approximation net inputs (suc n)) c)
-      (history_of (put_by_now net inputs acts) c) (above.at c) (below.at c))
+      ext_get_or [] _ _ (count ∙ sym (length-put_so_far_from inputs acts 0 net.channels))
+      (λ c lt. prefix_both _ _ (above.at c) (below.at c))
 
   -- so the approximations come to rest there
   pub settled_rests : (n : ℕ) → ArePrefixes (put_by_now net inputs acts) (approximation net inputs (suc n))
       → IsReached net inputs (suc n)
   settled_rests n below =
-      solution_is_next net valid inputs (approximation net inputs (suc n))
-      (subst (IsSolution net inputs) (sym (settled_is_reached n below)) settled_is_solution)
+      solution_is_next net valid inputs (approximation net inputs (suc n)) (rw (settled_is_reached n below) settled_is_solution)

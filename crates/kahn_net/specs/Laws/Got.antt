@@ -1,7 +1,7 @@
 -- Laws of what is got: what a trace got from a channel is a front of what was unread there, and what is left is the
 -- rest. Where it waits, nothing is left on the channel at which it waits.
-use Rattle.std.proofs.Common.{true, false, cond, pos, eqb, Bool, ◌≡◌, ◌≢◌, ◌⊎◌, ℕ, zero, suc, ◌+◌, ◌≤◌, List, ℤ, []}
-use Rattle.std.proofs.Common.{◌∷◌, ◌++◌, ◌-◌, refl, sym, ap, ◌∙◌, subst, set, drop, append_assoc, append-nil, arith}
+use Rattle.std.proofs.Common.{true, false, cond, pos, ◌≡◌, ℕ, zero, suc, ◌+◌, ◌≤◌, List, ℤ, []}
+use Rattle.std.proofs.Common.{◌∷◌, ◌++◌, ◌-◌, refl, sym, ap, ◌∙◌, set, drop, append_assoc, append-nil, arith}
 use Rattle.std.proofs.Common.{length, Option, Some, None, inl, inr, ◌==◌}
 use Rattle.std.proofs.lemmas.List.{get_or-set_same, get_or-set_other, take-append-drop, append_cancel_left}
 use Rattle.std.proofs.lemmas.List.{length-append}
@@ -15,106 +15,96 @@ use Rattle.kahn_net.specs.Statements.{Act, Got, Sent, Point, Step, Trace, End, E
 use Rattle.kahn_net.specs.Statements.{point_at, choose, on_get, no_steps, from_end, then_do, rounds, value_of, sites_of}
 use Rattle.kahn_net.specs.Processes.{Standing, NotBegun, At, Done, standing_at, HasPassingLoop, passes, loop_trace}
 use Rattle.kahn_net.specs.Processes.{process_trace, got_by, got_on}
-use Rattle.kahn_net.specs.Resuming.{passes_left, trace_on, body_on, code_on, trace_from, left_by, left_after}
+use Rattle.kahn_net.specs.Resuming.{passes_left, trace_on, body_on, trace_from, left_by, left_after}
 use Rattle.kahn_net.specs.Laws.Traces.{one_of, both_of}
 use Rattle.kahn_net.specs.Laws.Passes.{fewer_left}
-use Rattle.kahn_net.specs.Laws.Streams.{IsLonger, within, prefixes_set, not_done, longer, longer_then, longer_rounds}
+use Rattle.kahn_net.specs.Laws.Streams.{IsLonger, within, prefixes_set, longer, longer_then, longer_rounds}
 use Rattle.kahn_net.specs.Laws.Streams.{longer_loop, longer_process}
 use Rattle.kahn_net.specs.Laws.Prefixes.{IsFollowed, followed, prefix_of}
 
--- where more is unread, statements do from a site on what they did, and then more
-longer_on : (number : ℕ) (left : List ℕ) (b : Block) (site : ℕ) (inner : List ℕ) (v : List ℤ) (u w : List (List ℤ))
-    → ArePrefixes u w → IsLonger (trace_on number left b site inner v u) (trace_on number left b site inner v w)
-longer_on number left Nothing site inner v u w p = longer 0 [] Nothing v u w p
-longer_on number left (AssignThen x e b) site inner v u w p = longer_on number left b site inner v u w p
-longer_on number left (StopThen b) site inner v u w p = longer_on number left b site inner v u w p
-longer_on number left (PutThen e c b) site inner v u w p =
-    both_of IsLonger (number == site) (trace_of number left (PutThen e c b) v u)
-    (trace_on (number + 1) left b site inner v u) (trace_of number left (PutThen e c b) v w)
-    (trace_on (number + 1) left b site inner v w)
-    (longer number left (PutThen e c b) v u w p) (longer_on (number + 1) left b site inner v u w p)
-longer_on number left (GetThen x c b) site inner v u w p =
-    both_of IsLonger (number == site) (trace_of number left (GetThen x c b) v u)
-    (trace_on (number + 1) left b site inner v u) (trace_of number left (GetThen x c b) v w)
-    (trace_on (number + 1) left b site inner v w)
-    (longer number left (GetThen x c b) v u w p) (longer_on (number + 1) left b site inner v u w p)
-longer_on number left (IfThen test first second b) site inner v u w p =
-    let m = number + sites_of first in
-    let n = number + sites_of first + sites_of second in
-    let behind = trace_of n left b in
-    let one = λ (y : List (List ℤ)). then_do (trace_on number left first site inner v y) behind in
-    let two = λ (y : List (List ℤ)). then_do (trace_on m left second site inner v y) behind in
-    let three = trace_on n left b site inner v in
-    both_of IsLonger (nat_lt site m) (one u) (cond (nat_lt site n) (two u) (three u)) (one w)
-    (cond (nat_lt site n) (two w) (three w))
-    (longer_then (trace_on number left first site inner v u) (trace_on number left first site inner v w) behind behind
-    (longer_on number left first site inner v u w p) (λ v' u' w' e e' p'. longer n left b v' u' w' p'))
-    (both_of IsLonger (nat_lt site n) (two u) (three u) (two w) (three w)
-    (longer_then (trace_on m left second site inner v u) (trace_on m left second site inner v w) behind behind
-    (longer_on m left second site inner v u w p) (λ v' u' w' e e' p'. longer n left b v' u' w' p'))
-    (longer_on n left b site inner v u w p))
-longer_on number left (RepeatThen times body b) site inner v u w p =
-    let k = passes_left inner in
-    let n = number + sites_of body in
-    let pass = λ (j : ℕ). trace_of number (left ++ j ∷ []) body in
-    let behind = trace_of n left b in
-    let at_hand = λ (y : List (List ℤ)). trace_on number (left ++ k ∷ []) body site (drop 1 inner) v y in
-    let one = λ (y : List (List ℤ)). then_do (at_hand y) (rounds (k - 1) pass) in
-    both_of IsLonger (nat_lt site n) (then_do (one u) behind) (trace_on n left b site inner v u)
-    (then_do (one w) behind) (trace_on n left b site inner v w)
-    (longer_then (one u) (one w) behind behind
-    (longer_then (at_hand u) (at_hand w) (rounds (k - 1) pass) (rounds (k - 1) pass)
-    (longer_on number (left ++ k ∷ []) body site (drop 1 inner) v u w p)
-    (λ v' u' w' e e' p'. longer_rounds (k - 1) pass
-    (λ j x y z q. longer number (left ++ j ∷ []) body x y z q) v' u' w' p'))
-    (λ v' u' w' e e' p'. longer n left b v' u' w' p'))
-    (longer_on n left b site inner v u w p)
+-- What is true of two traces of each block on related items, and passes to what comes behind them, is true of the two from
+-- where a process stands.
+module _ (S : List (List ℤ) → List (List ℤ) → Type 0) (R : List (List ℤ) → List (List ℤ) → Trace → Trace → Type 0)
+    (by_then : (u w : List (List ℤ)) (t t' : Trace) (go : List ℤ → List (List ℤ) → Trace) → R u w t t'
+    → ((v : List ℤ) (u' w' : List (List ℤ)) → t.end ≡ Ended v u' → t'.end ≡ Ended v w' → S u' w'
+    → R u' w' (go v u') (go v w')) → R u w (then_do t go) (then_do t' go))
+    (block : (number : ℕ) (left : List ℕ) (b : Block) (v : List ℤ) (u w : List (List ℤ)) → S u w
+    → R u w (trace_of number left b v u) (trace_of number left b v w)) where
+  walk_rounds : (n number : ℕ) (left : List ℕ) (body : Block) (v : List ℤ) (u w : List (List ℤ)) → S u w
+      → R u w (rounds n (λ k. trace_of number (left ++ k ∷ []) body) v u) (rounds n (λ k. trace_of number (left ++ k ∷ []) body) v w)
+  walk_rounds zero number left body v u w s = block 0 [] Nothing v u w s
+  walk_rounds (suc n) number left body v u w s =
+      by_then u w _ _ (rounds n (λ k. trace_of number (left ++ k ∷ []) body)) (block number (left ++ suc n ∷ []) body v u w s)
+      (λ v' u' w' e e' s'. walk_rounds n number left body v' u' w' s')
 
-longer_body_on : (number : ℕ) (body : Option Block) (point : Point) (v : List ℤ) (u w : List (List ℤ))
-    → ArePrefixes u w → IsLonger (body_on number body point v u) (body_on number body point v w)
-longer_body_on number None point v u w p = longer 0 [] Nothing v u w p
-longer_body_on number (Some b) point v u w p = longer_on number [] b point.site point.left v u w p
+  walk_on : (number : ℕ) (left : List ℕ) (b : Block) (site : ℕ) (inner : List ℕ) (v : List ℤ) (u w : List (List ℤ)) → S u w
+      → R u w (trace_on number left b site inner v u) (trace_on number left b site inner v w)
+  walk_on number left Nothing site inner v u w s = block 0 [] Nothing v u w s
+  walk_on number left (AssignThen x e b) site inner v u w s = walk_on number left b site inner v u w s
+  walk_on number left (StopThen b) site inner v u w s = walk_on number left b site inner v u w s
+  walk_on number left (PutThen e c b) site inner v u w s =
+      both_of (R u w) (number == site) _ _ _ _ (block number left (PutThen e c b) v u w s)
+      (walk_on (number + 1) left b site inner v u w s)
+  walk_on number left (GetThen x c b) site inner v u w s =
+      both_of (R u w) (number == site) _ _ _ _ (block number left (GetThen x c b) v u w s)
+      (walk_on (number + 1) left b site inner v u w s)
+  walk_on number left (IfThen test first second b) site inner v u w s =
+      let m = number + sites_of first in
+      let n = number + sites_of first + sites_of second in
+      both_of (R u w) (nat_lt site m) _ _ _ _
+      (by_then u w _ _ (trace_of n left b) (walk_on number left first site inner v u w s) (λ v' u' w' e e'. block n left b v' u' w'))
+      (both_of (R u w) (nat_lt site n) _ _ _ _
+      (by_then u w _ _ (trace_of n left b) (walk_on m left second site inner v u w s) (λ v' u' w' e e'. block n left b v' u' w'))
+      (walk_on n left b site inner v u w s))
+  walk_on number left (RepeatThen times body b) site inner v u w s =
+      let k = passes_left inner in
+      let n = number + sites_of body in
+      both_of (R u w) (nat_lt site n) _ _ _ _
+      (by_then u w _ _ (trace_of n left b)
+      (by_then u w _ _ (rounds (k - 1) (λ j. trace_of number (left ++ j ∷ []) body))
+      (walk_on number (left ++ k ∷ []) body site (drop 1 inner) v u w s)
+      (λ v' u' w' e e'. walk_rounds (k - 1) number left body v' u' w'))
+      (λ v' u' w' e e'. block n left b v' u' w'))
+      (walk_on n left b site inner v u w s)
 
-longer_code_on : (code : Code) (point : Point) (v : List ℤ) (u w : List (List ℤ)) → ArePrefixes u w
-    → IsLonger (code_on code point v u) (code_on code point v w)
-longer_code_on code point v u w p =
-    let in_prelude = trace_on 0 [] code.prelude point.site point.left v in
-    let in_body = body_on (sites_of code.prelude) code.body point v in
-    both_of IsLonger (nat_lt point.site (sites_of code.prelude)) (in_prelude u) (in_body u) (in_prelude w) (in_body w)
-    (longer_on 0 [] code.prelude point.site point.left v u w p)
-    (longer_body_on (sites_of code.prelude) code.body point v u w p)
+  walk_body_on : (number : ℕ) (body : Option Block) (point : Point) (v : List ℤ) (u w : List (List ℤ)) → S u w
+      → R u w (body_on number body point v u) (body_on number body point v w)
+  walk_body_on number None point v u w s = block 0 [] Nothing v u w s
+  walk_body_on number (Some b) point v u w s = walk_on number [] b point.site point.left v u w s
 
--- and so does a process from where it stands
+  walk_from : (code : Code) (standing : Standing) (u w : List (List ℤ))
+      → ((v : List ℤ) (u w : List (List ℤ)) → S u w → R u w (loop_trace (sites_of code.prelude) code.body v u)
+      (loop_trace (sites_of code.prelude) code.body v w))
+      → S u w → R u w (trace_from code standing u) (trace_from code standing w)
+  walk_from code (NotBegun vars) u w loop s =
+      by_then u w _ _ (loop_trace (sites_of code.prelude) code.body) (block 0 [] code.prelude vars u w s)
+      (λ v u' w' e e'. loop v u' w')
+  walk_from code (At point vars) u w loop s =
+      by_then u w _ _ (loop_trace (sites_of code.prelude) code.body)
+      (both_of (R u w) (nat_lt point.site (sites_of code.prelude)) _ _ _ _
+      (walk_on 0 [] code.prelude point.site point.left vars u w s)
+      (walk_body_on (sites_of code.prelude) code.body point vars u w s)) (λ v u' w' e e'. loop v u' w')
+  walk_from code (Done vars) u w loop s = block 0 [] Nothing vars u w s
+
+-- where more is unread, a process does from where it stands what it did, and then more
 pub longer_from : (code : Code) (standing : Standing) (small big : List (List ℤ)) → HasPassingLoop code
     → ArePrefixes small big → IsLonger (trace_from code standing small) (trace_from code standing big)
-longer_from code (NotBegun vars) small big passing p =
-    longer_then (trace_of 0 [] code.prelude vars small) (trace_of 0 [] code.prelude vars big)
-    (loop_trace (sites_of code.prelude) code.body) (loop_trace (sites_of code.prelude) code.body)
-    (longer 0 [] code.prelude vars small big p)
-    (λ v u w e e' p'. longer_loop (sites_of code.prelude) code.body v u w passing p')
-longer_from code (At point vars) small big passing p =
-    longer_then (code_on code point vars small) (code_on code point vars big)
-    (loop_trace (sites_of code.prelude) code.body) (loop_trace (sites_of code.prelude) code.body)
-    (longer_code_on code point vars small big p)
-    (λ v u w e e' p'. longer_loop (sites_of code.prelude) code.body v u w passing p')
-longer_from code (Done vars) small big passing p = longer 0 [] Nothing vars small big p
+longer_from code standing small big passing p =
+    walk_from ArePrefixes (λ u w. IsLonger) (λ u w t t' go. longer_then t t' go go) longer code standing small big
+    (λ v u w. longer_loop (sites_of code.prelude) code.body v u w passing) p
+
+-- what an act gets stands before what is got later
+got_by-append : (channel : ℕ) (a : Act) (xs ys : List ℤ) → got_by channel a (xs ++ ys) ≡ got_by channel a xs ++ ys
+got_by-append channel (Sent c v) xs ys = refl
+got_by-append channel (Got c v) xs ys =
+    elim (c == channel) as (λ b. cond b (v ∷ (xs ++ ys)) (xs ++ ys) ≡ cond b (v ∷ xs) xs ++ ys) [ true ↦ refl | false ↦ refl ]
 
 -- After steps and then others
 pub got_on-append : (channel : ℕ) (xs ys : List Step)
     → got_on channel (xs ++ ys) ≡ got_on channel xs ++ got_on channel ys
 got_on-append channel [] ys = refl
 got_on-append channel (s ∷ xs) ys =
-    got_by-append s.act (got_on channel xs) (got_on channel (xs ++ ys)) (got_on-append channel xs ys)
-  where
-    cond_append : (b : Bool) (v : ℤ) (xs zs : List ℤ) → cond b (v ∷ (xs ++ zs)) (xs ++ zs) ≡ cond b (v ∷ xs) xs ++ zs
-    cond_append true v xs zs = refl
-    cond_append false v xs zs = refl
-
-    got_by-append : (a : Act) (xs zs : List ℤ) → zs ≡ xs ++ got_on channel ys
-        → got_by channel a zs ≡ got_by channel a xs ++ got_on channel ys
-    got_by-append (Sent c v) xs zs e = e
-    got_by-append (Got c v) xs zs e =
-        ap (λ (w : List ℤ). cond (c == channel) (v ∷ w) w) e ∙ cond_append (c == channel) v xs (got_on channel ys)
+    rw (got_on-append channel xs ys) (got_by-append channel s.act (got_on channel xs) (got_on channel ys))
 
 pub left_after-append : (xs ys : List Step) (unread : List (List ℤ))
     → left_after (xs ++ ys) unread ≡ left_after ys (left_after xs unread)
@@ -148,37 +138,27 @@ pub reading_first : (xs ys : List Step) (unread : List (List ℤ)) → IsReading
 reading_first [] ys unread h = tt
 reading_first (x ∷ xs) ys unread h = (h.0, reading_first xs ys (left_by x.act unread) h.1)
 
+same_number : (n : ℕ) → (n == n) ≡ true
+same_number n = grind (arith, nat_tests)
+
+-- the item that an act gets stood before what is then left
+got_one : (a : Act) (unread : List (List ℤ)) (c : ℕ) → IsNextItem a unread
+    → history_of unread c ≡ got_by c a (history_of (left_by a unread) c)
+got_one (Sent d item) unread c next = refl
+got_one (Got d item) unread c next =
+    let here = within unread d item next.0 next.1 in
+    elim (eqb_tells d c) [
+      | inl same ↦ rw (← same.1, next.1, same_number d, get_or-set_same unread d next.0 [] here) refl
+      | inr other ↦ rw (next.1, other.0) (sym (get_or-set_other unread d c next.0 [] (λ e. other.1 (sym e))))
+    ]
+
 -- what was got is a front, and what is left the rest
 pub got_and_left : (steps : List Step) (unread : List (List ℤ)) (c : ℕ) → IsReading steps unread
     → history_of unread c ≡ got_on c steps ++ history_of (left_after steps unread) c
 got_and_left [] unread c h = refl
-got_and_left (s ∷ steps) unread c h = at_act s.act h.0 (got_and_left steps (left_by s.act unread) c h.1)
-  where
-    at_got : (d : ℕ) (item : ℤ) (left rest : List ℤ) → history_of unread d ≡ item ∷ left
-        → ((eqb d c ≡ true) × (d ≡ c)) ⊎ ((eqb d c ≡ false) × (d ≢ c))
-        → history_of (set unread d left) c ≡ got_on c steps ++ rest
-        → history_of unread c ≡ cond (eqb d c) (item ∷ got_on c steps) (got_on c steps) ++ rest
-    at_got d item left rest is (inl same) later =
-        let here : history_of unread c ≡ item ∷ left = subst (λ (n : ℕ). history_of unread n ≡ item ∷ left) same.1 is in
-        let there : history_of (set unread d left) c ≡ left =
-        subst (λ (n : ℕ). history_of (set unread d left) n ≡ left) same.1
-        (get_or-set_same unread d left [] (within unread d item left is)) in
-        here ∙ (ap (λ (x : List ℤ). item ∷ x) (sym there ∙ later)
-        ∙ ap (λ (b : Bool). cond b (item ∷ got_on c steps) (got_on c steps) ++ rest) (sym same.0))
-    at_got d item left rest is (inr other) later =
-        let ne : c ≡ d → ⊥ = λ e. other.1 (sym e) in
-        sym (get_or-set_other unread d c left [] ne)
-        ∙ (later ∙ ap (λ (b : Bool). cond b (item ∷ got_on c steps) (got_on c steps) ++ rest) (sym other.0))
-
-    at_act : (a : Act) → IsNextItem a unread
-        → history_of (left_by a unread) c ≡ got_on c steps ++ history_of (left_after steps (left_by a unread)) c
-        → history_of unread c ≡ got_by c a (got_on c steps) ++ history_of (left_after steps (left_by a unread)) c
-    at_act (Sent d item) n later = later
-    at_act (Got d item) n later =
-        let same : set unread d (drop 1 (history_of unread d)) ≡ set unread d n.0 =
-        ap (λ (x : List ℤ). set unread d (drop 1 x)) n.1 in
-        at_got d item n.0 (history_of (left_after steps (left_by (Got d item) unread)) c) n.1 (eqb_tells d c)
-        (ap (λ (x : List (List ℤ)). history_of x c) (sym same) ∙ later)
+got_and_left (s ∷ steps) unread c h =
+    got_one s.act unread c h.0 ∙ (ap (got_by c s.act) (got_and_left steps (left_by s.act unread) c h.1)
+    ∙ got_by-append c s.act (got_on c steps) _)
 
 -- what one does after the other
 pub reads_then : (t : Trace) (go : List ℤ → List (List ℤ) → Trace) (unread : List (List ℤ)) → Reads t unread
@@ -187,41 +167,26 @@ reads_then t go unread r next = at_end t.end refl
   where
     at_end : (e : End) → t.end ≡ e
         → Reads (record { steps = t.steps ++ (from_end e go).steps; end = (from_end e go).end }) unread
-    at_end (Waits s y c) is =
-        let same : t.steps ≡ t.steps ++ [] = sym (append-nil t.steps) in
-        record {
-          reading = subst (λ (x : List Step). IsReading x unread) same r.reading;
-          left = λ v u e. absurd (cc);
-          empty = λ s' v d e. ap (λ (x : List Step). history_of (left_after x unread) d) (append-nil t.steps)
-              ∙ r.empty s' v d (is ∙ e);
-        }
+    at_end (Waits s y c) is = record {
+      reading = rw append-nil r.reading;
+      left = λ v u e. absurd cc;
+      empty = λ s' v d e. rw append-nil (r.empty s' v d (is ∙ e));
+    }
     at_end (Stopped y) is =
-        let same : t.steps ≡ t.steps ++ [] = sym (append-nil t.steps) in
-        record {
-          reading = subst (λ (x : List Step). IsReading x unread) same r.reading;
-          left =
-              λ v u e. absurd (cc);
-          empty = λ s' v d e. absurd (cc);
-        }
+        record { reading = rw append-nil r.reading; left = λ v u e. absurd cc; empty = λ s' v d e. absurd cc }
     at_end (Ended v u) is =
         let n = next v u is in
-        let l = r.left v u is in
         let after : left_after (t.steps ++ (go v u).steps) unread ≡ left_after (go v u).steps u =
-        left_after-append t.steps (go v u).steps unread ∙ ap (left_after (go v u).steps) l in
+        left_after-append t.steps (go v u).steps unread ∙ ap (left_after (go v u).steps) (r.left v u is) in
         record {
-          reading =
-              reading-append t.steps (go v u).steps unread r.reading
-              (subst (λ (x : List (List ℤ)). IsReading (go v u).steps x) (sym l) n.reading);
+          reading = reading-append t.steps (go v u).steps unread r.reading (rw (r.left v u is) n.reading);
           left = λ v' u' e. after ∙ n.left v' u' e;
-          empty = λ s' v' d e. ap (λ (x : List (List ℤ)). history_of x d) after ∙ n.empty s' v' d e;
+          empty = λ s' v' d e. rw after (n.empty s' v' d e);
         }
 
 -- with nothing to do
 reads_none : (vars : List ℤ) (unread : List (List ℤ)) → Reads (no_steps (Ended vars unread)) unread
-reads_none vars unread = record { reading = tt; left = λ v u e. same v u e; empty = λ s v c e. absurd (cc) }
-  where
-    same : (v : List ℤ) (u : List (List ℤ)) → Ended vars unread ≡ Ended v u → unread ≡ u
-    same v u e = cc
+reads_none vars unread = record { reading = tt; left = λ v u e. cc; empty = λ s v c e. absurd cc }
 
 -- so many passes
 pub reads_rounds : (n : ℕ) (pass : ℕ → List ℤ → List (List ℤ) → Trace)
@@ -242,7 +207,7 @@ reads_block site left (PutThen e c rest) vars unread =
     let r = reads_block (site + 1) left rest vars unread in
     record { reading = (tt, r.reading); left = r.left; empty = r.empty }
 reads_block site left (StopThen rest) vars unread =
-    record { reading = tt; left = λ v u e. absurd (cc); empty = λ s v c e. absurd (cc) }
+    record { reading = tt; left = λ v u e. absurd cc; empty = λ s v c e. absurd cc }
 reads_block site left (IfThen test first second rest) vars unread =
     let one = trace_of site left first vars unread in
     let other = trace_of (site + sites_of first) left second vars unread in
@@ -257,29 +222,19 @@ reads_block site left (RepeatThen times body rest) vars unread =
     (reads_rounds times pass (λ k v u. reads_block site (left ++ k ∷ []) body v u) vars unread)
     (λ v u e. reads_block (site + sites_of body) left rest v u)
 reads_block site left (GetThen x c rest) vars unread =
-    at_get (history_of unread c) refl
-    (λ item later. reads_block (site + 1) left rest (set vars x item) (set unread c later))
-  where
-    at_get : (history : List ℤ) → history_of unread c ≡ history
-        → ((item : ℤ) (later : List ℤ)
-        → Reads (trace_of (site + 1) left rest (set vars x item) (set unread c later)) (set unread c later))
-        → Reads (on_get history (point_at site left) c vars
-        (λ item later. trace_of (site + 1) left rest (set vars x item) (set unread c later))) unread
-    at_get [] is reads_later =
-        record {
-          reading = tt;
-          left = λ v u e. absurd (cc);
-          empty =
-              λ s v d e. (let same : c ≡ d = cc in subst (λ (n : ℕ). history_of unread n ≡ []) same is);
-        }
-    at_get (item ∷ later) is reads_later =
-        let r = reads_later item later in
-        let same : set unread c later ≡ set unread c (drop 1 (history_of unread c)) =
-        sym (ap (λ (z : List ℤ). set unread c (drop 1 z)) is) in
-        let t = trace_of (site + 1) left rest (set vars x item) (set unread c later) in
-        let r2 : Reads t (set unread c (drop 1 (history_of unread c))) =
-        subst (λ (z : List (List ℤ)). Reads t z) same r in
-        record { reading = ((later, is), r2.reading); left = r2.left; empty = r2.empty }
+    let go = λ (item : ℤ) (later : List ℤ). trace_of (site + 1) left rest (set vars x item) (set unread c later) in
+    (elim (history_of unread c) as (λ history. history_of unread c ≡ history
+    → Reads (on_get history (point_at site left) c vars go) unread) [
+      | [] ↦ λ is. record {
+        reading = tt;
+        left = λ v u e. absurd cc;
+        empty = λ s v d e. let same : c ≡ d = cc in rw (← same) is;
+      }
+      | item ∷ later ↦ λ is.
+          let r : Reads (go item later) (set unread c (drop 1 (history_of unread c))) =
+          rw is (reads_block (site + 1) left rest (set vars x item) (set unread c later)) in
+          record { reading = ((later, is), r.reading); left = r.left; empty = r.empty }
+    ]) refl
 
 -- whole passes
 pub reads_passes : (n site : ℕ) (b : Block) (vars : List ℤ) (unread : List (List ℤ))
@@ -295,74 +250,20 @@ pub reads_loop : (site : ℕ) (body : Option Block) (vars : List ℤ) (unread : 
 reads_loop site None vars unread = reads_block 0 [] Nothing vars unread
 reads_loop site (Some b) vars unread = reads_passes (suc (total unread)) site b vars unread
 
--- statements from a site on
-reads_on : (number : ℕ) (left : List ℕ) (b : Block) (site : ℕ) (inner : List ℕ) (vars : List ℤ)
-    (unread : List (List ℤ)) → Reads (trace_on number left b site inner vars unread) unread
-reads_on number left Nothing site inner vars unread = reads_block 0 [] Nothing vars unread
-reads_on number left (AssignThen x e b) site inner vars unread = reads_on number left b site inner vars unread
-reads_on number left (StopThen b) site inner vars unread = reads_on number left b site inner vars unread
-reads_on number left (PutThen e c b) site inner vars unread =
-    one_of (λ (t : Trace). Reads t unread) (number == site) (trace_of number left (PutThen e c b) vars unread)
-    (trace_on (number + 1) left b site inner vars unread)
-    (reads_block number left (PutThen e c b) vars unread) (reads_on (number + 1) left b site inner vars unread)
-reads_on number left (GetThen x c b) site inner vars unread =
-    one_of (λ (t : Trace). Reads t unread) (number == site) (trace_of number left (GetThen x c b) vars unread)
-    (trace_on (number + 1) left b site inner vars unread)
-    (reads_block number left (GetThen x c b) vars unread) (reads_on (number + 1) left b site inner vars unread)
-reads_on number left (IfThen test first second b) site inner vars unread =
-    let m = number + sites_of first in
-    let n = number + sites_of first + sites_of second in
-    let behind = trace_of n left b in
-    let one = then_do (trace_on number left first site inner vars unread) behind in
-    let two = then_do (trace_on m left second site inner vars unread) behind in
-    let three = trace_on n left b site inner vars unread in
-    one_of (λ (t : Trace). Reads t unread) (nat_lt site m) one (cond (nat_lt site n) two three)
-    (reads_then (trace_on number left first site inner vars unread) behind unread
-    (reads_on number left first site inner vars unread) (λ v u e. reads_block n left b v u))
-    (one_of (λ (t : Trace). Reads t unread) (nat_lt site n) two three
-    (reads_then (trace_on m left second site inner vars unread) behind unread
-    (reads_on m left second site inner vars unread) (λ v u e. reads_block n left b v u))
-    (reads_on n left b site inner vars unread))
-reads_on number left (RepeatThen times body b) site inner vars unread =
-    let k = passes_left inner in
-    let n = number + sites_of body in
-    let pass = λ (j : ℕ). trace_of number (left ++ j ∷ []) body in
-    let behind = trace_of n left b in
-    let at_hand = trace_on number (left ++ k ∷ []) body site (drop 1 inner) vars unread in
-    let one = then_do at_hand (rounds (k - 1) pass) in
-    one_of (λ (t : Trace). Reads t unread) (nat_lt site n) (then_do one behind)
-    (trace_on n left b site inner vars unread)
-    (reads_then one behind unread
-    (reads_then at_hand (rounds (k - 1) pass) unread
-    (reads_on number (left ++ k ∷ []) body site (drop 1 inner) vars unread)
-    (λ v u e. reads_rounds (k - 1) pass (λ j x y. reads_block number (left ++ j ∷ []) body x y) v u))
-    (λ v u e. reads_block n left b v u))
-    (reads_on n left b site inner vars unread)
-
-reads_body_on : (number : ℕ) (body : Option Block) (point : Point) (vars : List ℤ) (unread : List (List ℤ))
-    → Reads (body_on number body point vars unread) unread
-reads_body_on number None point vars unread = reads_block 0 [] Nothing vars unread
-reads_body_on number (Some b) point vars unread = reads_on number [] b point.site point.left vars unread
-
-reads_code_on : (code : Code) (point : Point) (vars : List ℤ) (unread : List (List ℤ))
-    → Reads (code_on code point vars unread) unread
-reads_code_on code point vars unread =
-    one_of (λ (t : Trace). Reads t unread) (nat_lt point.site (sites_of code.prelude))
-    (trace_on 0 [] code.prelude point.site point.left vars unread)
-    (body_on (sites_of code.prelude) code.body point vars unread)
-    (reads_on 0 [] code.prelude point.site point.left vars unread)
-    (reads_body_on (sites_of code.prelude) code.body point vars unread)
-
 -- a process from where it stands
 pub reads_from : (code : Code) (standing : Standing) (unread : List (List ℤ))
     → Reads (trace_from code standing unread) unread
-reads_from code (NotBegun vars) unread =
-    reads_then (trace_of 0 [] code.prelude vars unread) (loop_trace (sites_of code.prelude) code.body) unread
-    (reads_block 0 [] code.prelude vars unread) (λ v u e. reads_loop (sites_of code.prelude) code.body v u)
-reads_from code (At point vars) unread =
-    reads_then (code_on code point vars unread) (loop_trace (sites_of code.prelude) code.body) unread
-    (reads_code_on code point vars unread) (λ v u e. reads_loop (sites_of code.prelude) code.body v u)
-reads_from code (Done vars) unread = reads_block 0 [] Nothing vars unread
+reads_from code standing unread =
+    (walk_from (λ u w. u ≡ w) (λ u w t t'. (t ≡ t') × Reads t u)
+    (λ u w t t' go r next. (
+      ap (λ (x : Trace). then_do x go) r.0,
+      reads_then t go u r.1 (λ v u' e. (next v u' u' e (rw r.0 at e) refl).1),
+    ))
+    (λ number left b v u w same. (ap (trace_of number left b v) same, reads_block number left b v u)) code standing unread unread
+    (λ v u w same. (
+      ap (loop_trace (sites_of code.prelude) code.body v) same,
+      reads_loop (sites_of code.prelude) code.body v u,
+    )) refl).1
 
 -- a process
 pub reads_process : (code : Code) (inputs : List (List ℤ)) → Reads (process_trace code inputs) inputs
@@ -374,7 +275,7 @@ pub reads_steps : (t : Trace) (unread : List (List ℤ)) (m c : ℕ) → Reads t
 reads_steps t unread m c r =
     got_and_left (take m t.steps) unread c
     (reading_first (take m t.steps) (drop m t.steps) unread
-    (subst (λ (x : List Step). IsReading x unread) (sym (take-append-drop m t.steps)) r.reading))
+    (rw (take-append-drop m t.steps) r.reading))
 
 -- what a process got is a front of its inputs, and what is left is the rest
 pub reads : (code : Code) (inputs : List (List ℤ)) (m c : ℕ)
@@ -412,8 +313,8 @@ pub record NextIsGet (t long : Trace) : Type 0 where
 
 -- what begins the first part begins the whole
 gets_first : (c : ℕ) (xs ys more : List Step) → GetsNext c xs → (xs ≡ [] → ys ≡ []) → xs ++ ys ≡ more → GetsNext c more
-gets_first c [] ys more g h e = subst (GetsNext c) (sym (h refl) ∙ e) tt
-gets_first c (x ∷ xs) ys more g h e = subst (GetsNext c) e g
+gets_first c [] ys more g h e = rw (← e, h refl) tt
+gets_first c (x ∷ xs) ys more g h e = rw (← e) g
 
 -- what one does after the other
 pub next_then : (t long : Trace) (go go' : List ℤ → List (List ℤ) → Trace) → IsLonger t long → NextIsGet t long
@@ -423,37 +324,24 @@ next_then t long go go' l g next = at_end t.end refl
   where
     nothing_after : (e : End) (s : Point) (y : List ℤ) → standing_at [] e ≡ At s y → (from_end e go').steps ≡ []
     nothing_after (Waits s' y' c') s y h = refl
-    nothing_after (Ended y' z) s y h = absurd (not_done y' y s h)
-    nothing_after (Stopped y') s y h = absurd (not_done y' y s h)
+    nothing_after (Ended y' z) s y h = absurd cc
+    nothing_after (Stopped y') s y h = absurd cc
 
     at_end : (e : End) → t.end ≡ e
         → NextIsGet (record { steps = t.steps ++ (from_end e go).steps; end = (from_end e go).end }) (then_do long go')
     at_end (Waits s y c) is = record {
-      next = λ s' y' d e more h.
-          let first = g.next s' y' d (is ∙ e) l.more l.steps in
-          let stands = l.stands s y (ap (standing_at []) is) in
-          gets_first d l.more (from_end long.end go').steps more first
-          (λ n. nothing_after long.end s y (ap (λ (x : List Step). standing_at x long.end) (sym n) ∙ stands))
-          (append_cancel_left t.steps (l.more ++ (from_end long.end go').steps) more
-          (sym (append_assoc t.steps l.more (from_end long.end go').steps)
-          ∙ (ap (λ (x : List Step). x ++ (from_end long.end go').steps) (sym l.steps)
-          ∙ (h ∙ ap (λ (x : List Step). x ++ more) (append-nil t.steps)))));
+      next = λ s' y' d e more h. let stands = l.stands s y (rw is refl) in
+          gets_first d l.more (from_end long.end go').steps more (g.next s' y' d (is ∙ e) l.more l.steps)
+          (λ n. nothing_after long.end s y (rw n at stands)) (append_cancel_left t.steps _ more
+          (sym (append_assoc t.steps l.more _) ∙ rw (l.steps, append-nil) at h));
     }
-    at_end (Stopped y) is = record { next = λ s' y' d e more h. absurd (cc) }
+    at_end (Stopped y) is = record { next = λ s' y' d e more h. absurd cc }
     at_end (Ended v u) is =
         let e = l.ends v u is in
-        let w = e.1.0 in
-        let n = next v u w is e.1.1 e.1.2 in
-        let same : from_end long.end go' ≡ go' v w = ap (λ (x : End). from_end x go') e.1.1 in
-        let n2 : NextIsGet (go v u) (from_end long.end go') =
-        subst (λ (x : Trace). NextIsGet (go v u) x) (sym same) n in
-        let whole : long.steps ≡ t.steps = l.steps ∙ (ap (λ (x : List Step). t.steps ++ x) e.0 ∙ append-nil t.steps) in
+        let n = next v u e.1.0 is e.1.1 e.1.2 in
         record {
-          next = λ s' y' d is' more h.
-              n2.next s' y' d is' more
-              (append_cancel_left t.steps (from_end long.end go').steps ((go v u).steps ++ more)
-              (ap (λ (x : List Step). x ++ (from_end long.end go').steps) (sym whole)
-              ∙ (h ∙ append_assoc t.steps (go v u).steps more)));
+          next = λ s' y' d is' more h. n.next s' y' d is' more (append_cancel_left t.steps _ _
+              (rw (l.steps, e.0, e.1.1, append-nil, append_assoc) at h));
         }
 
 -- so many passes
@@ -461,26 +349,39 @@ pub next_rounds : (n : ℕ) (pass : ℕ → List ℤ → List (List ℤ) → Tra
     → ((k : ℕ) (v : List ℤ) (u w : List (List ℤ)) → ArePrefixes u w → IsLonger (pass k v u) (pass k v w))
     → ((k : ℕ) (v : List ℤ) (u w : List (List ℤ)) → ArePrefixes u w → NextIsGet (pass k v u) (pass k v w))
     → (v : List ℤ) (u w : List (List ℤ)) → ArePrefixes u w → NextIsGet (rounds n pass v u) (rounds n pass v w)
-next_rounds zero pass l h v u w p = record { next = λ s v' d e more h. absurd (cc) }
+next_rounds zero pass l h v u w p = record { next = λ s v' d e more h. absurd cc }
 next_rounds (suc n) pass l h v u w p =
     next_then (pass (suc n) v u) (pass (suc n) v w) (rounds n pass) (rounds n pass) (l (suc n) v u w p)
     (h (suc n) v u w p) (λ v' u' w' e e' p'. next_rounds n pass l h v' u' w' p')
 
+-- what a get does, and what comes behind it
+next_get : (point : Point) (c : ℕ) (v : List ℤ) (go go' : ℤ → List ℤ → Trace) (h h' : List ℤ) → IsFollowed h h'
+    → ((item : ℤ) (l l' rest : List ℤ) → h ≡ item ∷ l → h' ≡ item ∷ l' → l' ≡ l ++ rest → NextIsGet (go item l) (go' item l'))
+    → NextIsGet (on_get h point c v go) (on_get h' point c v go')
+next_get point c v go go' [] h' m later = record { next = λ s' v' d is more e. first h' d s' v' more is e }
+  where
+    first : (h' : List ℤ) (d : ℕ) (s' : Point) (v' : List ℤ) (more : List Step) → Waits point v c ≡ Waits s' v' d
+        → (on_get h' point c v go').steps ≡ more → GetsNext d more
+    first [] d s' v' more is e = rw (← e) tt
+    first (y ∷ ys) d s' v' more is e = rw (← e) (cc)
+next_get point c v go go' (z ∷ zs) [] m later = let bad = m.is in absurd cc
+next_get point c v go go' (z ∷ zs) (y ∷ ys) m later =
+    let both = m.is in
+    let same : y ≡ z = cc in
+    let tail : ys ≡ zs ++ m.rest = cc in
+    let r = later z zs ys m.rest refl (cc) tail in
+    record { next = λ s' v' d is more e. r.next s' v' d is more (cc) }
+
 -- what statements do
 pub next_block : (site : ℕ) (left : List ℕ) (b : Block) (v : List ℤ) (u w : List (List ℤ)) → ArePrefixes u w
     → NextIsGet (trace_of site left b v u) (trace_of site left b v w)
-next_block site left Nothing v u w p = record { next = λ s v' d e more h. absurd (cc) }
+next_block site left Nothing v u w p = record { next = λ s v' d e more h. absurd cc }
 next_block site left (AssignThen x e b) v u w p =
     let r = next_block site left b (set v x (value_of e v)) u w p in record { next = r.next }
 next_block site left (PutThen e c b) v u w p =
     let r = next_block (site + 1) left b v u w p in
-    record { next = λ s v' d is more h. r.next s v' d is more (later more h) }
-  where
-    later : (more : List Step)
-        → (trace_of site left (PutThen e c b) v w).steps ≡ (trace_of site left (PutThen e c b) v u).steps ++ more
-        → (trace_of (site + 1) left b v w).steps ≡ (trace_of (site + 1) left b v u).steps ++ more
-    later more h = cc
-next_block site left (StopThen b) v u w p = record { next = λ s v' d e more h. absurd (cc) }
+    record { next = λ s v' d is more h. r.next s v' d is more (cc) }
+next_block site left (StopThen b) v u w p = record { next = λ s v' d e more h. absurd cc }
 next_block site left (IfThen test first second b) v u w p =
     let one = trace_of site left first v in
     let other = trace_of (site + sites_of first) left second v in
@@ -501,58 +402,9 @@ next_block site left (RepeatThen times body b) v u w p =
     (next_rounds times pass further (λ k x y z q. next_block site (left ++ k ∷ []) body x y z q) v u w p)
     (λ v' u' w' e e' p'. next_block (site + sites_of body) left b v' u' w' p')
 next_block site left (GetThen x c b) v u w p =
-    at_get (history_of u c) (history_of w c) refl refl (followed (history_of u c) (history_of w c) (p.at c))
-    (λ item l l' q. next_block (site + 1) left b (set v x item) (set u c l) (set w c l') q)
-  where
-    first : (d : ℕ) (s' : Point) (v' : List ℤ) (ys : List ℤ) (more : List Step)
-        → Waits (point_at site left) v c ≡ Waits s' v' d
-        → (on_get ys (point_at site left) c v
-        (λ item later. trace_of (site + 1) left b (set v x item) (set w c later))).steps ≡ more → GetsNext d more
-    first d s' v' ys [] is h = tt
-    first d s' v' [] (z ∷ more) is h = absurd (cc)
-    first d s' v' (y ∷ ys) (z ∷ more) is h =
-        let same : c ≡ d = cc in
-        let step : Step = record { point = point_at site left; vars = v; act = Got c y } in
-        let head : step ≡ z = cc in
-        subst (λ (k : Step). IsGetFrom d k.act) head same
-
-    at_get : (h h' : List ℤ) → history_of u c ≡ h → history_of w c ≡ h' → IsFollowed (history_of u c) (history_of w c)
-        → ((item : ℤ) (l l' : List ℤ) → ArePrefixes (set u c l) (set w c l')
-        → NextIsGet (trace_of (site + 1) left b (set v x item) (set u c l))
-        (trace_of (site + 1) left b (set v x item) (set w c l')))
-        → NextIsGet
-        (on_get h (point_at site left) c v
-        (λ item later. trace_of (site + 1) left b (set v x item) (set u c later)))
-        (on_get h' (point_at site left) c v
-        (λ item later. trace_of (site + 1) left b (set v x item) (set w c later)))
-    at_get [] ys hu hw m later = record { next = λ s' v' d is more e. first d s' v' ys more is e }
-    at_get (z ∷ zs) [] hu hw m later = let bad : [] ≡ (z ∷ zs) ++ m.rest =
-        sym hw ∙ (m.is ∙ ap (λ (q : List ℤ). q ++ m.rest) hu) in absurd (cc)
-    at_get (z ∷ zs) (y ∷ ys) hu hw m later =
-        let both : y ∷ ys ≡ z ∷ (zs ++ m.rest) = sym hw ∙ (m.is ∙ ap (λ (q : List ℤ). q ++ m.rest) hu) in
-        let same : z ≡ y = cc in
-        let tail : ys ≡ zs ++ m.rest = cc in
-        let r = later z zs ys (prefixes_set u w c z y zs m.rest ys p hu hw tail) in
-        let r2 : NextIsGet
-        (on_get (z ∷ zs) (point_at site left) c v
-        (λ item later. trace_of (site + 1) left b (set v x item) (set u c later)))
-        (on_get (z ∷ ys) (point_at site left) c v
-        (λ item later. trace_of (site + 1) left b (set v x item) (set w c later))) =
-        record { next = λ s' v' d is more e. r.next s' v' d is more (after z zs ys more e) } in
-        subst (λ (i : ℤ). NextIsGet
-        (on_get (z ∷ zs) (point_at site left) c v
-        (λ item later. trace_of (site + 1) left b (set v x item) (set u c later)))
-        (on_get (i ∷ ys) (point_at site left) c v
-        (λ item later. trace_of (site + 1) left b (set v x item) (set w c later)))) same r2
-      where
-        after : (z : ℤ) (zs ys : List ℤ) (more : List Step)
-            → (on_get (z ∷ ys) (point_at site left) c v
-            (λ item later. trace_of (site + 1) left b (set v x item) (set w c later))).steps
-            ≡ (on_get (z ∷ zs) (point_at site left) c v
-            (λ item later. trace_of (site + 1) left b (set v x item) (set u c later))).steps ++ more
-            → (trace_of (site + 1) left b (set v x z) (set w c ys)).steps
-            ≡ (trace_of (site + 1) left b (set v x z) (set u c zs)).steps ++ more
-        after z zs ys more e = cc
+    next_get (point_at site left) c v _ _ (history_of u c) (history_of w c) (followed _ _ (p.at c))
+    (λ item l l' rest here there more. next_block (site + 1) left b (set v x item) (set u c l) (set w c l')
+    (prefixes_set u w c item item l rest l' p here there more))
 
 -- whole passes
 pub next_passes : (n m site : ℕ) (b : Block) (v : List ℤ) (u w : List (List ℤ)) → IsTrue (is_passing b) → total u ≤ n
@@ -580,89 +432,20 @@ next_loop site None v u w passing p = next_block 0 [] Nothing v u w p
 next_loop site (Some b) v u w passing p =
     next_passes (total u) (total w) site b v u w (passing b refl) (omega arith) (omega arith) p
 
--- statements from a site on
-next_on_block : (number : ℕ) (left : List ℕ) (b : Block) (site : ℕ) (inner : List ℕ) (v : List ℤ) (u w : List (List ℤ))
-    → ArePrefixes u w → NextIsGet (trace_on number left b site inner v u) (trace_on number left b site inner v w)
-next_on_block number left Nothing site inner v u w p = next_block 0 [] Nothing v u w p
-next_on_block number left (AssignThen x e b) site inner v u w p = next_on_block number left b site inner v u w p
-next_on_block number left (StopThen b) site inner v u w p = next_on_block number left b site inner v u w p
-next_on_block number left (PutThen e c b) site inner v u w p =
-    both_of NextIsGet (number == site) (trace_of number left (PutThen e c b) v u)
-    (trace_on (number + 1) left b site inner v u) (trace_of number left (PutThen e c b) v w)
-    (trace_on (number + 1) left b site inner v w)
-    (next_block number left (PutThen e c b) v u w p) (next_on_block (number + 1) left b site inner v u w p)
-next_on_block number left (GetThen x c b) site inner v u w p =
-    both_of NextIsGet (number == site) (trace_of number left (GetThen x c b) v u)
-    (trace_on (number + 1) left b site inner v u) (trace_of number left (GetThen x c b) v w)
-    (trace_on (number + 1) left b site inner v w)
-    (next_block number left (GetThen x c b) v u w p) (next_on_block (number + 1) left b site inner v u w p)
-next_on_block number left (IfThen test first second b) site inner v u w p =
-    let m = number + sites_of first in
-    let n = number + sites_of first + sites_of second in
-    let behind = trace_of n left b in
-    let one = λ (y : List (List ℤ)). then_do (trace_on number left first site inner v y) behind in
-    let two = λ (y : List (List ℤ)). then_do (trace_on m left second site inner v y) behind in
-    let three = trace_on n left b site inner v in
-    both_of NextIsGet (nat_lt site m) (one u) (cond (nat_lt site n) (two u) (three u)) (one w)
-    (cond (nat_lt site n) (two w) (three w))
-    (next_then (trace_on number left first site inner v u) (trace_on number left first site inner v w) behind behind
-    (longer_on number left first site inner v u w p) (next_on_block number left first site inner v u w p)
-    (λ v' u' w' e e' p'. next_block n left b v' u' w' p'))
-    (both_of NextIsGet (nat_lt site n) (two u) (three u) (two w) (three w)
-    (next_then (trace_on m left second site inner v u) (trace_on m left second site inner v w) behind behind
-    (longer_on m left second site inner v u w p) (next_on_block m left second site inner v u w p)
-    (λ v' u' w' e e' p'. next_block n left b v' u' w' p'))
-    (next_on_block n left b site inner v u w p))
-next_on_block number left (RepeatThen times body b) site inner v u w p =
-    let k = passes_left inner in
-    let n = number + sites_of body in
-    let pass = λ (j : ℕ). trace_of number (left ++ j ∷ []) body in
-    let behind = trace_of n left b in
-    let further = λ (j : ℕ) (x : List ℤ) (y z : List (List ℤ)) (q : ArePrefixes y z).
-    longer number (left ++ j ∷ []) body x y z q in
-    let at_hand = λ (y : List (List ℤ)). trace_on number (left ++ k ∷ []) body site (drop 1 inner) v y in
-    let one = λ (y : List (List ℤ)). then_do (at_hand y) (rounds (k - 1) pass) in
-    let at_hand_longer = longer_on number (left ++ k ∷ []) body site (drop 1 inner) v u w p in
-    both_of NextIsGet (nat_lt site n) (then_do (one u) behind) (trace_on n left b site inner v u)
-    (then_do (one w) behind) (trace_on n left b site inner v w)
-    (next_then (one u) (one w) behind behind
-    (longer_then (at_hand u) (at_hand w) (rounds (k - 1) pass) (rounds (k - 1) pass) at_hand_longer
-    (λ v' u' w' e e' p'. longer_rounds (k - 1) pass further v' u' w' p'))
-    (next_then (at_hand u) (at_hand w) (rounds (k - 1) pass) (rounds (k - 1) pass) at_hand_longer
-    (next_on_block number (left ++ k ∷ []) body site (drop 1 inner) v u w p)
-    (λ v' u' w' e e' p'. next_rounds (k - 1) pass further
-    (λ j x y z q. next_block number (left ++ j ∷ []) body x y z q) v' u' w' p'))
-    (λ v' u' w' e e' p'. next_block n left b v' u' w' p'))
-    (next_on_block n left b site inner v u w p)
-
-next_body_on : (number : ℕ) (body : Option Block) (point : Point) (v : List ℤ) (u w : List (List ℤ)) → ArePrefixes u w
-    → NextIsGet (body_on number body point v u) (body_on number body point v w)
-next_body_on number None point v u w p = next_block 0 [] Nothing v u w p
-next_body_on number (Some b) point v u w p = next_on_block number [] b point.site point.left v u w p
-
-next_code_on : (code : Code) (point : Point) (v : List ℤ) (u w : List (List ℤ)) → ArePrefixes u w
-    → NextIsGet (code_on code point v u) (code_on code point v w)
-next_code_on code point v u w p =
-    let in_prelude = trace_on 0 [] code.prelude point.site point.left v in
-    let in_body = body_on (sites_of code.prelude) code.body point v in
-    both_of NextIsGet (nat_lt point.site (sites_of code.prelude)) (in_prelude u) (in_body u) (in_prelude w) (in_body w)
-    (next_on_block 0 [] code.prelude point.site point.left v u w p)
-    (next_body_on (sites_of code.prelude) code.body point v u w p)
-
 -- a process from where it stands
 pub next_is_get : (code : Code) (standing : Standing) (small big : List (List ℤ)) → HasPassingLoop code
     → ArePrefixes small big → NextIsGet (trace_from code standing small) (trace_from code standing big)
-next_is_get code (NotBegun vars) small big passing p =
-    next_then (trace_of 0 [] code.prelude vars small) (trace_of 0 [] code.prelude vars big)
-    (loop_trace (sites_of code.prelude) code.body) (loop_trace (sites_of code.prelude) code.body)
-    (longer 0 [] code.prelude vars small big p) (next_block 0 [] code.prelude vars small big p)
-    (λ v u w e e' p'. next_loop (sites_of code.prelude) code.body v u w passing p')
-next_is_get code (At point vars) small big passing p =
-    next_then (code_on code point vars small) (code_on code point vars big)
-    (loop_trace (sites_of code.prelude) code.body) (loop_trace (sites_of code.prelude) code.body)
-    (longer_code_on code point vars small big p) (next_code_on code point vars small big p)
-    (λ v u w e e' p'. next_loop (sites_of code.prelude) code.body v u w passing p')
-next_is_get code (Done vars) small big passing p = next_block 0 [] Nothing vars small big p
+next_is_get code standing small big passing p =
+    (walk_from ArePrefixes (λ u w t t'. IsLonger t t' × NextIsGet t t')
+    (λ u w t t' go r next. (
+      longer_then t t' go go r.0 (λ v u' w' e e' p'. (next v u' w' e e' p').0),
+      next_then t t' go go r.0 r.1 (λ v u' w' e e' p'. (next v u' w' e e' p').1),
+    ))
+    (λ number left b v u w p. (longer number left b v u w p, next_block number left b v u w p)) code standing small big
+    (λ v u w p. (
+      longer_loop (sites_of code.prelude) code.body v u w passing p,
+      next_loop (sites_of code.prelude) code.body v u w passing p,
+    )) p).1
 
 -- where it waited, the next act on more, if there is one, gets from the channel at which it waited
 pub next_from : (code : Code) (standing : Standing) (small big : List (List ℤ)) → (passing : HasPassingLoop code)
@@ -682,12 +465,10 @@ split [] ys done rest h = Beyond done refl h
 split (x ∷ xs) ys [] rest h = Within x xs refl (sym h)
 split (x ∷ xs) ys (y ∷ done) rest h =
     let same : x ≡ y = cc in
-    let later : xs ++ ys ≡ done ++ rest = cc in
-    one_more same (split xs ys done rest later)
-  where
-    one_more : x ≡ y → Split xs ys done rest → Split (x ∷ xs) ys (y ∷ done) rest
-    one_more same (Within z mid e f) = Within z mid (cc) f
-    one_more same (Beyond past e f) = Beyond past (cc) f
+    elim (split xs ys done rest (cc)) [
+      | Within z mid e f ↦ Within z mid (cc) f
+      | Beyond past e f ↦ Beyond past (cc) f
+    ]
 
 -- the act is a get
 abbrev pub IsGet : Act → Type 0
@@ -701,11 +482,7 @@ NoPutNext (step ∷ steps) = IsGet step.act
 
 -- a get from a channel gets one more item there
 one_got : (c : ℕ) (a : Act) (later : List ℤ) → IsGetFrom c a → (item : ℤ) × (got_by c a later ≡ item ∷ later)
-one_got c (Got d item) later h =
-    (item, ap (λ (b : Bool). cond b (item ∷ later) later) (ap (λ (n : ℕ). n == c) h ∙ same_number c))
-  where
-    same_number : (n : ℕ) → (n == n) ≡ true
-    same_number n = grind (arith, nat_tests)
+one_got c (Got d item) later h = (item, rw (h, same_number c) refl)
 one_got c (Sent d item) later h = absurd h
 
 channel_of : (a : Act) → IsGet a → (c : ℕ) × IsGetFrom c a
@@ -725,9 +502,16 @@ pub function_of_got : (code : Code) (inputs gots : List (List ℤ)) (m : ℕ) �
     → ((c : ℕ) → history_of gots c ≡ got_on c (take m (process_trace code inputs).steps))
     → (process_trace code gots).steps ≡ take m (process_trace code inputs).steps
 function_of_got code inputs gots m passing few no_put got =
-    in_parts
-    (split (process_trace code gots).steps l.more done rest
-    (sym l.steps ∙ sym (take-append-drop m (process_trace code inputs).steps)))
+    elim (split (process_trace code gots).steps l.more done rest
+    (sym l.steps ∙ sym (take-append-drop m (process_trace code inputs).steps))) [
+      | Within x mid e f ↦
+          let c = channel_of x.act (rw f at no_put) in
+          let one = one_got c.0 x.act (got_on c.0 mid) c.1 in
+          let all = rw (e, got_on-append c.0 done (x ∷ mid), one.1) at (sym (got c.0) ∙ of_gots c.0) in
+          absurd (no_more (got_on c.0 done) (got_on c.0 mid) _ one.0 all)
+      | Beyond [] e f ↦ sym (e ∙ append-nil (process_trace code gots).steps)
+      | Beyond (y ∷ past) e f ↦ absurd (no_less y past e f (process_trace code gots).end refl)
+    ]
   where
     done : List Step
     done = take m (process_trace code inputs).steps
@@ -737,12 +521,7 @@ function_of_got code inputs gots m passing few no_put got =
 
     p : ArePrefixes gots inputs
     p = record {
-      at = λ c. prefix_of
-          (record {
-            rest = history_of (left_after done inputs) c;
-            is =
-                reads code inputs m c ∙ ap (λ (x : List ℤ). x ++ history_of (left_after done inputs) c) (sym (got c));
-          });
+      at = λ c. prefix_of (record { rest = history_of (left_after done inputs) c; is = rw (got c) (reads code inputs m c) });
     }
 
     l : IsLonger (process_trace code gots) (process_trace code inputs)
@@ -754,35 +533,17 @@ function_of_got code inputs gots m passing few no_put got =
         ≡ got_on c (process_trace code gots).steps ++ history_of (left_after (process_trace code gots).steps gots) c
     of_gots c = got_and_left (process_trace code gots).steps gots c (reads_process code gots).reading
 
-    in_parts : Split (process_trace code gots).steps l.more done rest → (process_trace code gots).steps ≡ done
-    in_parts (Within x mid e f) =
-        let c = channel_of x.act (subst NoPutNext f no_put) in
-        let one = one_got c.0 x.act (got_on c.0 mid) c.1 in
-        let left = history_of (left_after (process_trace code gots).steps gots) c.0 in
-        absurd (no_more (got_on c.0 done) (got_on c.0 mid) left one.0
-        (sym (got c.0)
-        ∙ (of_gots c.0
-        ∙ ap (λ (z : List ℤ). z ++ left)
-        (ap (got_on c.0) e
-        ∙ (got_on-append c.0 done (x ∷ mid) ∙ ap (λ (z : List ℤ). got_on c.0 done ++ z) one.1)))))
-    in_parts (Beyond [] e f) = sym (e ∙ append-nil (process_trace code gots).steps)
-    in_parts (Beyond (y ∷ past) e f) = at_end (process_trace code gots).end refl
-      where
-        at_end : (d : End) → (process_trace code gots).end ≡ d → (process_trace code gots).steps ≡ done
-        at_end (Ended v u) is = let none : [] ≡ y ∷ (past ++ rest) = sym (l.ends v u is).0 ∙ f in absurd (cc)
-        at_end (Stopped v) is = let none : [] ≡ y ∷ (past ++ rest) = sym (l.stops v is).0 ∙ f in absurd (cc)
-        at_end (Waits s v c) is =
-            let first : GetsNext c (y ∷ (past ++ rest)) =
-            subst (GetsNext c) f
-            (next_from code (NotBegun code.vars) gots inputs passing p s v c is l.more l.steps) in
-            let one = one_got c y.act (got_on c past) first in
-            let read = got_on c (process_trace code gots).steps in
-            let all : history_of gots c ≡ read =
-            of_gots c
-            ∙ (ap (λ (z : List ℤ). read ++ z) (process_waits_empty code gots s v c is) ∙ append-nil read) in
-            absurd (no_more read (got_on c past) [] one.0
-            (sym all
-            ∙ (got c
-            ∙ (ap (got_on c) e
-            ∙ (got_on-append c (process_trace code gots).steps (y ∷ past)
-            ∙ (ap (λ (z : List ℤ). read ++ z) one.1 ∙ sym (append-nil (read ++ one.0 ∷ got_on c past))))))))
+    -- and it doesn't stop before: the item for which it would wait is one that it got
+    no_less : (y : Step) (past : List Step) → done ≡ (process_trace code gots).steps ++ y ∷ past
+        → l.more ≡ y ∷ (past ++ rest) → (d : End) → (process_trace code gots).end ≡ d → ⊥
+    no_less y past e f (Ended v u) is = let none : [] ≡ y ∷ (past ++ rest) = sym (l.ends v u is).0 ∙ f in cc
+    no_less y past e f (Stopped v) is = let none : [] ≡ y ∷ (past ++ rest) = sym (l.stops v is).0 ∙ f in cc
+    no_less y past e f (Waits s v c) is =
+        let first : GetsNext c (y ∷ (past ++ rest)) =
+        rw f at (next_from code (NotBegun code.vars) gots inputs passing p s v c is l.more l.steps) in
+        let one = one_got c y.act (got_on c past) first in
+        let read = got_on c (process_trace code gots).steps in
+        let all : read ≡ read ++ one.0 ∷ got_on c past =
+        rw (process_waits_empty code gots s v c is, append-nil, got c, e, got_on-append c _ (y ∷ past), one.1) at
+        (sym (of_gots c)) in
+        no_more read (got_on c past) [] one.0 (rw append-nil all)

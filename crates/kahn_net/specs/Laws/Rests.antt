@@ -1,7 +1,7 @@
 -- Laws of a process at rest: where it has got all of the channel at which it waits, what it has done by now is all that
 -- it does.
-use Rattle.std.proofs.Common.{◌≡◌, ◌==◌, ◌||◌, ℕ, zero, suc, ◌+◌, ◌<◌, ◌≤◌, Bool, true, false, cond, pos, List, ℤ, []}
-use Rattle.std.proofs.Common.{◌∷◌, ◌++◌, length, take, drop, set, Option, Some, None, refl, sym, ap, ◌∙◌, subst, arith}
+use Rattle.std.proofs.Common.{◌≡◌, ◌==◌, ◌||◌, ℕ, zero, suc, ◌+◌, ◌<◌, ◌≤◌, Bool, true, false, pos, List, ℤ, []}
+use Rattle.std.proofs.Common.{◌∷◌, ◌++◌, length, take, drop, set, Option, Some, None, refl, sym, ap, ◌∙◌, arith}
 use Rattle.std.proofs.Common.{append-nil}
 use Rattle.std.proofs.lemmas.List.{take-append-drop, length-append}
 use Rattle.std.proofs.lemmas.Bool.Decides.{nat_tests}
@@ -14,31 +14,27 @@ use Rattle.kahn_net.specs.Statements.{Act, Got, Sent, Step, Trace, End, Ended, W
 use Rattle.kahn_net.specs.Statements.{choose, on_get, from_end, then_do, rounds, value_of, sites_of}
 use Rattle.kahn_net.specs.Processes.{Standing, NotBegun, StandsAt, HasPassingLoop, passes, loop_trace, process_trace}
 use Rattle.kahn_net.specs.Processes.{got_by, got_on}
-use Rattle.kahn_net.specs.Resuming.{left_after}
 use Rattle.kahn_net.specs.Laws.Traces.{one_of}
 use Rattle.kahn_net.specs.Laws.Streams.{IsLonger, longer_process}
 use Rattle.kahn_net.specs.Laws.Got.{got_on-append, got_and_left, reads_process, process_waits_empty, IsGetFrom}
-use Rattle.kahn_net.specs.Laws.Got.{GetsNext, next_from, Split, Within, Beyond, split}
+use Rattle.kahn_net.specs.Laws.Got.{GetsNext, next_from, Within, Beyond, split}
 use Rattle.kahn_net.specs.NextActs.{Next, Begins, Gets, Puts, NoNext, next_of, IsNextAct}
 use Rattle.kahn_net.specs.Laws.NextActs.{next_acts}
 
 -- What a process gets, its text gets
 
 either_false : (a b : Bool) → (a || b) ≡ false → (a ≡ false) × (b ≡ false)
-either_false true b h = absurd (cc)
-either_false false b h = (refl, h)
+either_false a b h = grind arith
 
 -- what one does after the other
 deaf_then : (channel : ℕ) (t : Trace) (go : List ℤ → List (List ℤ) → Trace) → got_on channel t.steps ≡ []
     → ((v : List ℤ) (u : List (List ℤ)) → got_on channel (go v u).steps ≡ []) → got_on channel (then_do t go).steps ≡ []
 deaf_then channel t go h later =
-    got_on-append channel t.steps (from_end t.end go).steps
-    ∙ (ap (λ (x : List ℤ). x ++ got_on channel (from_end t.end go).steps) h ∙ at_end t.end)
-  where
-    at_end : (e : End) → got_on channel (from_end e go).steps ≡ []
-    at_end (Ended v u) = later v u
-    at_end (Waits s v c) = refl
-    at_end (Stopped v) = refl
+    rw (got_on-append channel t.steps _, h) (elim t.end as (λ e. got_on channel (from_end e go).steps ≡ []) [
+      | Ended v u ↦ later v u
+      | Waits s v c ↦ refl
+      | Stopped v ↦ refl
+    ])
 
 -- so many passes
 deaf_rounds : (channel n : ℕ) (pass : ℕ → List ℤ → List (List ℤ) → Trace)
@@ -75,19 +71,11 @@ deaf_block channel site left (RepeatThen times body rest) vars unread h =
     (λ v u. deaf_block channel (site + sites_of body) left rest v u both.1)
 deaf_block channel site left (GetThen x c rest) vars unread h =
     let both = either_false (c == channel) (block_gets channel rest) h in
-    at_get (history_of unread c) both.0
-    (λ item later. deaf_block channel (site + 1) left rest (set vars x item) (set unread c later) both.1)
-  where
-    at_get : (history : List ℤ) → (c == channel) ≡ false
-        → ((item : ℤ) (later : List ℤ)
-        → got_on channel (trace_of (site + 1) left rest (set vars x item) (set unread c later)).steps ≡ [])
-        → got_on channel
-        (on_get history (point_at site left) c vars
-        (λ item later. trace_of (site + 1) left rest (set vars x item) (set unread c later))).steps ≡ []
-    at_get [] other silent = refl
-    at_get (item ∷ later) other silent =
-        let after = got_on channel (trace_of (site + 1) left rest (set vars x item) (set unread c later)).steps in
-        ap (λ (t : Bool). cond t (item ∷ after) after) other ∙ silent item later
+    elim (history_of unread c) as (λ history. got_on channel (on_get history (point_at site left) c vars
+    (λ item later. trace_of (site + 1) left rest (set vars x item) (set unread c later))).steps ≡ []) [
+      | [] ↦ refl
+      | item ∷ later ↦ rw both.0 (deaf_block channel (site + 1) left rest (set vars x item) (set unread c later) both.1)
+    ]
 
 -- again and again
 deaf_passes : (channel n site : ℕ) (b : Block) (vars : List ℤ) (unread : List (List ℤ)) → block_gets channel b ≡ false
@@ -114,20 +102,14 @@ deaf code inputs channel h =
 -- so one that got an item has a get
 pub gets_where_got : (code : Code) (inputs : List (List ℤ)) (channel : ℕ)
     → 0 < length (got_on channel (process_trace code inputs).steps) → IsTrue (code_gets channel code)
-gets_where_got code inputs channel some = at (code_gets channel code) refl
-  where
-    at : (b : Bool) → code_gets channel code ≡ b → code_gets channel code ≡ true
-    at true is = is
-    at false is = let none : length (got_on channel (process_trace code inputs).steps) ≡ 0 =
-        ap (length {A = ℤ}) (deaf code inputs channel is) in absurd (omega (arith, some, none))
+gets_where_got code inputs channel some = grind (arith, deaf code inputs channel)
 
 -- Counting
 
 -- a get from a channel gets one item more
 one_more : (c : ℕ) (a : Act) (later : List ℤ) → IsGetFrom c a → length (got_by c a later) ≡ suc (length later)
 one_more c (Sent d item) later h = absurd h
-one_more c (Got d item) later h =
-    ap (λ (b : Bool). length (cond b (item ∷ later) later)) (ap (λ (n : ℕ). n == c) h ∙ same_number c)
+one_more c (Got d item) later h = rw (h, same_number c) refl
   where
     same_number : (n : ℕ) → (n == n) ≡ true
     same_number n = grind (arith, nat_tests)
@@ -135,25 +117,18 @@ one_more c (Got d item) later h =
 -- after these steps, and one more that gets from the channel
 got_past : (c : ℕ) (xs : List Step) (x : Step) (mid : List Step) → IsGetFrom c x.act
     → length (got_on c (xs ++ x ∷ mid)) ≡ length (got_on c xs) + suc (length (got_on c mid))
-got_past c xs x mid h =
-    ap (length {A = ℤ}) (got_on-append c xs (x ∷ mid))
-    ∙ (length-append (got_on c xs) (got_on c (x ∷ mid))
-    ∙ ap (λ (n : ℕ). length (got_on c xs) + n) (one_more c x.act (got_on c mid) h))
+got_past c xs x mid h = rw (got_on-append c xs (x ∷ mid), length-append, one_more c x.act (got_on c mid) h) refl
 
 -- what a part of the steps gets is no more than what all get
 got_less : (c : ℕ) (xs ys : List Step) → length (got_on c xs) ≤ length (got_on c (xs ++ ys))
-got_less c xs ys =
-    let sum : length (got_on c (xs ++ ys)) ≡ length (got_on c xs ++ got_on c ys) =
-    ap (length {A = ℤ}) (got_on-append c xs ys) in
-    let parts = length-append (got_on c xs) (got_on c ys) in
-    omega (arith, sum, parts)
+got_less c xs ys = rw (got_on-append c xs ys, length-append) (omega arith)
 
 -- the first of the steps that are left stands at their number
 first_left : (m : ℕ) (steps : List Step) (x : Step) (more : List Step) → drop m steps ≡ x ∷ more
     → slice_get steps m ≡ Some x
-first_left zero [] x more h = absurd (cc)
-first_left (suc m) [] x more h = absurd (cc)
-first_left zero (y ∷ steps) x more h = let same : y ≡ x = cc in ap (λ (s : Step). Some s) same
+first_left zero [] x more h = absurd cc
+first_left (suc m) [] x more h = absurd cc
+first_left zero (y ∷ steps) x more h = cc
 first_left (suc m) (y ∷ steps) x more h = first_left m steps x more h
 
 -- Rest
@@ -175,7 +150,13 @@ pub acts_at_rest : (code : Code) (here whole : List (List ℤ)) (m : ℕ) (stand
     → IsStuck code here (take m (process_trace code whole).steps) (next_of code standing)
     → (process_trace code here).steps ≡ take m (process_trace code whole).steps
 acts_at_rest code here whole m standing passing p stands few stuck =
-    in_parts (split own l.more done rest (sym l.steps ∙ sym (take-append-drop m (process_trace code whole).steps)))
+    elim (split own l.more done rest (sym l.steps ∙ sym (take-append-drop m (process_trace code whole).steps))) [
+      | Within x mid e f ↦ absurd (no_further x mid e (next_of code standing) stuck
+          (next_acts code whole m standing stands passing x
+          (first_left m (process_trace code whole).steps x (mid ++ l.more) f)))
+      | Beyond [] e f ↦ sym (e ∙ append-nil own)
+      | Beyond (y ∷ past) e f ↦ absurd (no_less y past e f (process_trace code here).end refl)
+    ]
   where
     own : List Step
     own = (process_trace code here).steps
@@ -192,11 +173,8 @@ acts_at_rest code here whole m standing passing p stands few stuck =
     -- what it gets of what is here
     of_here : (c : ℕ) → length (got_on c own) ≤ length (history_of here c)
     of_here c =
-        let left = history_of (left_after own here) c in
-        let sum : length (history_of here c) ≡ length (got_on c own ++ left) =
-        ap (length {A = ℤ}) (got_and_left own here c (reads_process code here).reading) in
-        let parts = length-append (got_on c own) left in
-        omega (arith, sum, parts)
+        let whole = got_and_left own here c (reads_process code here).reading in
+        omega (arith, simp length-append at (ap (length {A = ℤ}) whole))
 
     -- past its acts it would get an item that isn't here
     no_further : (x : Step) (mid : List Step) → own ≡ done ++ x ∷ mid → (next : Next) → IsStuck code here done next
@@ -205,8 +183,7 @@ acts_at_rest code here whole m standing passing p stands few stuck =
     no_further x mid is (Puts c) s n = s
     no_further x mid is NoNext s n = n
     no_further x mid is (Gets c) s n =
-        let count : length (got_on c own) ≡ length (got_on c done) + suc (length (got_on c mid)) =
-        ap (λ (steps : List Step). length (got_on c steps)) is ∙ got_past c done x mid (from_here x.act n) in
+        let count = rw (← is) at (got_past c done x mid (from_here x.act n)) in
         let all = of_here c in
         let few_here = s (gets_where_got code here c (omega (arith, count))) in
         omega (arith, count, all, few_here)
@@ -222,25 +199,10 @@ acts_at_rest code here whole m standing passing p stands few stuck =
     no_less y past is more (Stopped v) ends = let none : [] ≡ y ∷ (past ++ rest) = sym (l.stops v ends).0 ∙ more in cc
     no_less y past is more (Waits s v c) ends =
         let gets : GetsNext c (y ∷ (past ++ rest)) =
-        subst (GetsNext c) more
-        (next_from code (NotBegun code.vars) here whole passing p s v c ends l.more l.steps) in
-        let count : length (got_on c done) ≡ length (got_on c own) + suc (length (got_on c past)) =
-        ap (λ (steps : List Step). length (got_on c steps)) is ∙ got_past c own y past gets in
-        let all : length (history_of here c) ≡ length (got_on c own) =
-        ap (length {A = ℤ})
-        (got_and_left own here c (reads_process code here).reading
-        ∙ (ap (λ (z : List ℤ). got_on c own ++ z) (process_waits_empty code here s v c ends)
-        ∙ append-nil (got_on c own))) in
-        let part = got_less c done rest in
-        let whole_steps : length (got_on c (done ++ rest)) ≡ length (got_on c (process_trace code whole).steps) =
-        ap (λ (steps : List Step). length (got_on c steps)) (take-append-drop m (process_trace code whole).steps) in
-        let enough = few c (gets_where_got code whole c (omega (arith, count, part, whole_steps))) in
+        rw more at (next_from code (NotBegun code.vars) here whole passing p s v c ends l.more l.steps) in
+        let count = rw (← is) at (got_past c own y past gets) in
+        let all = ap (length {A = ℤ}) (rw (process_waits_empty code here s v c ends, append-nil) at
+        (got_and_left own here c (reads_process code here).reading)) in
+        let part = rw (take-append-drop m (process_trace code whole).steps) at (got_less c done rest) in
+        let enough = few c (gets_where_got code whole c (omega (arith, count, part))) in
         omega (arith, count, all, enough)
-
-    in_parts : Split own l.more done rest → own ≡ done
-    in_parts (Within x mid e f) =
-        absurd (no_further x mid e (next_of code standing) stuck
-        (next_acts code whole m standing stands passing x
-        (first_left m (process_trace code whole).steps x (mid ++ l.more) f)))
-    in_parts (Beyond [] e f) = sym (e ∙ append-nil own)
-    in_parts (Beyond (y ∷ past) e f) = absurd (no_less y past e f (process_trace code here).end refl)

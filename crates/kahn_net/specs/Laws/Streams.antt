@@ -1,6 +1,6 @@
 -- A process's function is monotone: where more is unread, it does what it did, and then more.
-use Rattle.std.proofs.Common.{true, false, pos, eqb, ◌≡◌, ◌≢◌, ◌⊎◌, ℕ, zero, suc, ◌+◌, ◌<◌, ◌≤◌, List, ℤ, [], ◌∷◌, ◌++◌}
-use Rattle.std.proofs.Common.{refl, sym, ap, ◌∙◌, subst, arith, set, length, append-nil, append_assoc, length-append}
+use Rattle.std.proofs.Common.{pos, ◌≡◌, ℕ, zero, suc, ◌+◌, ◌<◌, ◌≤◌, List, ℤ, [], ◌∷◌, ◌++◌}
+use Rattle.std.proofs.Common.{refl, sym, ap, ◌∙◌, arith, set, length, append-nil, append_assoc, length-append}
 use Rattle.std.proofs.Common.{drop, Option, Some, None, inl, inr}
 use Rattle.std.proofs.lemmas.List.{get_or-set_same, get_or-set_other, drop-append-le}
 use Rattle.std.proofs.lemmas.Bool.Decides.{eqb_tells}
@@ -9,7 +9,7 @@ use Rattle.std.specs.Ordering.{int_eq}
 use Rattle.kahn_net.specs.Streams.{history_of, total, IsPrefix, ArePrefixes}
 use Rattle.kahn_net.specs.Syntax.{Block, Nothing, GetThen, AssignThen, PutThen, StopThen, IfThen, RepeatThen, Code}
 use Rattle.kahn_net.specs.Valid.{is_passing}
-use Rattle.kahn_net.specs.Statements.{Got, Sent, Point, Step, Trace, End, Ended, Waits, Stopped, no_steps, trace_of}
+use Rattle.kahn_net.specs.Statements.{Point, Step, Trace, End, Ended, Waits, Stopped, no_steps, trace_of}
 use Rattle.kahn_net.specs.Statements.{point_at, choose, on_get, from_end, then_do, rounds, value_of, sites_of}
 use Rattle.kahn_net.specs.Processes.{Standing, NotBegun, At, Done, standing_at, IsHere, StandsAt, HasPassingLoop}
 use Rattle.kahn_net.specs.Processes.{passes, loop_trace, process_trace, sent_on, output_of}
@@ -30,7 +30,7 @@ pub record IsLonger (t long : Trace) : Type 0 where
 
 -- a channel on which there is an item is there
 pub within : (all : List (List ℤ)) (c : ℕ) (x : ℤ) (xs : List ℤ) → history_of all c ≡ x ∷ xs → c < length all
-within [] c x xs h = absurd (cc)
+within [] c x xs h = absurd cc
 within (y ∷ all) zero x xs h = omega arith
 within (y ∷ all) (suc c) x xs h = let here = within all c x xs h in omega arith
 
@@ -38,25 +38,16 @@ within (y ∷ all) (suc c) x xs h = let here = within all c x xs h in omega arit
 pub prefixes_set : (small big : List (List ℤ)) (c : ℕ) (x y : ℤ) (left rest ys : List ℤ) → ArePrefixes small big
     → history_of small c ≡ x ∷ left → history_of big c ≡ y ∷ ys → ys ≡ left ++ rest
     → ArePrefixes (set small c left) (set big c ys)
-prefixes_set small big c x y left rest ys p h k e = record { at = λ d. at d (eqb_tells d c) }
-  where
-    at : (d : ℕ) → ((eqb d c ≡ true) × (d ≡ c)) ⊎ ((eqb d c ≡ false) × (d ≢ c))
-        → IsPrefix (history_of (set small c left) d) (history_of (set big c ys) d)
-    at d (inl s) = prefix_of (record {
-      rest = rest;
-      is = subst (λ (n : ℕ). history_of (set big c ys) n ≡ history_of (set small c left) n ++ rest) (sym s.1)
-          (get_or-set_same big c ys [] (within big c y ys k)
-          ∙ (e ∙ ap (λ (z : List ℤ). z ++ rest) (sym (get_or-set_same small c left [] (within small c x left h)))));
-    })
-    at d (inr s) =
-        let m = followed (history_of small d) (history_of big d) (p.at d) in
-        prefix_of
-        (record {
-          rest = m.rest;
-          is =
-              get_or-set_other big c d ys [] s.1
-              ∙ (m.is ∙ ap (λ (z : List ℤ). z ++ m.rest) (sym (get_or-set_other small c d left [] s.1)));
-        })
+prefixes_set small big c x y left rest ys p h k e = record {
+  at = λ d. elim (eqb_tells d c) [
+    | inl same ↦ rw (
+      same.1,
+      get_or-set_same small c left [] (within small c x left h),
+      get_or-set_same big c ys [] (within big c y ys k),
+    ) (prefix_of (record { rest = rest; is = e }))
+    | inr other ↦ rw (get_or-set_other small c d left [] other.1, get_or-set_other big c d ys [] other.1) (p.at d)
+  ];
+}
 
 pub not_done : (v v' : List ℤ) (point : Point) → Done v ≡ At point v' → ⊥
 not_done v v' point e = cc
@@ -66,8 +57,8 @@ keeps : (rest : List Step) (e : End) (go : List ℤ → List (List ℤ) → Trac
     → standing_at rest e ≡ At point v → standing_at (rest ++ (from_end e go).steps) (from_end e go).end ≡ At point v
 keeps (x ∷ rest) e go point v h = h
 keeps [] (Waits s y c) go point v h = h
-keeps [] (Ended y z) go point v h = absurd (not_done y v point h)
-keeps [] (Stopped y) go point v h = absurd (not_done y v point h)
+keeps [] (Ended y z) go point v h = absurd cc
+keeps [] (Stopped y) go point v h = absurd cc
 
 -- what one does after the other
 pub longer_then : (t long : Trace) (go go' : List ℤ → List (List ℤ) → Trace) → IsLonger t long
@@ -79,58 +70,41 @@ longer_then t long go go' l next = at_end t.end refl
         → IsLonger (record { steps = t.steps ++ (from_end e go).steps; end = (from_end e go).end }) (then_do long go')
     at_end (Waits s y c) is = record {
       more = l.more ++ (from_end long.end go').steps;
-      steps = ap (λ (x : List Step). x ++ (from_end long.end go').steps) l.steps
-          ∙ (append_assoc t.steps l.more (from_end long.end go').steps
-          ∙ ap (λ (x : List Step). x ++ (l.more ++ (from_end long.end go').steps)) (sym (append-nil t.steps)));
-      stands = λ site v h. keeps l.more long.end go' site v (l.stands site v (ap (standing_at []) is ∙ h));
-      ends = λ v u h. absurd (cc);
-      stops = λ v h. absurd (cc);
+      steps = rw (l.steps, append-nil) (append_assoc t.steps l.more (from_end long.end go').steps);
+      stands = λ site v h. keeps l.more long.end go' site v (l.stands site v (rw is h));
+      ends = λ v u h. absurd cc;
+      stops = λ v h. absurd cc;
     }
     at_end (Stopped y) is =
         let e = l.stops y is in
-        let same : from_end long.end go' ≡ no_steps (Stopped y) = ap (λ (x : End). from_end x go') e.1 in
         record {
-          more = (from_end long.end go').steps;
-          steps = ap (λ (x : List Step). x ++ (from_end long.end go').steps)
-              (l.steps ∙ ap (λ (x : List Step). t.steps ++ x) e.0);
-          stands = λ point v h. absurd (not_done y v point h);
-          ends = λ v u h. absurd (cc);
-          stops = λ v h. (ap (λ (x : Trace). x.steps) same, ap (λ (x : Trace). x.end) same ∙ h);
+          more = [];
+          steps = rw (l.steps, e.0, e.1) refl;
+          stands = λ point v h. absurd cc;
+          ends = λ v u h. absurd cc;
+          stops = λ v h. (refl, rw e.1 h);
         }
     at_end (Ended v u) is =
         let e = l.ends v u is in
-        let w = e.1.0 in
-        let n = next v u w is e.1.1 e.1.2 in
-        let same : from_end long.end go' ≡ go' v w = ap (λ (x : End). from_end x go') e.1.1 in
-        let n2 : IsLonger (go v u) (from_end long.end go') = subst (λ (x : Trace). IsLonger (go v u) x) (sym same) n in
+        let n = next v u e.1.0 is e.1.1 e.1.2 in
         record {
-          more = n2.more;
-          steps = ap (λ (x : List Step). x ++ (from_end long.end go').steps)
-              (l.steps ∙ (ap (λ (x : List Step). t.steps ++ x) e.0 ∙ append-nil t.steps))
-              ∙ (ap (λ (x : List Step). t.steps ++ x) n2.steps ∙ sym (append_assoc t.steps (go v u).steps n2.more));
-          stands = n2.stands;
-          ends = n2.ends;
-          stops = n2.stops;
+          more = n.more;
+          steps = rw (l.steps, e.0, e.1.1, append-nil, n.steps) (sym (append_assoc t.steps (go v u).steps n.more));
+          stands = λ point v' h. rw e.1.1 (n.stands point v' h);
+          ends = λ v' u' h. rw e.1.1 (n.ends v' u' h);
+          stops = λ v' h. rw e.1.1 (n.stops v' h);
         }
 
 -- with nothing to do
 longer_none : (v : List ℤ) (u w : List (List ℤ)) → ArePrefixes u w
     → IsLonger (no_steps (Ended v u)) (no_steps (Ended v w))
-longer_none v u w p =
-    record {
-      more = [];
-      steps = refl;
-      stands = λ point v' h. absurd (not_done v v' point h);
-      ends =
-          λ v' u' h. (refl, (w, ended v' u' h, subst (λ (x : List (List ℤ)). ArePrefixes x w) (same_unread v' u' h) p));
-      stops = λ v' h. absurd (cc);
-    }
-  where
-    ended : (v' : List ℤ) (u' : List (List ℤ)) → Ended v u ≡ Ended v' u' → Ended v w ≡ Ended v' w
-    ended v' u' h = let same : v ≡ v' = cc in ap (λ (x : List ℤ). Ended x w) same
-
-    same_unread : (v' : List ℤ) (u' : List (List ℤ)) → Ended v u ≡ Ended v' u' → u ≡ u'
-    same_unread v' u' h = cc
+longer_none v u w p = record {
+  more = [];
+  steps = refl;
+  stands = λ point v' h. absurd cc;
+  ends = λ v' u' h. let vars : v ≡ v' = cc in let unread : u ≡ u' = cc in (refl, (w, rw vars refl, rw (← unread) p));
+  stops = λ v' h. absurd cc;
+}
 
 -- so many passes
 pub longer_rounds : (n : ℕ) (pass : ℕ → List ℤ → List (List ℤ) → Trace)
@@ -141,6 +115,26 @@ longer_rounds (suc n) pass h v u w p =
     longer_then (pass (suc n) v u) (pass (suc n) v w) (rounds n pass) (rounds n pass) (h (suc n) v u w p)
     (λ v' u' w' e e' p'. longer_rounds n pass h v' u' w' p')
 
+-- what a get does, and what comes behind it
+longer_get : (point : Point) (c : ℕ) (v : List ℤ) (go go' : ℤ → List ℤ → Trace) (h h' : List ℤ) → IsFollowed h h'
+    → ((item : ℤ) (l l' rest : List ℤ) → h ≡ item ∷ l → h' ≡ item ∷ l' → l' ≡ l ++ rest → IsLonger (go item l) (go' item l'))
+    → IsLonger (on_get h point c v go) (on_get h' point c v go')
+longer_get point c v go go' [] [] m later =
+    record { more = []; steps = refl; stands = λ s v' e. e; ends = λ v' u e. absurd cc; stops = λ v' e. absurd cc }
+longer_get point c v go go' [] (y ∷ ys) m later = record {
+  more = (on_get (y ∷ ys) point c v go').steps;
+  steps = refl;
+  stands = λ s v' e. e;
+  ends = λ v' u e. absurd cc;
+  stops = λ v' e. absurd cc;
+}
+longer_get point c v go go' (z ∷ zs) [] m later = let bad = m.is in absurd cc
+longer_get point c v go go' (z ∷ zs) (y ∷ ys) m later =
+    let both = m.is in
+    let same : y ≡ z = cc in
+    let r = later z zs ys m.rest refl (cc) (cc) in
+    rw same (record { more = r.more; steps = rw r.steps refl; stands = r.stands; ends = r.ends; stops = r.stops })
+
 -- what statements do
 pub longer : (site : ℕ) (left : List ℕ) (b : Block) (v : List ℤ) (u w : List (List ℤ)) → ArePrefixes u w
     → IsLonger (trace_of site left b v u) (trace_of site left b v w)
@@ -150,24 +144,14 @@ longer site left (AssignThen x e b) v u w p =
     record { more = r.more; steps = r.steps; stands = r.stands; ends = r.ends; stops = r.stops }
 longer site left (PutThen e c b) v u w p =
     let r = longer (site + 1) left b v u w p in
-    let s : Step = record { point = point_at site left; vars = v; act = Sent c (value_of e v) } in
-    record {
-      more = r.more;
-      steps = ap (λ (x : List Step). s ∷ x) r.steps;
-      stands = r.stands;
-      ends = r.ends;
-      stops =
-          r.stops;
-    }
-longer site left (StopThen b) v u w p =
-    record {
-      more = [];
-      steps = refl;
-      stands = λ point v' h. absurd (not_done v v' point h);
-      ends =
-          λ v' u' h. absurd (cc);
-      stops = λ v' h. (refl, h);
-    }
+    record { more = r.more; steps = rw r.steps refl; stands = r.stands; ends = r.ends; stops = r.stops }
+longer site left (StopThen b) v u w p = record {
+  more = [];
+  steps = refl;
+  stands = λ point v' h. absurd cc;
+  ends = λ v' u' h. absurd cc;
+  stops = λ v' h. (refl, h);
+}
 longer site left (IfThen test first second b) v u w p =
     let one = trace_of site left first v in
     let other = trace_of (site + sites_of first) left second v in
@@ -183,64 +167,9 @@ longer site left (RepeatThen times body b) v u w p =
     (longer_rounds times pass (λ k v' u' w' p'. longer site (left ++ k ∷ []) body v' u' w' p') v u w p)
     (λ v' u' w' e e' p'. longer (site + sites_of body) left b v' u' w' p')
 longer site left (GetThen x c b) v u w p =
-    at_get (history_of u c) (history_of w c) refl refl (followed (history_of u c) (history_of w c) (p.at c))
-    (λ item l l' q. longer (site + 1) left b (set v x item) (set u c l) (set w c l') q)
-  where
-    at_get : (h h' : List ℤ) → history_of u c ≡ h → history_of w c ≡ h' → IsFollowed (history_of u c) (history_of w c)
-        → ((item : ℤ) (l l' : List ℤ) → ArePrefixes (set u c l) (set w c l')
-        → IsLonger (trace_of (site + 1) left b (set v x item) (set u c l))
-        (trace_of (site + 1) left b (set v x item) (set w c l')))
-        → IsLonger
-        (on_get h (point_at site left) c v
-        (λ item later. trace_of (site + 1) left b (set v x item) (set u c later)))
-        (on_get h' (point_at site left) c v
-        (λ item later. trace_of (site + 1) left b (set v x item) (set w c later)))
-    at_get [] [] hu hw m later =
-        record {
-          more = [];
-          steps = refl;
-          stands = λ point v' h. h;
-          ends = λ v' u' h. absurd (cc);
-          stops =
-              λ v' h. absurd (cc);
-        }
-    at_get [] (y ∷ ys) hu hw m later =
-        record {
-          more =
-              (on_get (y ∷ ys) (point_at site left) c v
-              (λ item later. trace_of (site + 1) left b (set v x item) (set w c later))).steps;
-          steps = refl;
-          stands =
-              λ point v' h. h;
-          ends = λ v' u' h. absurd (cc);
-          stops = λ v' h. absurd (cc);
-        }
-    at_get (z ∷ zs) [] hu hw m later = let bad : [] ≡ (z ∷ zs) ++ m.rest =
-        sym hw ∙ (m.is ∙ ap (λ (q : List ℤ). q ++ m.rest) hu) in absurd (cc)
-    at_get (z ∷ zs) (y ∷ ys) hu hw m later =
-        let both : y ∷ ys ≡ z ∷ (zs ++ m.rest) = sym hw ∙ (m.is ∙ ap (λ (q : List ℤ). q ++ m.rest) hu) in
-        let same : z ≡ y = cc in
-        let tail : ys ≡ zs ++ m.rest = cc in
-        let r = later z zs ys (prefixes_set u w c z y zs m.rest ys p hu hw tail) in
-        let s : Step = record { point = point_at site left; vars = v; act = Got c z } in
-        let r2 : IsLonger
-        (on_get (z ∷ zs) (point_at site left) c v
-        (λ item later. trace_of (site + 1) left b (set v x item) (set u c later)))
-        (on_get (z ∷ ys) (point_at site left) c v
-        (λ item later. trace_of (site + 1) left b (set v x item) (set w c later))) =
-        record {
-          more = r.more;
-          steps = ap (λ (q : List Step). s ∷ q) r.steps;
-          stands = r.stands;
-          ends =
-              r.ends;
-          stops = r.stops;
-        } in
-        subst (λ (i : ℤ). IsLonger
-        (on_get (z ∷ zs) (point_at site left) c v
-        (λ item later. trace_of (site + 1) left b (set v x item) (set u c later)))
-        (on_get (i ∷ ys) (point_at site left) c v
-        (λ item later. trace_of (site + 1) left b (set v x item) (set w c later)))) same r2
+    longer_get (point_at site left) c v _ _ (history_of u c) (history_of w c) (followed _ _ (p.at c))
+    (λ item l l' rest here there more. longer (site + 1) left b (set v x item) (set u c l) (set w c l')
+    (prefixes_set u w c item item l rest l' p here there more))
 
 -- whole passes
 pub longer_passes : (n m site : ℕ) (b : Block) (v : List ℤ) (u w : List (List ℤ)) → IsTrue (is_passing b) → total u ≤ n
@@ -282,11 +211,9 @@ pub monotone : (code : Code) (small big : List (List ℤ)) (channel : ℕ) → H
     → IsPrefix (output_of code small channel) (output_of code big channel)
 monotone code small big channel passing p =
     let l = longer_process code small big passing p in
-    prefix_of
-    (record {
+    prefix_of (record {
       rest = sent_on channel l.more;
-      is =
-          ap (sent_on channel) l.steps ∙ sent_on-append channel (process_trace code small).steps l.more;
+      is = rw l.steps (sent_on-append channel (process_trace code small).steps l.more);
     })
 
 -- where a process stands on fewer items, before steps that it still has to make, it stands on more
@@ -296,11 +223,9 @@ still_stands t long l (x ∷ rest) = refl
 still_stands t long l [] = at t.end refl
   where
     at : (e : End) → t.end ≡ e → standing_at l.more long.end ≡ standing_at [] t.end
-    at (Waits s v c) is = l.stands s v (ap (standing_at []) is) ∙ ap (standing_at []) (sym is)
-    at (Ended v u) is = let e = l.ends v u is in
-        ap (λ (m : List Step). standing_at m long.end) e.0 ∙ (ap (standing_at []) e.1.1 ∙ ap (standing_at []) (sym is))
-    at (Stopped v) is = let e = l.stops v is in
-        ap (λ (m : List Step). standing_at m long.end) e.0 ∙ (ap (standing_at []) e.1 ∙ ap (standing_at []) (sym is))
+    at (Waits s v c) is = rw is (l.stands s v (rw is refl))
+    at (Ended v u) is = let e = l.ends v u is in rw (e.0, e.1.1, is) refl
+    at (Stopped v) is = let e = l.stops v is in rw (e.0, e.1, is) refl
 
 -- where a process stands after m acts doesn't depend on what comes later on its inputs
 pub stands_on : (code : Code) (small big : List (List ℤ)) (m : ℕ) (standing : Standing) → HasPassingLoop code
@@ -310,19 +235,14 @@ stands_on code small big m standing passing p s =
     let long = process_trace code big in
     let l = longer_process code small big passing p in
     let n = length-append t.steps l.more in
-    let le = s.within in
+    let few = s.within in
+    let same : standing_at (drop m t.steps) t.end ≡ standing_at (drop m long.steps) long.end =
+    rw (l.steps, drop-append-le m t.steps l.more few) (sym (still_stands t long l (drop m t.steps))) in
     record {
       within = omega (arith, ap (length {A = Step}) l.steps);
-      here = on standing s.here
-          (sym (still_stands t long l (drop m t.steps))
-          ∙ ap (λ (x : List Step). standing_at x long.end)
-          (sym (ap (drop m) l.steps ∙ drop-append-le m t.steps l.more s.within)));
+      here = (elim standing as (λ x. IsHere code t m x → IsHere code long m x) [
+        | NotBegun vars ↦ λ h. h
+        | At point vars ↦ λ h. h ∙ same
+        | Done vars ↦ λ h. h ∙ same
+      ]) s.here;
     }
-  where
-    on : (standing : Standing) → IsHere code (process_trace code small) m standing
-        → standing_at (drop m (process_trace code small).steps) (process_trace code small).end
-        ≡ standing_at (drop m (process_trace code big).steps) (process_trace code big).end
-        → IsHere code (process_trace code big) m standing
-    on (NotBegun vars) h same = h
-    on (At point vars) h same = h ∙ same
-    on (Done vars) h same = h ∙ same

@@ -1,6 +1,6 @@
 -- Laws of traces, one after the other, and of a choice between two.
 use Rattle.std.proofs.Common.{◌≡◌, ℕ, ◌+◌, Bool, true, false, cond, List, ℤ, [], ◌∷◌, ◌++◌, set, refl, sym, ap, ◌∙◌}
-use Rattle.std.proofs.Common.{append_assoc, append-nil, pos, arith, Vec, Global}
+use Rattle.std.proofs.Common.{append_assoc, append-nil, add-zero, pos, arith, Vec, Global}
 use Rattle.std.specs.Ordering.{int_eq}
 use Rattle.kahn_net.specs.Streams.{history_of}
 use Rattle.kahn_net.specs.Syntax.{Block, Nothing, then_of, row_block, block_of, tree_of}
@@ -24,9 +24,7 @@ both_of R false a b c d p q = q
 
 pub same_trace : (t : Trace) (steps : List Step) (end : End) → t.steps ≡ steps → t.end ≡ end
     → t ≡ record { steps = steps; end = end }
-same_trace t steps end e f =
-    ap (λ (x : List Step). let r : Trace = record { steps = x; end = t.end } in r) e
-    ∙ ap (λ (x : End). let r : Trace = record { steps = steps; end = x } in r) f
+same_trace t steps end e f = rw (← e, ← f) refl
 
 from_end_same : (e : End) (f g : List ℤ → List (List ℤ) → Trace)
     → ((v : List ℤ) (u : List (List ℤ)) → e ≡ Ended v u → f v u ≡ g v u) → from_end e f ≡ from_end e g
@@ -37,104 +35,61 @@ from_end_same (Stopped v) f g h = refl
 -- what comes after an end depends on that end alone
 pub then_do_same : (t : Trace) (f g : List ℤ → List (List ℤ) → Trace)
     → ((v : List ℤ) (u : List (List ℤ)) → t.end ≡ Ended v u → f v u ≡ g v u) → then_do t f ≡ then_do t g
-then_do_same t f g h =
-    ap (λ (w : Trace). let r : Trace = record { steps = t.steps ++ w.steps; end = w.end } in r)
-    (from_end_same t.end f g h)
+then_do_same t f g h = rw (from_end_same t.end f g h) refl
 
 -- where the other ended, the one ended before it
 pub ended_then : (t : Trace) (go : List ℤ → List (List ℤ) → Trace) (v : List ℤ) (u : List (List ℤ))
     → (then_do t go).end ≡ Ended v u
     → (v1 : List ℤ) × (w : List (List ℤ)) × (t.end ≡ Ended v1 w) × ((go v1 w).end ≡ Ended v u)
-ended_then t go v u h = at t.end refl h
-  where
-    at : (e : End) → t.end ≡ e → (from_end e go).end ≡ Ended v u
-        → (v1 : List ℤ) × (w : List (List ℤ)) × (t.end ≡ Ended v1 w) × ((go v1 w).end ≡ Ended v u)
-    at (Ended v1 w) is f = (v1, w, is, f)
-    at (Waits p y c) is f = absurd (cc)
-    at (Stopped y) is f = absurd (cc)
+ended_then t go v u h = (elim t.end as (λ e. t.end ≡ e → (from_end e go).end ≡ Ended v u
+    → (v1 : List ℤ) × (w : List (List ℤ)) × (t.end ≡ Ended v1 w) × ((go v1 w).end ≡ Ended v u)) [
+      | Ended v1 w ↦ λ is f. (v1, w, is, f)
+      | Waits p y c ↦ λ is f. absurd cc
+      | Stopped y ↦ λ is f. absurd cc
+    ]) refl h
 
 -- one after another, three of them
 pub then_do_then : (t : Trace) (f g : List ℤ → List (List ℤ) → Trace)
     → then_do (then_do t f) g ≡ then_do t (λ v u. then_do (f v u) g)
-then_do_then t f g = at t.end refl
+then_do_then t f g = at t.end
   where
-    at : (e : End) → t.end ≡ e
-        → then_do (record { steps = t.steps ++ (from_end e f).steps; end = (from_end e f).end }) g
+    at : (e : End) → then_do (let first = from_end e f in record { steps = t.steps ++ first.steps; end = first.end }) g
         ≡ (let more = from_end e (λ v u. then_do (f v u) g) in record { steps = t.steps ++ more.steps; end = more.end })
-    at (Ended v u) is =
-        ap (λ (x : List Step). let r : Trace = record { steps = x; end = (from_end (f v u).end g).end } in r)
-        (append_assoc t.steps (f v u).steps (from_end (f v u).end g).steps)
-    at (Waits p v c) is =
-        ap (λ (x : List Step). let r : Trace = record { steps = x; end = Waits p v c } in r)
-        (append_assoc t.steps [] [])
-    at (Stopped v) is =
-        ap (λ (x : List Step). let r : Trace = record { steps = x; end = Stopped v } in r) (append_assoc t.steps [] [])
+    at (Ended v u) = rw append_assoc refl
+    at (Waits p v c) = rw append_assoc refl
+    at (Stopped v) = rw append_assoc refl
 
 -- what statements do is what the first does, and then what the others do
 pub first_then_rest : (site : ℕ) (left : List ℕ) (s : Statement) (rest : Block) (v : List ℤ) (u : List (List ℤ))
     → trace_of site left (then_of s rest) v u
     ≡ then_do (trace_of site left (then_of s Nothing) v u)
     (trace_of (site + sites_of (then_of s Nothing)) left rest)
-first_then_rest site left (Assign x e) rest v u =
-    ap (λ (n : ℕ). trace_of n left rest (set v x (value_of (tree_of e) v)) u)
-    (let same : site ≡ site + 0 = omega arith in same)
+first_then_rest site left (Assign x e) rest v u = rw add-zero refl
 first_then_rest site left (Put e c) rest v u = refl
 first_then_rest site left Stop rest v u = refl
-first_then_rest site left (Get x c) rest v u = at (history_of u c)
-  where
-    at : (h : List ℤ)
-        → on_get h (point_at site left) c v (λ item later. trace_of (site + 1) left rest (set v x item) (set u c later))
-        ≡ then_do (on_get h (point_at site left) c v (λ item later. no_steps (Ended (set v x item) (set u c later))))
-        (trace_of (site + 1) left rest)
-    at [] = refl
-    at (item ∷ later) = refl
+first_then_rest site left (Get x c) rest v u = elim (history_of u c) as (λ h.
+    on_get h (point_at site left) c v (λ item later. trace_of (site + 1) left rest (set v x item) (set u c later))
+    ≡ then_do (on_get h (point_at site left) c v (λ item later. no_steps (Ended (set v x item) (set u c later))))
+    (trace_of (site + 1) left rest)) [ [] ↦ refl | item ∷ later ↦ refl ]
 first_then_rest site left (If' e p first q second) rest v u =
     let a = row_block first in
     let b = row_block second in
     let chosen = choose (value_of (tree_of e) v) (trace_of site left a v u) (trace_of (site + sites_of a) left b v u) in
-    let same : site + sites_of a + sites_of b ≡ site + (sites_of a + (sites_of b + 0)) = omega arith in
-    ap (λ (n : ℕ). then_do chosen (trace_of n left rest)) same
-    ∙ sym (then_do_then chosen (trace_of (site + sites_of a + sites_of b) left Nothing)
-    (trace_of (site + (sites_of a + (sites_of b + 0))) left rest))
+    let same : site + (sites_of a + (sites_of b + 0)) ≡ site + sites_of a + sites_of b = omega arith in
+    rw same (sym (then_do_then chosen (trace_of site left Nothing) (trace_of (site + sites_of a + sites_of b) left rest)))
 first_then_rest site left (Repeat' times p body) rest v u =
     let b = row_block body in
     let made = rounds times (λ (k : ℕ). trace_of site (left ++ k ∷ []) b) v u in
-    let same : site + sites_of b ≡ site + (sites_of b + 0) = omega arith in
-    ap (λ (n : ℕ). then_do made (trace_of n left rest)) same
-    ∙ sym (then_do_then made (trace_of (site + sites_of b) left Nothing) (trace_of (site + (sites_of b + 0)) left rest))
+    rw add-zero (sym (then_do_then made (trace_of site left Nothing) (trace_of (site + sites_of b) left rest)))
+
+from_end_nothing : (e : End) (site : ℕ) (left : List ℕ) → from_end e (trace_of site left Nothing) ≡ no_steps e
+from_end_nothing (Ended v u) site left = refl
+from_end_nothing (Waits p v c) site left = refl
+from_end_nothing (Stopped v) site left = refl
 
 -- with nothing behind it
 pub then_nothing : (t : Trace) (site : ℕ) (left : List ℕ) → then_do t (trace_of site left Nothing) ≡ t
-then_nothing t site left = at t.end refl
-  where
-    at : (e : End) → t.end ≡ e → then_do t (trace_of site left Nothing) ≡ t
-    at (Ended v u) is =
-        ap (λ (e : End). let r : Trace =
-        record {
-          steps = t.steps ++ (from_end e (trace_of site left Nothing)).steps;
-          end =
-              (from_end e (trace_of site left Nothing)).end;
-        } in r) is
-        ∙ (ap (λ (x : List Step). let r : Trace = record { steps = x; end = Ended v u } in r) (append-nil t.steps)
-        ∙ ap (λ (e : End). let r : Trace = record { steps = t.steps; end = e } in r) (sym is))
-    at (Waits p v c) is =
-        ap (λ (e : End). let r : Trace =
-        record {
-          steps = t.steps ++ (from_end e (trace_of site left Nothing)).steps;
-          end =
-              (from_end e (trace_of site left Nothing)).end;
-        } in r) is
-        ∙ (ap (λ (x : List Step). let r : Trace = record { steps = x; end = Waits p v c } in r) (append-nil t.steps)
-        ∙ ap (λ (e : End). let r : Trace = record { steps = t.steps; end = e } in r) (sym is))
-    at (Stopped v) is =
-        ap (λ (e : End). let r : Trace =
-        record {
-          steps = t.steps ++ (from_end e (trace_of site left Nothing)).steps;
-          end =
-              (from_end e (trace_of site left Nothing)).end;
-        } in r) is
-        ∙ (ap (λ (x : List Step). let r : Trace = record { steps = x; end = Stopped v } in r) (append-nil t.steps)
-        ∙ ap (λ (e : End). let r : Trace = record { steps = t.steps; end = e } in r) (sym is))
+then_nothing t site left = rw (from_end_nothing t.end site left, append-nil) refl
 
 -- what an if does, as code finds it, with nothing behind it: its first block where the value isn't 0, and else its
 -- second
@@ -146,23 +101,15 @@ module _ (s : Statement) (test : Expr) (first second : Vec Statement Global) (is
   chosen =
       let a = block_of first.items in
       let b = block_of second.items in
-      ap (λ (block : Block). trace_of site left block v u)
-      (ap (λ (x : Statement). then_of x Nothing) is ∙ if_of test first second Nothing)
-      ∙ then_nothing
+      rw (ap (λ (x : Statement). then_of x Nothing) is ∙ if_of test first second Nothing) (then_nothing
       (choose (value_of (tree_of test) v) (trace_of site left a v u) (trace_of (site + sites_of a) left b v u))
-      (site + sites_of a + sites_of b) left
+      (site + sites_of a + sites_of b) left)
 
   pub takes_first : false ≡ int_eq (value_of (tree_of test) v) (pos 0)
       → trace_of site left (then_of s Nothing) v u ≡ trace_of site left (block_of first.items) v u
-  takes_first zero =
-      chosen ∙ ap
-      (λ (z : Bool). cond z (trace_of (site + sites_of (block_of first.items)) left (block_of second.items) v u)
-      (trace_of site left (block_of first.items) v u)) (sym zero)
+  takes_first zero = rw (chosen, ← zero) refl
 
   pub takes_second : true ≡ int_eq (value_of (tree_of test) v) (pos 0)
       → trace_of site left (then_of s Nothing) v u
       ≡ trace_of (site + sites_of (block_of first.items)) left (block_of second.items) v u
-  takes_second zero =
-      chosen ∙ ap
-      (λ (z : Bool). cond z (trace_of (site + sites_of (block_of first.items)) left (block_of second.items) v u)
-      (trace_of site left (block_of first.items) v u)) (sym zero)
+  takes_second zero = rw (chosen, ← zero) refl

@@ -1,9 +1,9 @@
 -- What the node that began a checkpoint hears of it is steps of the abstract machine.
-use Rattle.std.proofs.Common.{◌≡◌, ◌⊎◌, inl, inr, ℕ, suc, ◌<◌, ◌≤◌, ◌||◌, Bool, true, false, cond, List, [], ◌∷◌, ◌++◌}
-use Rattle.std.proofs.Common.{length, Option, Some, None, option_map, refl, sym, ap, subst, ◌∙◌, arith}
-use Rattle.std.specs.Prelude.{◌≢◌, ◌==◌, nat_le, not, slice_get, slice_set}
+use Rattle.std.proofs.Common.{◌≡◌, inl, inr, ℕ, suc, ◌<◌, ◌≤◌, Bool, true, false, cond, List, [], ◌∷◌, ◌++◌}
+use Rattle.std.proofs.Common.{length, Option, Some, None, option_map, refl, sym, ap, ◌∙◌, arith}
+use Rattle.std.specs.Prelude.{◌==◌, slice_get, slice_set}
 use Rattle.std.specs.List.{AllByRecursion, list_all}
-use Rattle.std.proofs.lemmas.Bool.{eqb-true, eq-eqb}
+use Rattle.std.proofs.lemmas.Bool.{eqb-true, eq-eqb, ne_eqb}
 use Rattle.protocol.specs.Node.Common.{Need, Network, sent_of, without_tentative, RecordView, collecting, was_asked}
 use Rattle.protocol.specs.Node.Common.{with_answer, hearing_covered, with_needs, joined_live, in_front, producer_node}
 use Rattle.protocol.specs.Node.Common.{QuestionView, LiveView, ModeView, Down, InDoubt, Runs, RunningView, on_mode}
@@ -12,23 +12,21 @@ use Rattle.datagram.specs.declared.packet.Packet.{Packet as Datagram}
 use Rattle.record.specs.declared.record.Tentative.{Tentative as HeldImage}
 use Rattle.recovery_line.proofs.Basics.{one_inside, same_or_other}
 use Rattle.recovery_line.proofs.Observing.{dropping_moves}
-use Rattle.protocol.specs.World.Common.{IsCross, Answer, Awaited, By_took, By_covered, Mode, NodeStep, live_of}
+use Rattle.protocol.specs.World.Common.{IsCross, Answer, Awaited, By_took, By_covered, NodeStep, live_of}
 use Rattle.protocol.specs.World.Common.{image_seen, record_seen, Packet, World, Leads, WasSent, need_of}
-use Rattle.protocol.specs.World.Common.{question_seen, questions_seen, live_seen, mode_seen, all_seen, node_seen}
+use Rattle.protocol.specs.World.Common.{question_seen, questions_seen, live_seen, mode_seen, all_seen}
 use Rattle.protocol.specs.World.Common.{world_seen, net_seen, outlets_seen, StationView, moved_to}
 use Rattle.recovery_line.specs.Moves.{Drops}
-use Rattle.recovery_line.specs.Nodes.{Give_up}
+use Rattle.recovery_line.specs.Nodes.{Give_up, Node}
 use Rattle.recovery_line.specs.Packets.{Covered, Took, HearsCovered, HearsTook}
 use Rattle.recovery_line.specs.Worlds.{IsLive, MaySend}
 use Rattle.protocol.specs.Node.Beginning.{ask_on}
-use Rattle.protocol.specs.Node.Collecting.{is_open_at, awaits, with_covered}
-use Rattle.protocol.specs.Node.Collecting.{needs_no_question, new_question, with_need, new_ask, new_asks}
-use Rattle.protocol.specs.Node.Collecting.{is_met, are_met, given_up}
+use Rattle.protocol.specs.Node.Collecting.{is_open_at, awaits, with_covered, needs_no_question, new_question, with_need}
+use Rattle.protocol.specs.Node.Collecting.{new_ask, new_asks, is_met, are_met, given_up}
 use Rattle.protocol_laws.specs.Join.Crossings.{both_true, cross_within, producer_is}
 use Rattle.protocol_laws.specs.Join.Holding.{at_most, IsHeld, held_seen, named_so}
 use Rattle.protocol_laws.specs.Join.Leading.{leads_here, leads_by, leads_then, acts, hears, outlets_same, mode_at}
-use Rattle.protocol_laws.specs.Join.Leading.{set_there}
-use Rattle.protocol_laws.specs.Join.Leading.{unseen}
+use Rattle.protocol_laws.specs.Join.Leading.{set_there, unseen}
 use Rattle.protocol_laws.specs.Join.Questions.{question_at, open_at, asked_within, set_question, answer_here}
 use Rattle.protocol_laws.specs.Join.Questions.{answer_elsewhere, answer_length, need_length, needs_length, needs_stay}
 use Rattle.protocol_laws.specs.Join.Questions.{needs_new, needs_met}
@@ -38,19 +36,14 @@ use Rattle.protocol.specs.declared.round_turns.RoundTurns.{RoundTurns}
 
 -- ---- as a step of one node
 
-live_was : (running : RunningView) (live : LiveView) → running.live ≡ Some live
-    → mode_seen (Runs running) ≡ Mode.Running (image_seen running.current) (Some (live_seen live))
-live_was running live is =
-    ap (λ (o : Option LiveView). Mode.Running (image_seen running.current) (option_map live_seen o)) is
+-- a node that runs so, with this record, as it is seen
+abbrev runs_so : RecordView → RunningView → (ℕ → ℕ) → Node
+runs_so kept running left = record { disk = record_seen kept; mode = mode_seen (Runs running); outlets = left }
 
 hears_covered : (n c : ℕ) (kept : RecordView) (running : RunningView) (left : ℕ → ℕ) (live : LiveView)
     → running.live ≡ Some live → awaits n c (Some live) ≡ true
-    → HearsCovered (record { disk = record_seen kept; mode = mode_seen (Runs running); outlets = left })
-    (record {
-      disk = record_seen kept;
-      mode = mode_seen (Runs (collecting (Some (with_covered c live)) running));
-      outlets = left;
-    }) n c
+    → HearsCovered (runs_so kept running left)
+    (runs_so kept (collecting (Some (with_covered c live)) running) left) n c
 hears_covered n c kept running left live is may =
     let parts = both_true (live.number == n) (is_open_at (slice_get live.questions c)) may in
     let question = open_at live.questions c parts.1 in
@@ -59,34 +52,25 @@ hears_covered n c kept running left live is may =
       before = live_seen live;
       later = live_seen (with_covered c live);
       same = record { disk = refl; outlets = refl };
-      was = live_was running live is;
+      was = rw is refl;
       now = refl;
       number = eqb-true live.number n parts.0;
       number_same = refl;
       count = question.0.count;
-      asked = question_was question.0 question.1 question.2;
+      asked = ap question_seen question.1 ∙ ap (λ (a : Answer). Some (question.0.count, a)) question.2;
       answered = answer_here live.questions c By_covered question.0 question.1;
       others = λ d other. answer_elsewhere live.questions c By_covered d other;
       takes = refl;
       place = refl;
     }
-  where
-    question_was : (question : QuestionView) → slice_get live.questions c ≡ Some (Some question)
-        → question.answer ≡ Awaited → questions_seen live.questions c ≡ Some (question.count, Awaited)
-    question_was question there awaited =
-        ap question_seen there ∙ ap (λ (a : Answer). Some (question.count, a)) awaited
 
 gives_up : (net : Network) (home : ℕ) (kept : RecordView) (running : RunningView) (left : ℕ → ℕ) (live : LiveView)
     → running.live ≡ Some live → IsHeld home live.number kept.tentative
-    → NodeStep (net_seen net) home (record { disk = record_seen kept; mode = mode_seen (Runs running); outlets = left })
-    (record {
-      disk = record_seen (without_tentative kept);
-      mode = mode_seen (Runs (collecting None running));
-      outlets = left;
-    })
+    → NodeStep (net_seen net) home (runs_so kept running left)
+    (runs_so (without_tentative kept) (collecting None running) left)
 gives_up net home kept running left live is at =
     Give_up (image_seen running.current) (image_seen at.held.image) (live_seen live) (record {
-      was = live_was running live is;
+      was = rw is refl;
       drops = named_so home live.number kept.tentative at
           (λ (x n : ℕ). Drops (record_seen kept) (record_seen (without_tentative kept)) x n (image_seen at.held.image))
           (dropping_moves kept at.held at.is);
@@ -101,25 +85,12 @@ own_met : (net : Network) (home : ℕ) (held : HeldImage) (needs : List Need) (d
 own_met net home held [] d j all is own = absurd (cc)
 own_met net home held (need ∷ needs) d j all is own =
     let parts = both_true (is_met net home held need) (list_all (is_met net home held) needs) all in
-    by (need.channel == d) refl is parts.0 (λ rest. own_met net home held needs d j parts.1 rest own)
-  where
-    second : (a b : Bool) → a ≡ true → (not a || b) ≡ true → b ≡ true
-    second true b e is = is
-    second false b e is = absurd (cc)
-
-    by : (b : Bool) → (need.channel == d) ≡ b → cond b (Some need.count) (need_of needs d) ≡ Some j
-        → is_met net home held need ≡ true → (need_of needs d ≡ Some j → j ≤ sent_of held.image d)
-        → j ≤ sent_of held.image d
-    by false apart found met rest = rest found
-    by true at found met rest =
-        let here : need.channel ≡ d = eqb-true need.channel d at in
-        let le : need.count ≤ sent_of held.image need.channel =
-        at_most need.count (sent_of held.image need.channel)
-        (second (producer_node net need.channel == home) (nat_le need.count (sent_of held.image need.channel))
-        (eq-eqb (producer_node net need.channel) home (ap (producer_node net) here ∙ own)) met) in
-        let count : need.count ≡ j = one_inside refl found in
-        let sent : sent_of held.image need.channel ≡ sent_of held.image d = ap (sent_of held.image) here in
-        omega (arith, le, count, sent)
+    elim (same_or_other need.channel d) [
+      | inl here ↦ (let found = rw (eq-eqb need.channel d here) at is in
+          at_most j (sent_of held.image d)
+          (rw (here, eq-eqb (producer_node net d) home own, one_inside refl found) at parts.0))
+      | inr apart ↦ own_met net home held needs d j parts.1 (rw (ne_eqb need.channel d apart) at is) own
+    ]
 
 module _ (net : Network) (home p c n to : ℕ) (needs : List Need) (cross : IsCross (net_seen net) c p to)
     (kept : RecordView) (running : RunningView) (left : ℕ → ℕ) (live : LiveView) (is : running.live ≡ Some live)
@@ -129,16 +100,12 @@ module _ (net : Network) (home p c n to : ℕ) (needs : List Need) (cross : IsCr
   question : (q : QuestionView) × (slice_get live.questions c ≡ Some (Some q))
   question = question_at live.questions c asked
 
-  all_met : list_all (is_met net home at.held) needs ≡ true
-  all_met = sym (ap (are_met net home needs) at.is) ∙ met
+  -- its questions with the answer
+  abbrev answered : List (Option QuestionView)
+  answered = with_answer By_took c live.questions
 
-  hears_took : HearsTook (net_seen net) home
-      (record { disk = record_seen kept; mode = mode_seen (Runs running); outlets = left })
-      (record {
-        disk = record_seen kept;
-        mode = mode_seen (Runs (collecting (Some (joined_live net home p c needs live)) running));
-        outlets = left;
-      }) n c (need_of needs)
+  hears_took : HearsTook (net_seen net) home (runs_so kept running left)
+      (runs_so kept (collecting (Some (joined_live net home p c needs live)) running) left) n c (need_of needs)
   hears_took = record {
     from = p;
     to = to;
@@ -148,7 +115,7 @@ module _ (net : Network) (home p c n to : ℕ) (needs : List Need) (cross : IsCr
     before = live_seen live;
     later = live_seen (joined_live net home p c needs live);
     same = record { disk = refl; outlets = refl };
-    was = live_was running live is;
+    was = rw is refl;
     now = refl;
     held = held_seen home n kept.tentative at;
     number = number;
@@ -156,46 +123,31 @@ module _ (net : Network) (home p c n to : ℕ) (needs : List Need) (cross : IsCr
     count = question.0.count;
     answer = question.0.answer;
     asked = ap question_seen question.1;
-    answered = needs_stay net home needs (with_answer By_took c live.questions) c (question.0.count, By_took)
+    answered = needs_stay net home needs answered c (question.0.count, By_took)
         (answer_here live.questions c By_took question.0 question.1);
     asks_kept = λ d j answer other before.
-        needs_stay net home needs (with_answer By_took c live.questions) d (j, answer)
-        (answer_elsewhere live.questions c By_took d other ∙ before);
-    asks_new = asks_new;
-    met = met_each;
+        needs_stay net home needs answered d (j, answer) (answer_elsewhere live.questions c By_took d other ∙ before);
+    asks_new = λ d j answer other later.
+        let within = asked_within (with_needs net home needs answered) d (j, answer) later in
+        let same = needs_length net home needs answered in
+        elim (needs_new net home needs answered d j answer (omega (arith, within, same)) later) [
+          | inl before ↦ inl (rw (answer_elsewhere live.questions c By_took d other) at before)
+          | inr new ↦ inr (new.0, new.1, λ own. new.2 (producer_is net d home own))
+        ];
+    met = λ d r j from need. elim (same_or_other r home) [
+      | inl own ↦ inl (own, own_met net home at.held needs d j (rw at.is at met) need (producer_is net d r from.from ∙ own))
+      | inr other ↦ inr (
+          let within : d < length net.channels = cross_within net d r p from in
+          let same = answer_length live.questions c By_took in
+          let found = needs_met net home needs answered d j need
+          (λ own. other (sym (producer_is net d r from.from) ∙ own)) (omega (arith, within, wide, same)) in
+          (other, found.0.0, found.0.1, found.1))
+    ];
     takes = (has_joined p live.takers).takes;
     takes_others = (has_joined p live.takers).others;
     places = (has_joined p live.takers).places;
     last = (has_joined p live.takers).last;
   }
-    where
-      asks_new : (d j : ℕ) (answer : Answer) → d ≢ c
-          → questions_seen (with_needs net home needs (with_answer By_took c live.questions)) d ≡ Some (j, answer)
-          → (questions_seen live.questions d ≡ Some (j, answer))
-          ⊎ ((need_of needs d ≡ Some j) × (answer ≡ Awaited) × ((net_seen net).producer d ≢ Some home))
-      asks_new d j answer other later =
-          let within = asked_within (with_needs net home needs (with_answer By_took c live.questions)) d (j, answer)
-          later in
-          let same = needs_length net home needs (with_answer By_took c live.questions) in
-          elim (needs_new net home needs (with_answer By_took c live.questions) d j answer
-          (omega (arith, within, same)) later) [
-            | inl before ↦ inl (sym (answer_elsewhere live.questions c By_took d other) ∙ before)
-            | inr new ↦ inr (new.0, new.1, λ own. new.2 (producer_is net d home own))
-          ]
-
-      met_each : (d r j : ℕ) → IsCross (net_seen net) d r p → need_of needs d ≡ Some j
-          → ((r ≡ home) × (j ≤ sent_of at.held.image d))
-          ⊎ ((r ≢ home) × (i : ℕ) × (answer : Answer)
-          × (questions_seen (with_needs net home needs (with_answer By_took c live.questions)) d ≡ Some (i, answer)))
-      met_each d r j from need = elim (same_or_other r home) [
-        | inl own ↦ inl (own, own_met net home at.held needs d j all_met need (producer_is net d r from.from ∙ own))
-        | inr other ↦ inr (
-            let within : d < length net.channels = cross_within net d r p from in
-            let same = answer_length live.questions c By_took in
-            let found = needs_met net home needs (with_answer By_took c live.questions) d j need
-            (λ own. other (sym (producer_is net d r from.from) ∙ own)) (omega (arith, within, wide, same)) in
-            (other, found.0.0, found.0.1, found.1))
-      ]
 
 -- ---- the questions that a node makes that took part
 
@@ -207,24 +159,17 @@ module _ (net : Network) (home : ℕ) (w : World) (live : LiveView) (is : IsLive
       → MaySendAll (net_seen net) w packets
       → AllByRecursion (MaySend (net_seen net) w)
       (all_seen (in_front (new_ask net home live.number need questions) packets))
-  new_one need questions packets within lasts rest = by (needs_no_question net home need questions) lasts
-    where
-      by : (b : Bool)
-          → (questions_seen (cond b questions (slice_set questions need.channel (new_question need))) need.channel
-          ≡ Some (need.count, Awaited)
-          → questions_seen live.questions need.channel ≡ Some (need.count, Awaited))
-          → AllByRecursion (MaySend (net_seen net) w)
-          (all_seen (in_front (cond b None (Some (ask_on net home live.number need.channel need.count))) packets))
-      by true stays = rest
-      by false stays = (
-        record {
-          live = live_seen live;
-          is = is;
-          number = refl;
-          asked = stays (set_question questions need.channel (record { count = need.count; answer = Awaited }) within);
-        },
-        rest,
-      )
+  new_one need questions packets within lasts rest =
+      elim (needs_no_question net home need questions) as (λ b.
+      (questions_seen (cond b questions (slice_set questions need.channel (new_question need))) need.channel
+      ≡ Some (need.count, Awaited) → questions_seen live.questions need.channel ≡ Some (need.count, Awaited))
+      → AllByRecursion (MaySend (net_seen net) w)
+      (all_seen (in_front (cond b None (Some (ask_on net home live.number need.channel need.count))) packets))) [
+        | true ↦ λ stays. rest
+        | false ↦ λ stays. (
+            let new = set_question questions need.channel (record { count = need.count; answer = Awaited }) within in
+            (record { live = live_seen live; is = is; number = refl; asked = stays new }, rest))
+      ] lasts
 
   pub new_may : (needs : List Need) (questions : List (Option QuestionView))
       → ((i : ℕ) (need : Need) → slice_get needs i ≡ Some need → need.channel < length questions)
@@ -233,11 +178,10 @@ module _ (net : Network) (home : ℕ) (w : World) (live : LiveView) (is : IsLive
   new_may [] questions few last = tt
   new_may (need ∷ needs) questions few last =
       new_one need questions (new_asks net home live.number needs (with_need net home need questions)) (few 0 need refl)
-      (λ now. ap (λ (qs : List (Option QuestionView)). questions_seen qs need.channel) (sym last)
-      ∙ needs_stay net home needs (with_need net home need questions) need.channel (need.count, Awaited) now)
+      (λ now. rw last at
+      (needs_stay net home needs (with_need net home need questions) need.channel (need.count, Awaited) now))
       (new_may needs (with_need net home need questions)
-      (λ i other at. (let same : length (with_need net home need questions) ≡ length questions =
-      need_length net home need questions in
+      (λ i other at. (let same = need_length net home need questions in
       let below = few (suc i) other at in omega (arith, same, below))) last)
 
 -- ---- one station of several
@@ -247,8 +191,11 @@ module _ (net : Network) (stations : List StationView) (k : ℕ) (old : StationV
   abbrev Now : ModeView → StationView
   Now mode = moved_to (record old.node { mode = mode }) failures turns old
 
-  still : (mode : ModeView) → mode_seen mode ≡ mode_seen old.node.mode
-      → Leads (net_seen net) (world_seen stations sent) (world_seen (slice_set stations k (Now mode)) sent)
+  -- the machine goes from this world to that in which the node's mode is another
+  abbrev LeadsTo : ModeView → Type 0
+  LeadsTo mode = Leads (net_seen net) (world_seen stations sent) (world_seen (slice_set stations k (Now mode)) sent)
+
+  still : (mode : ModeView) → mode_seen mode ≡ mode_seen old.node.mode → LeadsTo mode
   still mode same =
       leads_here (net_seen net) (world_seen stations sent)
       _ (unseen stations k old (Now mode) there sent refl refl same)
@@ -260,12 +207,8 @@ module _ (net : Network) (stations : List StationView) (k : ℕ) (old : StationV
     where
       of_live : (running : RunningView) → old.node.mode ≡ Runs running → (o : Option LiveView) → running.live ≡ o
           → (b : Bool) → awaits n c o ≡ b
-          → Leads (net_seen net) (world_seen stations sent)
-          (world_seen (slice_set stations k
-          (Now (Runs (collecting (cond b (option_map (with_covered c) o) o) running)))) sent)
-      of_live running is o live_is false none =
-          still (Runs (collecting o running))
-          (ap (λ (l : Option LiveView). mode_seen (Runs (collecting l running))) (sym live_is) ∙ sym (ap mode_seen is))
+          → LeadsTo (Runs (collecting (cond b (option_map (with_covered c) o) o) running))
+      of_live running is o live_is false none = still (Runs (collecting o running)) (rw (is, live_is) refl)
       of_live running is None live_is true waits = absurd (cc)
       of_live running is (Some live) live_is true waits =
           let new = Now (Runs (collecting (Some (with_covered c live)) running)) in
@@ -273,21 +216,12 @@ module _ (net : Network) (stations : List StationView) (k : ℕ) (old : StationV
           (hears stations k old new there (net_seen net) sent (outlets_same stations k old new there refl)
           (Covered k n c m) came (
             refl,
-            subst (λ (mode : ModeView). HearsCovered
-                (record {
-                  disk = record_seen old.node.kept;
-                  mode = mode_seen mode;
-                  outlets = outlets_seen stations;
-                })
-                (node_seen new (outlets_seen stations)) n c) (sym is)
-                (hears_covered n c old.node.kept running (outlets_seen stations) live live_is waits),
+            rw is (hears_covered n c old.node.kept running (outlets_seen stations) live live_is waits),
           ))
 
-      by : (mode : ModeView) → old.node.mode ≡ mode
-          → Leads (net_seen net) (world_seen stations sent)
-          (world_seen (slice_set stations k (Now (on_mode (hearing_covered n c) mode))) sent)
-      by Down is = still Down (sym (ap mode_seen is))
-      by InDoubt is = still InDoubt (sym (ap mode_seen is))
+      by : (mode : ModeView) → old.node.mode ≡ mode → LeadsTo (on_mode (hearing_covered n c) mode)
+      by Down is = still Down (rw is refl)
+      by InDoubt is = still InDoubt (rw is refl)
       by (Runs running) is = of_live running is running.live refl (awaits n c running.live) refl
 
   module _ (running : RunningView) (is : old.node.mode ≡ Runs running) (live : LiveView)
@@ -299,14 +233,7 @@ module _ (net : Network) (stations : List StationView) (k : ℕ) (old : StationV
         let new = moved_to (given_up old.node) failures turns old in
         leads_by (net_seen net) (world_seen stations sent) _
         (acts stations k old new there (net_seen net) sent (outlets_same stations k old new there refl)
-        (subst (λ (mode : ModeView). NodeStep (net_seen net) k
-        (record { disk = record_seen old.node.kept; mode = mode_seen mode; outlets = outlets_seen stations })
-        (record {
-          disk = record_seen (without_tentative old.node.kept);
-          mode = mode_seen (on_mode (collecting None) mode);
-          outlets = outlets_seen stations;
-        })) (sym is)
-        (gives_up net k old.node.kept running (outlets_seen stations) live live_is at)))
+        (rw is (gives_up net k old.node.kept running (outlets_seen stations) live live_is at)))
 
     pub joined_leads : (p c n m to : ℕ) (needs : List Need) → IsCross (net_seen net) c p to
         → ((i : ℕ) (need : Need) → slice_get needs i ≡ Some need → need.channel < length net.channels)
@@ -324,10 +251,7 @@ module _ (net : Network) (stations : List StationView) (k : ℕ) (old : StationV
         (hears stations k old new there (net_seen net) sent (outlets_same stations k old new there refl)
         (Took k n c m (need_of needs)) came (
           refl,
-          subst (λ (mode : ModeView). HearsTook (net_seen net) k
-              (record { disk = record_seen old.node.kept; mode = mode_seen mode; outlets = outlets_seen stations })
-              (node_seen new (outlets_seen stations)) n c (need_of needs)) (sym is)
-              (hears_took net k p c n to needs cross old.node.kept running (outlets_seen stations) live live_is number
+          rw is (hears_took net k p c n to needs cross old.node.kept running (outlets_seen stations) live live_is number
               asked at met wide),
         )))
         (sends (net_seen net) later (new_asks net k live.number needs (with_answer By_took c live.questions)) sent

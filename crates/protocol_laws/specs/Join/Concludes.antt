@@ -1,26 +1,25 @@
 -- A decision of a checkpoint is a step of the abstract machine, and whom it names may be told.
-use Rattle.std.proofs.Common.{◌≡◌, inl, inr, ℕ, zero, suc, ◌<◌, ◌≤◌, ◌||◌, Bool, true, false, List, [], ◌∷◌, ◌++◌}
-use Rattle.std.proofs.Common.{length, map, Option, Some, None, option_map, refl, sym, ap, subst, ◌∙◌, arith}
-use Rattle.std.specs.Prelude.{◌≢◌, ◌==◌, not, slice_get, slice_set}
+use Rattle.std.proofs.Common.{◌≡◌, inl, ℕ, zero, suc, ◌<◌, true, List, [], ◌∷◌, ◌++◌}
+use Rattle.std.proofs.Common.{length, map, Option, Some, None, refl, ap, ◌∙◌, arith}
+use Rattle.std.specs.Prelude.{◌≢◌, not, slice_get, slice_set}
 use Rattle.std.specs.List.{AllByRecursion}
 use Rattle.std.proofs.Math.Path.{fun_ext}
-use Rattle.std.proofs.lemmas.Bool.{eq-eqb}
 use Rattle.std.proofs.lemmas.List.{length-map}
 use Rattle.std.proofs.lemmas.Option.{slice_get_within}
-use Rattle.protocol.specs.Node.Common.{Network, DecisionView, with_decision, RecordView, collecting, live_in, holds}
+use Rattle.protocol.specs.Node.Common.{Network, DecisionView, RecordView, collecting, live_in, holds}
 use Rattle.protocol.specs.Node.Common.{may_decide, participants_of, concluded, commit_to, QuestionView, LiveView}
-use Rattle.protocol.specs.Node.Common.{ModeView, Runs, RunningView, on_mode}
-use Rattle.recovery_line.proofs.Basics.{above_or, one_inside, some_not_none}
+use Rattle.protocol.specs.Node.Common.{Runs, RunningView, on_mode}
+use Rattle.recovery_line.proofs.Basics.{some_not_none}
 use Rattle.recovery_line.proofs.Observing.{deciding_moves}
 use Rattle.recovery_line.proofs.Theorems.{is_consistent}
-use Rattle.protocol.specs.World.Common.{Image, Net, Answer, Awaited, Mode, NodeStep, live_of, has_node, image_seen}
-use Rattle.protocol.specs.World.Common.{record_seen, decides, Packet, Record, World, Reachable, Leads, question_seen}
+use Rattle.protocol.specs.World.Common.{Image, Net, Awaited, Mode, NodeStep, live_of, has_node, image_seen}
+use Rattle.protocol.specs.World.Common.{record_seen, decides, Packet, Record, World, Reachable, Leads}
 use Rattle.protocol.specs.World.Common.{questions_seen, live_seen, mode_seen, all_seen, world_seen, net_seen}
 use Rattle.protocol.specs.World.Common.{records_of, records_seen, outlets_seen, StationView, moved_to}
 use Rattle.recovery_line.specs.Moves.{Decides}
 use Rattle.recovery_line.specs.Nodes.{Conclude, current_of}
 use Rattle.recovery_line.specs.Records.{Holds}
-use Rattle.protocol.specs.Node.Collecting.{is_awaited, is_open}
+use Rattle.protocol.specs.Node.Collecting.{is_open}
 use Rattle.protocol.specs.Node.Verdicts.{all_answered, decision_on, decided_now}
 use Rattle.protocol.specs.Node.Verdicts.{commit_packets}
 use Rattle.protocol_laws.specs.Join.Crossings.{both_true}
@@ -28,7 +27,6 @@ use Rattle.protocol_laws.specs.Join.Holding.{IsHeld, held_where, held_seen}
 use Rattle.protocol_laws.specs.Join.Leading.{leads_by, leads_then, acts, outlets_same, record_at, mode_at, set_there}
 use Rattle.protocol_laws.specs.Join.NeedLaws.{has_where, has_where_below}
 use Rattle.protocol_laws.specs.Join.Sent.{MaySendAll, sends}
-use Rattle.protocol.specs.World.RecoveryLine.{record_or_new}
 use Rattle.protocol.specs.declared.round_turns.RoundTurns.{RoundTurns}
 
 -- ---- answers and decisions
@@ -39,49 +37,22 @@ none_open [] all c m is = cc
 none_open (question ∷ questions) all (suc c) m is =
     none_open questions (both_true (not (is_open question)) (all_answered questions) all).1 c m is
 none_open (question ∷ questions) all zero m is =
-    by question (both_true (not (is_open question)) (all_answered questions) all).0 is
-  where
-    by : (o : Option QuestionView) → not (is_open o) ≡ true → question_seen (Some o) ≡ Some (m, Awaited) → ⊥
-    by None closed e = cc
-    by (Some q) closed e =
-        let answer : q.answer ≡ Awaited = ap (λ (x : ℕ × Answer). x.1) (one_inside refl e) in
-        let bad : not true ≡ true = ap (λ (a : Answer). not (is_awaited a)) (sym answer) ∙ closed in
-        cc
+    grind (arith, both_true (not (is_open question)) (all_answered questions) all)
 
 -- where each decided number is below one, so is that of each decision
 all_below : (m : ℕ) (decisions : List DecisionView) → ((n : ℕ) → decides decisions n ≡ true → n < m)
     → AllByRecursion (λ (d : DecisionView). d.number < m) decisions
 all_below m [] below = tt
 all_below m (d ∷ decisions) below = (
-  below d.number (let e : (d.number == d.number) ≡ true = eq-eqb d.number d.number refl in rw e refl),
-  all_below m decisions (λ n is. below n (rw is (or_true (d.number == n)))),
+  below d.number (grind arith),
+  all_below m decisions (λ n decided. below n (grind (arith, decided))),
 )
-  where
-    or_true : (b : Bool) → (b || true) ≡ true
-    or_true true = refl
-    or_true false = refl
 
 -- those who took part, ascending, are those who took part, where each is one of so many
 same_nodes : (nodes : ℕ) (takers : List ℕ) → ((p : ℕ) → has_node p takers ≡ true → p < nodes) → (p : ℕ)
     → has_node p (participants_of nodes takers) ≡ has_node p takers
-same_nodes nodes takers few p = elim (above_or p nodes) [
-  | inl below ↦ has_where (λ q. has_node q takers) p 0 nodes (omega arith) (omega (arith, below))
-  | inr past ↦ by (has_node p (participants_of nodes takers)) refl (has_node p takers) refl
-]
-  where
-    by : (b : Bool) → has_node p (participants_of nodes takers) ≡ b → (d : Bool) → has_node p takers ≡ d → b ≡ d
-    by false e false f = refl
-    by false e true f = absurd (let below = few p f in let past = past_of in omega (arith, below, past))
-      where
-        past_of : nodes ≤ p
-        past_of = elim (above_or p nodes) [
-          | inl below ↦ absurd (let has = has_where (λ q. has_node q takers) p 0 nodes (omega arith)
-              (omega (arith, below)) in (let bad : false ≡ true = sym e ∙ (has ∙ f) in cc))
-          | inr past ↦ past
-        ]
-    by true e d f =
-        let found = has_where_below (λ q. has_node q takers) p 0 nodes e in
-        sym (sym f ∙ found.0)
+same_nodes nodes takers few p =
+    grind (arith, few p, has_where (λ q. has_node q takers) p 0 nodes, has_where_below (λ q. has_node q takers) p 0 nodes)
 
 -- ---- as a step of one node
 
@@ -95,23 +66,10 @@ module _ (home : ℕ) (kept : RecordView) (live : LiveView) (ready : may_decide 
   pub decision_moves : Decides (record_seen kept) (record_seen (decision_on live kept)) home live.number
       (image_seen own_held.held.image) (λ p. has_node p live.takers)
   decision_moves =
-      subst (λ (takes : ℕ → Bool). Decides (record_seen kept) (record_seen (decision_on live kept)) home live.number
-      (image_seen own_held.held.image) takes)
-      (fun_ext (same_nodes (length kept.highest) live.takers few))
-      (subst (λ (x : ℕ). Decides (record_seen kept) (record_seen (decision_on live kept)) x live.number
-      (image_seen own_held.held.image)
-      (λ p. has_node p (participants_of (length kept.highest) live.takers))) own_held.initiator by_number)
-    where
-      by_number : Decides (record_seen kept) (record_seen (decision_on live kept)) own_held.held.initiator live.number
-          (image_seen own_held.held.image) (λ p. has_node p (participants_of (length kept.highest) live.takers))
-      by_number =
-          subst (λ (n : ℕ). Decides (record_seen kept)
-          (record_seen (with_decision n (participants_of (length kept.highest) live.takers) kept))
-          own_held.held.initiator n (image_seen own_held.held.image)
-          (λ p. has_node p (participants_of (length kept.highest) live.takers))) own_held.number
-          (deciding_moves kept own_held.held (participants_of (length kept.highest) live.takers) own_held.is
-          (all_below own_held.held.number kept.decisions
-          (λ n is. (let below = older n is in let same = own_held.number in omega (arith, below, same)))))
+      rw (own_held.initiator, own_held.number, fun_ext (same_nodes (length kept.highest) live.takers few)) at
+      (deciding_moves kept own_held.held (participants_of (length kept.highest) live.takers) own_held.is
+      (all_below own_held.held.number kept.decisions
+      (λ n is. (let below = older n is in let same = own_held.number in omega (arith, below, same)))))
 
 concludes : (net : Net) (home : ℕ) (kept : RecordView) (running : RunningView) (left : ℕ → ℕ) (live : LiveView)
     → running.live ≡ Some live → may_decide home kept (Some live) ≡ true
@@ -126,7 +84,7 @@ concludes : (net : Net) (home : ℕ) (kept : RecordView) (running : RunningView)
 concludes net home kept running left live is ready few older =
     Conclude (image_seen running.current) (image_seen (own_held home kept live ready few older).held.image)
     (live_seen live) (record {
-      was = ap (λ (o : Option LiveView). Mode.Running (image_seen running.current) (option_map live_seen o)) is;
+      was = rw is refl;
       answered = none_open live.questions
           (both_true (holds home live.number kept.tentative) (all_answered live.questions) ready).1;
       decides = decision_moves home kept live ready few older;
@@ -136,23 +94,16 @@ concludes net home kept running left live is ready few older =
 
 -- ---- whom a decision names is told
 
-first_there : (p : ℕ) (others : List ℕ) → has_node p (p ∷ others) ≡ true
-first_there p others = let e : (p == p) ≡ true = eq-eqb p p refl in rw e refl
-
 pub commits_may : (net : Net) (w : World) (home number : ℕ) (nodes : List ℕ) → w.modes home ≢ Mode.Down
     → ((p : ℕ) → has_node p nodes ≡ true
     → ((w.records home).decided number ≡ true) × ((w.records home).named number p ≡ true))
     → MaySendAll net w (map (commit_to home number) nodes)
 commits_may net w home number [] up names = tt
 commits_may net w home number (p ∷ nodes) up names =
-    let here = names p (first_there p nodes) in (
+    let here = names p (grind arith) in (
       record { up = up; decided = here.0; why = inl here.1 },
-      commits_may net w home number nodes up (λ q is. names q (rw is (or_true (p == q)))),
+      commits_may net w home number nodes up (λ q named. names q (grind (arith, named))),
     )
-  where
-    or_true : (b : Bool) → (b || true) ≡ true
-    or_true true = refl
-    or_true false = refl
 
 -- ---- one station of several
 
@@ -163,22 +114,13 @@ module _ (net : Network) (stations : List StationView) (k : ℕ) (old : StationV
   -- whoever holds an image is there
   holder_there : (p x n : ℕ) → (image : Image) → Holds (records_seen (records_of stations) p) x n image
       → p < length stations
-  holder_there p x n image held = by (slice_get (records_of stations) p) refl held
-    where
-      by : (o : Option RecordView) → slice_get (records_of stations) p ≡ o → Holds (record_or_new o) x n image
-          → p < length stations
-      by None at e = absurd (some_not_none refl e)
-      by (Some kept) at e =
-          let within : p < length (records_of stations) = slice_get_within (records_of stations) p kept at in
-          let same = length-map stations (λ (s : StationView). s.node.kept) in
-          omega (arith, within, same)
+  holder_there p x n image held =
+      grind (arith, slice_get_within, length-map stations (λ (s : StationView). s.node.kept))
 
   module _ (running : RunningView) (is : old.node.mode ≡ Runs running) (live : LiveView)
       (live_is : running.live ≡ Some live) (ready : may_decide k old.node.kept (Some live) ≡ true) where
     seen_live : (world_seen stations sent).modes k ≡ Mode.Running (image_seen running.current) (Some (live_seen live))
-    seen_live =
-        mode_at stations k old there ∙ (ap mode_seen is
-        ∙ ap (λ (o : Option LiveView). Mode.Running (image_seen running.current) (option_map live_seen o)) live_is)
+    seen_live = rw (mode_at stations k old there, is, live_is) refl
 
     takers_few : (p : ℕ) → has_node p live.takers ≡ true → p < length old.node.kept.highest
     takers_few p takes =
@@ -215,10 +157,10 @@ module _ (net : Network) (stations : List StationView) (k : ℕ) (old : StationV
         (λ p named. (names_it later (record_at later k new here) p named)))) refl
       where
         live_now : live_in old.node.mode ≡ Some live
-        live_now = ap live_in is ∙ live_is
+        live_now = rw is live_is
 
         mode_now : mode_seen (concluded old.node).mode ≡ Mode.Running (image_seen running.current) None
-        mode_now = ap (λ (mode : ModeView). mode_seen (on_mode (collecting None) mode)) is
+        mode_now = rw is refl
 
         step : NodeStep (net_seen net) k
             (record {
@@ -232,26 +174,9 @@ module _ (net : Network) (stations : List StationView) (k : ℕ) (old : StationV
               outlets = outlets_seen stations;
             })
         step =
-            subst (λ (o : Option LiveView). NodeStep (net_seen net) k
-            (record {
-              disk = record_seen old.node.kept;
-              mode = mode_seen old.node.mode;
-              outlets = outlets_seen stations;
-            })
-            (record {
-              disk = record_seen (decided_now o old.node.kept);
-              mode = mode_seen (on_mode (collecting None) old.node.mode);
-              outlets = outlets_seen stations;
-            })) (sym live_now)
-            (subst (λ (mode : ModeView). NodeStep (net_seen net) k
-            (record { disk = record_seen old.node.kept; mode = mode_seen mode; outlets = outlets_seen stations })
-            (record {
-              disk = record_seen (decided_now (Some live) old.node.kept);
-              mode = mode_seen (on_mode (collecting None) mode);
-              outlets = outlets_seen stations;
-            })) (sym is)
+            rw (live_now, is)
             (concludes (net_seen net) k old.node.kept running (outlets_seen stations) live live_is ready takers_few
-            decided_before))
+            decided_before)
 
         names_it : (later : List StationView)
             → records_seen (records_of later) k ≡ record_seen (decided_now (live_in old.node.mode) old.node.kept)
@@ -259,9 +184,6 @@ module _ (net : Network) (stations : List StationView) (k : ℕ) (old : StationV
             → ((records_seen (records_of later) k).decided live.number ≡ true)
             × ((records_seen (records_of later) k).named live.number p ≡ true)
         names_it later same p named =
-            let now = same ∙ ap (λ (o : Option LiveView). record_seen (decided_now o old.node.kept)) live_now in
             let moves = decision_moves k old.node.kept live ready takers_few decided_before in
-            let takes = sym (same_nodes (length old.node.kept.highest) live.takers takers_few p) ∙ named in (
-              ap (λ (r : Record). r.decided live.number) now ∙ moves.decided p takes,
-              ap (λ (r : Record). r.named live.number p) now ∙ (moves.named p ∙ takes),
-            )
+            let takes = same_nodes (length old.node.kept.highest) live.takers takers_few p in
+            rw (same, live_now) (moves.decided p (rw (← takes) named), rw (moves.named p, ← takes) named)

@@ -1,34 +1,31 @@
 -- Whatever event happens, a world goes on being one to which steps of the abstract machine have led.
-use Rattle.std.proofs.Common.{◌≡◌, ◌⊎◌, inl, inr, ℕ, ◌<◌, ◌&&◌, Bool, true, false, cond, List, ℤ, length, Option, Some}
-use Rattle.std.proofs.Common.{None}
+use Rattle.std.proofs.Common.{◌≡◌, ◌⊎◌, ℕ, ◌<◌, ◌&&◌, Bool, true, false, cond, List, ℤ, length, Option, Some, None}
 use Rattle.std.proofs.Common.{option_map, refl, sym, ap, subst, ◌∙◌, arith}
 use Rattle.std.specs.Prelude.{◌==◌, nat_lt, not, slice_get, slice_set}
 use Rattle.std.proofs.lemmas.Bool.{eq-eqb, ltb-true}
 use Rattle.datagram.proofs.Exactness.{whole_again}
-use Rattle.datagram.specs.declared.packet.Packet.{Packet as Datagram}
-use Rattle.protocol.specs.Node.Common.{node_count, Network, IsValid, RecordView, live_in, hear_prospect}
-use Rattle.protocol.specs.Node.Common.{deliver_prospect, are_nodes, names_right, names_run, restart_after, packet_for}
-use Rattle.protocol.specs.Node.Common.{IsOut, IsInstall, LiveView, is_down, is_running, NodeView, ModeView, Down}
-use Rattle.protocol.specs.Node.Common.{InDoubt, Runs, RunningView, running_node, running_in, running_of, on_mode}
-use Rattle.protocol.specs.Node.Common.{Prospect, Undue, Exhausted, Planned, IsMade, if_due}
+use Rattle.protocol.specs.Node.Common.{node_count, Network, IsValid, RecordView, live_in, hear_prospect, are_nodes}
+use Rattle.protocol.specs.Node.Common.{restart_after, IsOut, IsInstall, LiveView, is_down, NodeView, ModeView, Down}
+use Rattle.protocol.specs.Node.Common.{InDoubt, Runs, RunningView, running_node, running_in, on_mode, Undue, IsMade}
+use Rattle.protocol.specs.Node.Common.{if_due}
 use Rattle.protocol.specs.World.Common.{NodeStep, record_seen, Packet, Traffic, all_sent, flights_to, Flight}
 use Rattle.protocol.specs.World.Common.{deliver_plan, IsJoined, Leads, SaysWhatWasSent, HasRun, RunsOn, live_seen}
 use Rattle.protocol.specs.World.Common.{mode_seen, node_seen, world_seen, DoneView, AreSound, IsNumbered}
 use Rattle.protocol.specs.World.Common.{StationInvariant, net_seen, outlets_seen, answer_by, has_happened, ReplyView}
 use Rattle.protocol.specs.World.Common.{StationView, StationPlan, moved_to, turns_by, traffic_left, traffic_acted}
-use Rattle.protocol.specs.World.Common.{next_release, IsPlanned, IsInstalled, IsRelease, first_waiting}
+use Rattle.protocol.specs.World.Common.{next_release, IsPlanned, IsInstalled, IsRelease}
+use Rattle.recovery_line.specs.Nodes.{Node}
 use Rattle.wire.proofs.Passing.{arrived_passes}
 use Rattle.protocol.specs.Node.Hearing.{told_prospect}
 use Rattle.protocol_laws.specs.Join.Promises.{traffic_by}
 use Rattle.protocol.specs.Join.Runs.{Carries}
 use Rattle.protocol.specs.Join.Seen.{body_seen, spelled_seen}
-use Rattle.protocol_laws.specs.Join.Crossings.{both_true, true_both}
+use Rattle.protocol_laws.specs.Join.Crossings.{both_true}
 use Rattle.protocol_laws.specs.Join.Hears.{hear_leads}
 use Rattle.protocol_laws.specs.Join.Leading.{leads_here, leads_by, acts, outlets_same, set_itself}
 use Rattle.protocol_laws.specs.Join.Leaves.{release_leads}
 use Rattle.protocol_laws.specs.Join.Plans.{ProspectLeads, stays_run, made_run}
 use Rattle.protocol_laws.specs.Join.Works.{turn_works}
-use Rattle.protocol.specs.Node.Delivering.{if_right}
 use Rattle.protocol.specs.Node.Installing.{turned}
 use Rattle.protocol.specs.declared.event.NetworkAct.{NetworkAct}
 use Rattle.protocol.specs.declared.event.NetworkAct.TheVariants as act_is
@@ -36,8 +33,6 @@ use Rattle.protocol.specs.World.Steps.{plan_sendings}
 use Rattle.protocol.specs.World.Traffic.{SpellsSound}
 use Rattle.protocol_laws.specs.World.FlightLaws.{gone_holds, delayed_holds, repeated_holds}
 use Rattle.protocol.specs.declared.outcome.Outcome.{Outcome}
-use Rattle.protocol.specs.declared.outcome.Outcome.TheVariants as outcome
-use Rattle.protocol.specs.declared.outcome.Refusal.TheVariants.{TooLarge, Spent}
 
 -- ---- a deed that is answered as if it hadn't happened
 
@@ -50,22 +45,7 @@ AnswersSo plan =
 node_stays : (restart : ℕ) (plan : StationPlan) (old new : NodeView) (answer : ReplyView) → AnswersSo plan
     → has_happened answer ≡ false → (came : Outcome) → IsMade restart plan.prospect old came new
     → answer ≡ answer_by plan.answer plan.declined came → new ≡ old
-node_stays restart plan old new answer (inl undue) none came step is =
-    (subst (λ (p : Prospect). IsMade restart p old came new) undue step).1
-node_stays restart plan old new answer (inr tells) none outcome.NotDue step is = by plan.prospect step
-  where
-    by : (prospect : Prospect) → IsMade restart prospect old outcome.NotDue new → new ≡ old
-    by Undue made = made.1
-    by (Exhausted looks) made = absurd made
-    by (Planned whole) made = absurd made
-node_stays restart plan old new answer (inr tells) none outcome.Made step is =
-    absurd (let some = ap has_happened is ∙ tells.0 in cc)
-node_stays restart plan old new answer (inr tells) none (outcome.Refused TooLarge) step is =
-    absurd (let some = ap has_happened is ∙ tells.1 in cc)
-node_stays restart plan old new answer (inr tells) none (outcome.Refused Spent) step is =
-    absurd (let some : has_happened answer ≡ true = ap has_happened is in cc)
-node_stays restart plan old new answer (inr tells) none outcome.Failed step is =
-    absurd (let some : has_happened answer ≡ true = ap has_happened is in cc)
+node_stays restart plan old new answer so none came step is = grind arith
 
 left_carries : (traffic : Traffic) (k : ℕ) (came : Option ℕ) (sent : List Packet) → Carries traffic sent
     → Carries (traffic_left traffic k came) sent
@@ -94,14 +74,13 @@ module _ (net : Network) (stations : List StationView) (k : ℕ) (old : StationV
           → RunsOn net stations traffic (slice_set stations k new)
           (cond b (all_sent round (plan_sendings plan came) (traffic_left traffic k plan.came)) traffic)
       by true happened =
-          subst (λ (s : StationView). RunsOn net stations traffic (slice_set stations k s)
-          (all_sent round (plan_sendings plan came) (traffic_left traffic k plan.came))) (sym step.same)
+          rw step.same
           (made_run net stations k old there traffic run (restart_after old.node.armed step.call round) round
           plan.prospect came new.node new.failures (turns_by plan.turns old.turns came)
           (traffic_left traffic k plan.came) leads (left_carries traffic k plan.came run.sent run.carries) step.step
           step.allowed)
       by false none =
-          subst (λ (s : StationView). RunsOn net stations traffic (slice_set stations k s) traffic) (sym step.same)
+          rw step.same
           (stays_run net stations k old there traffic run new.node new.failures (turns_by plan.turns old.turns came)
           traffic
           (node_stays (restart_after old.node.armed step.call round) plan old.node new.node answer so none came
@@ -116,20 +95,9 @@ module _ (net : Network) (stations : List StationView) (k : ℕ) (old : StationV
         → SpellsSound net inputs k bytes
         → ProspectLeads net stations k old run.sent (deliver_plan net place (Some bytes) old).prospect
     come_leads inputs run place bytes came says =
-        subst (λ (o : Option Datagram). ProspectLeads net stations k old run.sent
-        (deliver_prospect net old.number o old.node))
-        (sym packet_is) (by (is_down old.node.mode) refl)
+        rw (whole_again bytes says.packet says.text, eq-eqb says.packet.to old.number (says.here ∙ sym numbered), says.names)
+        (by (is_down old.node.mode) refl)
       where
-        packet_is : packet_for net old.number bytes ≡ Some says.packet
-        packet_is =
-            ap (if_right net old.number) (whole_again bytes says.packet says.text)
-            ∙ ap (λ (b : Bool). cond b (Some says.packet) None)
-            (true_both (says.packet.to == old.number) (names_right net says.packet)
-            (eq-eqb says.packet.to old.number (says.here ∙ sym numbered)) says.names)
-
-        names : names_run net says.packet.from k says.packet.body ≡ true
-        names = ap (λ (n : ℕ). names_run net says.packet.from n says.packet.body) (sym says.here) ∙ says.names
-
         node_listed : are_nodes net says.packet.from k ≡ true → says.packet.from < length old.node.kept.highest
         node_listed nodes =
             let both = both_true (not (says.packet.from == k))
@@ -148,7 +116,7 @@ module _ (net : Network) (stations : List StationView) (k : ℕ) (old : StationV
             (hear_prospect net k says.packet.from says.packet.body old.node)
         hears_it up =
             hear_leads net valid stations k old there run.sent says.packet.from up node_listed wide says.packet.body
-            names
+            (rw says.here at says.names)
             (λ told is. arrived_passes (SaysWhatWasSent run.sent) (flights_to traffic k) place bytes (run.carries k)
             came told
             (ap spelled_seen (whole_again bytes says.packet says.text)
@@ -168,8 +136,7 @@ module _ (net : Network) (stations : List StationView) (k : ℕ) (old : StationV
       (new : StationView) → old.node.kept.node ≡ k → StationInvariant net inputs old → StationInvariant net inputs new
       → IsInstalled net.channels done old answer new → RunsOn net stations traffic (slice_set stations k new) traffic
   install_run inputs run done answer new home inv later step =
-      subst (λ (s : StationView). RunsOn net stations traffic (slice_set stations k s) traffic) (sym step.same)
-      (by step.applied step.step (subst (StationInvariant net inputs) step.same later))
+      rw step.same (by step.applied step.step (rw step.same at later))
     where
       by : (applied : Bool)
           → IsInstall net.channels done.job done.after done.taken done.sent old.node applied new.node
@@ -189,46 +156,28 @@ module _ (net : Network) (stations : List StationView) (k : ℕ) (old : StationV
           now : StationView
           now = moved_to new.node old.failures old.turns old
 
+          -- the node as it is seen in this mode
+          seen_in : ModeView → Node
+          seen_in mode =
+              record { disk = record_seen old.node.kept; mode = mode_seen mode; outlets = outlets_seen stations }
+
           at : (mode : ModeView) → old.node.mode ≡ mode → IsOut done.job mode
-              → NodeStep (net_seen net) k
-              (record { disk = record_seen old.node.kept; mode = mode_seen mode; outlets = outlets_seen stations })
-              (record {
-                disk = record_seen old.node.kept;
-                mode = mode_seen
-                    (on_mode (turned net.channels done.job.process done.after done.taken done.sent) mode);
-                outlets = outlets_seen stations;
-              })
-          at Down runs out = absurd out
-          at InDoubt runs out = absurd out
+              → NodeStep (net_seen net) k (seen_in mode)
+              (seen_in (on_mode (turned net.channels done.job.process done.after done.taken done.sent) mode))
           at (Runs running) runs out =
               let before = (inv.runs (running_node old.node.kept old.node.version running)
               (ap (running_in old.node.kept old.node.version) runs)).sound.kept in
               let after = (sound.runs (running_node old.node.kept old.node.version
               (turned net.channels done.job.process done.after done.taken done.sent running))
-              (ap running_of is.1 ∙ ap (λ (m : ModeView). running_in old.node.kept old.node.version
-              (on_mode (turned net.channels done.job.process done.after done.taken done.sent) m))
-              runs)).sound.kept in
-              subst (λ (n : ℕ). NodeStep (net_seen net) n
-              (record {
-                disk = record_seen old.node.kept;
-                mode = mode_seen (Runs running);
-                outlets = outlets_seen stations;
-              })
-              (record {
-                disk = record_seen old.node.kept;
-                mode = mode_seen (Runs (turned net.channels done.job.process done.after done.taken done.sent running));
-                outlets = outlets_seen stations;
-              })) home
+              (rw (is.1, runs) refl)).sound.kept in
+              rw (← home)
               (turn_works net old.node.kept.node inputs done.job.process done.after done.taken done.sent running.current
               before.laid_out after.laid_out after.counts (record_seen old.node.kept)
               (option_map live_seen running.live) (outlets_seen stations))
+          at mode runs out = absurd out
 
-          works : NodeStep (net_seen net) k (node_seen old (outlets_seen stations))
-              (node_seen (moved_to new.node old.failures old.turns old) (outlets_seen stations))
-          works =
-              subst (λ (n : NodeView). NodeStep (net_seen net) k (node_seen old (outlets_seen stations))
-              (node_seen (moved_to n old.failures old.turns old) (outlets_seen stations))) (sym is.1)
-              (at old.node.mode refl is.0)
+          works : NodeStep (net_seen net) k (node_seen old (outlets_seen stations)) (node_seen now (outlets_seen stations))
+          works = rw is.1 (at old.node.mode refl is.0)
 
   -- ---- an item that leaves
 
@@ -243,20 +192,15 @@ module _ (net : Network) (stations : List StationView) (k : ℕ) (old : StationV
       where
         running_now : (mode : ModeView) → old.node.mode ≡ mode → (place : ℕ) → next_release round old ≡ Some place
             → (running : RunningView) × (old.node.mode ≡ Runs running)
-        running_now Down is place next =
-            absurd (let none : next_release round old ≡ None =
-            ap (λ (m : ModeView). cond (is_running m) (first_waiting old.node.kept round 0 old.outlets) None) is in cc)
-        running_now InDoubt is place next =
-            absurd (let none : next_release round old ≡ None =
-            ap (λ (m : ModeView). cond (is_running m) (first_waiting old.node.kept round 0 old.outlets) None) is in cc)
+        running_now Down is place next = absurd (let none = rw is at next in cc)
+        running_now InDoubt is place next = absurd (let none = rw is at next in cc)
         running_now (Runs running) is place next = (running, is)
 
         by : (o : Option ℕ) → next_release round old ≡ o → IsRelease round o old answer new
             → Leads (net_seen net) (world_seen stations sent) (world_seen (slice_set stations k new) sent)
         by None next is =
             leads_here (net_seen net) (world_seen stations sent) _
-            (ap (λ (s : StationView). world_seen (slice_set stations k s) sent) is.1
-            ∙ ap (λ (xs : List StationView). world_seen xs sent) (set_itself stations k old there))
+            (rw (is.1, set_itself stations k old there) refl)
         by (Some place) next is =
             let runs = running_now old.node.mode refl place next in
             release_leads net inputs stations k old new there sent numbered sound numbered_then sound_then round place
@@ -271,5 +215,4 @@ module _ (net : Network) (stations : List StationView) (k : ℕ) (old : StationV
         by (Some place) is = ap (λ (s : StationView). s.node.kept) is.same
 
     pub release_run : HasRun net stations traffic → RunsOn net stations traffic (slice_set stations k new) traffic
-    release_run run =
-        record { run = run; sent = run.sent; leads = release_steps run.sent; carries = run.carries }
+    release_run run = record { run = run; sent = run.sent; leads = release_steps run.sent; carries = run.carries }

@@ -1,33 +1,27 @@
 -- Whatever packet comes to a node, what is made of it is steps of the abstract machine.
-use Rattle.std.proofs.Common.{◌≡◌, inl, inr, ℕ, zero, suc, ◌<◌, ◌≤◌, ◌&&◌, Bool, true, false, cond, List, [], ◌∷◌, ◌++◌}
-use Rattle.std.proofs.Common.{length}
-use Rattle.std.proofs.Common.{Option, Some, None, option_map, refl, sym, ap, subst, ◌∙◌}
-use Rattle.std.specs.Prelude.{◌==◌, nat_lt, slice_get, slice_set}
+use Rattle.std.proofs.Common.{◌≡◌, ◌≢◌, ◌⊎◌, inl, inr, ℕ, zero, suc, ◌<◌, ◌&&◌, Bool, true, false, cond, List, [], ◌∷◌}
+use Rattle.std.proofs.Common.{◌++◌, length, Option, Some, None, option_map, refl, ap, arith}
+use Rattle.std.specs.Prelude.{slice_get, slice_set}
 use Rattle.std.specs.List.{list_all}
 use Rattle.std.proofs.lemmas.Bool.{eqb-true}
-use Rattle.protocol.specs.Node.Common.{Body, Need, Network, IsValid, MAX_COUNT, trimmed_image, base_of, sent_of}
-use Rattle.protocol.specs.Node.Common.{ImageView, Tentative, with_epoch, with_permanent, without_tentative}
-use Rattle.protocol.specs.Node.Common.{with_confirmed, holds, answer_to_ask, kept_then, AskAnswer, Silent}
-use Rattle.protocol.specs.Node.Common.{CoveredBefore, TookBefore, TakesNow, Declines, live_in, collecting, is_live}
-use Rattle.protocol.specs.Node.Common.{was_asked, Ignores, Joins, GivesUp, answer_to_took, joined_live}
-use Rattle.protocol.specs.Node.Common.{hearing_covered, refused_prospect, took_prospect, PassesOver, Notes, GoesBack}
-use Rattle.protocol.specs.Node.Common.{noting_undone, set_back_to, undone_prospect, hear_prospect, after_verdict}
-use Rattle.protocol.specs.Node.Common.{settled_packets, verdict_packets, commit_prospect, ended_prospect}
-use Rattle.protocol.specs.Node.Common.{settled_prospect, are_nodes, names_run, hearing, is_incoming, is_outgoing}
-use Rattle.protocol.specs.Node.Common.{LiveView, is_down, with_kept, NodeView, ModeView, Down, InDoubt, Runs}
-use Rattle.protocol.specs.Node.Common.{RunningView, on_mode, on_running, Planned, becoming, putting, telling, cut_at}
+use Rattle.protocol.specs.Node.Common.{Body, Need, Network, IsValid, trimmed_image, base_of, sent_of, RecordView}
+use Rattle.protocol.specs.Node.Common.{Tentative, holds, answer_to_ask, kept_then, AskAnswer, TakesNow, live_in}
+use Rattle.protocol.specs.Node.Common.{is_live, was_asked, Ignores, Joins, GivesUp, answer_to_took, hearing_covered}
+use Rattle.protocol.specs.Node.Common.{refused_prospect, took_prospect, PassesOver, Notes, GoesBack, noting_undone}
+use Rattle.protocol.specs.Node.Common.{undone_prospect, hear_prospect, settled_packets, verdict_packets}
+use Rattle.protocol.specs.Node.Common.{commit_prospect, ended_prospect, settled_prospect, are_nodes, names_run, hearing}
+use Rattle.protocol.specs.Node.Common.{is_incoming, is_outgoing, LiveView, is_down, NodeView, ModeView, Down, InDoubt}
+use Rattle.protocol.specs.Node.Common.{Runs, RunningView, on_mode, on_running, Prospect, becoming, putting, telling}
+use Rattle.protocol.specs.Node.Common.{cut_at}
 use Rattle.datagram.specs.declared.packet.Body.TheVariants as says
 use Rattle.datagram.specs.declared.packet.Packet.{Packet as Datagram}
-use Rattle.protocol.specs.World.Common.{Image, Mode, NodeStep, image_seen, record_seen, names, Packet, Leads, WasSent}
-use Rattle.protocol.specs.World.Common.{need_of, live_seen, mode_seen, all_seen, world_seen, net_seen, outlets_seen}
-use Rattle.protocol.specs.World.Common.{StationView, moved_to}
+use Rattle.protocol.specs.World.Common.{image_seen, record_seen, names, Packet, Leads, WasSent, need_of, live_seen}
+use Rattle.protocol.specs.World.Common.{mode_seen, all_seen, world_seen, net_seen, outlets_seen, StationView, moved_to}
+use Rattle.recovery_line.specs.Nodes.{Node}
 use Rattle.recovery_line.specs.Packets.{Kept, Ask, Took, Covered, Query, Commit, Ended, Settled, HearsKept}
-use Rattle.protocol.specs.Node.Answering.{takes_now}
-use Rattle.protocol.specs.Node.Answering.{answering}
-use Rattle.protocol.specs.Node.Collecting.{are_met}
-use Rattle.protocol.specs.Node.Collecting.{joining, joined_asks, give_up_prospect, took_by, loses}
-use Rattle.protocol.specs.Node.GoingBack.{answer_at, answer_with, gone_back, inbox_of}
-use Rattle.protocol.specs.Node.GoingBack.{undone_by}
+use Rattle.protocol.specs.Node.Answering.{takes_now, answering}
+use Rattle.protocol.specs.Node.Collecting.{TookAnswer, are_met, give_up_prospect, took_by, loses}
+use Rattle.protocol.specs.Node.GoingBack.{UndoneAnswer, answer_with, gone_back, undone_by}
 use Rattle.protocol.specs.Node.Hearing.{remembering}
 use Rattle.protocol.specs.Join.Seen.{body_seen}
 use Rattle.protocol_laws.specs.Join.Answers.{answer_tells, answer_leads}
@@ -40,7 +34,6 @@ use Rattle.protocol_laws.specs.Join.Leading.{acts, leads_here, leads_by, leads_f
 use Rattle.protocol_laws.specs.Join.Plans.{ProspectLeads}
 use Rattle.protocol_laws.specs.Join.Settles.{commit_leads, confirm_leads, ended_leads, settled_leads, query_leads}
 use Rattle.protocol.specs.Node.Addresses.{runs_between}
-use Rattle.protocol.specs.declared.links.Inbox.{Inbox}
 use Rattle.protocol.specs.declared.round_turns.RoundTurns.{RoundTurns}
 
 -- ---- what isn't seen of a node's memory
@@ -52,13 +45,8 @@ pub record IsUnseen (change : RunningView → RunningView) : Type 0 where
 
 pub mode_unseen : (change : RunningView → RunningView) → IsUnseen change → (mode : ModeView)
     → mode_seen (on_mode change mode) ≡ mode_seen mode
-mode_unseen change leaves Down = refl
-mode_unseen change leaves InDoubt = refl
-mode_unseen change leaves (Runs running) =
-    ap (λ (i : ImageView). Mode.Running (image_seen i) (option_map live_seen (change running).live))
-    (leaves.current running)
-    ∙ ap (λ (l : Option LiveView). Mode.Running (image_seen running.current) (option_map live_seen l))
-    (leaves.live running)
+mode_unseen change leaves (Runs running) = rw (leaves.current running, leaves.live running) refl
+mode_unseen change leaves other = refl
 
 -- ---- needs
 
@@ -66,15 +54,8 @@ few_needs : (net : Network) (p : ℕ) (needs : List Need)
     → list_all (λ (need : Need). is_incoming net p need.channel) needs ≡ true → (i : ℕ) (need : Need)
     → slice_get needs i ≡ Some need → need.channel < length net.channels
 few_needs net p [] all i need is = absurd (cc)
-few_needs net p (x ∷ needs) all zero need is =
-    let same : x ≡ need = cc in
-    channel_within net p need.channel
-    (ap (λ (n : Need). is_incoming net p n.channel) (sym same)
-    ∙ (both_true (is_incoming net p x.channel) (list_all (λ (n : Need). is_incoming net p n.channel) needs) all).0)
-few_needs net p (x ∷ needs) all (suc i) need is =
-    few_needs net p needs
-    (both_true (is_incoming net p x.channel) (list_all (λ (n : Need). is_incoming net p n.channel) needs) all).1 i need
-    is
+few_needs net p (x ∷ needs) all zero need is = channel_within net p need.channel (grind arith)
+few_needs net p (x ∷ needs) all (suc i) need is = few_needs net p needs (grind arith) i need is
 
 -- ---- one station of several, to which node `from` tells something
 
@@ -83,20 +64,23 @@ module _ (net : Network) (valid : IsValid net) (stations : List StationView) (k 
     (listed : are_nodes net from k ≡ true → from < length old.node.kept.highest)
     (wide : (running : RunningView) (live : LiveView) → old.node.mode ≡ Runs running → running.live ≡ Some live
     → length live.questions ≡ length net.channels) where
-  -- what changes nothing that is seen
-  still : (node : NodeView) → node.kept ≡ old.node.kept → mode_seen node.mode ≡ mode_seen old.node.mode
-      → (failures : ℕ) (turns : RoundTurns)
+  abbrev seen : RecordView → ModeView → Node
+  seen kept mode = record { disk = record_seen kept; mode = mode_seen mode; outlets = outlets_seen stations }
+
+  -- steps lead to where the node is this one, and nothing is sent
+  abbrev Reaches : NodeView → Type 0
+  Reaches node = (failures : ℕ) (turns : RoundTurns)
       → Leads (net_seen net) (world_seen stations sent)
       (world_seen (slice_set stations k (moved_to node failures turns old)) sent)
+
+  -- what changes nothing that is seen
+  still : (node : NodeView) → node.kept ≡ old.node.kept → mode_seen node.mode ≡ mode_seen old.node.mode → Reaches node
   still node kept mode failures turns =
       leads_here (net_seen net) (world_seen stations sent) _
       (unseen stations k old (moved_to node failures turns old) there sent refl (ap record_seen kept) mode)
 
   -- a node afterwards, in which nothing is put or sent
-  becomes : (node : NodeView) → node.kept ≡ old.node.kept
-      → ((failures : ℕ) (turns : RoundTurns)
-      → Leads (net_seen net) (world_seen stations sent)
-      (world_seen (slice_set stations k (moved_to node failures turns old)) sent))
+  becomes : (node : NodeView) → node.kept ≡ old.node.kept → Reaches node
       → ProspectLeads net stations k old sent (becoming node)
   becomes node kept leads = record { leads = leads; silent = refl; keeps = λ e. kept }
 
@@ -110,70 +94,51 @@ module _ (net : Network) (valid : IsValid net) (stations : List StationView) (k 
       (still (on_running change old.node) refl (mode_unseen change leaves old.node.mode))
 
   -- a record that is put, and nothing sent
-  puts : (node : NodeView)
-      → ((failures : ℕ) (turns : RoundTurns)
-      → Leads (net_seen net) (world_seen stations sent)
-      (world_seen (slice_set stations k (moved_to node failures turns old)) sent))
-      → ProspectLeads net stations k old sent (putting false node)
+  puts : (node : NodeView) → Reaches node → ProspectLeads net stations k old sent (putting false node)
   puts node leads = record { leads = leads; silent = refl; keeps = λ e. absurd (cc) }
+
+  -- what is so of both that a test chooses from is so of the one that it chooses
+  chosen : (b : Bool) (x y : Prospect) → (b ≡ true → ProspectLeads net stations k old sent x)
+      → (b ≡ false → ProspectLeads net stations k old sent y) → ProspectLeads net stations k old sent (cond b x y)
+  chosen true x y one other = one refl
+  chosen false x y one other = other refl
 
   -- ---- what was kept for good
 
   kept_cuts : (c m : ℕ) → WasSent sent (Kept c m) → runs_between net k from c ≡ true
       → ProspectLeads net stations k old sent (remembering (cut_at c m) old.node)
   kept_cuts c m came runs =
-      becomes (on_running (cut_at c m) old.node) refl (λ failures turns. by failures turns old.node.mode refl)
+      becomes (on_running (cut_at c m) old.node) refl (λ failures turns. elim (cuts old.node.mode) [
+        | inl same ↦ still (on_running (cut_at c m) old.node) refl same failures turns
+        | inr heard ↦
+            let new = moved_to (on_running (cut_at c m) old.node) failures turns old in
+            leads_by (net_seen net) (world_seen stations sent) _
+            (hears stations k old new there (net_seen net) sent (outlets_same stations k old new there refl) (Kept c m)
+            came heard)
+      ])
     where
-      by : (failures : ℕ) (turns : RoundTurns) (mode : ModeView) → old.node.mode ≡ mode
-          → Leads (net_seen net) (world_seen stations sent)
-          (world_seen (slice_set stations k
-          (moved_to (record old.node { mode = on_mode (cut_at c m) mode }) failures turns old)) sent)
-      by failures turns Down is = still (record old.node { mode = Down }) refl (sym (ap mode_seen is)) failures turns
-      by failures turns InDoubt is =
-          still (record old.node { mode = InDoubt }) refl (sym (ap mode_seen is)) failures turns
-      by failures turns (Runs running) is =
-          elim (within_or_out (base_of running.current c) m (sent_of running.current c)) [
-            | inr out ↦ still (record old.node { mode = Runs (cut_at c m running) }) refl
-                (ap (λ (i : Image). Mode.Running i (option_map live_seen running.live))
-                (cut_unseen m c running.current out) ∙ sym (ap mode_seen is)) failures turns
-            | inl within ↦ trims within.0 within.1
-          ]
-        where
-          trims : base_of running.current c ≤ m → m ≤ sent_of running.current c
-              → Leads (net_seen net) (world_seen stations sent)
-              (world_seen (slice_set stations k
-              (moved_to (record old.node { mode = Runs (cut_at c m running) }) failures turns old)) sent)
-          trims low high =
-              leads_by (net_seen net) (world_seen stations sent) _
-              (hears stations k old (moved_to (record old.node { mode = Runs (cut_at c m running) }) failures turns old)
-              there (net_seen net) sent
-              (outlets_same stations k old
-              (moved_to (record old.node { mode = Runs (cut_at c m running) }) failures turns old) there refl)
-              (Kept c m) came
-              (subst (λ (mode : ModeView). HearsKept (net_seen net) k
-              (record { disk = record_seen old.node.kept; mode = mode_seen mode; outlets = outlets_seen stations })
-              (record {
-                disk = record_seen old.node.kept;
-                mode = mode_seen (Runs (cut_at c m running));
-                outlets = outlets_seen stations;
-              }) c m) (sym is)
-              (record {
-                to = from;
-                cross = between_cross net k from c runs;
-                before = image_seen running.current;
-                later = image_seen (trimmed_image c m running.current);
-                live = option_map live_seen running.live;
-                trims = cut_trims m c running.current (record_seen old.node.kept) (option_map live_seen running.live)
-                    (outlets_seen stations) low high;
-              })))
+      cuts : (mode : ModeView) → (mode_seen (on_mode (cut_at c m) mode) ≡ mode_seen mode)
+          ⊎ HearsKept (net_seen net) k (seen old.node.kept mode) (seen old.node.kept (on_mode (cut_at c m) mode)) c m
+      cuts Down = inl refl
+      cuts InDoubt = inl refl
+      cuts (Runs running) = elim (within_or_out (base_of running.current c) m (sent_of running.current c)) [
+        | inr out ↦ inl (rw (cut_unseen m c running.current out) refl)
+        | inl within ↦ inr (record {
+          to = from;
+          cross = between_cross net k from c runs;
+          before = image_seen running.current;
+          later = image_seen (trimmed_image c m running.current);
+          live = option_map live_seen running.live;
+          trims = cut_trims m c running.current (record_seen old.node.kept) (option_map live_seen running.live)
+              (outlets_seen stations) within.0 within.1;
+        })
+      ]
 
   -- ---- answers to what was asked
 
   live_runs : (mode : ModeView) (live : LiveView) → live_in mode ≡ Some live
       → (running : RunningView) × (mode ≡ Runs running) × (running.live ≡ Some live)
-  live_runs Down live is = absurd (cc)
-  live_runs InDoubt live is = absurd (cc)
-  live_runs (Runs running) live is = (running, refl, is)
+  live_runs mode live is = grind arith
 
   gives_up : (live : LiveView) → live_in old.node.mode ≡ Some live → IsHeld k live.number old.node.kept.tentative
       → ProspectLeads net stations k old sent (give_up_prospect old.node)
@@ -184,85 +149,50 @@ module _ (net : Network) (valid : IsValid net) (stations : List StationView) (k 
 
   held_of : (n : ℕ) (live : LiveView) → live.number ≡ n → holds k n old.node.kept.tentative ≡ true
       → IsHeld k live.number old.node.kept.tentative
-  held_of n live number held =
-      subst (λ (m : ℕ). IsHeld k m old.node.kept.tentative) (sym number) (held_where k n old.node.kept.tentative held)
+  held_of n live number held = rw number (held_where k n old.node.kept.tentative held)
 
   refusal : (n : ℕ) → ProspectLeads net stations k old sent (refused_prospect k n old.node)
-  refusal n = by (loses k n old.node) refl
+  refusal n =
+      chosen (loses k n old.node) _ _ (λ e.
+      let parts = both_true (is_live n (live_in old.node.mode)) (holds k n old.node.kept.tentative) e in
+      let live = of_live (live_in old.node.mode) parts.0 in
+      gives_up live.0 live.1 (held_of n live.0 live.2 parts.1)) (λ e. stays)
     where
-      of_live : (o : Option LiveView) → live_in old.node.mode ≡ o → is_live n o ≡ true
-          → (live : LiveView) × (live_in old.node.mode ≡ Some live) × (live.number ≡ n)
-      of_live None is e = absurd (cc)
-      of_live (Some live) is e = (live, is, eqb-true live.number n e)
-
-      by : (b : Bool) → (is_live n (live_in old.node.mode) && holds k n old.node.kept.tentative) ≡ b
-          → ProspectLeads net stations k old sent (cond b (give_up_prospect old.node) (becoming old.node))
-      by false e = stays
-      by true e =
-          let parts = both_true (is_live n (live_in old.node.mode)) (holds k n old.node.kept.tentative) e in
-          let live = of_live (live_in old.node.mode) refl parts.0 in
-          gives_up live.0 live.1 (held_of n live.0 live.2 parts.1)
+      of_live : (o : Option LiveView) → is_live n o ≡ true → (live : LiveView) × (o ≡ Some live) × (live.number ≡ n)
+      of_live o e = grind (arith, eqb-true)
 
   took : (n c m : ℕ) (needs : List Need) → WasSent sent (Took k n c m (need_of needs))
       → is_outgoing net from c ≡ true → list_all (λ (need : Need). is_incoming net from need.channel) needs ≡ true
       → ProspectLeads net stations k old sent (took_prospect net k from n c needs old.node)
-  took n c m needs came outgoing incoming = by (live_in old.node.mode) refl
+  took n c m needs came outgoing incoming =
+      by (answer_to_took net k n c needs old.node.kept (live_in old.node.mode)) refl
     where
-      joins : (live : LiveView) → live_in old.node.mode ≡ Some live → live.number ≡ n
-          → was_asked c live.questions ≡ true → holds k n old.node.kept.tentative ≡ true
-          → are_met net k needs old.node.kept.tentative ≡ true
-          → ProspectLeads net stations k old sent (took_by net k from c needs Joins old.node)
-      joins live is number asked held met = record {
+      -- an answer that counts is to what was asked for the live checkpoint, while the node holds an image for it
+      of_live : (o : Option LiveView) (answer : TookAnswer) → answer_to_took net k n c needs old.node.kept o ≡ answer
+          → answer ≢ Ignores
+          → (live : LiveView) × (o ≡ Some live) × (live.number ≡ n) × (was_asked c live.questions ≡ true)
+          × (holds k n old.node.kept.tentative ≡ true)
+          × (answer ≡ Joins → are_met net k needs old.node.kept.tentative ≡ true)
+      of_live o answer is other = grind (arith, eqb-true)
+
+      by : (answer : TookAnswer) → answer_to_took net k n c needs old.node.kept (live_in old.node.mode) ≡ answer
+          → ProspectLeads net stations k old sent (took_by net k from c needs answer old.node)
+      by Ignores is = stays
+      by GivesUp is =
+          let told = of_live (live_in old.node.mode) GivesUp is (λ same. cc) in
+          gives_up told.0 told.1 (held_of n told.0 told.2 told.4)
+      by Joins is = record {
         leads = λ failures turns.
-            let runs = live_runs old.node.mode live is in
+            let told = of_live (live_in old.node.mode) Joins is (λ same. cc) in
+            let runs = live_runs old.node.mode told.0 told.1 in
             let cross = goes_cross net from c valid outgoing in
-            subst (λ (o : Option LiveView). Leads (net_seen net) (world_seen stations sent)
-            (world_seen (slice_set stations k
-            (moved_to (on_running (joining net k from c needs) old.node) failures turns old))
-            (all_seen (joined_asks net k c needs o) ++ sent))) (sym is)
-            (subst (λ (mode : ModeView). Leads (net_seen net) (world_seen stations sent)
-            (world_seen (slice_set stations k
-            (moved_to (record old.node { mode = on_mode (joining net k from c needs) mode }) failures turns old))
-            (all_seen (joined_asks net k c needs (Some live)) ++ sent))) (sym runs.1)
-            (subst (λ (o : Option LiveView). Leads (net_seen net) (world_seen stations sent)
-            (world_seen (slice_set stations k
-            (moved_to
-            (record old.node {
-              mode = Runs (collecting (option_map (joined_live net k from c needs) o) runs.0);
-            }) failures turns old))
-            (all_seen (joined_asks net k c needs (Some live)) ++ sent))) (sym runs.2)
-            (joined_leads net stations k old there sent failures turns runs.0 runs.1 live runs.2 from c n m cross.0
-            needs cross.1 (few_needs net from needs incoming) came (wide runs.0 live runs.1 runs.2) number asked
-            (held_where k n old.node.kept.tentative held) met)));
+            rw (runs.1, runs.2)
+            (joined_leads net stations k old there sent failures turns runs.0 runs.1 told.0 runs.2 from c n m cross.0
+            needs cross.1 (few_needs net from needs incoming) came (wide runs.0 told.0 runs.1 runs.2) told.2 told.3
+            (held_where k n old.node.kept.tentative told.4) (told.5 refl));
         silent = refl;
         keeps = λ e. refl;
       }
-
-      of_live : (live : LiveView) → live_in old.node.mode ≡ Some live → (b : Bool)
-          → ((live.number == n) && (was_asked c live.questions && holds k n old.node.kept.tentative)) ≡ b → (d : Bool)
-          → are_met net k needs old.node.kept.tentative ≡ d
-          → ProspectLeads net stations k old sent
-          (took_by net k from c needs (cond b (cond d Joins GivesUp) Ignores) old.node)
-      of_live live is false e d f = stays
-      of_live live is true e d f =
-          let parts = both_true (live.number == n)
-          (was_asked c live.questions && holds k n old.node.kept.tentative) e in
-          let rest = both_true (was_asked c live.questions) (holds k n old.node.kept.tentative) parts.1 in
-          by_met d f (eqb-true live.number n parts.0) rest.0 rest.1
-        where
-          by_met : (d : Bool) → are_met net k needs old.node.kept.tentative ≡ d → live.number ≡ n
-              → was_asked c live.questions ≡ true → holds k n old.node.kept.tentative ≡ true
-              → ProspectLeads net stations k old sent (took_by net k from c needs (cond d Joins GivesUp) old.node)
-          by_met true met number asked held = joins live is number asked held met
-          by_met false unmet number asked held = gives_up live is (held_of n live number held)
-
-      by : (o : Option LiveView) → live_in old.node.mode ≡ o
-          → ProspectLeads net stations k old sent
-          (took_by net k from c needs (answer_to_took net k n c needs old.node.kept o) old.node)
-      by None is = stays
-      by (Some live) is =
-          of_live live is ((live.number == n) && (was_asked c live.questions && holds k n old.node.kept.tentative)) refl
-          (are_met net k needs old.node.kept.tentative) refl
 
   -- ---- an answer, and verdicts
 
@@ -281,11 +211,8 @@ module _ (net : Network) (valid : IsValid net) (stations : List StationView) (k 
     where
       unput : (answer : AskAnswer) → takes_now answer ≡ false
           → kept_then from n answer old.node.mode old.node.kept ≡ old.node.kept
-      unput Silent e = refl
-      unput CoveredBefore e = refl
-      unput TookBefore e = refl
       unput TakesNow e = absurd (cc)
-      unput (Declines reason) e = refl
+      unput other e = refl
 
   -- the station as it was told, where it is the one that it was
   tells : (packets : List Datagram)
@@ -304,96 +231,49 @@ module _ (net : Network) (valid : IsValid net) (stations : List StationView) (k 
 
   committed : (n : ℕ) → WasSent sent (Commit from k n)
       → ProspectLeads net stations k old sent (commit_prospect net k from n old.node)
-  committed n came = by (holds from n old.node.kept.tentative) refl
-    where
-      by : (b : Bool) → holds from n old.node.kept.tentative ≡ b
-          → ProspectLeads net stations k old sent
-          (cond b
-          (Planned (record {
-            node = after_verdict net k (with_permanent old.node.kept) old.node;
-            puts = true;
-            grows = false;
-            packets = settled_packets k from n (with_permanent old.node.kept);
-            refused = [];
-          }))
-          (telling (settled_packets k from n old.node.kept) old.node))
-      by true held = record {
+  committed n came =
+      chosen (holds from n old.node.kept.tentative) _ _ (λ held. record {
         leads = λ failures turns. commit_leads net stations k old there sent up failures turns from n came held;
         silent = refl;
         keeps = λ e. absurd (cc);
-      }
-      by false free =
-          tells (settled_packets k from n old.node.kept)
-          (λ failures turns. confirm_leads net stations k old there sent up failures turns from n came free)
+      }) (λ free. tells (settled_packets k from n old.node.kept)
+      (λ failures turns. confirm_leads net stations k old there sent up failures turns from n came free))
 
   ended : (n : ℕ) → WasSent sent (Ended from k n)
       → ProspectLeads net stations k old sent (ended_prospect net k from n old.node)
-  ended n came = by (holds from n old.node.kept.tentative) refl
-    where
-      by : (b : Bool) → holds from n old.node.kept.tentative ≡ b
-          → ProspectLeads net stations k old sent
-          (cond b (putting false (after_verdict net k (without_tentative old.node.kept) old.node)) (becoming old.node))
-      by true held = puts _ (λ failures turns.
-          ended_leads net stations k old there sent up failures turns from n came held)
-      by false free = stays
+  ended n came =
+      chosen (holds from n old.node.kept.tentative) _ _ (λ held. puts _ (λ failures turns.
+      ended_leads net stations k old there sent up failures turns from n came held)) (λ free. stays)
 
   settled : (n : ℕ) → WasSent sent (Settled from k n)
       → ProspectLeads net stations k old sent (settled_prospect from n old.node)
-  settled n came = by (names old.node.kept.decisions n from)
-    where
-      by : (b : Bool) → ProspectLeads net stations k old sent
-          (cond b (putting false (with_kept (with_confirmed n from old.node.kept) old.node)) (becoming old.node))
-      by true = puts _ (λ failures turns. settled_leads net stations k old there sent up failures turns from n came)
-      by false = stays
+  settled n came =
+      chosen (names old.node.kept.decisions n from) _ _ (λ is. puts _ (λ failures turns.
+      settled_leads net stations k old there sent up failures turns from n came)) (λ other. stays)
 
   -- ---- the sender of a channel restored an image
 
   undone : (c epoch count : ℕ) → ProspectLeads net stations k old sent (undone_prospect c epoch count old.node)
-  undone c epoch count = by_held old.node.kept.tentative refl
+  undone c epoch count =
+      by (answer_with c epoch count old.node.kept.epoch old.node.kept.tentative old.node.mode) refl
     where
-      goes : (running : RunningView) → old.node.mode ≡ Runs running → old.node.kept.tentative ≡ None
-          → ProspectLeads net stations k old sent (undone_by c epoch GoesBack old.node)
-      goes running is free = puts (gone_back c epoch old.node) (λ failures turns.
+      -- only a node that runs, and holds no image, goes back
+      went : (held : Option Tentative) (mode : ModeView)
+          → answer_with c epoch count old.node.kept.epoch held mode ≡ GoesBack
+          → (running : RunningView) × (mode ≡ Runs running) × (held ≡ None)
+      went held mode is = grind arith
+
+      by : (answer : UndoneAnswer)
+          → answer_with c epoch count old.node.kept.epoch old.node.kept.tentative old.node.mode ≡ answer
+          → ProspectLeads net stations k old sent (undone_by c epoch answer old.node)
+      by PassesOver is = stays
+      by Notes is = remembers (noting_undone c epoch) (record { current = λ r. refl; live = λ r. refl })
+      by GoesBack is = puts (gone_back c epoch old.node) (λ failures turns.
           let new = moved_to (gone_back c epoch old.node) failures turns old in
+          let runs = went old.node.kept.tentative old.node.mode is in
           leads_by (net_seen net) (world_seen stations sent) _
           (acts stations k old new there (net_seen net) sent (outlets_same stations k old new there refl)
-          (subst (λ (mode : ModeView). NodeStep (net_seen net) k
-          (record { disk = record_seen old.node.kept; mode = mode_seen mode; outlets = outlets_seen stations })
-          (record {
-            disk = record_seen (with_epoch old.node.kept);
-            mode = mode_seen (on_mode (set_back_to (with_epoch old.node.kept) c epoch) mode);
-            outlets = outlets_seen stations;
-          })) (sym is)
-          (goes_back (net_seen net) k old.node.kept running c epoch (outlets_seen stations) free))))
-
-      at : (running : RunningView) → old.node.mode ≡ Runs running → old.node.kept.tentative ≡ None
-          → (o : Option Inbox)
-          → ProspectLeads net stations k old sent
-          (undone_by c epoch (answer_at epoch count old.node.kept.epoch o) old.node)
-      at running is free None = stays
-      at running is free (Some inbox) =
-          by (nat_lt inbox.undone epoch) (nat_lt count inbox.window.next) (nat_lt old.node.kept.epoch MAX_COUNT)
-        where
-          by : (news ahead more : Bool)
-              → ProspectLeads net stations k old sent
-              (undone_by c epoch (cond news (cond ahead (cond more GoesBack PassesOver) Notes) PassesOver) old.node)
-          by true true true = goes running is free
-          by true true false = stays
-          by true false more = remembers (noting_undone c epoch) (record { current = λ r. refl; live = λ r. refl })
-          by false ahead more = stays
-
-      by_mode : old.node.kept.tentative ≡ None → (mode : ModeView) → old.node.mode ≡ mode
-          → ProspectLeads net stations k old sent
-          (undone_by c epoch (answer_with c epoch count old.node.kept.epoch None mode) old.node)
-      by_mode free Down is = stays
-      by_mode free InDoubt is = stays
-      by_mode free (Runs running) is = at running is free (inbox_of running.inboxes c)
-
-      by_held : (o : Option Tentative) → old.node.kept.tentative ≡ o
-          → ProspectLeads net stations k old sent
-          (undone_by c epoch (answer_with c epoch count old.node.kept.epoch o old.node.mode) old.node)
-      by_held (Some held) is = stays
-      by_held None is = by_mode is old.node.mode refl
+          (rw runs.1 (goes_back (net_seen net) k old.node.kept runs.0 c epoch (outlets_seen stations) runs.2))))
 
   -- ---- whatever comes, where its names are right, and what it says was sent
 

@@ -1,14 +1,13 @@
 -- What a station collects and keeps may be said after each deed, and so may what is sent in it.
-use Rattle.std.proofs.Common.{◌≡◌, ◌⊎◌, inl, inr, ℕ, zero, suc, ◌+◌, ◌<◌, ◌&&◌, ◌||◌, Bool, true, false, cond, List, ℤ}
-use Rattle.std.proofs.Common.{[]}
-use Rattle.std.proofs.Common.{◌∷◌, ◌++◌, length, All, Option, Some, None, refl, sym, ap, subst, ◌∙◌, arith}
-use Rattle.std.specs.Prelude.{◌==◌, nat_lt, not, slice_get, filter}
+use Rattle.std.proofs.Common.{◌≡◌, ◌⊎◌, inl, inr, ℕ, zero, suc, ◌+◌, ◌<◌, Bool, true, false, cond, List, ℤ, [], ◌∷◌}
+use Rattle.std.proofs.Common.{◌++◌, length, All, Option, Some, None, refl, ap, subst, ◌∙◌, arith}
+use Rattle.std.specs.Prelude.{◌≢◌, nat_lt, slice_get, filter}
 use Rattle.std.specs.List.{AllByRecursion, flat_map, list_all}
-use Rattle.std.proofs.lemmas.Bool.{eqb-true, ltb-true}
+use Rattle.std.proofs.lemmas.Bool.{eq-eqb, ltb-true, ne_eqb}
 use Rattle.std.proofs.lemmas.List.{length-set}
 use Rattle.std.proofs.lemmas.List.Elements.{All-head, All-tail}
 use Rattle.datagram.specs.PacketText.{IsPositive, IsNeed}
-use Rattle.protocol.specs.Node.Common.{Need, node_count, Network, IsValid, MAX_COUNT, DecisionView, received_of}
+use Rattle.protocol.specs.Node.Common.{Need, node_count, Network, IsValid, MAX_COUNT, DecisionView}
 use Rattle.protocol.specs.Node.Common.{ImageView, highest_seen, with_tentative, with_permanent, without_tentative}
 use Rattle.protocol.specs.Node.Common.{with_confirmed, with_epoch, RecordView, Tentative, MAX_DECISIONS, with_answer}
 use Rattle.protocol.specs.Node.Common.{with_needs, joined_live, question_on, participants_of, is_incoming}
@@ -16,13 +15,12 @@ use Rattle.protocol.specs.Node.Common.{QuestionView, LiveView, RunningNode, Link
 use Rattle.ckpt_codec.specs.Common.{without_own, decided_by, decided_below, decision_by, confirmed}
 use Rattle.record.specs.Common.{confirmed_one, without_node}
 use Rattle.ckpt_codec.specs.SizeLaws.{confirmed_no_more}
-use Rattle.recovery_line.proofs.Basics.{one_inside, same_or_other, some_not_none}
+use Rattle.recovery_line.proofs.Basics.{one_inside, same_or_other}
 use Rattle.protocol.specs.World.Common.{Answer, By_took, By_covered, has_node, LiveIsSound, MayBeAskedFor, need_of}
-use Rattle.protocol.specs.World.Common.{question_seen, questions_seen}
+use Rattle.protocol.specs.World.Common.{questions_seen}
 use Rattle.protocol.specs.Node.Beginning.{live_begun}
 use Rattle.protocol.specs.Node.Collecting.{with_taker, with_covered}
-use Rattle.protocol.specs.Join.Joined.{IsOther, IsQuestion, HeldIsSound, DecisionIsSound}
-use Rattle.protocol.specs.Join.Joined.{KeepsNodes}
+use Rattle.protocol.specs.Join.Joined.{IsOther, HeldIsSound, DecisionIsSound, KeepsNodes}
 use Rattle.protocol.specs.Node.Verdicts.{decision_on}
 use Rattle.protocol_laws.specs.Join.Crossings.{both_true, comes_cross, cross_within, producer_is}
 use Rattle.protocol_laws.specs.Join.Spelled.{question_of}
@@ -37,12 +35,12 @@ use Rattle.protocol.specs.declared.links.Inbox.{Inbox}
 each_filter : {A : Type 0} (P : A → Type 0) (test : A → Bool) (xs : List A) → AllByRecursion P xs
     → AllByRecursion P (filter test xs)
 each_filter P test [] all = tt
-each_filter {A} P test (x ∷ xs) all = by (test x) (each_filter P test xs all.1)
-  where
-    by : (b : Bool) → AllByRecursion P (filter test xs)
-        → AllByRecursion P (cond b (x ∷ filter test xs) (filter test xs))
-    by true rest = (all.0, rest)
-    by false rest = rest
+each_filter P test (x ∷ xs) all =
+    let rest = each_filter P test xs all.1 in
+    elim (test x) as (λ b. AllByRecursion P (cond b (x ∷ filter test xs) (filter test xs))) [
+      | true ↦ (all.0, rest)
+      | false ↦ rest
+    ]
 
 each_both : {A : Type 0} (P : A → Type 0) (xs ys : List A) → AllByRecursion P xs → AllByRecursion P ys
     → AllByRecursion P (xs ++ ys)
@@ -56,23 +54,9 @@ each_flat P Q f each (x ∷ xs) all = each_both Q (f x) (flat_map f xs) (each x 
 
 without_fewer : (node p : ℕ) (nodes : List ℕ) → has_node p (without_node node nodes) ≡ true → has_node p nodes ≡ true
 without_fewer node p [] is = absurd (cc)
-without_fewer node p (q ∷ nodes) is = by (not (q == node)) is (without_fewer node p nodes)
-  where
-    or_true : (b : Bool) → (b || true) ≡ true
-    or_true true = refl
-    or_true false = refl
-
-    at : (c : Bool) → (c || has_node p (without_node node nodes)) ≡ true
-        → (has_node p (without_node node nodes) ≡ true → has_node p nodes ≡ true) → (c || has_node p nodes) ≡ true
-    at true e rest = refl
-    at false e rest = rest e
-
-    by : (b : Bool)
-        → has_node p (cond b (q ∷ without_node node nodes) (without_node node nodes)) ≡ true
-        → (has_node p (without_node node nodes) ≡ true → has_node p nodes ≡ true)
-        → has_node p (q ∷ nodes) ≡ true
-    by true e rest = at (q == p) e rest
-    by false e rest = rw (rest e) (or_true (q == p))
+without_fewer node p (q ∷ nodes) is =
+    let rest = without_fewer node p nodes in
+    grind (arith, rest)
 
 -- of each element, as what stands at each place
 each_place : {A : Type 0} (P : A → Type 0) (xs : List A) → AllByRecursion P xs → (i : ℕ) (x : A)
@@ -98,36 +82,33 @@ module _ (net : Network) (home : ℕ) where
           subst (HeldIsSound net home) (one_inside refl is)
           (record { initiator = below; number = positive; counts = counts });
       decisions = keeps.decisions;
-      room = λ held is own. few (ap (λ (h : Tentative). h.initiator) (one_inside refl is) ∙ own);
+      room = λ held is own. few (cc);
+    }
+
+    -- a record that holds no image, with as many numbers
+    unheld : (later : RecordView) → length later.highest ≡ node_count net → later.tentative ≡ None
+        → ((i : ℕ) (d : DecisionView) → slice_get later.decisions i ≡ Some d → DecisionIsSound net home d)
+        → KeepsNodes net home later
+    unheld later listed none decisions = record {
+      listed = listed;
+      held = λ held is. absurd (cc);
+      decisions = decisions;
+      room = λ held is own. absurd (cc);
     }
 
     pub drops_keeps : KeepsNodes net home (without_tentative kept)
-    drops_keeps = record {
-      listed = keeps.listed;
-      held = λ held is. absurd (some_not_none refl is);
-      decisions = keeps.decisions;
-      room = λ held is own. absurd (some_not_none refl is);
-    }
+    drops_keeps = unheld (without_tentative kept) keeps.listed refl keeps.decisions
 
     pub settles_keeps : KeepsNodes net home (with_permanent kept)
-    settles_keeps = record {
-      listed = keeps.listed;
-      held = λ held is. absurd (some_not_none refl is);
-      decisions = keeps.decisions;
-      room = λ held is own. absurd (some_not_none refl is);
-    }
+    settles_keeps = unheld (with_permanent kept) keeps.listed refl keeps.decisions
 
     pub decides_keeps : (live : LiveView) → LiveIsSound net home live → KeepsNodes net home (decision_on live kept)
-    decides_keeps live sound = record {
-      listed = keeps.listed;
-      held = λ held is. absurd (some_not_none refl is);
-      decisions = each_place (DecisionIsSound net home)
-          (decided_by live.number (participants_of (length kept.highest) live.takers) kept.decisions)
-          (by (participants_of (length kept.highest) live.takers)
-          (λ p has. sound.takers p
-          (has_where_below (λ q. has_node q live.takers) p 0 (length kept.highest) has).0));
-      room = λ held is own. absurd (some_not_none refl is);
-    }
+    decides_keeps live sound =
+        unheld (decision_on live kept) keeps.listed refl
+        (each_place (DecisionIsSound net home)
+        (decided_by live.number (participants_of (length kept.highest) live.takers) kept.decisions)
+        (by (participants_of (length kept.highest) live.takers)
+        (λ p has. sound.takers p (has_where_below (λ q. has_node q live.takers) p 0 (length kept.highest) has).0)))
       where
         by : (nodes : List ℕ) → ((p : ℕ) → has_node p nodes ≡ true → IsOther net home p)
             → AllByRecursion (DecisionIsSound net home) (decided_by live.number nodes kept.decisions)
@@ -150,40 +131,30 @@ module _ (net : Network) (home : ℕ) where
           let less = confirmed_no_more n p kept.decisions in omega (arith, before, less));
     }
       where
-        few : (d : DecisionView) (nodes : List ℕ) → IsPositive d.number → d.number ≡ n
-            → ((q : ℕ) → has_node q nodes ≡ true → IsOther net home q)
+        few : (nodes : List ℕ) → IsPositive n → ((q : ℕ) → has_node q nodes ≡ true → IsOther net home q)
             → AllByRecursion (DecisionIsSound net home) (decision_by n nodes)
-        few d [] positive same others = tt
-        few d (q ∷ nodes) positive same others =
-            (record { number = subst IsPositive same positive; others = others }, tt)
+        few [] positive others = tt
+        few (q ∷ nodes) positive others = (record { number = positive; others = others }, tt)
 
         one : (d : DecisionView) → DecisionIsSound net home d
             → AllByRecursion (DecisionIsSound net home) (confirmed_one n p d)
-        one d sound = by (d.number == n) refl
-          where
-            by : (b : Bool) → (d.number == n) ≡ b
-                → AllByRecursion (DecisionIsSound net home)
-                (cond b (decision_by n (without_node p d.participants)) (d ∷ []))
-            by false other = (sound, tt)
-            by true same =
-                few d (without_node p d.participants) sound.number (eqb-true d.number n same)
-                (λ q has. sound.others q (without_fewer p q d.participants has))
+        one d sound = elim (same_or_other d.number n) [
+          | inl same ↦ rw (eq-eqb d.number n same)
+              (few (without_node p d.participants) (rw same at sound.number)
+              (λ q has. sound.others q (without_fewer p q d.participants has)))
+          | inr other ↦ rw (ne_eqb d.number n other) (sound, tt)
+        ]
 
     pub epoch_keeps : KeepsNodes net home (with_epoch kept)
     epoch_keeps = record {
       listed = keeps.listed;
-      held = λ held is. keeps.held held (still kept.tentative held is);
+      held = λ held is. keeps.held held (still held is);
       decisions = keeps.decisions;
-      room = λ held is own. keeps.room held (still kept.tentative held is) own;
+      room = λ held is own. keeps.room held (still held is) own;
     }
       where
-        still : (o : Option Tentative) (held : Tentative) → without_own kept.node o ≡ Some held → o ≡ Some held
-        still None held is = absurd (cc)
-        still (Some h) held is = by_own (h.initiator == kept.node) is
-          where
-            by_own : (b : Bool) → cond b None (Some h) ≡ Some held → Some h ≡ Some held
-            by_own true e = absurd (cc)
-            by_own false e = e
+        still : (held : Tentative) → without_own kept.node kept.tentative ≡ Some held → kept.tentative ≡ Some held
+        still held is = grind arith
 
   -- ---- what is collected
 
@@ -197,47 +168,29 @@ module _ (net : Network) (home : ℕ) where
           let asked = asked_only net home valid kept.permanent image c m answer is in
           let cross = needed_cross net home valid kept.permanent image c asked.0 in
           let more = needed_above net home valid kept.permanent image c asked.0 in
-          let few = counts c (incoming_of c asked.0) in
+          let few = counts c (both_true (is_incoming net home c) _ asked.0).0 in
           let count = asked.1 in
           question_of net inputs valid home here c m cross.0 home
           (omega (arith, more, count), omega (arith, few, count)) cross.1 cross.1.apart;
       takers = λ p has. absurd (cc);
     }
-      where
-        incoming_of : (c : ℕ) → (is_incoming net home c && nat_lt (received_of kept.permanent c) (received_of image c))
-            ≡ true → is_incoming net home c ≡ true
-        incoming_of c is =
-            (both_true (is_incoming net home c) (nat_lt (received_of kept.permanent c) (received_of image c)) is).0
 
     -- where one is answered, as many are asked for
     answered_count : (questions : List (Option QuestionView)) (c d m : ℕ) (answer b : Answer)
         → questions_seen (with_answer answer c questions) d ≡ Some (m, b)
         → (before : Answer) × (questions_seen questions d ≡ Some (m, before))
     answered_count questions c d m answer b is = elim (same_or_other d c) [
-      | inl here ↦ at here
-      | inr other ↦ (b, sym (answer_elsewhere questions c answer d other) ∙ is)
+      | inl here ↦ at here (slice_get questions c) refl
+      | inr other ↦ (b, rw (answer_elsewhere questions c answer d other) at is)
     ]
       where
-        at : d ≡ c → (before : Answer) × (questions_seen questions d ≡ Some (m, before))
-        at here = by (slice_get questions c) refl
-          where
-            by : (o : Option (Option QuestionView)) → slice_get questions c ≡ o
-                → (before : Answer) × (questions_seen questions d ≡ Some (m, before))
-            by None there =
-                absurd (let none : questions_seen (with_answer answer c questions) d ≡ None =
-                ap (questions_seen (with_answer answer c questions)) here ∙ answered_none questions c answer there in
-                some_not_none none is)
-            by (Some None) there =
-                absurd (let none : questions_seen (with_answer answer c questions) d ≡ None =
-                ap (questions_seen (with_answer answer c questions)) here ∙ answered_nothing questions c answer there in
-                some_not_none none is)
-            by (Some (Some q)) there =
-                let now = one_inside (ap (questions_seen (with_answer answer c questions)) (sym here) ∙ is)
-                (answer_here questions c answer q there) in (
-                  q.answer,
-                  ap (questions_seen questions) here ∙ (ap question_seen there
-                      ∙ ap (λ (n : ℕ). Some (n, q.answer)) (sym (ap (λ (x : ℕ × Answer). x.0) now))),
-                )
+        at : d ≡ c → (o : Option (Option QuestionView)) → slice_get questions c ≡ o
+            → (before : Answer) × (questions_seen questions d ≡ Some (m, before))
+        at here None there = absurd (let none = answered_none questions c answer there in cc)
+        at here (Some None) there = absurd (let none = answered_nothing questions c answer there in cc)
+        at here (Some (Some q)) there =
+            let now = one_inside (rw here at is) (answer_here questions c answer q there) in
+            (q.answer, rw (here, there, ap (λ (x : ℕ × Answer). x.0) now) refl)
 
     pub covered_sound : (live : LiveView) (c : ℕ) → LiveIsSound net home live
         → LiveIsSound net home (with_covered c live)
@@ -257,72 +210,48 @@ module _ (net : Network) (home : ℕ) where
     need_there (need ∷ needs) p d j is each all =
         let both = both_true (is_incoming net p need.channel)
         (list_all (λ (n : Need). is_incoming net p n.channel) needs) all in
-        by (need.channel == d) refl is (All-head IsNeed need needs each) both.0
-        (λ rest. need_there needs p d j rest (All-tail IsNeed need needs each) both.1)
-      where
-        by : (b : Bool) → (need.channel == d) ≡ b → cond b (Some need.count) (need_of needs d) ≡ Some j → IsNeed need
-            → is_incoming net p need.channel ≡ true
-            → (need_of needs d ≡ Some j → IsPositive j × (is_incoming net p d ≡ true))
-            → IsPositive j × (is_incoming net p d ≡ true)
-        by false apart found is incoming rest = rest found
-        by true here found is incoming rest = (
-          subst IsPositive (one_inside refl found) is.1,
-          ap (is_incoming net p) (sym (eqb-true need.channel d here)) ∙ incoming,
-        )
+        elim (same_or_other need.channel d) [
+          | inl same ↦ (let found = rw (eq-eqb need.channel d same) at is in
+              (rw (one_inside refl found) at (All-head IsNeed need needs each).1, rw same at both.0))
+          | inr other ↦ need_there needs p d j (rw (ne_eqb need.channel d other) at is) (All-tail IsNeed need needs each)
+              both.1
+        ]
 
     taker_was : (p q : ℕ) (takers : List ℕ) → has_node q (with_taker p takers) ≡ true
         → (has_node q takers ≡ true) ⊎ (p ≡ q)
-    taker_was p q takers is = by (has_node p takers) is
+    taker_was p q takers is = elim (same_or_other p q) [
+      | inl same ↦ inr same
+      | inr apart ↦ inl (let others = appended takers apart in grind (arith, others))
+    ]
       where
-        behind : (xs : List ℕ) → has_node q (xs ++ p ∷ []) ≡ true → (has_node q xs ≡ true) ⊎ (p ≡ q)
-        behind [] e = at (p == q) refl e
-          where
-            at : (b : Bool) → (p == q) ≡ b → (b || false) ≡ true → (has_node q [] ≡ true) ⊎ (p ≡ q)
-            at true same f = inr (eqb-true p q same)
-            at false other f = absurd (cc)
-        behind (x ∷ xs) e = at (x == q) e (behind xs)
-          where
-            at : (b : Bool) → (b || has_node q (xs ++ p ∷ [])) ≡ true
-                → (has_node q (xs ++ p ∷ []) ≡ true → (has_node q xs ≡ true) ⊎ (p ≡ q))
-                → ((b || has_node q xs) ≡ true) ⊎ (p ≡ q)
-            at true f rest = inl refl
-            at false f rest = rest f
-
-        by : (b : Bool) → has_node q (cond b takers (takers ++ p ∷ [])) ≡ true
-            → (has_node q takers ≡ true) ⊎ (p ≡ q)
-        by true e = inl e
-        by false e = behind takers e
+        appended : (xs : List ℕ) → p ≢ q → has_node q (xs ++ p ∷ []) ≡ has_node q xs
+        appended [] apart = rw (ne_eqb p q apart) refl
+        appended (x ∷ xs) apart = rw (appended xs apart) refl
 
     pub joined_sound : (live : LiveView) (p c : ℕ) (needs : List Need) → LiveIsSound net home live → IsOther net home p
         → All IsNeed needs → list_all (λ (need : Need). is_incoming net p need.channel) needs ≡ true
         → LiveIsSound net home (joined_live net home p c needs live)
-    joined_sound live p c needs sound other each all = record {
-      wide = needs_length net home needs (with_answer By_took c live.questions)
-          ∙ (answer_length live.questions c By_took ∙ sound.wide);
-      number = sound.number;
-      questions = questions;
-      takers = λ q has. elim (taker_was p q live.takers has) [
-        | inl was ↦ sound.takers q was
-        | inr same ↦ subst (IsOther net home) same other
-      ];
-    }
-      where
-        questions : (d m : ℕ) (answer : Answer)
-            → questions_seen (with_needs net home needs (with_answer By_took c live.questions)) d ≡ Some (m, answer)
-            → IsQuestion net home d m
-        questions d m answer is =
-            let later =
-            asked_within (with_needs net home needs (with_answer By_took c live.questions)) d (m, answer) is in
-            let same = needs_length net home needs (with_answer By_took c live.questions) in
-            elim (needs_new net home needs (with_answer By_took c live.questions) d m answer
-            (omega (arith, later, same)) is) [
-              | inl before ↦ (let was = answered_count live.questions c d m By_took answer before in
-                  sound.questions d m was.0 was.1)
-              | inr new ↦ (let need = need_there needs p d m new.0 each all in
-                  let cross = comes_cross net p d valid need.1 in
-                  question_of net inputs valid home here d m cross.0 p need.0 cross.1
-                  (λ own. new.2 (producer_is net d cross.0 cross.1.from ∙ own)))
-            ]
+    joined_sound live p c needs sound other each all =
+        let answered = with_answer By_took c live.questions in
+        let same = needs_length net home needs answered in
+        record {
+          wide = same ∙ (answer_length live.questions c By_took ∙ sound.wide);
+          number = sound.number;
+          questions = λ d m answer is.
+              let later = asked_within (with_needs net home needs answered) d (m, answer) is in
+              elim (needs_new net home needs answered d m answer (omega (arith, later, same)) is) [
+                | inl before ↦ (let was = answered_count live.questions c d m By_took answer before in
+                    sound.questions d m was.0 was.1)
+                | inr new ↦ (let need = need_there needs p d m new.0 each all in
+                    let cross = comes_cross net p d valid need.1 in
+                    question_of net inputs valid home here d m cross.0 p need.0 cross.1
+                    (λ own. new.2 (producer_is net d cross.0 cross.1.from ∙ own)))
+              ];
+          takers = λ q has. elim (taker_was p q live.takers has) [
+            | inl was ↦ sound.takers q was
+            | inr same ↦ subst (IsOther net home) same other
+          ];
+        }
 
     -- what a node that runs has now may be asked for
     pub current_counts : (node : RunningNode) → LinksAreLaidOut net home node → MayBeAskedFor net home node.current
@@ -333,7 +262,6 @@ module _ (net : Network) (home : ℕ) where
         let found = where_there (λ (inbox : Inbox). inbox.channel) (is_incoming net home) 0 (length net.channels) c
         node.inboxes links.incoming incoming (omega arith) within in
         let sound = links.inboxes found.0 found.1 found.2 in
-        let begins : found.1.log.base ≡ received_of node.current c =
-        sound.begins ∙ ap (received_of node.current) found.3 in
+        let begins = rw found.3 at sound.begins in
         let last = sound.last in
         omega (arith, begins, last)

@@ -1,13 +1,12 @@
 -- Steps of the abstract machine between worlds of stations: one station acts, hears what was sent, or changes unseen.
-use Rattle.std.proofs.Common.{◌≡◌, inl, inr, ℕ, zero, suc, List, [], ◌∷◌, ◌++◌, length, Some, refl, sym, ap, subst, ◌∙◌}
-use Rattle.std.specs.Prelude.{◌==◌, find, slice_get, slice_set}
+use Rattle.std.proofs.Common.{◌≡◌, inl, inr, ℕ, zero, suc, List, [], ◌∷◌, ◌++◌, length, Some, refl, sym, ap, ◌∙◌}
+use Rattle.std.specs.Prelude.{slice_get, slice_set}
 use Rattle.std.proofs.Math.Path.{fun_ext}
 use Rattle.std.proofs.lemmas.List.{map-set}
-use Rattle.protocol.specs.Node.Common.{RecordView}
 use Rattle.recovery_line.proofs.Basics.{same_or_other}
-use Rattle.protocol.specs.World.Common.{Net, Mode, NodeStep, record_seen, Packet, Record, World, Step, Reachable}
+use Rattle.protocol.specs.World.Common.{Net, NodeStep, record_seen, Packet, World, Step, Reachable}
 use Rattle.protocol.specs.World.Common.{Leads, WasSent, mode_seen, node_seen, world_seen, records_of, records_seen}
-use Rattle.protocol.specs.World.Common.{outlets_seen, taken_or, released_of, OutletView, StationView}
+use Rattle.protocol.specs.World.Common.{outlets_seen, released_of, StationView}
 use Rattle.recovery_line.specs.Nodes.{Node}
 use Rattle.recovery_line.specs.Packets.{Hears}
 use Rattle.recovery_line.specs.Worlds.{node_of, opening, OnlyAt, Acts, Comes, Run}
@@ -21,7 +20,7 @@ use Rattle.protocol_laws.specs.World.PairLaws.{elsewhere_set}
 
 pub run_behind : (net : Net) (w u v : World) (first later : List World) → Run net w first u → Run net u later v
     → Run net w (first ++ later) v
-run_behind net w u v [] later one other = subst (λ (x : World). Run net x later v) (sym one) other
+run_behind net w u v [] later one other = rw one other
 run_behind net w u v (x ∷ first) later one other = (one.0, run_behind net x u v first later one.1 other)
 
 -- a world that steps led to, and steps that lead on from there
@@ -37,7 +36,7 @@ leads_by net w v step = record { worlds = v ∷ []; run = (step, refl); once = t
 
 -- from a world that is the same
 pub leads_from : (net : Net) (w u v : World) → u ≡ w → Leads net u v → Leads net w v
-leads_from net w u v same leads = subst (λ (x : World). Leads net x v) same leads
+leads_from net w u v same leads = rw same at leads
 
 -- a run on which no record is written ends with the records with which it began
 pub records_at_end : (net : Net) (w v : World) (worlds : List World) → Run net w worlds v → KeepRecords w worlds
@@ -60,7 +59,7 @@ pub leads_then : (net : Net) (w u v : World) → Leads net w u → Step net u v 
 leads_then net w u v leads step same = by leads.worlds leads.run leads.once
   where
     by : (worlds : List World) → Run net w worlds u → WriteAtFirst worlds → Leads net w v
-    by [] run once = leads_by net w v (subst (λ (x : World). Step net x v) (sym run) step)
+    by [] run once = leads_by net w v (rw run step)
     by (x ∷ worlds) run once = record {
       worlds = x ∷ (worlds ++ (v ∷ []));
       run = (run.0, run_behind net x u v worlds (v ∷ []) run.1 (step, refl));
@@ -78,12 +77,12 @@ set_there (z ∷ xs) (suc k) x y there = set_there xs k x y there
 pub set_again : {A : Type 0} (xs : List A) (k : ℕ) (x y : A) → slice_set (slice_set xs k x) k y ≡ slice_set xs k y
 set_again [] k x y = refl
 set_again (z ∷ xs) zero x y = refl
-set_again {A} (z ∷ xs) (suc k) x y = ap (λ (rest : List A). z ∷ rest) (set_again xs k x y)
+set_again (z ∷ xs) (suc k) x y = rw (set_again xs k x y) refl
 
 pub set_itself : {A : Type 0} (xs : List A) (k : ℕ) (x : A) → slice_get xs k ≡ Some x → slice_set xs k x ≡ xs
 set_itself [] k x there = refl
-set_itself {A} (z ∷ xs) zero x there = let same : z ≡ x = cc in ap (λ (y : A). y ∷ xs) (sym same)
-set_itself {A} (z ∷ xs) (suc k) x there = ap (λ (rest : List A). z ∷ rest) (set_itself xs k x there)
+set_itself (z ∷ xs) zero x there = cc
+set_itself (z ∷ xs) (suc k) x there = rw (set_itself xs k x there) refl
 
 -- ---- one station
 
@@ -98,22 +97,13 @@ mode_at stations k x there = ap mode_or_new there
 pub node_at : (stations : List StationView) (sent : List Packet) (k : ℕ) (x : StationView)
     → slice_get stations k ≡ Some x
     → node_of (world_seen stations sent) k ≡ node_seen x (outlets_seen stations)
-node_at stations sent k x there =
-    ap (λ (r : Record). record { disk = r; mode = modes_seen stations k; outlets = outlets_seen stations })
-    (record_at stations k x there)
-    ∙ ap (λ (m : Mode). record { disk = record_seen x.node.kept; mode = m; outlets = outlets_seen stations })
-    (mode_at stations k x there)
+node_at stations sent k x there = rw (record_at stations k x there, mode_at stations k x there) refl
 
 left_same : (c : ℕ) (stations : List StationView) (k : ℕ) (x y : StationView) → slice_get stations k ≡ Some x
     → y.outlets ≡ x.outlets → released_of c (slice_set stations k y) ≡ released_of c stations
 left_same c [] k x y there same = refl
-left_same c (s ∷ stations) zero x y there same =
-    let here : s ≡ x = cc in
-    ap (λ (outlets : List OutletView). released_of c ((record s { outlets = outlets }) ∷ stations))
-    (same ∙ ap (λ (t : StationView). t.outlets) (sym here))
-left_same c (s ∷ stations) (suc k) x y there same =
-    ap (taken_or (find (λ (outlet : OutletView). outlet.channel == c) s.outlets))
-    (left_same c stations k x y there same)
+left_same c (s ∷ stations) zero x y there same = let here : s ≡ x = cc in rw (here, same) refl
+left_same c (s ∷ stations) (suc k) x y there same = rw (left_same c stations k x y there same) refl
 
 -- a station in place of one at its place
 module _ (stations : List StationView) (k : ℕ) (x y : StationView) (there : slice_get stations k ≡ Some x) where
@@ -125,34 +115,26 @@ module _ (stations : List StationView) (k : ℕ) (x y : StationView) (there : sl
   pub same_records : y.node.kept ≡ x.node.kept
       → records_seen (records_of (slice_set stations k y)) ≡ records_seen (records_of stations)
   same_records same =
-      ap records_seen
-      (map-set (λ (s : StationView). s.node.kept) stations k y
-      ∙ (ap (slice_set (records_of stations) k) same
-      ∙ set_itself (records_of stations) k x.node.kept (map_at (λ (s : StationView). s.node.kept) stations k x there)))
+      let own = map_at (λ (s : StationView). s.node.kept) stations k x there in
+      rw (map-set (λ (s : StationView). s.node.kept) stations k y, same, set_itself (records_of stations) k _ own) refl
 
   pub only_here : (sent : List Packet) → OnlyAt (world_seen stations sent) (world_seen (slice_set stations k y) sent) k
   only_here sent = record {
-    records = λ j other.
-        ap (λ (kept : List RecordView). record_or_new (slice_get kept j))
-        (map-set (λ (s : StationView). s.node.kept) stations k y)
-        ∙ ap record_or_new (elsewhere_set (records_of stations) k y.node.kept j other);
+    records = λ j other. rw (map-set (λ (s : StationView). s.node.kept) stations k y)
+        (ap record_or_new (elsewhere_set (records_of stations) k y.node.kept j other));
     modes = λ j other. ap mode_or_new (elsewhere_set stations k y j other);
     flight = λ packet is. is;
   }
 
   node_then : (sent : List Packet) → outlets_seen (slice_set stations k y) ≡ outlets_seen stations
       → node_of (world_seen (slice_set stations k y) sent) k ≡ node_seen y (outlets_seen stations)
-  node_then sent same =
-      node_at (slice_set stations k y) sent k y (set_there stations k x y there) ∙ ap (node_seen y) same
+  node_then sent same = rw (node_at (slice_set stations k y) sent k y (set_there stations k x y there), same) refl
 
   -- a relation between the two nodes is one between what is seen of them in the two worlds
   carried : (sent : List Packet) → outlets_seen (slice_set stations k y) ≡ outlets_seen stations
       → (R : Node → Node → Type 0) → R (node_seen x (outlets_seen stations)) (node_seen y (outlets_seen stations))
       → R (node_of (world_seen stations sent) k) (node_of (world_seen (slice_set stations k y) sent) k)
-  carried sent same R related =
-      subst (λ (n : Node). R n (node_of (world_seen (slice_set stations k y) sent) k))
-      (sym (node_at stations sent k x there))
-      (subst (λ (n : Node). R (node_seen x (outlets_seen stations)) n) (sym (node_then sent same)) related)
+  carried sent same R related = rw (node_at stations sent k x there, node_then sent same) related
 
   -- it acts by itself
   pub acts : (net : Net) (sent : List Packet) → outlets_seen (slice_set stations k y) ≡ outlets_seen stations
@@ -172,25 +154,7 @@ module _ (stations : List StationView) (k : ℕ) (x y : StationView) (there : sl
   pub unseen : (sent : List Packet) → y.outlets ≡ x.outlets → record_seen y.node.kept ≡ record_seen x.node.kept
       → mode_seen y.node.mode ≡ mode_seen x.node.mode
       → world_seen (slice_set stations k y) sent ≡ world_seen stations sent
-  unseen sent outlets records modes =
-      ap (λ (r : ℕ → Record). record {
-        records = r;
-        modes = modes_seen (slice_set stations k y);
-        outlets = outlets_seen (slice_set stations k y);
-        flight = slice_get sent;
-      }) (fun_ext each_record)
-      ∙ (ap (λ (m : ℕ → Mode). record {
-        records = records_seen (records_of stations);
-        modes = m;
-        outlets = outlets_seen (slice_set stations k y);
-        flight = slice_get sent;
-      }) (fun_ext each_mode)
-      ∙ ap (λ (o : ℕ → ℕ). record {
-        records = records_seen (records_of stations);
-        modes = modes_seen stations;
-        outlets = o;
-        flight = slice_get sent;
-      }) (outlets_same outlets))
+  unseen sent outlets records modes = rw (fun_ext each_record, fun_ext each_mode, outlets_same outlets) refl
     where
       later : slice_get (slice_set stations k y) k ≡ Some y
       later = set_there stations k x y there
@@ -198,13 +162,12 @@ module _ (stations : List StationView) (k : ℕ) (x y : StationView) (there : sl
       each_record : (j : ℕ)
           → records_seen (records_of (slice_set stations k y)) j ≡ records_seen (records_of stations) j
       each_record j = elim (same_or_other j k) [
-        | inl here ↦ rw here
-            (record_at (slice_set stations k y) k y later ∙ (records ∙ sym (record_at stations k x there)))
+        | inl here ↦ rw (here, record_at (slice_set stations k y) k y later, record_at stations k x there) records
         | inr other ↦ (only_here sent).records j other
       ]
 
       each_mode : (j : ℕ) → modes_seen (slice_set stations k y) j ≡ modes_seen stations j
       each_mode j = elim (same_or_other j k) [
-        | inl here ↦ rw here (mode_at (slice_set stations k y) k y later ∙ (modes ∙ sym (mode_at stations k x there)))
+        | inl here ↦ rw (here, mode_at (slice_set stations k y) k y later, mode_at stations k x there) modes
         | inr other ↦ (only_here sent).modes j other
       ]

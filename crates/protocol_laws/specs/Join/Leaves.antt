@@ -1,24 +1,22 @@
 -- An item that leaves, and the log that lets go of it, are steps of the abstract machine.
-use Rattle.std.proofs.Common.{◌≡◌, ◌≢◌, ◌⊎◌, inl, inr, ℕ, zero, suc, ◌+◌, ◌<◌, ◌≤◌, true, false, cond, List, ℤ, [], ◌∷◌}
+use Rattle.std.proofs.Common.{◌≡◌, ◌≢◌, ◌⊎◌, inl, inr, ℕ, zero, suc, ◌+◌, ◌<◌, ◌≤◌, List, ℤ, [], ◌∷◌}
 use Rattle.std.proofs.Common.{length}
 use Rattle.std.proofs.Common.{map}
-use Rattle.std.proofs.Common.{Option, Some, option_map, refl, sym, ap, subst, ◌∙◌, arith}
+use Rattle.std.proofs.Common.{Some, option_map, refl, sym, ap, ◌∙◌, arith}
 use Rattle.std.specs.Prelude.{◌==◌, slice_get, slice_set, find, IsTrue}
 use Rattle.std.proofs.Math.Path.{fun_ext}
-use Rattle.std.proofs.lemmas.Bool.{ne_eqb}
 use Rattle.std.proofs.lemmas.Option.{slice_get_within}
 use Rattle.kahn_net.specs.Laws.Prefixes.{prefix_length}
 use Rattle.protocol.specs.Node.Common.{Network, trimmed_image, base_of, sent_of, port_on, producer_of, consumer_of}
-use Rattle.protocol.specs.Node.Common.{ModeView, Runs, RunningView, running_node, running_in, on_mode, current_log}
-use Rattle.protocol.specs.Node.Common.{cut_at, TookNext}
+use Rattle.protocol.specs.Node.Common.{Runs, RunningView, running_node, running_in, current_log}
 use Rattle.recovery_line.proofs.Basics.{one_inside, same_or_other}
 use Rattle.recovery_line.specs.Images.{IsOutput}
-use Rattle.protocol.specs.World.Common.{Mode, NodeStep, image_seen, record_seen, Packet, Step, Leads, live_seen}
-use Rattle.protocol.specs.World.Common.{mode_seen, node_seen, world_seen, output_of, outputs_of, AreSound, IsNumbered}
-use Rattle.protocol.specs.World.Common.{StationInvariant, OutputView, net_seen, outlets_seen, taken_or, released_of}
+use Rattle.protocol.specs.World.Common.{NodeStep, image_seen, record_seen, Packet, Step, Leads, live_seen}
+use Rattle.protocol.specs.World.Common.{node_seen, world_seen, output_of, outputs_of, AreSound, IsNumbered}
+use Rattle.protocol.specs.World.Common.{StationInvariant, OutputView, net_seen, outlets_seen, released_of}
 use Rattle.protocol.specs.World.Common.{ReplyView, is_output, outputs_on, OutletView, StationView, next_release}
-use Rattle.recovery_line.specs.Nodes.{Node, Release, Trim, Released}
-use Rattle.recovery_line.specs.Worlds.{node_of, Acts}
+use Rattle.recovery_line.specs.Nodes.{Release, Trim, Released}
+use Rattle.recovery_line.specs.Worlds.{Acts}
 use Rattle.protocol_laws.specs.Join.Crossings.{is_it}
 use Rattle.protocol_laws.specs.Join.Cuts.{cut_trims}
 use Rattle.protocol_laws.specs.Join.Leading.{leads_by, leads_then, acts, node_at, only_here, same_records, set_there, set_again}
@@ -44,12 +42,8 @@ output_seen net home c passes =
 left_by_outlets : (c : ℕ) (stations : List StationView) (k : ℕ) (y z : StationView) → y.outlets ≡ z.outlets
     → released_of c (slice_set stations k y) ≡ released_of c (slice_set stations k z)
 left_by_outlets c [] k y z same = refl
-left_by_outlets c (s ∷ stations) zero y z same =
-    ap (λ (outlets : List OutletView).
-    taken_or (find (λ (outlet : OutletView). outlet.channel == c) outlets) (released_of c stations)) same
-left_by_outlets c (s ∷ stations) (suc k) y z same =
-    ap (taken_or (find (λ (outlet : OutletView). outlet.channel == c) s.outlets))
-    (left_by_outlets c stations k y z same)
+left_by_outlets c (s ∷ stations) zero y z same = rw same
+left_by_outlets c (s ∷ stations) (suc k) y z same = rw (left_by_outlets c stations k y z same)
 
 -- an outlet of another channel doesn't count
 find_elsewhere : (d : ℕ) (outlets : List OutletView) (place : ℕ) (x y : OutletView)
@@ -57,26 +51,15 @@ find_elsewhere : (d : ℕ) (outlets : List OutletView) (place : ℕ) (x y : Outl
     → find (λ (o : OutletView). o.channel == d) (slice_set outlets place y)
     ≡ find (λ (o : OutletView). o.channel == d) outlets
 find_elsewhere d [] place x y there one other = refl
-find_elsewhere d (o ∷ outlets) zero x y there one other =
-    let same : o ≡ x = cc in
-    let first : (y.channel == d) ≡ false = ne_eqb y.channel d other in
-    let second : (o.channel == d) ≡ false =
-    ne_eqb o.channel d (λ e. one (ap (λ (w : OutletView). w.channel) (sym same) ∙ e)) in
-    rw (first, second) refl
-find_elsewhere d (o ∷ outlets) (suc place) x y there one other =
-    ap (λ (rest : Option OutletView). cond (o.channel == d) (Some o) rest)
-    (find_elsewhere d outlets place x y there one other)
+find_elsewhere d (o ∷ outlets) zero x y there one other = grind arith
+find_elsewhere d (o ∷ outlets) (suc place) x y there one other = rw (find_elsewhere d outlets place x y there one other)
 
 left_elsewhere : (d : ℕ) (stations : List StationView) (k : ℕ) (x y : StationView) → slice_get stations k ≡ Some x
     → find (λ (o : OutletView). o.channel == d) y.outlets ≡ find (λ (o : OutletView). o.channel == d) x.outlets
     → released_of d (slice_set stations k y) ≡ released_of d stations
 left_elsewhere d [] k x y there same = refl
-left_elsewhere d (s ∷ stations) zero x y there same =
-    let here : s ≡ x = cc in
-    ap (λ (o : Option OutletView). taken_or o (released_of d stations))
-    (same ∙ ap (λ (t : StationView). find (λ (o : OutletView). o.channel == d) t.outlets) (sym here))
-left_elsewhere d (s ∷ stations) (suc k) x y there same =
-    ap (taken_or (find (λ (o : OutletView). o.channel == d) s.outlets)) (left_elsewhere d stations k x y there same)
+left_elsewhere d (s ∷ stations) zero x y there same = let here : s ≡ x = cc in rw (here, same)
+left_elsewhere d (s ∷ stations) (suc k) x y there same = rw (left_elsewhere d stations k x y there same)
 
 -- ---- what is shown of a sound station's outlet
 
@@ -89,17 +72,9 @@ module _ (net : Network) (inputs : List (List ℤ)) (stations : List StationView
 
   pub is_output_here : IsTrue (is_output net k outlet.channel)
   is_output_here =
-      ap (λ (n : ℕ). is_output net n outlet.channel) (sym (numbered k station there).1)
-      ∙ marked (outputs_of station.outlets) listed place (output_of outlet)
-      (map_at output_of station.outlets place outlet outlet_there)
-    where
-      marked : (outputs : List OutputView)
-          → map (λ (o : OutputView). o.channel) outputs ≡ outputs_on net station.node.kept.node → (j : ℕ)
-          (output : OutputView) → slice_get outputs j ≡ Some output
-          → is_output net station.node.kept.node output.channel ≡ true
-      marked outputs all j output is =
-          (where_mark (λ (o : OutputView). o.channel) (is_output net station.node.kept.node) 0 (length net.channels)
-          outputs j output all is).0
+      let output = map_at output_of station.outlets place outlet outlet_there in
+      let marked = where_mark _ (is_output net station.node.kept.node) 0 _ _ place (output_of outlet) listed output in
+      rw (numbered k station there).1 at marked.0
 
   -- what has left by its channel is what it took
   pub left_is : released_of outlet.channel stations ≡ outlet.taken
@@ -116,13 +91,12 @@ module _ (net : Network) (inputs : List (List ℤ)) (stations : List StationView
       same_outlet : (s : StationView) → s ≡ station → (j : ℕ) (o : OutletView) → slice_get s.outlets j ≡ Some o
           → o.channel ≡ outlet.channel → o ≡ outlet
       same_outlet s is j o at same =
-          let found : slice_get station.outlets j ≡ Some o =
-          ap (λ (t : StationView). slice_get t.outlets j) (sym is) ∙ at in
+          let found : slice_get station.outlets j ≡ Some o = cc in
           let places : j ≡ place =
           same_output net station.node.kept.node (outputs_of station.outlets) listed j place (output_of o)
           (output_of outlet) (map_at output_of station.outlets j o found)
           (map_at output_of station.outlets place outlet outlet_there) same in
-          one_inside found (ap (slice_get station.outlets) places ∙ outlet_there)
+          cc
 
 -- ---- one station of several lets an item go
 
@@ -144,22 +118,18 @@ module _ (net : Network) (inputs : List (List ℤ)) (stations : List StationView
   new_there = set_there stations k old new there
 
   outlets_then : new.outlets ≡ slice_set old.outlets place step.later
-  outlets_then = ap (λ (s : StationView). s.outlets) step.same
+  outlets_then = rw step.same
 
   later_there : slice_get new.outlets place ≡ Some step.later
-  later_there =
-      ap (λ (xs : List OutletView). slice_get xs place) outlets_then
-      ∙ set_there old.outlets place step.outlet step.later step.there
+  later_there = rw outlets_then (set_there old.outlets place step.outlet step.later step.there)
 
   left_before : outlets_seen stations step.outlet.channel ≡ length step.outlet.taken
-  left_before =
-      ap (length {A = ℤ}) (left_is net inputs stations k old there numbered sound place step.outlet step.there)
+  left_before = rw (left_is net inputs stations k old there numbered sound place step.outlet step.there)
 
   left_then : released_of step.outlet.channel (slice_set stations k new) ≡ step.later.taken
   left_then =
-      ap (λ (c : ℕ). released_of c (slice_set stations k new)) (sym step.handed.channel)
-      ∙ left_is net inputs (slice_set stations k new) k new new_there numbered_then sound_then place step.later
-      later_there
+      rw step.handed.channel at
+      (left_is net inputs (slice_set stations k new) k new new_there numbered_then sound_then place step.later later_there)
 
   other_then : (d : ℕ) → d ≢ step.outlet.channel
       → find (λ (o : OutletView). o.channel == d) (slice_set old.outlets place step.later)
@@ -170,52 +140,19 @@ module _ (net : Network) (inputs : List (List ℤ)) (stations : List StationView
 
   -- the item has left, and the log still has it
   half : StationView
-  half = record {
-    number = old.number;
-    node = old.node;
-    failures = old.failures;
-    outlets = slice_set old.outlets place step.later;
-    turns = old.turns;
-  }
+  half = record old { outlets = slice_set old.outlets place step.later }
 
   half_other : (d : ℕ) → d ≢ step.outlet.channel
       → outlets_seen (slice_set stations k half) d ≡ outlets_seen stations d
   unfolding half
-  half_other d other = ap (length {A = ℤ}) (left_elsewhere d stations k old half there (other_then d other))
+  half_other d other = rw (left_elsewhere d stations k old half there (other_then d other))
 
   half_here : outlets_seen (slice_set stations k half) step.outlet.channel ≡ length step.later.taken
   unfolding half
-  half_here =
-      ap (length {A = ℤ}) (left_by_outlets step.outlet.channel stations k half new (sym outlets_then) ∙ left_then)
+  half_here = rw (left_by_outlets step.outlet.channel stations k half new (sym outlets_then), left_then)
 
   covered : length step.outlet.taken < sent_of old.node.kept.permanent step.outlet.channel
   covered = next_waits round place old step.outlet next step.there
-
-  seen_old : (left : ℕ → ℕ)
-      → node_seen old left
-      ≡ record {
-        disk = record_seen old.node.kept;
-        mode = Mode.Running (image_seen running.current) (option_map live_seen running.live);
-        outlets = left;
-      }
-  seen_old left =
-      ap (λ (m : ModeView). record { disk = record_seen old.node.kept; mode = mode_seen m; outlets = left }) runs
-
-  seen_new : (left : ℕ → ℕ)
-      → node_seen new left
-      ≡ record {
-        disk = record_seen old.node.kept;
-        mode = Mode.Running (image_seen (trimmed_image step.outlet.channel (length step.later.taken) running.current))
-            (option_map live_seen running.live);
-        outlets = left;
-      }
-  seen_new left =
-      ap (λ (s : StationView). node_seen s left) step.same
-      ∙ ap (λ (m : ModeView). record {
-        disk = record_seen old.node.kept;
-        mode = mode_seen (on_mode (cut_at step.outlet.channel (length step.later.taken)) m);
-        outlets = left;
-      }) runs
 
   lets_go : (left : ℕ → ℕ) → length step.later.taken ≤ left step.outlet.channel
       → length step.outlet.taken ≤ length step.later.taken → length step.later.taken ≤ length step.outlet.taken + 1
@@ -228,96 +165,74 @@ module _ (net : Network) (inputs : List (List ℤ)) (stations : List StationView
       (map_at output_of old.outlets place step.outlet step.there)).no_gap in
       let ahead : sent_of old.node.kept.permanent step.outlet.channel ≤ sent_of running.current step.outlet.channel =
       now.order.current_ahead.sent step.outlet.channel in
-      let less = covered in
-      subst (λ (n : Node). NodeStep (net_seen net) k n (node_seen new left)) (sym (seen_old left))
-      (subst (λ (n : Node). NodeStep (net_seen net) k
-      (record {
-        disk = record_seen old.node.kept;
-        mode = Mode.Running (image_seen running.current) (option_map live_seen running.live);
-        outlets = left;
-      }) n) (sym (seen_new left))
+      rw (step.same, runs)
       (Trim step.outlet.channel (length step.later.taken) (image_seen running.current)
       (image_seen (trimmed_image step.outlet.channel (length step.later.taken) running.current))
       (option_map live_seen running.live) (Released output enough)
       (cut_trims (length step.later.taken) step.outlet.channel running.current (record_seen old.node.kept)
-      (option_map live_seen running.live) left (omega (arith, gap, more)) (omega (arith, few, less, ahead)))))
+      (option_map live_seen running.live) left (omega (arith, gap, more)) (omega (arith, few, covered, ahead))))
 
   item_leaves : length step.later.taken ≡ length step.outlet.taken + 1
       → Step (net_seen net) (world_seen stations sent) (world_seen (slice_set stations k half) sent)
   unfolding half
   item_leaves one =
       Acts k (only_here stations k old half there sent)
-      (subst (λ (n : Node). NodeStep (net_seen net) k n (node_of (world_seen (slice_set stations k half) sent) k))
-      (sym (node_at stations sent k old there))
-      (subst (λ (n : Node). NodeStep (net_seen net) k (node_seen old (outlets_seen stations)) n)
-      (sym (node_at (slice_set stations k half) sent k half (set_there stations k old half there)))
+      (rw (node_at stations sent k old there, node_at (slice_set stations k half) sent k half (set_there stations k old half there))
       (Release step.outlet.channel (image_seen running.current) (option_map live_seen running.live) (record {
         output = output;
-        running = ap mode_seen runs;
-        covered = (let before = left_before in let less = covered in omega (arith, before, less));
-        longer = (let before = left_before in let now = half_here in omega (arith, before, now, one));
+        running = rw runs;
+        covered = omega (arith, left_before, covered);
+        longer = omega (arith, left_before, half_here, one);
         others = half_other;
         mode = refl;
         disk = refl;
-      }))))
+      })))
 
   taken_leads : length step.later.taken ≡ length step.outlet.taken + 1
       → Leads (net_seen net) (world_seen stations sent) (world_seen (slice_set stations k new) sent)
   unfolding half
   taken_leads one =
-      subst (λ (xs : List StationView). Leads (net_seen net) (world_seen stations sent) (world_seen xs sent))
-      (set_again stations k half new)
+      rw (set_again stations k half new) at
       (leads_then (net_seen net) (world_seen stations sent) (world_seen (slice_set stations k half) sent)
       (world_seen (slice_set (slice_set stations k half) k new) sent)
       (leads_by (net_seen net) (world_seen stations sent) (world_seen (slice_set stations k half) sent)
       (item_leaves one))
       (acts (slice_set stations k half) k half new (set_there stations k old half there) (net_seen net) sent
-      (fun_ext (λ d. ap (length {A = ℤ}) (same_left d)))
-      (lets_go (outlets_seen (slice_set stations k half)) (let now = half_here in omega (arith, now))
+      (fun_ext same_left)
+      (lets_go (outlets_seen (slice_set stations k half)) (omega (arith, half_here))
       (omega (arith, one)) (omega (arith, one))))
-      (same_records (slice_set stations k half) k half new (set_there stations k old half there)
-      (ap (λ (s : StationView). s.node.kept) step.same)))
+      (same_records (slice_set stations k half) k half new (set_there stations k old half there) (rw step.same)))
     where
-      same_left : (d : ℕ)
-          → released_of d (slice_set (slice_set stations k half) k new) ≡ released_of d (slice_set stations k half)
-      same_left d =
-          ap (released_of d) (set_again stations k half new) ∙ left_by_outlets d stations k new half outlets_then
+      same_left : (d : ℕ) → outlets_seen (slice_set (slice_set stations k half) k new) d
+          ≡ outlets_seen (slice_set stations k half) d
+      same_left d = rw (set_again stations k half new, left_by_outlets d stations k new half outlets_then)
 
   missed_leads : length step.later.taken ≡ length step.outlet.taken
       → Leads (net_seen net) (world_seen stations sent) (world_seen (slice_set stations k new) sent)
   missed_leads none =
       leads_by (net_seen net) (world_seen stations sent) (world_seen (slice_set stations k new) sent)
       (acts stations k old new there (net_seen net) sent (fun_ext same)
-      (lets_go (outlets_seen stations) (let before = left_before in omega (arith, before, none)) (omega (arith, none))
+      (lets_go (outlets_seen stations) (omega (arith, left_before, none)) (omega (arith, none))
       (omega (arith, none))))
     where
       same : (d : ℕ) → outlets_seen (slice_set stations k new) d ≡ outlets_seen stations d
       same d = elim (same_or_other d step.outlet.channel) [
-        | inl here ↦ ap (outlets_seen (slice_set stations k new)) here
-            ∙ (ap (length {A = ℤ}) left_then ∙ (none ∙ (sym left_before ∙ ap (outlets_seen stations) (sym here))))
-        | inr other ↦ ap (length {A = ℤ}) (left_elsewhere d stations k old new there
-            (ap (λ (xs : List OutletView). find (λ (o : OutletView). o.channel == d) xs) outlets_then
-            ∙ other_then d other))
+        | inl here ↦ rw (here, left_then) (none ∙ sym left_before)
+        | inr other ↦ rw (left_elsewhere d stations k old new there (rw outlets_then (other_then d other)))
       ]
 
   -- whatever came of it
   pub release_leads : Leads (net_seen net) (world_seen stations sent) (world_seen (slice_set stations k new) sent)
   release_leads =
-      by (took_or_not round (current_log step.outlet.channel old.node.mode) step.outlet answer step.later step.handed)
+      let log = current_log step.outlet.channel old.node.mode in
+      let took = took_or_not round log step.outlet answer step.later step.handed in
+      let begins = took_begins log step.outlet.taken step.later.taken took in
+      elim (one_or_none (length step.outlet.taken) (length step.later.taken)
+      (prefix_length step.outlet.taken step.later.taken begins)
+      (took_one log step.outlet.taken step.later.taken took)) [
+        | inl one ↦ taken_leads one
+        | inr none ↦ missed_leads none
+      ]
     where
       one_or_none : (a b : ℕ) → a ≤ b → b ≤ a + 1 → (b ≡ a + 1) ⊎ (b ≡ a)
       one_or_none a b low high = grind arith
-
-      by : (step.later.taken ≡ step.outlet.taken)
-          ⊎ TookNext (current_log step.outlet.channel old.node.mode) step.outlet.taken step.later.taken
-          → Leads (net_seen net) (world_seen stations sent) (world_seen (slice_set stations k new) sent)
-      by took =
-          let low : length step.outlet.taken ≤ length step.later.taken =
-          prefix_length step.outlet.taken step.later.taken
-          (took_begins (current_log step.outlet.channel old.node.mode) step.outlet.taken step.later.taken took) in
-          let high : length step.later.taken ≤ length step.outlet.taken + 1 =
-          took_one (current_log step.outlet.channel old.node.mode) step.outlet.taken step.later.taken took in
-          elim (one_or_none (length step.outlet.taken) (length step.later.taken) low high) [
-            | inl one ↦ taken_leads one
-            | inr none ↦ missed_leads none
-          ]

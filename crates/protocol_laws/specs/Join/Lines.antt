@@ -57,32 +57,24 @@ lines_hold net w records left reached to =
 -- where no station has another one, they are those of before
 pub none_other : (kepts records : List RecordView) → AreEither kepts kepts records → records ≡ kepts
 none_other [] [] either = refl
-none_other [] (r ∷ records) either = absurd either
-none_other (k ∷ kepts) [] either = absurd either
 none_other (k ∷ kepts) (r ∷ records) either =
-    ap (λ (x : RecordView). x ∷ records) (elim either.0 [ inl one ↦ one | inr other ↦ other ])
-    ∙ ap (λ (rest : List RecordView). k ∷ rest) (none_other kepts records either.1)
+    let rest = none_other kepts records either.1 in
+    elim either.0 [ inl one ↦ cc | inr other ↦ cc ]
+none_other kepts records either = absurd either
 
 -- where one station has, they are those of before, or those with its next one
 pub one_other : (kepts records : List RecordView) (place : ℕ) (next : RecordView)
     → AreEither kepts (slice_set kepts place next) records
     → (records ≡ kepts) ⊎ (records ≡ slice_set kepts place next)
 one_other [] [] place next either = inl refl
-one_other [] (r ∷ records) place next either = absurd either
-one_other (k ∷ kepts) [] zero next either = absurd either
-one_other (k ∷ kepts) [] (suc place) next either = absurd either
 one_other (k ∷ kepts) (r ∷ records) zero next either =
-    let rest = ap (λ (others : List RecordView). r ∷ others) (none_other kepts records either.1) in
-    elim either.0 [
-      | inl old ↦ inl (rest ∙ ap (λ (x : RecordView). x ∷ kepts) old)
-      | inr new ↦ inr (rest ∙ ap (λ (x : RecordView). x ∷ kepts) new)
-    ]
+    let rest = none_other kepts records either.1 in
+    elim either.0 [ inl old ↦ inl (cc) | inr new ↦ inr (cc) ]
 one_other (k ∷ kepts) (r ∷ records) (suc place) next either =
-    let first = ap (λ (x : RecordView). x ∷ records) (elim either.0 [ inl one ↦ one | inr other ↦ other ]) in
-    elim (one_other kepts records place next either.1) [
-      | inl old ↦ inl (first ∙ ap (λ (others : List RecordView). k ∷ others) old)
-      | inr new ↦ inr (first ∙ ap (λ (others : List RecordView). k ∷ others) new)
-    ]
+    let first : r ≡ k = elim either.0 [ inl one ↦ one | inr other ↦ other ] in
+    elim (one_other kepts records place next either.1) [ inl old ↦ inl (cc) | inr new ↦ inr (cc) ]
+one_other (k ∷ kepts) [] zero next either = absurd either
+one_other kepts records place next either = absurd either
 
 -- ---- the step that writes
 
@@ -103,30 +95,25 @@ first_step net w v leads = by leads.worlds leads.run leads.once
 -- what is over, whatever is in flight
 pub over_there : (stations : List StationView) (sent : List Packet) (x n : ℕ) → Over (world_seen stations sent) x n
     → Over (nodes_seen stations) x n
-over_there stations sent x n over =
-    record { used = over.used; undecided = over.undecided; closed = λ live is. over.closed live is }
+over_there stations sent x n over = search over
 
 pub over_here : (stations : List StationView) (sent : List Packet) (x n : ℕ) → Over (nodes_seen stations) x n
     → Over (world_seen stations sent) x n
-over_here stations sent x n over =
-    record { used = over.used; undecided = over.undecided; closed = λ live is. over.closed live is }
+over_here stations sent x n over = search over
 
 -- and whom a decision names
 pub named_there : (net : Net) (stations : List StationView) (sent : List Packet) (records : ℕ → Record) (x n : ℕ)
     → NamesTheNeeded net (world_seen stations sent) records x n → NamesTheNeeded net (nodes_seen stations) records x n
-named_there net stations sent records x n names = record {
-  live = names.live;
-  is = names.is;
-  number = names.number;
-  takers = names.takers;
-  needed = names.needed;
-}
+named_there net stations sent records x n names = search names
 
 -- Checkpoints are coordinated by the records to which steps lead, of which none but the first writes one.
 coordinated_inside : (net : Net) (before : List StationView) (sent : List Packet) (v : World) (records : ℕ → Record)
     → Reachable net (world_seen before sent) → Leads net (world_seen before sent) v → v.records ≡ records
     → IsCoordinatedInside net (nodes_seen before) records
 coordinated_inside net before sent v records reached leads are =
+    let w = world_seen before sent in
+    let first = first_step net w v leads in
+    let then_reached = reached_then net w first.world reached (leads_by net w first.world first.step) in
     subst (IsCoordinatedInside net (nodes_seen before)) (first.same ∙ are) (record {
       commits_while_held = λ x n p. commits_while_held net w first.world x n p reached first.step;
       stays_committed = λ x n p image. stays_committed net w first.world x n p image reached first.step;
@@ -143,17 +130,18 @@ coordinated_inside net before sent v records reached leads are =
           (decides_for_the_needed net w first.world x n reached first.step never now);
       no_smaller_decision = λ x n p part. no_smaller_decision net w first.world x n p part reached first.step;
     })
-  where
-    w : World
-    w = world_seen before sent
-
-    first : FirstStep net w v
-    first = first_step net w v leads
-
-    then_reached : Reachable net first.world
-    then_reached = reached_then net w first.world reached (leads_by net w first.world first.step)
 
 -- ---- stations
+
+-- a run of no steps leads from a world to its own records
+still : (net : Network) (stations : List StationView) (sent : List Packet)
+    → LeadsTo (net_seen net) (world_seen stations sent) (records_seen (records_of stations)) (outlets_seen stations)
+still net stations sent = record {
+  world = world_seen stations sent;
+  leads = leads_here (net_seen net) (world_seen stations sent) (world_seen stations sent) refl;
+  records_are = refl;
+  outlets_are = refl;
+}
 
 line_stays : (net : Network) (before after : List StationView) (sent : List Packet) (records : List RecordView)
     → Reachable (net_seen net) (world_seen before sent)
@@ -161,10 +149,8 @@ line_stays : (net : Network) (before after : List StationView) (sent : List Pack
     → LeadsTo (net_seen net) (world_seen before sent) (records_seen records) (outlets_seen after)
     → AreInLine net before after records
 line_stays net before after sent records reached first last =
-    let one = lines_hold (net_seen net) (world_seen before sent) (records_seen records) (outlets_seen before) reached
-    first in
-    let other = lines_hold (net_seen net) (world_seen before sent) (records_seen records) (outlets_seen after) reached
-    last in
+    let one = lines_hold _ _ _ (outlets_seen before) reached first in
+    let other = lines_hold _ _ _ (outlets_seen after) reached last in
     record {
       at_first = record { sound = one.sound; covers = one.covers };
       at_last = record { sound = other.sound; covers = other.covers };
@@ -183,29 +169,17 @@ module _ (net : Network) (before : List StationView) (sent : List Packet)
       → AreEither (records_of before) (slice_set (records_of before) k next.node.kept) records
       → AreInLine net before after records
   line_at_put k old next later after records there outlets leads same left =
-      let to = by (one_other (records_of before) records k next.node.kept left) in
-      line_stays net before after sent records reached to
-      (record {
-        world = to.world;
-        leads = to.leads;
-        records_are = to.records_are;
-        outlets_are = to.outlets_are ∙ sym same;
-      })
-    where
-      by : (records ≡ records_of before) ⊎ (records ≡ slice_set (records_of before) k next.node.kept)
-          → LeadsTo (net_seen net) (world_seen before sent) (records_seen records) (outlets_seen before)
-      by (inl kept) = record {
-        world = world_seen before sent;
-        leads = leads_here (net_seen net) (world_seen before sent) (world_seen before sent) refl;
-        records_are = ap records_seen (sym kept);
-        outlets_are = refl;
-      }
-      by (inr new) = record {
-        world = world_seen (slice_set before k next) later;
-        leads = leads;
-        records_are = ap records_seen (map-set (λ (s : StationView). s.node.kept) before k next ∙ sym new);
-        outlets_are = outlets_same before k old next there outlets;
-      }
+      let to : LeadsTo (net_seen net) (world_seen before sent) (records_seen records) (outlets_seen before) =
+      elim (one_other (records_of before) records k next.node.kept left) [
+        | inl kept ↦ rw kept (still net before sent)
+        | inr new ↦ record {
+          world = world_seen (slice_set before k next) later;
+          leads = leads;
+          records_are = rw (new, map-set (λ (s : StationView). s.node.kept) before k next) refl;
+          outlets_are = outlets_same before k old next there outlets;
+        }
+      ] in
+      line_stays net before after sent records reached to (rw same to)
 
   -- an event puts no record, and an item may leave in it
   pub line_at_release : (after : List StationView) (later : List Packet) (records : List RecordView)
@@ -214,17 +188,10 @@ module _ (net : Network) (before : List StationView) (sent : List Packet)
       → AreInLine net before after records
   line_at_release after later records leads same left =
       let are = none_other (records_of before) records left in
-      line_stays net before after sent records reached
-      (record {
-        world = world_seen before sent;
-        leads = leads_here (net_seen net) (world_seen before sent) (world_seen before sent) refl;
-        records_are = ap records_seen (sym are);
-        outlets_are = refl;
-      })
-      (record {
+      line_stays net before after sent records reached (rw are (still net before sent)) (record {
         world = world_seen after later;
         leads = leads;
-        records_are = ap records_seen (same ∙ sym are);
+        records_are = rw (are, same) refl;
         outlets_are = refl;
       })
 
@@ -232,13 +199,5 @@ module _ (net : Network) (before : List StationView) (sent : List Packet)
 pub line_now : (net : Network) (stations : List StationView) (sent : List Packet)
     → Reachable (net_seen net) (world_seen stations sent) → AreInLine net stations stations (records_of stations)
 line_now net stations sent reached =
-    line_stays net stations stations sent (records_of stations) reached as_it_is as_it_is
-  where
-    as_it_is : LeadsTo (net_seen net) (world_seen stations sent) (records_seen (records_of stations))
-        (outlets_seen stations)
-    as_it_is = record {
-      world = world_seen stations sent;
-      leads = leads_here (net_seen net) (world_seen stations sent) (world_seen stations sent) refl;
-      records_are = refl;
-      outlets_are = refl;
-    }
+    let here = still net stations sent in
+    line_stays net stations stations sent (records_of stations) reached here here

@@ -1,78 +1,48 @@
 -- What an image needs is what the abstract machine asks for it.
-use Rattle.std.proofs.Common.{◌≡◌, ◌⊎◌, inl, inr, ℕ, zero, suc, ◌+◌, ◌<◌, ◌≤◌, ◌||◌, Bool, true, false, cond, List, []}
-use Rattle.std.proofs.Common.{◌∷◌}
+use Rattle.std.proofs.Common.{◌≡◌, inl, inr, ℕ, zero, suc, ◌+◌, ◌<◌, ◌≤◌, Bool, true, false, List, [], ◌∷◌}
 use Rattle.std.proofs.Common.{length, map, Option, Some, None, refl, sym, ap, ◌∙◌, arith}
-use Rattle.std.specs.Prelude.{◌≢◌, ◌==◌, nat_lt, slice_get}
-use Rattle.std.proofs.lemmas.Bool.{eqb-true, eq-eqb, ne_eqb, ltb-true, lt-ltb}
+use Rattle.std.specs.Prelude.{nat_lt, slice_get}
+use Rattle.std.proofs.lemmas.Bool.{ltb-true, lt-ltb}
 use Rattle.protocol.specs.Node.Common.{Network, IsValid, received_of, ImageView, is_needed, need_on, question_on}
 use Rattle.protocol.specs.Node.Common.{is_incoming, numbers_where}
-use Rattle.recovery_line.proofs.Basics.{above_or, one_inside, same_or_other, some_not_none}
+use Rattle.recovery_line.proofs.Basics.{above_or, same_or_other, some_not_none}
 use Rattle.protocol.specs.World.Common.{IsCross, Answer, Awaited, has_node, image_seen, need_of, question_seen}
 use Rattle.protocol.specs.World.Common.{questions_seen, net_seen}
 use Rattle.recovery_line.specs.Nodes.{AsksNeeds}
 use Rattle.recovery_line.specs.Packets.{AreNeeds}
-use Rattle.protocol.specs.Node.Needs.{needs_of, each_from, question_if, questions_of}
+use Rattle.protocol.specs.Node.Needs.{needs_of, each_from, questions_of}
 use Rattle.protocol_laws.specs.Join.Crossings.{both_true, true_both, comes_cross, cross_comes, cross_within}
 
 -- ---- numbers that pass a test, and what stands at their places
+
+-- a number below all that are gone through isn't among them
+none_below : (test : ℕ → Bool) (p first count : ℕ) → p < first → has_node p (numbers_where test first count) ≡ false
+none_below test p first zero past = refl
+none_below test p first (suc count) past =
+    let rest = none_below test p (suc first) count (omega arith) in
+    grind arith
 
 -- a number stands among those that pass exactly where it passes and was gone through
 pub has_where : (test : ℕ → Bool) (p first count : ℕ) → first ≤ p → p < first + count
     → has_node p (numbers_where test first count) ≡ test p
 has_where test p first zero low high = absurd (omega (arith, low, high))
-has_where test p first (suc count) low high =
-    at (test first) refl (same_or_other first p)
-    (λ apart. has_where test p (suc first) count (omega (arith, low, apart)) (omega (arith, high)))
-  where
-    none : (count first : ℕ) → p < first → has_node p (numbers_where test first count) ≡ false
-    none zero first past = refl
-    none (suc count) first past = by (test first) (none count (suc first) (omega (arith, past)))
-      where
-        by : (b : Bool) → has_node p (numbers_where test (suc first) count) ≡ false
-            → has_node p (cond b (first ∷ numbers_where test (suc first) count)
-            (numbers_where test (suc first) count)) ≡ false
-        by false rest = rest
-        by true rest = rw (ne_eqb first p (λ e. omega (arith, past, e)), rest) refl
-
-    at : (b : Bool) → test first ≡ b → (first ≡ p) ⊎ (first ≢ p)
-        → (first ≢ p → has_node p (numbers_where test (suc first) count) ≡ test p)
-        → has_node p (cond b (first ∷ numbers_where test (suc first) count) (numbers_where test (suc first) count))
-        ≡ test p
-    at true passes (inl same) later = rw (eq-eqb first p same) (sym (sym (ap test same) ∙ passes))
-    at false fails (inl same) later = none count (suc first) (omega (arith, same)) ∙ sym (sym (ap test same) ∙ fails)
-    at true passes (inr apart) later = rw (ne_eqb first p apart) (later apart)
-    at false fails (inr apart) later = later apart
+has_where test p first (suc count) low high = elim (same_or_other first p) [
+  | inl same ↦ let none = none_below test p (suc first) count (omega arith) in grind arith
+  | inr apart ↦ let rest = has_where test p (suc first) count (omega arith) (omega arith) in grind arith
+]
 
 pub has_where_below : (test : ℕ → Bool) (p first count : ℕ) → has_node p (numbers_where test first count) ≡ true
     → (test p ≡ true) × (first ≤ p) × (p < first + count)
 has_where_below test p first zero is = absurd (cc)
-has_where_below test p first (suc count) is =
-    at (test first) refl is (λ rest. has_where_below test p (suc first) count rest)
-  where
-    at : (b : Bool) → test first ≡ b
-        → has_node p (cond b (first ∷ numbers_where test (suc first) count) (numbers_where test (suc first) count))
-        ≡ true
-        → (has_node p (numbers_where test (suc first) count) ≡ true
-        → (test p ≡ true) × (suc first ≤ p) × (p < suc first + count))
-        → (test p ≡ true) × (first ≤ p) × (p < first + suc count)
-    at false fails there further = let found = further there in
-        (found.0, omega (arith, found.1), omega (arith, found.2))
-    at true passes there further = by (first == p) refl there
-      where
-        by : (d : Bool) → (first == p) ≡ d → (d || has_node p (numbers_where test (suc first) count)) ≡ true
-            → (test p ≡ true) × (first ≤ p) × (p < first + suc count)
-        by true here e = let same : first ≡ p = eqb-true first p here in
-            (sym (ap test same) ∙ passes, omega (arith, same), omega (arith, same))
-        by false other e = let found = further e in (found.0, omega (arith, found.1), omega (arith, found.2))
+has_where_below test p first (suc count) is = grind (arith, has_where_below test p (suc first) count)
 
 pub each_there : {A : Type 0} (value : ℕ → A) (first count j : ℕ) → j < count
     → slice_get (each_from value first count) j ≡ Some (value (first + j))
 each_there value first zero j within = absurd (omega (arith, within))
-each_there {A} value first (suc count) zero within =
-    ap (λ (n : ℕ). Some (value n)) (let e : first ≡ first + 0 = omega arith in e)
-each_there {A} value first (suc count) (suc j) within =
-    each_there value (suc first) count j (omega (arith, within))
-    ∙ ap (λ (n : ℕ). Some (value n)) (let e : suc first + j ≡ first + suc j = omega arith in e)
+each_there value first (suc count) zero within = cc (let e : first ≡ first + 0 = omega arith in e)
+each_there value first (suc count) (suc j) within =
+    let same : suc first + j ≡ first + suc j = omega arith in
+    rw (each_there value (suc first) count j (omega arith), same) refl
 
 pub each_past : {A : Type 0} (value : ℕ → A) (first count j : ℕ) → count ≤ j
     → slice_get (each_from value first count) j ≡ None
@@ -89,17 +59,14 @@ abbrev on_if : Bool → ℕ → Option ℕ
 on_if false count = None
 on_if true count = Some count
 
+on_so : (b : Bool) (count m : ℕ) → on_if b count ≡ Some m → (b ≡ true) × (m ≡ count)
+on_so true count m is = (refl, cc)
+on_so false count m is = absurd (cc)
+
 need_is : (image : ImageView) (c : ℕ) (numbers : List ℕ)
     → need_of (map (need_on image) numbers) c ≡ on_if (has_node c numbers) (received_of image c)
 need_is image c [] = refl
-need_is image c (first ∷ numbers) = at (first == c) refl (need_is image c numbers)
-  where
-    at : (b : Bool) → (first == c) ≡ b
-        → need_of (map (need_on image) numbers) c ≡ on_if (has_node c numbers) (received_of image c)
-        → cond b (Some (received_of image first)) (need_of (map (need_on image) numbers) c)
-        ≡ on_if (b || has_node c numbers) (received_of image c)
-    at true same rest = ap (λ (n : ℕ). Some (received_of image n)) (eqb-true first c same)
-    at false other rest = rest
+need_is image c (first ∷ numbers) = grind (arith, need_is image c numbers)
 
 -- ---- the needs of an image
 
@@ -133,28 +100,18 @@ module _ (net : Network) (home : ℕ) (valid : IsValid net) (permanent image : I
       each : (c r : ℕ) → IsCross (net_seen net) c r home → received_of permanent c < received_of image c
           → need_of (needs_of net home permanent image) c ≡ Some (received_of image c)
       each c r cross above =
-          let within : c < length net.channels = cross_within net c r home cross in
-          need_at c
-          ∙ ap (λ (b : Bool). on_if b (received_of image c))
-          (has_where (is_needed net home permanent image) c 0 (length net.channels) (omega arith)
-          (omega (arith, within))
-          ∙ needed_where c r cross above)
+          let within = cross_within net c r home cross in
+          let has = has_where (is_needed net home permanent image) c 0 (length net.channels) (omega arith) (omega arith) in
+          rw (need_at c, has, needed_where c r cross above) refl
 
       only : (c m : ℕ) → need_of (needs_of net home permanent image) c ≡ Some m
           → (r : ℕ) × IsCross (net_seen net) c r home × (m ≡ received_of image c)
       only c m is =
-          by (has_node c (numbers_where (is_needed net home permanent image) 0 (length net.channels))) refl
-          (sym (need_at c) ∙ is)
-        where
-          by : (b : Bool)
-              → has_node c (numbers_where (is_needed net home permanent image) 0 (length net.channels)) ≡ b
-              → on_if b (received_of image c) ≡ Some m
-              → (r : ℕ) × IsCross (net_seen net) c r home × (m ≡ received_of image c)
-          by false there e = absurd (cc)
-          by true there e =
-              let found = has_where_below (is_needed net home permanent image) c 0 (length net.channels) there in
-              let cross = needed_cross c found.0 in
-              (cross.0, cross.1, one_inside e refl)
+          let found = on_so (has_node c (numbers_where (is_needed net home permanent image) 0 (length net.channels)))
+          (received_of image c) m (sym (need_at c) ∙ is) in
+          let there = has_where_below (is_needed net home permanent image) c 0 (length net.channels) found.0 in
+          let cross = needed_cross c there.0 in
+          (cross.0, cross.1, found.1)
 
   -- ---- the questions that they make
 
@@ -162,17 +119,13 @@ module _ (net : Network) (home : ℕ) (valid : IsValid net) (permanent image : I
   asked_if false count = None
   asked_if true count = Some (count, Awaited)
 
-  seen_if : (b : Bool) (count : ℕ) → question_seen (Some (question_if b count)) ≡ asked_if b count
-  seen_if true count = refl
-  seen_if false count = refl
-
   asked_at : (c : ℕ) → c < length net.channels
       → questions_seen (questions_of net home permanent image) c
       ≡ asked_if (is_needed net home permanent image c) (received_of image c)
   asked_at c within =
-      ap question_seen (each_there (question_on net home permanent image) 0 (length net.channels) c within
-      ∙ ap (λ (n : ℕ). Some (question_on net home permanent image n)) (let e : 0 + c ≡ c = omega arith in e))
-      ∙ seen_if (is_needed net home permanent image c) (received_of image c)
+      let at = each_there (question_on net home permanent image) 0 (length net.channels) c within in
+      let same : 0 + c ≡ c = omega arith in
+      rw (at, same) (grind arith)
 
   asked_past : (c : ℕ) → length net.channels ≤ c → questions_seen (questions_of net home permanent image) c ≡ None
   asked_past c past = ap question_seen (each_past (question_on net home permanent image) 0 (length net.channels) c past)
@@ -182,16 +135,9 @@ module _ (net : Network) (home : ℕ) (valid : IsValid net) (permanent image : I
       → questions_seen (questions_of net home permanent image) c ≡ Some (m, answer)
       → (is_needed net home permanent image c ≡ true) × (m ≡ received_of image c) × (answer ≡ Awaited)
   asked_only c m answer is = elim (above_or c (length net.channels)) [
-    | inl within ↦ by (is_needed net home permanent image c) refl (sym (asked_at c within) ∙ is)
+    | inl within ↦ let at = asked_at c within in grind arith
     | inr past ↦ absurd (some_not_none (asked_past c past) is)
   ]
-    where
-      by : (b : Bool) → is_needed net home permanent image c ≡ b → asked_if b (received_of image c) ≡ Some (m, answer)
-          → (is_needed net home permanent image c ≡ true) × (m ≡ received_of image c) × (answer ≡ Awaited)
-      by false fails e = absurd (cc)
-      by true passes e =
-          let pair : (m, answer) ≡ (received_of image c, Awaited) = one_inside e refl in
-          (passes, ap (λ (x : ℕ × Answer). x.0) pair, ap (λ (x : ℕ × Answer). x.1) pair)
 
   pub asks_needs : AsksNeeds (net_seen net) home (image_seen permanent) (image_seen image)
       (questions_seen (questions_of net home permanent image))
@@ -199,9 +145,7 @@ module _ (net : Network) (home : ℕ) (valid : IsValid net) (permanent image : I
     where
       each : (c p : ℕ) → IsCross (net_seen net) c p home → received_of permanent c < received_of image c
           → questions_seen (questions_of net home permanent image) c ≡ Some (received_of image c, Awaited)
-      each c p cross above =
-          asked_at c (cross_within net c p home cross)
-          ∙ ap (λ (b : Bool). asked_if b (received_of image c)) (needed_where c p cross above)
+      each c p cross above = rw (asked_at c (cross_within net c p home cross), needed_where c p cross above) refl
 
       only : (c m : ℕ) (answer : Answer)
           → questions_seen (questions_of net home permanent image) c ≡ Some (m, answer)

@@ -1,13 +1,12 @@
 -- A world before its first event is the opening world of the abstract machine.
-use Rattle.std.proofs.Common.{◌≡◌, ℕ, zero, suc, Bool, true, false, eqb, cond, List, ℤ, [], ◌∷◌, length, replicate}
-use Rattle.std.proofs.Common.{Option, Some}
-use Rattle.std.proofs.Common.{None, option_map, refl, sym, ap, ◌∙◌}
+use Rattle.std.proofs.Common.{◌≡◌, ℕ, zero, suc, Bool, true, false, eqb, List, ℤ, [], ◌∷◌, length, replicate}
+use Rattle.std.proofs.Common.{Option, Some, None, option_map, refl, sym, ap, arith}
 use Rattle.std.specs.Prelude.{◌==◌, slice_index, find, filter}
 use Rattle.std.proofs.Math.Path.{fun_ext}
 use Rattle.protocol.specs.Node.Common.{Network, Channel, received_at, log_at, base_in, sent_in, received_of, base_of}
-use Rattle.protocol.specs.Node.Common.{sent_of, End, SavedEnd, port_on, opening_ends, opening_image, opening_record}
-use Rattle.protocol.specs.World.Common.{opening_traffic, Image, Mode, image_seen, record_seen, Record}
-use Rattle.protocol.specs.World.Common.{SaysWhatWasSent, HasRun, world_seen, records_of, records_seen, outlets_seen}
+use Rattle.protocol.specs.Node.Common.{sent_of, End, SavedEnd, opening_ends, opening_image, opening_record}
+use Rattle.protocol.specs.World.Common.{opening_traffic, image_seen, record_seen}
+use Rattle.protocol.specs.World.Common.{SaysWhatWasSent, HasRun, world_seen, records_of, records_seen}
 use Rattle.protocol.specs.World.Common.{taken_or, released_of, is_output, OutletView}
 use Rattle.recovery_line.specs.Images.{blank}
 use Rattle.recovery_line.specs.Nodes.{Running}
@@ -15,7 +14,6 @@ use Rattle.recovery_line.specs.Records.{new_record}
 use Rattle.recovery_line.specs.Worlds.{opening}
 use Rattle.protocol_laws.specs.Join.Promises.{HaveTakenNothing}
 use Rattle.protocol.specs.Join.Seen.{modes_seen}
-use Rattle.protocol.specs.Node.Layout.{channel_on}
 use Rattle.protocol.specs.Node.Opening.{opening_end}
 use Rattle.protocol.specs.World.OpeningWorld.{stations_from}
 use Rattle.protocol_laws.specs.World.FlightLaws.{opened_holds}
@@ -28,81 +26,34 @@ module _ (net : Network) (home : ℕ) where
       (find (λ (s : SavedEnd). eqb s.channel c) (opening_ends net home number channels))) ≡ 0
   count_is_none count none one c number [] = none
   count_is_none count none one c number (channel ∷ channels) =
-      by (channel_on net home (Some channel)) (eqb number c) (count_is_none count none one c (suc number) channels)
-    where
-      by : (on here : Bool)
-          → count (option_map (λ (s : SavedEnd). s.end)
-          (find (λ (s : SavedEnd). eqb s.channel c) (opening_ends net home (suc number) channels))) ≡ 0
-          → count (option_map (λ (s : SavedEnd). s.end) (find (λ (s : SavedEnd). eqb s.channel c)
-          (cond on
-          (record {
-            channel = number;
-            end = opening_end (port_on net home channel.producer) (port_on net home channel.consumer);
-          } ∷ opening_ends net home (suc number) channels)
-          (opening_ends net home (suc number) channels)))) ≡ 0
-      by false here rest = rest
-      by true here rest = at (eqb number c)
-        where
-          at : (b : Bool) → count (option_map (λ (s : SavedEnd). s.end) (cond b
-              (Some (record {
-                channel = number;
-                end = opening_end (port_on net home channel.producer) (port_on net home channel.consumer);
-              }))
-              (find (λ (s : SavedEnd). eqb s.channel c) (opening_ends net home (suc number) channels)))) ≡ 0
-          at true = one (port_on net home channel.producer) (port_on net home channel.consumer)
-          at false = rest
+      grind (arith, count_is_none count none one c (suc number) channels, one)
+
+  -- all counts of an end are 0 as it opens
+  nothing_yet : (puts gets : Bool) → (received_at (Some (opening_end puts gets)) ≡ 0)
+      × (base_in (log_at (Some (opening_end puts gets))) ≡ 0) × (sent_in (log_at (Some (opening_end puts gets))) ≡ 0)
+  nothing_yet true true = (refl, refl, refl)
+  nothing_yet true false = (refl, refl, refl)
+  nothing_yet false gets = (refl, refl, refl)
 
   image_opens : image_seen (opening_image net home) ≡ blank
   image_opens =
-      ap (λ (r : ℕ → ℕ). record {
-        received = r;
-        base = base_of (opening_image net home);
-        sent = sent_of (opening_image net home);
-      }) (fun_ext received)
-      ∙ (ap (λ (b : ℕ → ℕ). record { received = λ c. 0; base = b; sent = sent_of (opening_image net home) })
-      (fun_ext base)
-      ∙ ap (λ (s : ℕ → ℕ). record { received = λ c. 0; base = λ c. 0; sent = s }) (fun_ext sent))
+      rw (fun_ext received, fun_ext base, fun_ext sent) refl
     where
       received : (c : ℕ) → received_of (opening_image net home) c ≡ 0
-      received c = count_is_none received_at refl none c 0 net.channels
-        where
-          none : (puts gets : Bool) → received_at (Some (opening_end puts gets)) ≡ 0
-          none true true = refl
-          none true false = refl
-          none false gets = refl
+      received c = count_is_none received_at refl (λ puts gets. (nothing_yet puts gets).0) c 0 net.channels
 
       base : (c : ℕ) → base_of (opening_image net home) c ≡ 0
-      base c = count_is_none (λ (o : Option End). base_in (log_at o)) refl none c 0 net.channels
-        where
-          none : (puts gets : Bool) → base_in (log_at (Some (opening_end puts gets))) ≡ 0
-          none true true = refl
-          none true false = refl
-          none false gets = refl
+      base c =
+          count_is_none (λ (o : Option End). base_in (log_at o)) refl (λ puts gets. (nothing_yet puts gets).1) c 0
+          net.channels
 
       sent : (c : ℕ) → sent_of (opening_image net home) c ≡ 0
-      sent c = count_is_none (λ (o : Option End). sent_in (log_at o)) refl none c 0 net.channels
-        where
-          none : (puts gets : Bool) → sent_in (log_at (Some (opening_end puts gets))) ≡ 0
-          none true true = refl
-          none true false = refl
-          none false gets = refl
+      sent c =
+          count_is_none (λ (o : Option End). sent_in (log_at o)) refl (λ puts gets. (nothing_yet puts gets).2) c 0
+          net.channels
 
   record_opens : (nodes : ℕ) → record_seen (opening_record net nodes home) ≡ new_record
-  record_opens nodes =
-      ap (λ (h : ℕ → ℕ). record {
-        highest = h;
-        decided = λ n. false;
-        named = λ n p. false;
-        permanent = image_seen (opening_image net home);
-        tentative = None;
-      }) (fun_ext (none nodes))
-      ∙ ap (λ (i : Image). record {
-        highest = λ x. 0;
-        decided = λ n. false;
-        named = λ n p. false;
-        permanent = i;
-        tentative = None;
-      }) image_opens
+  record_opens nodes = rw (fun_ext (none nodes), image_opens) refl
     where
       none : (count x : ℕ) → slice_index (replicate count 0) x ≡ 0
       none zero x = refl
@@ -119,7 +70,7 @@ module _ (net : Network) (nodes : ℕ) (outlets : List OutletView) where
   modes_open : (number : ℕ) (failures : List ℕ) (k : ℕ)
       → modes_seen (stations_from net nodes number failures outlets) k ≡ Running blank None
   modes_open number [] k = refl
-  modes_open number (f ∷ failures) zero = ap (λ (i : Image). Running i None) (image_opens net number)
+  modes_open number (f ∷ failures) zero = rw (image_opens net number) refl
   modes_open number (f ∷ failures) (suc k) = modes_open (suc number) failures k
 
   nothing_found : (test : OutletView → Bool) (c : ℕ) (all : List OutletView) (others : List ℤ) → HaveTakenNothing all
@@ -127,19 +78,8 @@ module _ (net : Network) (nodes : ℕ) (outlets : List OutletView) where
       → taken_or (find (λ (outlet : OutletView). outlet.channel == c) (filter test all)) others ≡ []
   nothing_found test c [] others nothing none = none
   nothing_found test c (o ∷ all) others nothing none =
-      by (test o) (nothing_found test c all others (λ i outlet is. nothing (suc i) outlet is) none)
-    where
-      by : (b : Bool)
-          → taken_or (find (λ (outlet : OutletView). outlet.channel == c) (filter test all)) others ≡ []
-          → taken_or (find (λ (outlet : OutletView). outlet.channel == c)
-          (cond b (o ∷ filter test all) (filter test all))) others ≡ []
-      by false rest = rest
-      by true rest = at (o.channel == c)
-        where
-          at : (b : Bool) → taken_or (cond b (Some o)
-              (find (λ (outlet : OutletView). outlet.channel == c) (filter test all))) others ≡ []
-          at true = nothing 0 o refl
-          at false = rest
+      let here = nothing 0 o refl in
+      grind (arith, nothing_found test c all others (λ i outlet is. nothing (suc i) outlet is) none)
 
   left_open : (c number : ℕ) (failures : List ℕ) → HaveTakenNothing outlets
       → released_of c (stations_from net nodes number failures outlets) ≡ []
@@ -152,24 +92,11 @@ module _ (net : Network) (nodes : ℕ) (outlets : List OutletView) where
   world_opens : (number : ℕ) (failures : List ℕ) → HaveTakenNothing outlets
       → world_seen (stations_from net nodes number failures outlets) [] ≡ opening
   world_opens number failures nothing =
-      ap (λ (r : ℕ → Record). record {
-        records = r;
-        modes = modes_seen (stations_from net nodes number failures outlets);
-        outlets = outlets_seen (stations_from net nodes number failures outlets);
-        flight = λ place. None;
-      }) (fun_ext (records_open number failures))
-      ∙ (ap (λ (m : ℕ → Mode). record {
-        records = λ k. new_record;
-        modes = m;
-        outlets = outlets_seen (stations_from net nodes number failures outlets);
-        flight = λ place. None;
-      }) (fun_ext (modes_open number failures))
-      ∙ ap (λ (o : ℕ → ℕ). record {
-        records = λ k. new_record;
-        modes = λ k. Running blank None;
-        outlets = o;
-        flight = λ place. None;
-      }) (fun_ext (λ c. ap (length {A = ℤ}) (left_open c number failures nothing))))
+      rw (
+        fun_ext (records_open number failures),
+        fun_ext (modes_open number failures),
+        fun_ext (λ c. ap (length {A = ℤ}) (left_open c number failures nothing)),
+      ) refl
 
   pub run_opens : (number : ℕ) (failures : List ℕ) → HaveTakenNothing outlets
       → HasRun net (stations_from net nodes number failures outlets) opening_traffic

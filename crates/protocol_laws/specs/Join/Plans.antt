@@ -1,7 +1,6 @@
 -- However what a node plans comes out, it is steps of the abstract machine, and whatever a crash leaves of it is in
 -- line.
 use Rattle.std.proofs.Common.{◌≡◌, inl, inr, ℕ, Bool, true, false, cond, List, [], ◌++◌, map, All, Some, refl, sym, ap}
-use Rattle.std.proofs.Common.{subst}
 use Rattle.std.specs.Prelude.{slice_get, slice_set}
 use Rattle.protocol.specs.Node.Common.{IsPacket, Network, RecordView, crashed, with_kept, NodeView, Plan, Prospect}
 use Rattle.protocol.specs.Node.Common.{Undue, Exhausted, Planned, IsCarriedOut, IsMade, next_record, packets_by}
@@ -14,8 +13,7 @@ use Rattle.protocol_laws.specs.Join.Leading.{leads_here, leads_by, leads_then, a
 use Rattle.protocol_laws.specs.Join.Leading.{set_again, set_itself, unseen}
 use Rattle.protocol_laws.specs.Join.Lines.{line_at_put}
 use Rattle.protocol_laws.specs.Join.Sent.{carries_still, carries_all}
-use Rattle.protocol.specs.Node.Plans.{HasFailedAt, IsHeldUp}
-use Rattle.protocol.specs.Node.Plans.{plan_packets}
+use Rattle.protocol.specs.Node.Plans.{HasFailedAt, IsHeldUp, plan_packets}
 use Rattle.protocol.specs.declared.outcome.Outcome.{Outcome}
 use Rattle.protocol.specs.declared.outcome.Outcome.TheVariants as outcome
 use Rattle.protocol.specs.declared.outcome.Refusal.TheVariants.{TooLarge, Spent}
@@ -59,19 +57,20 @@ falls_leads net stations k old there sent restart failures turns =
 
 module _ (net : Network) (stations : List StationView) (k : ℕ) (old : StationView)
     (there : slice_get stations k ≡ Some old) (traffic : Traffic) (run : HasRun net stations traffic) where
+  -- steps that lead to these stations, in which what is in flight now was sent
+  leads_on : (later : List StationView) (more : List Packet) (flown : Traffic)
+      → Leads (net_seen net) (world_seen stations run.sent) (world_seen later more) → Carries flown more
+      → RunsOn net stations traffic later flown
+  leads_on later more flown leads carries = record { run = run; sent = more; leads = leads; carries = carries }
+
   -- a station whose node is as it was
   pub stays_run : (node : NodeView) (failures : ℕ) (turns : RoundTurns) (flown : Traffic) → node ≡ old.node
       → Carries flown run.sent
       → RunsOn net stations traffic (slice_set stations k (moved_to node failures turns old)) flown
-  stays_run node failures turns flown same carries = record {
-    run = run;
-    sent = run.sent;
-    leads =
-        leads_here (net_seen net) (world_seen stations run.sent) _
-        (unseen stations k old (moved_to node failures turns old) there run.sent refl
-        (ap (λ (n : NodeView). record_seen n.kept) same) (ap (λ (n : NodeView). mode_seen n.mode) same));
-    carries = carries;
-  }
+  stays_run node failures turns flown same carries =
+      leads_on _ run.sent flown (leads_here (net_seen net) (world_seen stations run.sent) _
+      (unseen stations k old (moved_to node failures turns old) there run.sent refl
+      (ap (λ (n : NodeView). record_seen n.kept) same) (ap (λ (n : NodeView). mode_seen n.mode) same))) carries
 
   module _ (plan : Plan) (by_steps : PlanLeads net stations k old run.sent plan) where
     -- The device fails: the event happened, and then the node went down, or it went down at once. What would have been
@@ -80,22 +79,14 @@ module _ (net : Network) (stations : List StationView) (k : ℕ) (old : StationV
         → Carries flown run.sent → HasFailedAt restart plan.node.kept old.node node
         → RunsOn net stations traffic (slice_set stations k (moved_to node failures turns old)) flown
     failed_run restart node failures turns flown carries (inl same) =
-        subst (λ (n : NodeView). RunsOn net stations traffic (slice_set stations k (moved_to n failures turns old))
-        flown) (sym same)
-        (record {
-          run = run;
-          sent = run.sent;
-          leads = falls_leads net stations k old there run.sent restart failures turns;
-          carries = carries;
-        })
+        rw same (leads_on _ run.sent flown (falls_leads net stations k old there run.sent restart failures turns) carries)
     failed_run restart node failures turns flown carries (inr same) =
         let done = moved_to plan.node failures turns old in
         let down = moved_to (crashed restart (with_kept plan.node.kept old.node)) failures turns old in
         let more = all_seen plan.packets ++ run.sent in
         let made = slice_set stations k done in
         let fallen : Leads (net_seen net) (world_seen stations run.sent) (world_seen (slice_set stations k down) more) =
-        subst (λ (xs : List StationView). Leads (net_seen net) (world_seen stations run.sent) (world_seen xs more))
-        (set_again stations k done down)
+        rw (← set_again stations k done down)
         (leads_then (net_seen net) (world_seen stations run.sent) (world_seen made more) _
         (by_steps.leads failures turns)
         (acts made k done down (set_there stations k old done there) (net_seen net) more
@@ -103,55 +94,31 @@ module _ (net : Network) (stations : List StationView) (k : ℕ) (old : StationV
         (falls (net_seen net) k (node_seen done (outlets_seen made)) (node_seen down (outlets_seen made)) refl refl
         refl))
         (same_records made k done down (set_there stations k old done there) refl)) in
-        subst (λ (n : NodeView). RunsOn net stations traffic (slice_set stations k (moved_to n failures turns old))
-        flown) (sym same)
-        (record {
-          run = run;
-          sent = more;
-          leads = fallen;
-          carries = carries_still (all_seen plan.packets) run.sent flown carries;
-        })
+        rw same (leads_on _ more flown fallen (carries_still (all_seen plan.packets) run.sent flown carries))
 
     carried_run : (restart round : ℕ) (came : Outcome) (node : NodeView) (failures : ℕ) (turns : RoundTurns)
         (flown : Traffic) → Carries flown run.sent → IsCarriedOut restart plan old.node came node
         → All IsPacket (plan_packets plan came)
         → RunsOn net stations traffic (slice_set stations k (moved_to node failures turns old))
         (all_sent round (map sending_of (plan_packets plan came)) flown)
-    carried_run restart round outcome.NotDue node failures turns flown carries step allowed = absurd step
-    carried_run restart round (outcome.Refused Spent) node failures turns flown carries step allowed = absurd step
     carried_run restart round outcome.Failed node failures turns flown carries step allowed =
         failed_run restart node failures turns flown carries step.1
     carried_run restart round outcome.Made node failures turns flown carries step allowed =
-        subst (λ (n : NodeView). RunsOn net stations traffic (slice_set stations k (moved_to n failures turns old))
-        (all_sent round (map sending_of plan.packets) flown)) (sym step)
-        (record {
-          run = run;
-          sent = all_seen plan.packets ++ run.sent;
-          leads = by_steps.leads failures turns;
-          carries = carries_all round plan.packets flown run.sent carries allowed;
-        })
+        rw step (leads_on _ (all_seen plan.packets ++ run.sent) _ (by_steps.leads failures turns)
+        (carries_all round plan.packets flown run.sent carries allowed))
     carried_run restart round (outcome.Refused TooLarge) node failures turns flown carries step allowed =
         stays_run node failures turns (all_sent round (map sending_of plan.refused) flown) step.1
-        (subst (λ (more : List Packet). Carries (all_sent round (map sending_of plan.refused) flown) (more ++ run.sent))
-        by_steps.silent (carries_all round plan.refused flown run.sent carries allowed))
+        (rw by_steps.silent at (carries_all round plan.refused flown run.sent carries allowed))
+    carried_run restart round came node failures turns flown carries step allowed = absurd step
 
   held_run : (restart : ℕ) (looks : Bool) (came : Outcome) (node : NodeView) (failures : ℕ) (turns : RoundTurns)
       (flown : Traffic) → Carries flown run.sent → IsHeldUp restart looks old.node came node
       → RunsOn net stations traffic (slice_set stations k (moved_to node failures turns old)) flown
-  held_run restart looks outcome.NotDue node failures turns flown carries step = absurd step
-  held_run restart looks outcome.Made node failures turns flown carries step = absurd step
-  held_run restart looks (outcome.Refused TooLarge) node failures turns flown carries step = absurd step
   held_run restart looks (outcome.Refused Spent) node failures turns flown carries step =
       stays_run node failures turns flown step carries
   held_run restart looks outcome.Failed node failures turns flown carries step =
-      subst (λ (n : NodeView). RunsOn net stations traffic (slice_set stations k (moved_to n failures turns old))
-      flown) (sym step.1)
-      (record {
-        run = run;
-        sent = run.sent;
-        leads = falls_leads net stations k old there run.sent restart failures turns;
-        carries = carries;
-      })
+      rw step.1 (leads_on _ run.sent flown (falls_leads net stations k old there run.sent restart failures turns) carries)
+  held_run restart looks came node failures turns flown carries step = absurd step
 
   -- what a prospect comes to
   pub made_run : (restart round : ℕ) (prospect : Prospect) (came : Outcome) (node : NodeView) (failures : ℕ)
@@ -169,27 +136,19 @@ module _ (net : Network) (stations : List StationView) (k : ℕ) (old : StationV
 
   -- ---- and what a crash leaves of it
 
-  as_before : (after : List StationView) (records : List RecordView) → outlets_seen after ≡ outlets_seen stations
-      → AreEither (records_of stations) (slice_set (records_of stations) k old.node.kept) records
-      → AreInLine net stations after records
-  as_before after records same left =
-      line_at_put net stations run.sent run.reached k old old run.sent after records there refl
-      (leads_here (net_seen net) (world_seen stations run.sent) _
-      (ap (λ (xs : List StationView). world_seen xs run.sent) (set_itself stations k old there))) same left
-
   pub prospect_line : (prospect : Prospect) → ProspectLeads net stations k old run.sent prospect
       → (after : List StationView) (records : List RecordView) → outlets_seen after ≡ outlets_seen stations
       → AreEither (records_of stations)
       (slice_set (records_of stations) k (next_record prospect old.node.kept)) records
       → AreInLine net stations after records
-  prospect_line Undue by_steps after records same left = as_before after records same left
-  prospect_line (Exhausted looks) by_steps after records same left = as_before after records same left
   prospect_line (Planned plan) by_steps after records same left =
       line_at_put net stations run.sent run.reached k old (moved_to plan.node old.failures old.turns old)
       (all_seen plan.packets ++ run.sent) after records there refl (by_steps.leads old.failures old.turns) same
-      (subst (λ (r : RecordView). AreEither (records_of stations) (slice_set (records_of stations) k r) records)
-      (kept_is plan.puts refl) left)
+      (rw (kept_is plan.puts refl) at left)
     where
       kept_is : (b : Bool) → plan.puts ≡ b → cond b plan.node.kept old.node.kept ≡ plan.node.kept
       kept_is true e = refl
       kept_is false e = sym (by_steps.keeps e)
+  prospect_line prospect by_steps after records same left =
+      line_at_put net stations run.sent run.reached k old old run.sent after records there refl
+      (leads_here (net_seen net) (world_seen stations run.sent) _ (rw (set_itself stations k old there) refl)) same left

@@ -1,40 +1,35 @@
 -- After each deed a station's record and what it collects may be said, and so may what is sent in the deed.
-use Rattle.std.proofs.Common.{◌≡◌, ℕ, ◌+◌, ◌<◌, ◌&&◌, Bool, true, false, cond, List, ℤ, [], length, All, Option}
-use Rattle.std.proofs.Common.{Some, None, option_map, refl, sym, ap, subst, ◌∙◌, arith}
+use Rattle.std.proofs.Common.{◌≡◌, ◌⊎◌, inl, inr, ℕ, ◌+◌, ◌<◌, Bool, true, false, cond, List, ℤ, [], length, All}
+use Rattle.std.proofs.Common.{Option, Some, None, option_map, refl, ap, ◌∙◌, arith}
 use Rattle.std.specs.Prelude.{nat_lt}
 use Rattle.std.specs.List.{list_all}
 use Rattle.std.proofs.lemmas.Bool.{ltb-true}
 use Rattle.std.proofs.lemmas.List.Elements.{All-nil}
 use Rattle.protocol.specs.Node.Common.{IsPacket, Body, Need, Packet, node_count, Network, IsValid, MAX_COUNT}
-use Rattle.protocol.specs.Node.Common.{highest_seen, with_epoch, with_permanent, without_tentative, with_confirmed}
-use Rattle.protocol.specs.Node.Common.{RecordView, MAX_DECISIONS, AskAnswer, Silent, CoveredBefore, TookBefore}
-use Rattle.protocol.specs.Node.Common.{TakesNow, Declines, holds, kept_then, answer_to_ask, with_current_as, live_in}
-use Rattle.protocol.specs.Node.Common.{collecting, live_asks, may_start, beginning, begun, start_prospect, Ignores}
-use Rattle.protocol.specs.Node.Common.{Joins, GivesUp, answer_to_took, hearing_covered, joined_live, took_prospect}
-use Rattle.protocol.specs.Node.Common.{refused_prospect, with_answer, PassesOver, Notes, GoesBack, noting_undone}
-use Rattle.protocol.specs.Node.Common.{set_back_to, undone_prospect, hear_prospect, may_decide, concluded}
-use Rattle.protocol.specs.Node.Common.{decide_prospect, mode_then, after_verdict, settled_packets, commit_prospect}
-use Rattle.protocol.specs.Node.Common.{ended_prospect, settled_prospect, participants_of, verdict_packets, are_nodes}
-use Rattle.protocol.specs.Node.Common.{names_run, hearing, is_incoming, is_outgoing, LiveView, is_none, is_running}
-use Rattle.protocol.specs.Node.Common.{with_kept, NodeView, ModeView, Down, InDoubt, Runs, RunningView, on_mode}
-use Rattle.protocol.specs.Node.Common.{on_running, running_in, Plan, Prospect, Undue, Exhausted, Planned, becoming}
-use Rattle.protocol.specs.Node.Common.{putting, telling, if_due, packets_by, unless_spent, own_at, cut_at}
+use Rattle.protocol.specs.Node.Common.{highest_seen, with_epoch, with_permanent, without_tentative, RecordView}
+use Rattle.protocol.specs.Node.Common.{MAX_DECISIONS, AskAnswer, TakesNow, holds, kept_then, answer_to_ask}
+use Rattle.protocol.specs.Node.Common.{with_current_as, live_in, collecting, live_asks, may_start, beginning, begun}
+use Rattle.protocol.specs.Node.Common.{start_prospect, Ignores, Joins, GivesUp, answer_to_took, hearing_covered}
+use Rattle.protocol.specs.Node.Common.{joined_live, took_prospect, refused_prospect, with_answer, PassesOver, Notes}
+use Rattle.protocol.specs.Node.Common.{GoesBack, noting_undone, set_back_to, undone_prospect, hear_prospect, may_decide}
+use Rattle.protocol.specs.Node.Common.{decide_prospect, mode_then, settled_packets, commit_prospect, ended_prospect}
+use Rattle.protocol.specs.Node.Common.{settled_prospect, participants_of, verdict_packets, names_run, hearing}
+use Rattle.protocol.specs.Node.Common.{is_incoming, is_outgoing, LiveView, NodeView, ModeView, Runs, RunningView}
+use Rattle.protocol.specs.Node.Common.{on_mode, on_running, running_in, Plan, Prospect, Undue, Exhausted, Planned}
+use Rattle.protocol.specs.Node.Common.{becoming, telling, packets_by, own_at, cut_at}
 use Rattle.datagram.specs.PacketText.{IsPositive, IsBody}
 use Rattle.datagram.specs.declared.packet.Body.TheVariants as says
 use Rattle.datagram.specs.declared.packet.Reason.TheVariants.{TooLarge}
 use Rattle.recovery_line.proofs.Basics.{one_inside}
 use Rattle.protocol.specs.World.Common.{By_took, has_node, names, LiveIsSound, MayBeAskedFor}
 use Rattle.protocol.specs.Node.Answering.{ask_prospect}
-use Rattle.protocol.specs.Node.Collecting.{TookAnswer}
-use Rattle.protocol.specs.Node.Collecting.{awaits, with_covered, joining, joined_asks}
+use Rattle.protocol.specs.Node.Collecting.{TookAnswer, covered_live, with_covered, joining, joined_asks}
 use Rattle.protocol.specs.Node.Collecting.{give_up_prospect, took_by, loses}
-use Rattle.protocol.specs.Node.GoingBack.{UndoneAnswer, answer_to_undone}
-use Rattle.protocol.specs.Node.GoingBack.{undone_by}
+use Rattle.protocol.specs.Node.GoingBack.{UndoneAnswer, answer_to_undone, undone_by}
 use Rattle.protocol.specs.Join.Joined.{IsOther, KeepsNodes}
 use Rattle.protocol.specs.Node.Verdicts.{decided_now, commit_packets}
-use Rattle.protocol_laws.specs.Join.Crossings.{both_true}
-use Rattle.protocol_laws.specs.Join.Keeps.{epoch_keeps, takes_keeps, drops_keeps, settles_keeps, decides_keeps, confirms_keeps}
-use Rattle.protocol_laws.specs.Join.Keeps.{begun_sound, covered_sound, joined_sound}
+use Rattle.protocol_laws.specs.Join.Keeps.{epoch_keeps, takes_keeps, drops_keeps, settles_keeps, decides_keeps}
+use Rattle.protocol_laws.specs.Join.Keeps.{confirms_keeps, begun_sound, covered_sound, joined_sound}
 use Rattle.protocol_laws.specs.Join.NeedLaws.{has_where_below}
 use Rattle.protocol_laws.specs.Join.Spelled.{IsSayable, one_sendable, other_of, asks_sendable, new_sendable}
 use Rattle.protocol_laws.specs.Join.Spelled.{answers_sendable, declined_sendable, commits_sendable, settled_sendable}
@@ -63,95 +58,85 @@ module _ (net : Network) (inputs : List (List ℤ)) (valid : IsValid net) (home 
   nothing : All (IsSayable net inputs) []
   nothing = All-nil (IsSayable net inputs)
 
-  stays : ProspectSays net inputs home (becoming old)
-  stays = record { kept = kept; live = live; sendable = nothing; refusable = nothing }
+  -- what is collected, if anything is, is sound
+  abbrev SoundIn : Option LiveView → Type 0
+  SoundIn o = (l : LiveView) → o ≡ Some l → LiveIsSound net home l
 
-  -- a change that leaves what is collected
-  changes : (change : RunningView → RunningView) → ((running : RunningView) → (change running).live ≡ running.live)
-      → ProspectSays net inputs home (becoming (on_running change old))
-  changes change same = record {
-    kept = kept;
-    live = λ l is. live l (sym (live_same old.mode) ∙ is);
-    sendable = nothing;
-    refusable = nothing;
-  }
-    where
-      live_same : (mode : ModeView) → live_in (on_mode change mode) ≡ live_in mode
-      live_same Down = refl
-      live_same InDoubt = refl
-      live_same (Runs running) = same running
+  -- a plan whose refusal says nothing
+  sends : {node : NodeView} {packets : List Packet} {puts grows : Bool} → KeepsNodes net home node.kept
+      → SoundIn (live_in node.mode) → All (IsSayable net inputs) packets
+      → PlanSays net inputs home
+      (record { node = node; puts = puts; grows = grows; packets = packets; refused = [] })
+  sends keeps sound sendable = record { kept = keeps; live = sound; sendable = sendable; refusable = nothing }
+
+  stays : ProspectSays net inputs home (becoming old)
+  stays = sends kept live nothing
 
   tells : (packets : List Packet) → All (IsSayable net inputs) packets
       → ProspectSays net inputs home (telling packets old)
-  tells packets sendable = record { kept = kept; live = live; sendable = sendable; refusable = nothing }
+  tells packets sendable = sends kept live sendable
+
+  -- what a test chooses is so if each of the two is, and the first needs to be so only where the test passes
+  chosen : (b : Bool) (x y : Prospect) → (b ≡ true → ProspectSays net inputs home x) → ProspectSays net inputs home y
+      → ProspectSays net inputs home (cond b x y)
+  chosen true x y one another = one refl
+  chosen false x y one another = another
+
+  -- what is collected after a change of what a node that runs has in memory
+  live_after : (change : RunningView → RunningView)
+      → ((running : RunningView) → old.mode ≡ Runs running → SoundIn (change running).live)
+      → SoundIn (live_in (on_mode change old.mode))
+  live_after change sound = by old.mode refl
+    where
+      by : (mode : ModeView) → old.mode ≡ mode → SoundIn (live_in (on_mode change mode))
+      by (Runs running) is l e = sound running is l e
+      by _ is l e = absurd (cc)
+
+  -- it is what was collected, or nothing
+  same_live : (change : RunningView → RunningView) → ((running : RunningView) → (change running).live ≡ running.live)
+      → SoundIn (live_in (on_mode change old.mode))
+  same_live change same = live_after change (λ running is l e. live l (let unmoved = same running in cc))
+
+  none_live : (change : RunningView → RunningView) → ((running : RunningView) → (change running).live ≡ None)
+      → SoundIn (live_in (on_mode change old.mode))
+  none_live change none = live_after change (λ running is l e. absurd (let gone = none running in cc))
 
   -- ---- it begins, and decides
 
   begun_kept : nat_lt (highest_seen home old.kept) MAX_COUNT ≡ true → length old.kept.decisions < MAX_DECISIONS
       → (mode : ModeView) → old.mode ≡ mode
       → KeepsNodes net home (own_at home old.kept (running_in old.kept old.version mode))
-  begun_kept less few Down is = kept
-  begun_kept less few InDoubt is = kept
   begun_kept less few (Runs running) is =
       let below = ltb-true (highest_seen home old.kept) MAX_COUNT less in
       takes_keeps net home old.kept kept home (highest_seen home old.kept + 1) running.current here
       (omega arith, omega (arith, below)) (counts running is) (λ same. few)
+  begun_kept less few _ is = kept
 
   -- a node that may start has room for a decision
   few_now : may_start old ≡ true → length old.kept.decisions < MAX_DECISIONS
-  few_now due =
-      let rest = (both_true (is_running old.mode)
-      (is_none old.kept.tentative && nat_lt (length old.kept.decisions) MAX_DECISIONS) due).1 in
-      ltb-true (length old.kept.decisions) MAX_DECISIONS
-      (both_true (is_none old.kept.tentative) (nat_lt (length old.kept.decisions) MAX_DECISIONS) rest).1
+  few_now due = grind (arith, ltb-true)
 
-  begun_live : nat_lt (highest_seen home old.kept) MAX_COUNT ≡ true → (mode : ModeView) → old.mode ≡ mode
-      → (l : LiveView) → live_in (on_mode (beginning net home old.kept) mode) ≡ Some l → LiveIsSound net home l
-  begun_live less Down is l e = absurd (cc)
-  begun_live less InDoubt is l e = absurd (cc)
-  begun_live less (Runs running) is l e =
-      subst (LiveIsSound net home) (one_inside refl e)
-      (begun_sound net home inputs valid here old.kept running.current less (counts running is))
+  begun_live : nat_lt (highest_seen home old.kept) MAX_COUNT ≡ true
+      → SoundIn (live_in (on_mode (beginning net home old.kept) old.mode))
+  begun_live less = live_after (beginning net home old.kept) (λ running is l e.
+      rw (← one_inside refl e)
+      (begun_sound net home inputs valid here old.kept running.current less (counts running is)))
 
-  live_sendable : (o : Option LiveView) → ((l : LiveView) → o ≡ Some l → LiveIsSound net home l)
-      → All (IsSayable net inputs) (live_asks net home o)
+  live_sendable : (o : Option LiveView) → SoundIn o → All (IsSayable net inputs) (live_asks net home o)
   live_sendable None sound = nothing
   live_sendable (Some l) sound = asks_sendable net inputs valid home here l (sound l refl)
 
   pub begins_says : ProspectSays net inputs home (start_prospect net home old)
-  begins_says = by (may_start old) refl (nat_lt (highest_seen home old.kept) MAX_COUNT) refl
-    where
-      by : (due : Bool) → may_start old ≡ due → (less : Bool) → nat_lt (highest_seen home old.kept) MAX_COUNT ≡ less
-          → ProspectSays net inputs home
-          (if_due due (unless_spent false less (Planned (record {
-            node = begun net home old;
-            puts = true;
-            grows = true;
-            packets = live_asks net home (live_in (begun net home old).mode);
-            refused = [];
-          }))))
-      by false is less e = tt
-      by true is false e = tt
-      by true is true e = record {
-        kept = begun_kept e (few_now is) old.mode refl;
-        live = begun_live e old.mode refl;
-        sendable = live_sendable (live_in (begun net home old).mode) (begun_live e old.mode refl);
-        refusable = nothing;
-      }
+  begins_says =
+      chosen (may_start old) _ _ (λ due. chosen (nat_lt (highest_seen home old.kept) MAX_COUNT) _ _ (λ less.
+      sends (begun_kept less (few_now due) old.mode refl) (begun_live less)
+      (live_sendable (live_in (begun net home old).mode) (begun_live less))) tt) tt
 
-  -- where nothing more is collected
-  none_live : (mode : ModeView) (l : LiveView) → live_in (on_mode (collecting None) mode) ≡ Some l
-      → LiveIsSound net home l
-  none_live Down l is = absurd (cc)
-  none_live InDoubt l is = absurd (cc)
-  none_live (Runs running) l is = absurd (cc)
-
-  decided_kept : (o : Option LiveView) → ((l : LiveView) → o ≡ Some l → LiveIsSound net home l)
-      → KeepsNodes net home (decided_now o old.kept)
+  decided_kept : (o : Option LiveView) → SoundIn o → KeepsNodes net home (decided_now o old.kept)
   decided_kept None sound = kept
   decided_kept (Some l) sound = decides_keeps net home old.kept kept l (sound l refl)
 
-  decided_told : (o : Option LiveView) → ((l : LiveView) → o ≡ Some l → LiveIsSound net home l)
+  decided_told : (o : Option LiveView) → SoundIn o
       → All (IsSayable net inputs) (commit_packets home (length old.kept.highest) o)
   decided_told None sound = nothing
   decided_told (Some l) sound =
@@ -161,52 +146,36 @@ module _ (net : Network) (inputs : List (List ℤ)) (valid : IsValid net) (home 
       (has_where_below (λ q. has_node q l.takers) p 0 (length old.kept.highest) has).0)
 
   pub concludes_says : ProspectSays net inputs home (decide_prospect home old)
-  concludes_says = by (may_decide home old.kept (live_in old.mode))
-    where
-      by : (due : Bool) → ProspectSays net inputs home (if_due due (Planned (record {
-        node = concluded old;
-        puts = true;
-        grows = false;
-        packets = commit_packets home (length old.kept.highest) (live_in old.mode);
-        refused = [];
-      })))
-      by false = tt
-      by true = record {
-        kept = decided_kept (live_in old.mode) live;
-        live = none_live old.mode;
-        sendable = decided_told (live_in old.mode) live;
-        refusable = nothing;
-      }
+  concludes_says =
+      chosen (may_decide home old.kept (live_in old.mode)) _ _ (λ due.
+      sends (decided_kept (live_in old.mode) live) (none_live (collecting None) (λ running. refl))
+      (decided_told (live_in old.mode) live)) tt
 
   -- ---- it is asked
 
   module _ (x n c m : ℕ) (asked : IsBody (says.Ask n c m)) (right : names_run net x home (says.Ask n c m) ≡ true) where
     other : IsOther net home x
-    other = other_of net inputs valid home here x (both_true (are_nodes net x home) (is_outgoing net home c) right).0
+    other = other_of net inputs valid home here x (grind arith)
 
     taken_kept : (mode : ModeView) → old.mode ≡ mode → KeepsNodes net home (with_current_as x n mode old.kept)
-    taken_kept Down is = kept
-    taken_kept InDoubt is = kept
     taken_kept (Runs running) is =
         takes_keeps net home old.kept kept x n running.current other.below asked.0 (counts running is)
         (λ same. absurd (other.apart same))
+    taken_kept _ is = kept
 
     kept_after : (answer : AskAnswer) → KeepsNodes net home (kept_then x n answer old.mode old.kept)
-    kept_after Silent = kept
-    kept_after CoveredBefore = kept
-    kept_after TookBefore = kept
     kept_after TakesNow = taken_kept old.mode refl
-    kept_after (Declines reason) = kept
+    kept_after _ = kept
 
     pub asked_says : ProspectSays net inputs home (ask_prospect net home x n c m old)
     asked_says =
         let answer = answer_to_ask x n c m old.kept old.mode in
         record {
-          kept = kept_after (answer_to_ask x n c m old.kept old.mode);
+          kept = kept_after answer;
           live = live;
           sendable = answers_sendable net inputs valid home here x n c m asked right
               (kept_then x n answer old.mode old.kept)
-              (λ h is. ((kept_after (answer_to_ask x n c m old.kept old.mode)).held h is).counts) answer;
+              (λ h is. ((kept_after answer).held h is).counts) answer;
           refusable = one_sendable net inputs valid home here
               (record { from = home; to = x; body = says.Refused n c TooLarge })
               (declined_sendable net inputs valid home here x n c m asked right old.kept
@@ -216,42 +185,25 @@ module _ (net : Network) (inputs : List (List ℤ)) (valid : IsValid net) (home 
   -- ---- it is answered
 
   gives_up : ProspectSays net inputs home (give_up_prospect old)
-  gives_up = record {
-    kept = drops_keeps net home old.kept kept;
-    live = none_live old.mode;
-    sendable = nothing;
-    refusable = nothing;
-  }
+  gives_up = sends (drops_keeps net home old.kept kept) (none_live (collecting None) (λ running. refl)) nothing
 
   refused_says : (n : ℕ) → ProspectSays net inputs home (refused_prospect home n old)
-  refused_says n = by (loses home n old)
-    where
-      by : (b : Bool) → ProspectSays net inputs home (cond b (give_up_prospect old) (becoming old))
-      by true = gives_up
-      by false = stays
+  refused_says n = chosen (loses home n old) _ _ (λ lost. gives_up) stays
 
   covered_says : (n c : ℕ) → ProspectSays net inputs home (becoming (on_running (hearing_covered n c) old))
-  covered_says n c = record {
-    kept = kept;
-    live = λ l is. by old.mode refl l is;
-    sendable = nothing;
-    refusable = nothing;
-  }
+  covered_says n c =
+      sends kept (live_after (hearing_covered n c) (λ running at l is. elim (covered running.live l is) [
+        | inl same ↦ live l (ap live_in at ∙ same)
+        | inr k ↦ rw (← k.2) (covered_sound net home inputs valid here k.0 c (live k.0 (ap live_in at ∙ k.1)))
+      ])) nothing
     where
-      of_live : (o : Option LiveView) → ((l : LiveView) → o ≡ Some l → LiveIsSound net home l) → (b : Bool)
-          → (l : LiveView) → cond b (option_map (with_covered c) o) o ≡ Some l → LiveIsSound net home l
-      of_live o sound false l is = sound l is
-      of_live None sound true l is = absurd (cc)
-      of_live (Some k) sound true l is =
-          subst (LiveIsSound net home) (one_inside refl is)
-          (covered_sound net home inputs valid here k c (sound k refl))
+      covered : (o : Option LiveView) (l : LiveView) → covered_live n c o ≡ Some l
+          → (o ≡ Some l) ⊎ ((k : LiveView) × (o ≡ Some k) × (with_covered c k ≡ l))
+      covered o l is = grind arith
 
-      by : (mode : ModeView) → old.mode ≡ mode → (l : LiveView)
-          → live_in (on_mode (hearing_covered n c) mode) ≡ Some l → LiveIsSound net home l
-      by Down at l is = absurd (cc)
-      by InDoubt at l is = absurd (cc)
-      by (Runs running) at l is =
-          of_live running.live (λ k e. live k (ap live_in at ∙ e)) (awaits n c running.live) l is
+  mapped : {A B : Type 0} {f : A → B} (o : Option A) (y : B) → option_map f o ≡ Some y
+      → (x : A) × (o ≡ Some x) × (f x ≡ y)
+  mapped o y is = grind arith
 
   took_says : (p n c m : ℕ) (needs : List Need) → IsBody (says.Took n c m needs)
       → names_run net p home (says.Took n c m needs) ≡ true
@@ -259,31 +211,20 @@ module _ (net : Network) (inputs : List (List ℤ)) (valid : IsValid net) (home 
   took_says p n c m needs asked right = by (answer_to_took net home n c needs old.kept (live_in old.mode))
     where
       parts : (is_outgoing net p c ≡ true) × (list_all (λ (need : Need). is_incoming net p need.channel) needs ≡ true)
-      parts =
-          both_true (is_outgoing net p c) (list_all (λ (need : Need). is_incoming net p need.channel) needs)
-          (both_true (are_nodes net p home)
-          (is_outgoing net p c && list_all (λ (need : Need). is_incoming net p need.channel) needs) right).1
+      parts = grind arith
 
       other : IsOther net home p
-      other = other_of net inputs valid home here p
-          (both_true (are_nodes net p home)
-          (is_outgoing net p c && list_all (λ (need : Need). is_incoming net p need.channel) needs) right).0
+      other = other_of net inputs valid home here p (grind arith)
 
-      joined : (mode : ModeView) → old.mode ≡ mode → (l : LiveView)
-          → live_in (on_mode (joining net home p c needs) mode) ≡ Some l → LiveIsSound net home l
-      joined Down at l is = absurd (cc)
-      joined InDoubt at l is = absurd (cc)
-      joined (Runs running) at l is = of_live running.live (λ k e. live k (ap live_in at ∙ e)) is
-        where
-          of_live : (o : Option LiveView) → ((k : LiveView) → o ≡ Some k → LiveIsSound net home k)
-              → option_map (joined_live net home p c needs) o ≡ Some l → LiveIsSound net home l
-          of_live None sound e = absurd (cc)
-          of_live (Some k) sound e =
-              subst (LiveIsSound net home) (one_inside refl e)
-              (joined_sound net home inputs valid here k p c needs (sound k refl) other asked.3.each parts.1)
+      joined : (running : RunningView) → old.mode ≡ Runs running
+          → SoundIn (option_map (joined_live net home p c needs) running.live)
+      joined running at l is =
+          let k = mapped running.live l is in
+          rw (← k.2)
+          (joined_sound net home inputs valid here k.0 p c needs (live k.0 (ap live_in at ∙ k.1)) other asked.3.each
+          parts.1)
 
-      asks : (o : Option LiveView) → ((k : LiveView) → o ≡ Some k → LiveIsSound net home k)
-          → All (IsSayable net inputs) (joined_asks net home c needs o)
+      asks : (o : Option LiveView) → SoundIn o → All (IsSayable net inputs) (joined_asks net home c needs o)
       asks None sound = nothing
       asks (Some k) sound =
           new_sendable net inputs valid home here k.number p (sound k refl).number needs
@@ -292,102 +233,57 @@ module _ (net : Network) (inputs : List (List ℤ)) (valid : IsValid net) (home 
       by : (answer : TookAnswer) → ProspectSays net inputs home (took_by net home p c needs answer old)
       by Ignores = stays
       by GivesUp = gives_up
-      by Joins = record {
-        kept = kept;
-        live = joined old.mode refl;
-        sendable = asks (live_in old.mode) live;
-        refusable = nothing;
-      }
+      by Joins = sends kept (live_after (joining net home p c needs) joined) (asks (live_in old.mode) live)
 
   -- ---- verdicts
 
   -- what is collected afterwards, where a node that was in doubt runs on
-  verdict_live : (next : RecordView) (mode : ModeView) → old.mode ≡ mode → (l : LiveView)
-      → live_in (mode_then net home next mode) ≡ Some l → LiveIsSound net home l
-  verdict_live next Down at l is = absurd (cc)
-  verdict_live next InDoubt at l is = absurd (cc)
+  verdict_live : (next : RecordView) (mode : ModeView) → old.mode ≡ mode → SoundIn (live_in (mode_then net home next mode))
   verdict_live next (Runs running) at l is = live l (ap live_in at ∙ is)
+  verdict_live next _ at l is = absurd (cc)
 
   commit_says : (x n : ℕ) → IsPositive n → IsOther net home x
       → ProspectSays net inputs home (commit_prospect net home x n old)
-  commit_says x n positive other = by (holds x n old.kept.tentative)
-    where
-      by : (b : Bool) → ProspectSays net inputs home
-          (cond b
-          (Planned (record {
-            node = after_verdict net home (with_permanent old.kept) old;
-            puts = true;
-            grows = false;
-            packets = settled_packets home x n (with_permanent old.kept);
-            refused = [];
-          }))
-          (telling (settled_packets home x n old.kept) old))
-      by true = record {
-        kept = settles_keeps net home old.kept kept;
-        live = verdict_live (with_permanent old.kept) old.mode refl;
-        sendable = settled_sendable net inputs valid home here x n (with_permanent old.kept) positive other;
-        refusable = nothing;
-      }
-      by false =
-          tells (settled_packets home x n old.kept)
-          (settled_sendable net inputs valid home here x n old.kept positive other)
+  commit_says x n positive other =
+      chosen (holds x n old.kept.tentative) _ _ (λ held.
+      sends (settles_keeps net home old.kept kept) (verdict_live (with_permanent old.kept) old.mode refl)
+      (settled_sendable net inputs valid home here x n (with_permanent old.kept) positive other))
+      (tells (settled_packets home x n old.kept)
+      (settled_sendable net inputs valid home here x n old.kept positive other))
 
   ended_says : (x n : ℕ) → ProspectSays net inputs home (ended_prospect net home x n old)
-  ended_says x n = by (holds x n old.kept.tentative)
-    where
-      by : (b : Bool) → ProspectSays net inputs home
-          (cond b (putting false (after_verdict net home (without_tentative old.kept) old)) (becoming old))
-      by true = record {
-        kept = drops_keeps net home old.kept kept;
-        live = verdict_live (without_tentative old.kept) old.mode refl;
-        sendable = nothing;
-        refusable = nothing;
-      }
-      by false = stays
+  ended_says x n =
+      chosen (holds x n old.kept.tentative) _ _ (λ held.
+      sends (drops_keeps net home old.kept kept) (verdict_live (without_tentative old.kept) old.mode refl) nothing)
+      stays
 
   -- ---- the sender of a channel restored an image
-
-  -- a node that goes back collects nothing
-  back_live : (c epoch : ℕ) (mode : ModeView) (l : LiveView)
-      → live_in (on_mode (set_back_to (with_epoch old.kept) c epoch) mode) ≡ Some l → LiveIsSound net home l
-  back_live c epoch Down l is = absurd (cc)
-  back_live c epoch InDoubt l is = absurd (cc)
-  back_live c epoch (Runs running) l is = absurd (cc)
 
   undone_says : (c epoch count : ℕ) → ProspectSays net inputs home (undone_prospect c epoch count old)
   undone_says c epoch count = by (answer_to_undone c epoch count old.kept old.mode)
     where
       by : (answer : UndoneAnswer) → ProspectSays net inputs home (undone_by c epoch answer old)
       by PassesOver = stays
-      by Notes = changes (noting_undone c epoch) (λ r. refl)
-      by GoesBack = record {
-        kept = epoch_keeps net home old.kept kept;
-        live = back_live c epoch old.mode;
-        sendable = nothing;
-        refusable = nothing;
-      }
+      by Notes = sends kept (same_live (noting_undone c epoch) (λ r. refl)) nothing
+      by GoesBack =
+          sends (epoch_keeps net home old.kept kept)
+          (none_live (set_back_to (with_epoch old.kept) c epoch) (λ running. refl)) nothing
 
   settled_says : (p n : ℕ) → ProspectSays net inputs home (settled_prospect p n old)
-  settled_says p n = by (names old.kept.decisions n p)
-    where
-      by : (b : Bool) → ProspectSays net inputs home
-          (cond b (putting false (with_kept (with_confirmed n p old.kept) old)) (becoming old))
-      by true = record {
-        kept = confirms_keeps net home old.kept kept n p;
-        live = live;
-        sendable = nothing;
-        refusable = nothing;
-      }
-      by false = stays
+  settled_says p n =
+      chosen (names old.kept.decisions n p) _ _ (λ is. sends (confirms_keeps net home old.kept kept n p) live nothing)
+      stays
 
   -- ---- whatever it hears
 
   pub hears_says : (from : ℕ) (what : Body) → IsBody what → names_run net from home what ≡ true
       → ProspectSays net inputs home (hear_prospect net home from what old)
   hears_says from (says.Data channel position item) is right =
-      changes (hearing (says.Data channel position item)) (λ r. refl)
-  hears_says from (says.Ack channel epoch next) is right = changes (hearing (says.Ack channel epoch next)) (λ r. refl)
-  hears_says from (says.Kept channel count) is right = changes (cut_at channel count) (λ r. refl)
+      sends kept (same_live (hearing (says.Data channel position item)) (λ r. refl)) nothing
+  hears_says from (says.Ack channel epoch next) is right =
+      sends kept (same_live (hearing (says.Ack channel epoch next)) (λ r. refl)) nothing
+  hears_says from (says.Kept channel count) is right =
+      sends kept (same_live (cut_at channel count) (λ r. refl)) nothing
   hears_says from (says.Ask n c m) is right = asked_says from n c m is right
   hears_says from (says.Took n c m needs) is right = took_says from n c m needs is right
   hears_says from (says.Covered n c m) is right = covered_says n c
@@ -405,15 +301,12 @@ module _ (net : Network) (inputs : List (List ℤ)) (valid : IsValid net) (home 
 -- what such a plan sends has a spelling, however it comes out
 plan_allowed : (net : Network) (inputs : List (List ℤ)) (home : ℕ) (plan : Plan) → PlanSays net inputs home plan
     → (came : Outcome) → All IsPacket (plan_packets plan came)
-plan_allowed net inputs home plan says outcome.NotDue = All-nil IsPacket
 plan_allowed net inputs home plan says outcome.Made = λ k d within. (says.sendable k d within).allowed
 plan_allowed net inputs home plan says (outcome.Refused refusal.TooLarge) =
     λ k d within. (says.refusable k d within).allowed
-plan_allowed net inputs home plan says (outcome.Refused refusal.Spent) = All-nil IsPacket
-plan_allowed net inputs home plan says outcome.Failed = All-nil IsPacket
+plan_allowed net inputs home plan says _ = All-nil IsPacket
 
 pub says_allowed : (net : Network) (inputs : List (List ℤ)) (home : ℕ) (prospect : Prospect)
     → ProspectSays net inputs home prospect → (came : Outcome) → All IsPacket (packets_by prospect came)
-says_allowed net inputs home Undue says came = All-nil IsPacket
-says_allowed net inputs home (Exhausted looks) says came = All-nil IsPacket
 says_allowed net inputs home (Planned plan) says came = plan_allowed net inputs home plan says came
+says_allowed net inputs home _ says came = All-nil IsPacket

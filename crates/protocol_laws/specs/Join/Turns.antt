@@ -1,10 +1,8 @@
 -- Whatever a node says in its turn may be said.
-use Rattle.std.proofs.Common.{◌≡◌, ℕ, zero, suc, ◌&&◌, ◌||◌, Bool, true, false, cond, List, ℤ, [], ◌∷◌, ◌++◌, length}
-use Rattle.std.proofs.Common.{map, Option, Some}
-use Rattle.std.proofs.Common.{None, refl, sym, ap, ◌∙◌}
+use Rattle.std.proofs.Common.{◌≡◌, ℕ, zero, suc, Bool, true, false, List, ℤ, [], ◌∷◌, length, map, Option, Some}
+use Rattle.std.proofs.Common.{None, refl, sym, ap, ◌∙◌, arith}
 use Rattle.std.specs.Prelude.{◌≢◌, ◌==◌, not, slice_get, slice_set}
 use Rattle.std.specs.List.{flat_map}
-use Rattle.std.proofs.lemmas.Bool.{eq-eqb}
 use Rattle.datagram.specs.declared.packet.Body.TheVariants as says
 use Rattle.protocol.specs.Node.Common.{Network, IsValid, DecisionView, log_of, RecordView, LogState, live_in}
 use Rattle.protocol.specs.Node.Common.{live_asks, kept_packet, turn_packets, is_incoming, incoming_on, LiveView}
@@ -13,9 +11,7 @@ use Rattle.protocol.specs.Node.Common.{inbox_packets, first_due}
 use Rattle.record.specs.declared.record.Tentative.{Tentative as HeldImage}
 use Rattle.protocol.specs.World.Common.{Net, Mode, live_of, has_node, image_seen, record_seen, decides, names, Packet}
 use Rattle.protocol.specs.World.Common.{Record, World, mode_seen, world_seen, net_seen, StationView, moved_to}
-use Rattle.recovery_line.specs.Observers.{tentative_seen}
-use Rattle.protocol.specs.Node.Telling.{decision_packets, packet_if, query_packets, verdicts_told}
-use Rattle.protocol.specs.Node.Telling.{undone_packet, undone_packets}
+use Rattle.protocol.specs.Node.Telling.{decision_packets, packet_if, query_packets, verdicts_told, undone_packet}
 use Rattle.protocol.specs.Node.Telling.{send_prospect}
 use Rattle.protocol_laws.specs.Join.Concludes.{commits_may}
 use Rattle.protocol_laws.specs.Join.Crossings.{comes_cross}
@@ -23,6 +19,7 @@ use Rattle.protocol_laws.specs.Join.Holding.{up_seen}
 use Rattle.protocol_laws.specs.Join.Leading.{leads_by, leads_from, record_at, mode_at, set_there, unseen}
 use Rattle.protocol_laws.specs.Join.Plans.{ProspectLeads}
 use Rattle.protocol_laws.specs.Join.Sent.{MaySendAll, may_both, may_each, may_map, sends}
+use Rattle.protocol_laws.specs.Join.Settles.{may_chosen}
 use Rattle.protocol_laws.specs.Join.Starts.{asks_may, live_there}
 use Rattle.protocol.specs.Node.Addresses.{consumer_node}
 use Rattle.protocol.specs.Node.Sending.{data_packets, items_due, log_packets, outbox_packets}
@@ -46,30 +43,18 @@ items_may net w home outbox (Some log) =
 
 -- ---- a node with this record and mode
 
-or_true : (b : Bool) → (b || true) ≡ true
-or_true true = refl
-or_true false = refl
-
 -- a decision among some is one of them, and so are the nodes that it names
 decided_there : (decisions : List DecisionView) (i : ℕ) (d : DecisionView) → slice_get decisions i ≡ Some d
     → decides decisions d.number ≡ true
 decided_there [] i d is = absurd (cc)
-decided_there (x ∷ decisions) zero d is =
-    let same : x ≡ d = cc in
-    let e : (x.number == d.number) ≡ true = eq-eqb x.number d.number (ap (λ (y : DecisionView). y.number) same) in
-    rw e refl
-decided_there (x ∷ decisions) (suc i) d is = rw (decided_there decisions i d is) (or_true (x.number == d.number))
+decided_there (x ∷ decisions) zero d is = let same : x ≡ d = cc in rw same (grind arith)
+decided_there (x ∷ decisions) (suc i) d is = grind (arith, decided_there decisions i d is)
 
 named_there : (decisions : List DecisionView) (i : ℕ) (d : DecisionView) (p : ℕ) → slice_get decisions i ≡ Some d
     → has_node p d.participants ≡ true → names decisions d.number p ≡ true
 named_there [] i d p is has = absurd (cc)
-named_there (x ∷ decisions) zero d p is has =
-    let same : x ≡ d = cc in
-    let e : (x.number == d.number) ≡ true = eq-eqb x.number d.number (ap (λ (y : DecisionView). y.number) same) in
-    let f : has_node p x.participants ≡ true = ap (λ (y : DecisionView). has_node p y.participants) same ∙ has in
-    rw (e, f) refl
-named_there (x ∷ decisions) (suc i) d p is has =
-    rw (named_there decisions i d p is has) (or_true ((x.number == d.number) && has_node p x.participants))
+named_there (x ∷ decisions) zero d p is has = let same : x ≡ d = cc in rw same (grind arith)
+named_there (x ∷ decisions) (suc i) d p is has = grind (arith, named_there decisions i d p is has)
 
 module _ (net : Network) (valid : IsValid net) (w : World) (home : ℕ) (kept : RecordView) (mode : ModeView)
     (is : w.records home ≡ record_seen kept) (mode_is : w.modes home ≡ mode_seen mode) (up : w.modes home ≢ Mode.Down)
@@ -85,25 +70,16 @@ module _ (net : Network) (valid : IsValid net) (w : World) (home : ℕ) (kept : 
         by : (b : Bool) → MaySendAll (net_seen net) w
             (packet_if (not b) (record { from = home; to = held.initiator; body = says.Query held.number }))
         by true = tt
-        by false = (
-          record {
-            image = image_seen held.image;
-            up = up;
-            held = ap (λ (r : Record). r.tentative) is ∙ ap tentative_seen at;
-          },
-          tt,
-        )
+        by false = (record { image = image_seen held.image; up = up; held = rw (is, at) refl }, tt)
 
     verdicts_may : MaySendAll (net_seen net) w (verdicts_told home kept)
     verdicts_may =
-        may_both (net_seen net) w (flat_map (decision_packets home) kept.decisions) (query_packets home kept.tentative)
-        (may_each (net_seen net) w (decision_packets home) kept.decisions
-        (λ i d at. commits_may (net_seen net) w home d.number d.participants up
-        (λ p named. (
-          ap (λ (r : Record). r.decided d.number) is ∙ decided_there kept.decisions i d at,
-          ap (λ (r : Record). r.named d.number p) is ∙ named_there kept.decisions i d p at named,
-        ))))
-        (query_told kept.tentative refl)
+        let decided = may_each (net_seen net) w (decision_packets home) kept.decisions
+        (λ i d at. commits_may (net_seen net) w home d.number d.participants up (λ p named. (
+          rw is (decided_there kept.decisions i d at),
+          rw is (named_there kept.decisions i d p at named),
+        ))) in
+        search (may_both (net_seen net) w, decided, query_told kept.tentative refl)
 
     kept_may : (c : ℕ) → is_incoming net home c ≡ true
         → MaySendAll (net_seen net) w (kept_packet net home kept.permanent c ∷ [])
@@ -125,53 +101,27 @@ module _ (net : Network) (valid : IsValid net) (w : World) (home : ℕ) (kept : 
         by : (now : ModeView) → mode ≡ now → MaySendAll (net_seen net) w (turn_packets net home kept now)
         by Down at = tt
         by InDoubt at =
-            may_both (net_seen net) w (map (kept_packet net home kept.permanent) (incoming_on net home))
-            (verdicts_told home kept)
-            (may_map (net_seen net) w (kept_packet net home kept.permanent) (incoming_on net home)
+            let kept_all = may_map (net_seen net) w (kept_packet net home kept.permanent) (incoming_on net home)
             (λ i c there. kept_may c
             (where_mark (λ (n : ℕ). n) (is_incoming net home) 0 (length net.channels) (incoming_on net home) i c
-            (map_same (incoming_on net home)) there).0))
-            verdicts_may
+            (map_same (incoming_on net home)) there).0) in
+            search (may_both (net_seen net) w, kept_all, verdicts_may)
           where
             map_same : (xs : List ℕ) → map (λ (n : ℕ). n) xs ≡ xs
             map_same [] = refl
-            map_same (x ∷ xs) = ap (λ (rest : List ℕ). x ∷ rest) (map_same xs)
+            map_same (x ∷ xs) = rw (map_same xs) refl
         by (Runs running) at =
-            may_both (net_seen net) w (flat_map (inbox_packets net home kept.permanent) running.inboxes)
-            (undone_packets net home kept.epoch running.outboxes
-            ++ (live_asks net home running.live ++ (verdicts_told home kept ++
-            (cond (is_none kept.tentative) (flat_map (outbox_packets net home running.current) running.outboxes) []))))
-            (may_each (net_seen net) w (inbox_packets net home kept.permanent) running.inboxes
-            (λ i inbox there. kept_may inbox.channel (incoming running at i inbox there)))
-            (may_both (net_seen net) w (undone_packets net home kept.epoch running.outboxes)
-            (live_asks net home running.live ++ (verdicts_told home kept ++
-            (cond (is_none kept.tentative) (flat_map (outbox_packets net home running.current) running.outboxes) [])))
-            (undone_told (kept.epoch == 0))
-            (may_both (net_seen net) w (live_asks net home running.live) (verdicts_told home kept ++
-            (cond (is_none kept.tentative) (flat_map (outbox_packets net home running.current) running.outboxes) []))
-            (asks_told running.live (ap live_in at))
-            (may_both (net_seen net) w (verdicts_told home kept)
-            (cond (is_none kept.tentative) (flat_map (outbox_packets net home running.current) running.outboxes) [])
-            verdicts_may
-            (items_told (is_none kept.tentative)))))
-          where
+            let kept_all = may_each (net_seen net) w (inbox_packets net home kept.permanent) running.inboxes
+            (λ i inbox there. kept_may inbox.channel (incoming running at i inbox there)) in
             -- what a node restored is no matter of the machine's
-            each_undone : (outboxes : List Outbox)
-                → MaySendAll (net_seen net) w (map (undone_packet net home kept.epoch) outboxes)
-            each_undone [] = tt
-            each_undone (outbox ∷ outboxes) = each_undone outboxes
-
-            undone_told : (b : Bool) → MaySendAll (net_seen net) w
-                (cond b [] (map (undone_packet net home kept.epoch) running.outboxes))
-            undone_told true = tt
-            undone_told false = each_undone running.outboxes
-
-            items_told : (b : Bool) → MaySendAll (net_seen net) w
-                (cond b (flat_map (outbox_packets net home running.current) running.outboxes) [])
-            items_told true =
-                may_each (net_seen net) w (outbox_packets net home running.current) running.outboxes
-                (λ i outbox there. items_may net w home outbox (log_of running.current outbox.channel))
-            items_told false = tt
+            let undone = may_chosen (net_seen net) w (kept.epoch == 0) []
+            (map (undone_packet net home kept.epoch) running.outboxes) (λ first. tt) (λ later.
+            may_map (net_seen net) w (undone_packet net home kept.epoch) running.outboxes (λ i outbox is_there. tt)) in
+            let items = may_chosen (net_seen net) w (is_none kept.tentative)
+            (flat_map (outbox_packets net home running.current) running.outboxes) []
+            (λ free. may_each (net_seen net) w (outbox_packets net home running.current) running.outboxes
+            (λ i outbox is_there. items_may net w home outbox (log_of running.current outbox.channel))) (λ held. tt) in
+            search (may_both (net_seen net) w, kept_all, undone, asks_told running.live (ap live_in at), verdicts_may, items)
 
 -- ---- one station of several
 

@@ -1,27 +1,23 @@
 -- What is promised of checkpoints that several nodes take together holds.
-use Rattle.std.proofs.Common.{◌≡◌, inl, inr, ℕ, Bool, true, false, List, length, Option, Some, None, option_map, refl}
-use Rattle.std.proofs.Common.{sym, ap}
-use Rattle.std.proofs.Common.{subst, ◌∙◌}
+use Rattle.std.proofs.Common.{◌≡◌, inl, inr, ℕ, true, false, List, length, Option, Some, None, option_map, refl, sym}
+use Rattle.std.proofs.Common.{ap, subst, ◌∙◌, arith}
 use Rattle.std.specs.Prelude.{slice_get, slice_set}
 use Rattle.std.proofs.Math.Bridge.{le_prop}
 use Rattle.std.proofs.lemmas.List.{map-set}
-use Rattle.protocol.specs.World.Common.{records_of, is_due, Traffic, Flight, deliver_plan, plan_of, HasRun, RunsOn}
-use Rattle.protocol.specs.World.Common.{world_seen, net_seen, StationView, back_reply, delivery_reply, grant_reply}
-use Rattle.protocol.specs.World.Common.{has_happened, Setting, due_bytes, flight_at, turns_of}
+use Rattle.protocol.specs.World.Common.{records_of, Traffic, Flight, deliver_plan, plan_of, HasRun, RunsOn}
+use Rattle.protocol.specs.World.Common.{world_seen, net_seen, StationView, delivery_reply}
+use Rattle.protocol.specs.World.Common.{has_happened, Setting, due_bytes, flight_at}
 use Rattle.protocol_laws.specs.World.OutputLaws.{map_at}
 use Rattle.std.proofs.Math.Logic.{∥∥₁_elim, ∥∥₁_map, ∥∥₁_map₂}
-use Rattle.protocol.specs.Node.Common.{Packet, node_count, Network, with_epoch, start_prospect, decide_prospect}
-use Rattle.protocol.specs.Node.Common.{round_later, with_armed, grant_prospect, node_job, packet_for, JobView}
-use Rattle.protocol.specs.Node.Common.{is_incoming, Down, InDoubt, ModeView, NodeView, Runs, RunningView}
-use Rattle.protocol.specs.Node.Common.{running_node, running_in, Prospect, recover_prospect, restored_mode}
+use Rattle.protocol.specs.Node.Common.{Packet, node_count, Network, start_prospect, decide_prospect, round_later}
+use Rattle.protocol.specs.Node.Common.{with_armed, node_job, packet_for, is_incoming, Runs, RunningView, running_node}
+use Rattle.protocol.specs.Node.Common.{running_in, Prospect, recover_prospect}
 use Rattle.protocol_laws.specs.Join.Promises.{StandsIn, OpeningHasRun, DeedsRun, DeedsKeepTheLine, InstallsRun}
-use Rattle.protocol_laws.specs.Join.Promises.{ReleasesRun}
-use Rattle.protocol_laws.specs.Join.Promises.{NetworkRuns, LinesAreSound, ReleasesKeepTheLine}
+use Rattle.protocol_laws.specs.Join.Promises.{ReleasesRun, NetworkRuns, LinesAreSound, ReleasesKeepTheLine}
 use Rattle.protocol.specs.Node.Telling.{send_prospect}
 use Rattle.protocol_laws.specs.Join.Deeds.{same_leads, grant_leads, starts_lead, concludes_lead}
-use Rattle.protocol_laws.specs.Join.Events.{AnswersSo, planned_run, come_leads, install_run, release_run, release_steps}
-use Rattle.protocol_laws.specs.Join.Events.{release_puts_none}
-use Rattle.protocol_laws.specs.Join.Events.{acted_carries}
+use Rattle.protocol_laws.specs.Join.Events.{AnswersSo, planned_run, come_leads, install_run, release_run}
+use Rattle.protocol_laws.specs.Join.Events.{release_steps, release_puts_none, acted_carries}
 use Rattle.protocol_laws.specs.Join.Leading.{leads_here, outlets_same, set_itself}
 use Rattle.protocol_laws.specs.Join.Lines.{line_at_release, line_now}
 use Rattle.protocol_laws.specs.Join.Opens.{run_opens}
@@ -32,9 +28,6 @@ use Rattle.protocol.specs.Node.Delivering.{delivery_of}
 use Rattle.protocol_laws.specs.Node.NumberedLaws.{where_mark}
 use Rattle.protocol.specs.declared.event.Deed.{Deed}
 use Rattle.protocol.specs.declared.event.Deed.TheVariants as event
-use Rattle.protocol.specs.World.Steps.{bytes_when, noting}
-use Rattle.protocol.specs.World.Turns.{count_grant}
-use Rattle.protocol.specs.declared.round_turns.RoundTurns.{RoundTurns}
 use Rattle.protocol.specs.World.Traffic.{SpellsSound}
 use Rattle.protocol_laws.specs.World.TrafficLaws.{arrives_sound}
 use Rattle.protocol.specs.declared.links.Inbox.{Inbox}
@@ -45,12 +38,9 @@ opening_has_run net failures outlets nothing = ∣ run_opens net (node_count net
 -- a world in which nothing happens goes on
 pub runs_still : (net : Network) (stations : List StationView) (traffic : Traffic) → HasRun net stations traffic
     → RunsOn net stations traffic stations traffic
-runs_still net stations traffic run = record {
-  run = run;
-  sent = run.sent;
-  leads = leads_here (net_seen net) (world_seen stations run.sent) (world_seen stations run.sent) refl;
-  carries = run.carries;
-}
+runs_still net stations traffic run =
+    let still = leads_here (net_seen net) (world_seen stations run.sent) (world_seen stations run.sent) refl in
+    record { run = run; sent = run.sent; leads = still; carries = run.carries }
 
 -- ---- the bytes that come in a deed, if any do
 
@@ -67,11 +57,7 @@ Spelled setting k deed = Unit {0}
 due_are : (round : ℕ) (o : Option Flight) (bytes : List ℕ) → due_bytes round o ≡ Some bytes
     → option_map (λ (f : Flight). f.packet) o ≡ Some bytes
 due_are round None bytes is = absurd (cc)
-due_are round (Some flight) bytes is = by (is_due round flight) is
-  where
-    by : (due : Bool) → bytes_when due flight.packet ≡ Some bytes → Some flight.packet ≡ Some bytes
-    by true e = e
-    by false e = absurd (cc)
+due_are round (Some flight) bytes is = grind arith
 
 module _ (setting : Setting) (stations : List StationView) (k : ℕ) (old : StationView)
     (in_world : StandsIn setting stations k old) where
@@ -83,8 +69,7 @@ module _ (setting : Setting) (stations : List StationView) (k : ℕ) (old : Stat
       (due_are setting.round (flight_at setting k place) bytes is)
 
   all_spelled : (deed : Deed) → ∥ Spelled setting k deed ∥₁
-  all_spelled (event.Deliver place) =
-      bytes_spelled place (due_bytes setting.round (flight_at setting k place)) refl
+  all_spelled (event.Deliver place) = bytes_spelled place (due_bytes setting.round (flight_at setting k place)) refl
   all_spelled deed = ∣ tt ∣₁
 
   -- ---- each deed's plan is steps
@@ -140,34 +125,21 @@ module _ (setting : Setting) (stations : List StationView) (k : ℕ) (old : Stat
     deed_leads event.Idle says = same_leads setting.net stations k old in_world.there run.sent old.node refl refl
 
 -- a deed that can happen is answered so
-job_answers : (job : Option JobView) (turns : RoundTurns) (node : NodeView)
-    → AnswersSo (noting turns (grant_prospect job node) (grant_reply job))
-job_answers None turns node = inl refl
-job_answers (Some job) turns node = inr (refl, refl)
-
-packet_answers : (packet : Option Packet) → has_happened (delivery_reply (delivery_of false packet)) ≡ true
-packet_answers None = refl
-packet_answers (Some packet) = refl
 
 bytes_answer : (net : Network) (place : ℕ) (bytes : Option (List ℕ)) (station : StationView)
     → AnswersSo (deliver_plan net place bytes station)
 bytes_answer net place None station = inl refl
 bytes_answer net place (Some bytes) station = inr (packet_answers (packet_for net station.number bytes), refl)
-
-back_answers : (mode : ModeView) → has_happened (back_reply mode) ≡ true
-back_answers Down = refl
-back_answers InDoubt = refl
-back_answers (Runs running) = refl
+  where
+    packet_answers : (packet : Option Packet) → has_happened (delivery_reply (delivery_of false packet)) ≡ true
+    packet_answers packet = grind arith
 
 pub answers_so : (setting : Setting) (k : ℕ) (deed : Deed) (station : StationView)
     → AnswersSo (plan_of setting k deed station)
 answers_so setting k (event.Deliver place) station =
     bytes_answer setting.net place (due_bytes setting.round (flight_at setting k place)) station
-answers_so setting k event.Grant station =
-    job_answers (node_job setting.net setting.inputs setting.rooms station.node)
-    (count_grant (turns_of setting.round station.turns)) station.node
-answers_so setting k event.Recover station =
-    inr (back_answers (restored_mode setting.net station.number (with_epoch station.node.kept)), refl)
+answers_so setting k event.Grant station = grind arith
+answers_so setting k event.Recover station = inr (grind arith, refl)
 answers_so setting k deed station = inr (refl, refl)
 
 pub deeds_run : DeedsRun
@@ -207,22 +179,15 @@ releases_keep_the_line net inputs stations k old new round answer traffic record
   where
     same : records_of (slice_set stations k new) ≡ records_of stations
     same =
-        map-set (λ (s : StationView). s.node.kept) stations k new
-        ∙ (ap (slice_set (records_of stations) k)
-        (release_puts_none net stations k old there traffic inputs round answer new numbered sound numbered_then
-        sound_then
-        step)
-        ∙ set_itself (records_of stations) k old.node.kept
-        (map_at (λ (s : StationView). s.node.kept) stations k old there))
+        let none = release_puts_none net stations k old there traffic inputs round answer new numbered sound
+        numbered_then sound_then step in
+        let here = map_at (λ (s : StationView). s.node.kept) stations k old there in
+        rw (map-set (λ (s : StationView). s.node.kept) stations k new, none, set_itself (records_of stations) k _ here) refl
 
 pub network_runs : NetworkRuns
-network_runs net stations k place act traffic known =
-    ∥∥₁_map known (λ run. record {
-      run = run;
-      sent = run.sent;
-      leads = leads_here (net_seen net) (world_seen stations run.sent) (world_seen stations run.sent) refl;
-      carries = acted_carries act traffic k place run.sent run.carries;
-    })
+network_runs net stations k place act traffic known = ∥∥₁_map known (λ run.
+    let still = leads_here (net_seen net) (world_seen stations run.sent) (world_seen stations run.sent) refl in
+    record { run = run; sent = run.sent; leads = still; carries = acted_carries act traffic k place run.sent run.carries })
 
 pub lines_are_sound : LinesAreSound
 lines_are_sound net stations traffic known =

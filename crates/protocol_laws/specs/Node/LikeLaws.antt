@@ -1,26 +1,26 @@
 -- Laws of images as a store takes them: what a node has of a valid network may be written, and is of one shape wherever
 -- its processes stand.
-use Rattle.std.proofs.Common.{◌≡◌, ◌⊎◌, inl, inr, ℕ, zero, suc, ◌+◌, ◌^◌, ◌<◌, ◌≤◌, Bool, true, false, cond, ℤ, List}
-use Rattle.std.proofs.Common.{[], ◌∷◌, ◌++◌, length, map, get_or, Some, None, refl, sym, ap, ◌∙◌, arith}
+use Rattle.std.proofs.Common.{◌≡◌, ℕ, zero, suc, ◌+◌, ◌^◌, ◌<◌, ◌≤◌, Bool, ℤ, List, [], ◌∷◌, length, map, Some, None}
+use Rattle.std.proofs.Common.{refl, sym, ◌∙◌, arith}
 use Rattle.std.specs.Prelude.{slice_get, ◌&&◌, nat_lt, nat_le, replicate}
-use Rattle.std.proofs.lemmas.Bool.{le-leb, lt-ltb, and_from}
+use Rattle.std.proofs.lemmas.Bool.{le-leb}
 use Rattle.std.proofs.lemmas.List.{length-replicate, get_or_past}
 use Rattle.std.proofs.lemmas.List.Elements.{All-nil, All-cons, All-append}
 use Rattle.std.proofs.lemmas.Option.{slice_get_cases, get_or_from_slice_get}
 use Rattle.protocol.specs.Node.Common.{history_of, Code, Network, IsValid, Standing, StandsAt, At, approximation}
-use Rattle.protocol.specs.Node.Common.{Channel, Port, Outside, Process, MAX_COUNT, MAX_NODES, MAX_CHANNELS, LogState}
-use Rattle.protocol.specs.Node.Common.{IsInLog, log_end, SavedProcessView, ImageView, log_at, SavedEnd, End, Receives}
-use Rattle.protocol.specs.Node.Common.{Sends, Both, variables_of, role_of, IsRecord, MAX_DECISIONS, numbers_where}
-use Rattle.protocol.specs.Node.Common.{has_process, has_end, ImageStands, IsLaidOut, CountIsWithin, CountsAreWithin}
-use Rattle.protocol.specs.Node.Common.{LogsAreWithin, opening_image, opening_record}
+use Rattle.protocol.specs.Node.Common.{Channel, MAX_COUNT, MAX_NODES, MAX_CHANNELS, LogState, IsInLog, log_end}
+use Rattle.protocol.specs.Node.Common.{SavedProcessView, ImageView, log_at, SavedEnd, End, Receives, Sends, Both}
+use Rattle.protocol.specs.Node.Common.{variables_of, role_of, IsRecord, MAX_DECISIONS, numbers_where, has_process}
+use Rattle.protocol.specs.Node.Common.{has_end, ImageStands, IsLaidOut, CountIsWithin, CountsAreWithin, LogsAreWithin}
+use Rattle.protocol.specs.Node.Common.{opening_image, opening_record}
 use Rattle.kahn_net.specs.Fits.{AreShort}
 use Rattle.record.specs.Common.{NotBegun, Done, MAX_TIMES, MAX_REPEATS, MAX_LOG_ITEMS}
 use Rattle.ckpt_codec.specs.Common.{MAX_PROCESSES, MAX_VARIABLES, Field, IsAllowed, AreAllowed, at_most, count}
 use Rattle.ckpt_codec.specs.Common.{image_fields}
 use Rattle.retained.specs.LogState.{IsWithinLimits}
-use Rattle.ckpt_codec.specs.RecordText.{any, remaining, item, flag, between, mode_fields}
-use Rattle.ckpt_codec.specs.RecordText.{process_fields, processes_fields, retained_count, end_fields}
-use Rattle.ckpt_codec.specs.RecordText.{saved_end_fields, ends_fields, version_field}
+use Rattle.ckpt_codec.specs.RecordText.{any, remaining, item, flag, between, mode_fields, process_fields}
+use Rattle.ckpt_codec.specs.RecordText.{processes_fields, retained_count, end_fields, saved_end_fields, ends_fields}
+use Rattle.ckpt_codec.specs.RecordText.{version_field}
 use Rattle.ckpt_codec.specs.declared.version.TheConstants.{VERSION}
 use Rattle.ckpt_codec.specs.ItemLaws.{item_allowed}
 use Rattle.ckpt_store.specs.Shapes.{HasShapeOf}
@@ -42,22 +42,18 @@ one_field field is = All-cons IsAllowed field [] is (All-nil IsAllowed)
 
 items_allowed : (zs : List ℤ) → AreAllowed (map item zs)
 items_allowed [] = All-nil IsAllowed
-items_allowed (z ∷ zs) = All-cons IsAllowed (item z) (map item zs) (item_allowed z) (items_allowed zs)
+items_allowed (z ∷ zs) = All-cons IsAllowed _ _ (item_allowed z) (items_allowed zs)
 
 count_allowed : (n : ℕ) → n ≤ MAX_COUNT → IsAllowed (count n)
-count_allowed n le = (omega (arith, le), le-leb n MAX_COUNT le)
+count_allowed n le = (omega arith, le-leb n MAX_COUNT le)
 
 -- a number of a list, ascending from the least that is left
 number_allowed : (width least limit n : ℕ) → limit ≤ 256 ^ width → least ≤ n → n < limit
     → IsAllowed (between width least limit n)
-number_allowed width least limit n small above below = (
-  omega (arith, small, below),
-  and_from (nat_le least n) (nat_lt n limit) (le-leb least n above)
-      (lt-ltb n limit below),
-)
+number_allowed width least limit n small above below = (omega arith, grind arith)
 
 limited_allowed : (width limit n : ℕ) → limit < 256 ^ width → n ≤ limit → IsAllowed (at_most width limit n)
-limited_allowed width limit n small le = (omega (arith, small, le), le-leb n limit le)
+limited_allowed width limit n small le = (omega arith, le-leb n limit le)
 
 -- ---- processes
 
@@ -75,64 +71,25 @@ pub record IsShortStanding (standing : Standing) : Type 0 where
 passes_allowed : (left : List ℕ) → AreFew left → AreAllowed (map remaining left)
 passes_allowed [] few = All-nil IsAllowed
 passes_allowed (k ∷ left) few =
-    let most = few.1 in
-    All-cons IsAllowed (remaining k) (map remaining left)
-    (number_allowed 2 1 (suc MAX_TIMES) k (omega arith) few.0 (omega (arith, most))) (passes_allowed left few.2)
+    All-cons IsAllowed _ _ (number_allowed 2 1 (suc MAX_TIMES) k (omega arith) few.0 (omega (arith, few.1)))
+    (passes_allowed left few.2)
 
 mode_allowed : (standing : Standing) → HasShortSite standing → AreAllowed (mode_fields standing)
-mode_allowed (NotBegun vars) short = one_field (at_most 1 2 0) (limited_allowed 1 2 0 (omega arith) (omega arith))
+mode_allowed (NotBegun vars) short = one_field (at_most 1 2 0) (omega arith, refl)
 mode_allowed (At point vars) short =
-    let depth : Field = at_most 1 MAX_REPEATS (length point.left) in
-    All-cons IsAllowed (at_most 1 2 1) (any 4 point.site ∷ depth ∷ map remaining point.left)
-    (limited_allowed 1 2 1 (omega arith) (omega arith))
-    (All-cons IsAllowed (any 4 point.site) (depth ∷ map remaining point.left) (short.0, refl)
-    (All-cons IsAllowed depth (map remaining point.left)
-    (limited_allowed 1 MAX_REPEATS (length point.left) (omega arith) short.1.count)
-    (passes_allowed point.left short.1.each)))
-mode_allowed (Done vars) short = one_field (at_most 1 2 2) (limited_allowed 1 2 2 (omega arith) (omega arith))
+    let mode : IsAllowed (at_most 1 2 1) = (omega arith, refl) in
+    let site : IsAllowed (any 4 point.site) = (short.0, refl) in
+    let depth = limited_allowed 1 MAX_REPEATS (length point.left) (omega arith) short.1.count in
+    search (All-cons IsAllowed, mode, site, depth, passes_allowed point.left short.1.each)
+mode_allowed (Done vars) short = one_field (at_most 1 2 2) (omega arith, refl)
 
 process_allowed : (least : ℕ) (p : SavedProcessView) → least ≤ p.number → p.number < MAX_PROCESSES
     → IsShortStanding p.standing → AreAllowed (process_fields None least p)
 process_allowed least p above below short =
-    let number : Field = between 1 least MAX_PROCESSES p.number in
-    let counted : Field = at_most 1 MAX_VARIABLES (length (variables_of p.standing)) in
-    let values : List Field = map item (variables_of p.standing) in
-    All-cons IsAllowed number (mode_fields p.standing ++ counted ∷ values)
-    (number_allowed 1 least MAX_PROCESSES p.number (omega arith) above below)
-    (All-append IsAllowed (mode_fields p.standing) (counted ∷ values) (mode_allowed p.standing short.site)
-    (All-cons IsAllowed counted values
-    (limited_allowed 1 MAX_VARIABLES (length (variables_of p.standing)) (omega arith) short.variables)
-    (items_allowed (variables_of p.standing))))
-
-processes_allowed : (test : ℕ → Bool) (first count least : ℕ) (ps : List SavedProcessView)
-    → map (λ (p : SavedProcessView). p.number) ps ≡ numbers_where test first count → least ≤ first
-    → first + count ≤ MAX_PROCESSES
-    → ((k : ℕ) (p : SavedProcessView) → slice_get ps k ≡ Some p → IsShortStanding p.standing)
-    → AreAllowed (processes_fields None least ps)
-processes_allowed test first zero least [] numbers low few short = All-nil IsAllowed
-processes_allowed test first zero least (p ∷ ps) numbers low few short = absurd (cc)
-processes_allowed test first (suc count) least ps numbers low few short =
-    at (test first) ps numbers short
-    (λ least' qs same low' each. processes_allowed test (suc first) count least' qs same low' (omega (arith, few))
-    each)
-  where
-    at : (b : Bool) → (ps : List SavedProcessView)
-        → map (λ (p : SavedProcessView). p.number) ps
-        ≡ cond b (first ∷ numbers_where test (suc first) count) (numbers_where test (suc first) count)
-        → ((k : ℕ) (p : SavedProcessView) → slice_get ps k ≡ Some p → IsShortStanding p.standing)
-        → ((least' : ℕ) (qs : List SavedProcessView)
-        → map (λ (p : SavedProcessView). p.number) qs ≡ numbers_where test (suc first) count → least' ≤ suc first
-        → ((k : ℕ) (p : SavedProcessView) → slice_get qs k ≡ Some p → IsShortStanding p.standing)
-        → AreAllowed (processes_fields None least' qs))
-        → AreAllowed (processes_fields None least ps)
-    at false ps numbers short further = further least ps numbers (omega (arith, low)) short
-    at true [] numbers short further = All-nil IsAllowed
-    at true (p ∷ ps) numbers short further =
-        let here : p.number ≡ first = cc in
-        let later : map (λ (q : SavedProcessView). q.number) ps ≡ numbers_where test (suc first) count = cc in
-        All-append IsAllowed (process_fields None least p) (processes_fields None (suc p.number) ps)
-        (process_allowed least p (omega (arith, here, low)) (omega (arith, here, few)) (short 0 p refl))
-        (further (suc p.number) ps later (omega (arith, here)) (λ k q is. short (suc k) q is))
+    let number = number_allowed 1 least MAX_PROCESSES p.number (omega arith) above below in
+    let many = limited_allowed 1 MAX_VARIABLES (length (variables_of p.standing)) (omega arith) short.variables in
+    let mode = mode_allowed p.standing short.site in
+    search (All-cons IsAllowed, All-append IsAllowed, number, mode, many, items_allowed)
 
 -- ---- ends
 
@@ -144,80 +101,58 @@ IsShortEnd (Both received log) = IsWithinLimits log × IsInLog log received
 
 retained_allowed : (base from n : ℕ) → n ≤ MAX_LOG_ITEMS → base + n ≤ MAX_COUNT → from ≤ base + n
     → IsAllowed (retained_count base from n)
-retained_allowed base from n few last above = (
-  omega (arith, few),
-  and_from (nat_le n MAX_LOG_ITEMS) (nat_le (base + n) MAX_COUNT && nat_le from (base + n)) (le-leb n MAX_LOG_ITEMS few)
-      (and_from (nat_le (base + n) MAX_COUNT) (nat_le from (base + n)) (le-leb (base + n) MAX_COUNT last)
-      (le-leb from (base + n) above)),
-)
+retained_allowed base from n few last above = (omega arith, grind arith)
 
 log_allowed : (limit from : ℕ) (log : LogState) → limit ≤ MAX_COUNT → log.base ≤ limit → from ≤ log_end log
     → IsWithinLimits log
     → AreAllowed (at_most 8 limit log.base ∷ retained_count log.base from (length log.items) ∷ map item log.items)
 log_allowed limit from log small below above within =
-    let last : log.base + length log.items ≤ MAX_COUNT = within.last in
-    let many : Field = retained_count log.base from (length log.items) in
-    All-cons IsAllowed (at_most 8 limit log.base) (many ∷ map item log.items)
-    (omega (arith, small, below), le-leb log.base limit below)
-    (All-cons IsAllowed many (map item log.items)
-    (retained_allowed log.base from (length log.items) within.count last above) (items_allowed log.items))
+    let base : IsAllowed (at_most 8 limit log.base) = (omega arith, le-leb log.base limit below) in
+    let many = retained_allowed log.base from (length log.items) within.count within.last above in
+    search (All-cons IsAllowed, base, many, items_allowed)
 
 end_allowed : (end : End) → IsShortEnd end → AreAllowed (end_fields end)
-end_allowed (Receives received) short = one_field (count received) (count_allowed received short)
-end_allowed (Sends log) short =
-    let last : log.base + length log.items ≤ MAX_COUNT = short.last in
-    log_allowed MAX_COUNT 0 log (omega arith) (omega (arith, last)) (omega arith) short
+end_allowed (Receives received) short = one_field _ (count_allowed received short)
+end_allowed (Sends log) short = log_allowed MAX_COUNT 0 log (omega arith) (omega arith) (omega arith) short
 end_allowed (Both received log) short =
-    let last : log.base + length log.items ≤ MAX_COUNT = short.0.last in
-    let below : log.base ≤ received = short.1.from_base in
-    let above : received ≤ log.base + length log.items = short.1.to_end in
-    let few : received ≤ MAX_COUNT = omega (arith, last, above) in
-    All-cons IsAllowed (count received)
-    (at_most 8 received log.base ∷ retained_count log.base received (length log.items) ∷ map item log.items)
-    (count_allowed received few)
-    (log_allowed received received log few below above short.0)
+    let within = short.0 in
+    let in_log = short.1 in
+    let few : received ≤ MAX_COUNT = omega arith in
+    let rest = log_allowed received received log few in_log.from_base in_log.to_end within in
+    search (All-cons IsAllowed, count_allowed received few, rest)
 
 role_short : (end : End) → role_of end ≤ 2
-role_short (Receives received) = omega arith
-role_short (Sends log) = omega arith
-role_short (Both received log) = omega arith
+role_short end = grind arith
 
 saved_end_allowed : (least : ℕ) (e : SavedEnd) → least ≤ e.channel → e.channel < MAX_CHANNELS → IsShortEnd e.end
     → AreAllowed (saved_end_fields None least e)
 saved_end_allowed least e above below short =
-    let role : Field = at_most 1 2 (role_of e.end) in
-    All-cons IsAllowed (between 2 least MAX_CHANNELS e.channel) (role ∷ end_fields e.end)
-    (number_allowed 2 least MAX_CHANNELS e.channel (omega arith) above below)
-    (All-cons IsAllowed role (end_fields e.end) (limited_allowed 1 2 (role_of e.end) (omega arith) (role_short e.end))
-    (end_allowed e.end short))
+    let number = number_allowed 2 least MAX_CHANNELS e.channel (omega arith) above below in
+    let role = limited_allowed 1 2 (role_of e.end) (omega arith) (role_short e.end) in
+    search (All-cons IsAllowed, number, role, end_allowed e.end short)
 
-ends_allowed : (test : ℕ → Bool) (first count least : ℕ) (es : List SavedEnd)
-    → map (λ (e : SavedEnd). e.channel) es ≡ numbers_where test first count → least ≤ first
-    → first + count ≤ MAX_CHANNELS
-    → ((k : ℕ) (e : SavedEnd) → slice_get es k ≡ Some e → IsShortEnd e.end) → AreAllowed (ends_fields None least es)
-ends_allowed test first zero least [] numbers low few short = All-nil IsAllowed
-ends_allowed test first zero least (e ∷ es) numbers low few short = absurd (cc)
-ends_allowed test first (suc count) least es numbers low few short =
-    at (test first) es numbers short
-    (λ least' fs same low' each. ends_allowed test (suc first) count least' fs same low' (omega (arith, few)) each)
-  where
-    at : (b : Bool) → (es : List SavedEnd)
-        → map (λ (e : SavedEnd). e.channel) es
-        ≡ cond b (first ∷ numbers_where test (suc first) count) (numbers_where test (suc first) count)
-        → ((k : ℕ) (e : SavedEnd) → slice_get es k ≡ Some e → IsShortEnd e.end)
-        → ((least' : ℕ) (fs : List SavedEnd)
-        → map (λ (e : SavedEnd). e.channel) fs ≡ numbers_where test (suc first) count → least' ≤ suc first
-        → ((k : ℕ) (e : SavedEnd) → slice_get fs k ≡ Some e → IsShortEnd e.end)
-        → AreAllowed (ends_fields None least' fs))
-        → AreAllowed (ends_fields None least es)
-    at false es numbers short further = further least es numbers (omega (arith, low)) short
-    at true [] numbers short further = All-nil IsAllowed
-    at true (e ∷ es) numbers short further =
-        let here : e.channel ≡ first = cc in
-        let later : map (λ (f : SavedEnd). f.channel) es ≡ numbers_where test (suc first) count = cc in
-        All-append IsAllowed (saved_end_fields None least e) (ends_fields None (suc e.channel) es)
-        (saved_end_allowed least e (omega (arith, here, low)) (omega (arith, here, few)) (short 0 e refl))
-        (further (suc e.channel) es later (omega (arith, here)) (λ k f is. short (suc k) f is))
+-- ---- entries whose numbers ascend
+
+-- The fields of a list of entries may be written. What it takes is that those of one entry may stand before others.
+module _ {A : Type 0} (number : A → ℕ) (limit : ℕ) (IsShort : A → Type 0) (fields : ℕ → List A → List Field)
+    (none : (least : ℕ) → AreAllowed (fields least []))
+    (one : (least : ℕ) (x : A) (xs : List A) → least ≤ number x → number x < limit → IsShort x
+    → AreAllowed (fields (suc (number x)) xs) → AreAllowed (fields least (x ∷ xs))) where
+  entries_allowed : (test : ℕ → Bool) (first count least : ℕ) (xs : List A) → map number xs ≡ numbers_where test first count
+      → least ≤ first → first + count ≤ limit → ((k : ℕ) (x : A) → slice_get xs k ≡ Some x → IsShort x)
+      → AreAllowed (fields least xs)
+  entries_allowed test first count least [] numbers low few short = none least
+  entries_allowed test first zero least (x ∷ xs) numbers low few short = absurd cc
+  entries_allowed test first (suc count) least (x ∷ xs) numbers low few short =
+      let own = short 0 x refl in
+      grind (
+        arith,
+        own,
+        entries_allowed test (suc first) count least (x ∷ xs),
+        one least x xs,
+        entries_allowed test (suc first) count (suc (number x)) xs,
+        λ (k : ℕ) (y : A). short (suc k) y,
+      )
 
 -- ---- images
 
@@ -225,19 +160,11 @@ ends_allowed test first (suc count) least es numbers low few short =
 pub code_of_entry : (net : Network) (home : ℕ) (image : ImageView) (k : ℕ) (saved : SavedProcessView)
     → IsLaidOut net home image → slice_get image.processes k ≡ Some saved
     → (code : Code) × (slice_get net.codes saved.number ≡ Some code)
-code_of_entry net home image k saved laid is = at (slice_get_cases net.codes saved.number).1
-  where
-    within : saved.number < 0 + length net.codes
-    within =
-        (where_mark (λ (s : SavedProcessView). s.number) (has_process net home) 0 (length net.codes) image.processes k
-        saved laid.processes is).2
-
-    at : ((x : Code) × (saved.number < length net.codes) × (slice_get net.codes saved.number ≡ Some x)
-        × (get_or net.codes saved.number x ≡ x))
-        ⊎ ((length net.codes ≤ saved.number) × (slice_get net.codes saved.number ≡ None))
-        → (code : Code) × (slice_get net.codes saved.number ≡ Some code)
-    at (inl here) = (here.0, here.2)
-    at (inr past) = absurd (omega (arith, within, past.0))
+code_of_entry net home image k saved laid is =
+    let mark =
+    where_mark (λ (s : SavedProcessView). s.number) (has_process net home) 0 (length net.codes) image.processes k saved
+    laid.processes is in
+    grind (arith, slice_get_cases net.codes saved.number, mark)
 
 site_written : (net : Network) (p : ℕ) (code : Code) (inputs : List (List ℤ)) (m : ℕ) (standing : Standing)
     → IsValid net → slice_get net.codes p ≡ Some code → StandsAt code inputs m standing → HasShortSite standing
@@ -258,22 +185,13 @@ standing_short net home histories made image valid laid stands k saved is =
     let same = variables_stay code.0 histories (made saved.number) saved.standing here in
     let few = (valid.codes saved.number code.0 code.1).variables in
     record {
-      site =
-          site_written net saved.number code.0 histories (made saved.number) saved.standing valid code.1 here;
+      site = site_written net saved.number code.0 histories (made saved.number) saved.standing valid code.1 here;
       variables = omega (arith, same, few);
     }
 
 -- no input is longer than the greatest count
 input_short : (inputs : List (List ℤ)) (c : ℕ) → AreShort inputs → length (history_of inputs c) ≤ MAX_COUNT
-input_short inputs c short = at (slice_get_cases inputs c).1
-  where
-    at : ((x : List ℤ) × (c < length inputs) × (slice_get inputs c ≡ Some x) × (get_or inputs c x ≡ x))
-        ⊎ ((length inputs ≤ c) × (slice_get inputs c ≡ None)) → length (history_of inputs c) ≤ MAX_COUNT
-    at (inl here) =
-        let few = short c here.0 here.2 in
-        let same = ap (length {A = ℤ}) (get_or_from_slice_get inputs c here.0 [] here.2) in
-        omega (arith, few, same)
-    at (inr past) = let none = ap (length {A = ℤ}) (get_or_past inputs c [] past.0) in omega (arith, none)
+input_short inputs c short = grind (arith, short c, slice_get_cases inputs c, get_or_from_slice_get, get_or_past)
 
 -- each end may be written
 end_short : (net : Network) (home : ℕ) (inputs : List (List ℤ)) (image : ImageView) → AreShort inputs
@@ -289,17 +207,16 @@ end_short net home inputs image short laid counts logs k saved is =
     limits log has =
         let within = logs k saved log is has in
         let share = share_within image in
-        let many = within.count in
-        record { count = omega (arith, share, many); last = within.last }
+        record { count = omega arith; last = within.last }
 
     at : (end : End) → CountIsWithin net inputs saved.channel end
         → ((log : LogState) → log_at (Some end) ≡ Some log → IsWithinLimits log) → IsShortEnd end
-    at (Receives received) within of = by_producer channel.0.producer refl
-      where
-        by_producer : (port : Port) → channel.0.producer ≡ port → received ≤ MAX_COUNT
-        by_producer Outside from = let few = input_short inputs saved.channel short in let count =
-            within.of_input channel.0 received channel.1 from refl in omega (arith, few, count)
-        by_producer (Process q) from = within.of_link channel.0 q received channel.1 from refl
+    at (Receives received) within of = grind (
+      arith,
+      input_short inputs saved.channel short,
+      within.of_input channel.0 received channel.1,
+      λ (q : ℕ). within.of_link channel.0 q received channel.1,
+    )
     at (Sends log) within of = of log refl
     at (Both received log) within of = (of log refl, within.in_log received log refl)
 
@@ -313,48 +230,35 @@ image_allowed net home inputs histories made image valid short laid stands count
     laid.processes in
     let ends =
     where_count (λ (s : SavedEnd). s.channel) (has_end net home) 0 (length net.channels) image.ends laid.ends in
-    let codes = valid.process_count in
-    let channels = valid.channel_count in
-    let one : Field = at_most 1 MAX_PROCESSES (length image.processes) in
-    let other : Field = at_most 2 MAX_CHANNELS (length image.ends) in
-    All-append IsAllowed (one ∷ processes_fields None 0 image.processes) (other ∷ ends_fields None 0 image.ends)
-    (All-cons IsAllowed one (processes_fields None 0 image.processes)
-    (limited_allowed 1 MAX_PROCESSES (length image.processes) (omega arith) (omega (arith, processes, codes)))
-    (processes_allowed (has_process net home) 0 (length net.codes) 0 image.processes laid.processes (omega arith)
-    (omega (arith, codes)) (standing_short net home histories made image valid laid stands)))
-    (All-cons IsAllowed other (ends_fields None 0 image.ends)
-    (limited_allowed 2 MAX_CHANNELS (length image.ends) (omega arith) (omega (arith, ends, channels)))
-    (ends_allowed (has_end net home) 0 (length net.channels) 0 image.ends laid.ends (omega arith)
-    (omega (arith, channels)) (end_short net home inputs image short laid counts logs)))
+    let one = limited_allowed 1 MAX_PROCESSES (length image.processes) (omega arith) (omega arith) in
+    let other = limited_allowed 2 MAX_CHANNELS (length image.ends) (omega arith) (omega arith) in
+    let first =
+    entries_allowed (λ (p : SavedProcessView). p.number) MAX_PROCESSES (λ (p : SavedProcessView). IsShortStanding p.standing)
+    (processes_fields None) (λ least. All-nil IsAllowed)
+    (λ least p ps above below short rest. All-append IsAllowed (process_fields None least p) _
+    (process_allowed least p above below short) rest)
+    (has_process net home) 0 (length net.codes) 0 image.processes laid.processes (omega arith) (omega arith)
+    (standing_short net home histories made image valid laid stands) in
+    let second =
+    entries_allowed (λ (e : SavedEnd). e.channel) MAX_CHANNELS (λ (e : SavedEnd). IsShortEnd e.end) (ends_fields None)
+    (λ least. All-nil IsAllowed)
+    (λ least e es above below short rest. All-append IsAllowed (saved_end_fields None least e) _
+    (saved_end_allowed least e above below short) rest)
+    (has_end net home) 0 (length net.channels) 0 image.ends laid.ends (omega arith) (omega arith)
+    (end_short net home inputs image short laid counts logs) in
+    search (All-append IsAllowed, All-cons IsAllowed, one, first, other, second)
 
 -- ---- shapes
 
--- two lists that agree at each place
-same_maps : {A B : Type 0} (f : A → ℕ) (g : B → ℕ) (xs : List A) (ys : List B) → length xs ≡ length ys
-    → ((k : ℕ) (x : A) (y : B) → slice_get xs k ≡ Some x → slice_get ys k ≡ Some y → f x ≡ g y) → map f xs ≡ map g ys
-same_maps f g [] [] many same = refl
-same_maps f g [] (y ∷ ys) many same = absurd (cc)
-same_maps f g (x ∷ xs) [] many same = absurd (cc)
-same_maps f g (x ∷ xs) (y ∷ ys) many same =
-    let rest : length xs ≡ length ys = cc in
-    ap (λ (n : ℕ). n ∷ map f xs) (same 0 x y refl refl)
-    ∙ ap (λ (ns : List ℕ). g y ∷ ns) (same_maps f g xs ys rest (λ k. same (suc k)))
-
--- where two lists have the same numbers, so have the elements at each place
-same_at : {A : Type 0} (f : A → ℕ) (xs ys : List A) (k : ℕ) (x y : A) → map f xs ≡ map f ys → slice_get xs k ≡ Some x
-    → slice_get ys k ≡ Some y → f x ≡ f y
-same_at f [] ys k x y same is there = absurd (cc)
-same_at f (a ∷ xs) [] k x y same is there = absurd (cc)
-same_at f (a ∷ xs) (b ∷ ys) zero x y same is there =
-    (let e : f a ≡ f b = cc in let p : a ≡ x = cc in let q : b ≡ y = cc in ap f (sym p) ∙ (e ∙ ap f q))
-same_at f (a ∷ xs) (b ∷ ys) (suc k) x y same is there =
-    (let rest : map f xs ≡ map f ys = cc in same_at f xs ys k x y rest is there)
-
-same_length : {A : Type 0} (f : A → ℕ) (xs ys : List A) → map f xs ≡ map f ys → length xs ≡ length ys
-same_length f [] [] same = refl
-same_length f [] (y ∷ ys) same = absurd (cc)
-same_length f (x ∷ xs) [] same = absurd (cc)
-same_length f (x ∷ xs) (y ∷ ys) same = (let rest : map f xs ≡ map f ys = cc in ap suc (same_length f xs ys rest))
+-- Two lists have the same numbers, and entries of one number agree. Then the lists agree.
+same_maps : {A : Type 0} (number f : A → ℕ) (xs ys : List A) → map number xs ≡ map number ys
+    → ((k : ℕ) (x y : A) → slice_get xs k ≡ Some x → slice_get ys k ≡ Some y → number x ≡ number y → f x ≡ f y)
+    → map f xs ≡ map f ys
+same_maps number f [] [] same each = refl
+same_maps number f [] (y ∷ ys) same each = absurd cc
+same_maps number f (x ∷ xs) [] same each = absurd cc
+same_maps number f (x ∷ xs) (y ∷ ys) same each =
+    let rest = same_maps number f xs ys (cc) (λ k. each (suc k)) in rw (each 0 x y refl refl (cc), rest) refl
 
 -- two images of a node have the same shape, wherever their processes stand
 pub same_shape : (net : Network) (home : ℕ) (histories later : List (List ℤ)) (made come : ℕ → ℕ)
@@ -364,12 +268,11 @@ pub same_shape : (net : Network) (home : ℕ) (histories later : List (List ℤ)
 same_shape net home histories later made come permanent image first stands second goes = record {
   numbers = numbers;
   variables =
-      same_maps (λ (p : SavedProcessView). length (variables_of p.standing))
-      (λ (p : SavedProcessView). length (variables_of p.standing)) image.processes permanent.processes
-      (same_length (λ (p : SavedProcessView). p.number) image.processes permanent.processes numbers) variables;
+      same_maps (λ (p : SavedProcessView). p.number) (λ (p : SavedProcessView). length (variables_of p.standing))
+      image.processes permanent.processes numbers variables;
   channels = channels;
-  roles = same_maps (λ (e : SavedEnd). role_of e.end) (λ (e : SavedEnd). role_of e.end) image.ends permanent.ends
-      (same_length (λ (e : SavedEnd). e.channel) image.ends permanent.ends channels) roles;
+  roles =
+      same_maps (λ (e : SavedEnd). e.channel) (λ (e : SavedEnd). role_of e.end) image.ends permanent.ends channels roles;
 }
   where
     numbers : map (λ (p : SavedProcessView). p.number) image.processes
@@ -381,24 +284,21 @@ same_shape net home histories later made come permanent image first stands secon
 
     -- a process has as many variables as its code
     variables : (k : ℕ) (p q : SavedProcessView) → slice_get image.processes k ≡ Some p
-        → slice_get permanent.processes k ≡ Some q → length (variables_of p.standing) ≡ length (variables_of q.standing)
-    variables k p q is there =
-        let number : p.number ≡ q.number =
-        same_at (λ (s : SavedProcessView). s.number) image.processes permanent.processes k p q numbers is there in
+        → slice_get permanent.processes k ≡ Some q → p.number ≡ q.number
+        → length (variables_of p.standing) ≡ length (variables_of q.standing)
+    variables k p q is there number =
         let code = code_of_entry net home image k p second is in
         variables_stay code.0 later (come p.number) p.standing (goes.processes k p code.0 is code.1)
         ∙ sym (variables_stay code.0 histories (made q.number) q.standing
-        (stands.processes k q code.0 there (ap (slice_get net.codes) (sym number) ∙ code.1)))
+        (stands.processes k q code.0 there (rw (← number) code.1)))
 
     -- an end has the role that the node has at its channel
     roles : (k : ℕ) (e f : SavedEnd) → slice_get image.ends k ≡ Some e → slice_get permanent.ends k ≡ Some f
-        → role_of e.end ≡ role_of f.end
-    roles k e f is there =
-        let number : e.channel ≡ f.channel =
-        same_at (λ (s : SavedEnd). s.channel) image.ends permanent.ends k e f channels is there in
+        → e.channel ≡ f.channel → role_of e.end ≡ role_of f.end
+    roles k e f is there number =
         let channel = channel_of_entry net home image k e second is in
         second.roles k e channel.0 is channel.1
-        ∙ sym (first.roles k f channel.0 there (ap (slice_get net.channels) (sym number) ∙ channel.1))
+        ∙ sym (first.roles k f channel.0 there (rw (← number) channel.1))
 
 -- So one that may be written alone may be written beside another.
 pub image_like : (net : Network) (home : ℕ) (inputs histories later : List (List ℤ)) (made come : ℕ → ℕ)
@@ -423,8 +323,7 @@ opening_image_allowed net home valid =
 
 entries_opening : (nodes : ℕ) → AreAllowed (map count (replicate nodes 0))
 entries_opening zero = All-nil IsAllowed
-entries_opening (suc nodes) =
-    All-cons IsAllowed (count 0) (map count (replicate nodes 0)) (count_allowed 0 (omega arith)) (entries_opening nodes)
+entries_opening (suc nodes) = All-cons IsAllowed (count 0) _ (omega arith, refl) (entries_opening nodes)
 
 -- and so is its record
 pub opening_allowed : (net : Network) (nodes number : ℕ) → IsValid net → number < nodes → nodes ≤ MAX_NODES
@@ -432,23 +331,15 @@ pub opening_allowed : (net : Network) (nodes number : ℕ) → IsValid net → n
 opening_allowed net nodes number valid below few =
     let highest : List ℕ = replicate nodes 0 in
     let many : length highest ≡ nodes = length-replicate nodes 0 in
+    let version : IsAllowed (version_field VERSION) = (omega arith, refl) in
+    let own : IsAllowed (any 1 number) = (omega arith, refl) in
     let last : Field =
     record { width = 1; allows = λ v. nat_lt number v && nat_le v MAX_NODES; value = length highest } in
-    let above : number < length highest = omega (arith, many, below) in
-    let small : length highest ≤ MAX_NODES = omega (arith, many, few) in
-    let none : IsAllowed (flag 0) = limited_allowed 1 1 0 (omega arith) (omega arith) in
+    let lengths : IsAllowed last = (omega arith, grind arith) in
     whole (opening_record net nodes number) (record {
-      head =
-          All-cons IsAllowed (version_field VERSION) (any 1 number ∷ count 0 ∷ last ∷ []) (omega arith, refl)
-          (All-cons IsAllowed (any 1 number) (count 0 ∷ last ∷ []) (omega (arith, below, few), refl)
-          (All-cons IsAllowed (count 0) (last ∷ []) (count_allowed 0 (omega arith))
-          (one_field last (
-            omega (arith, small),
-            and_from (nat_lt number (length highest)) (nat_le (length highest) MAX_NODES)
-                (lt-ltb number (length highest) above) (le-leb (length highest) MAX_NODES small),
-          ))));
+      head = search (All-cons IsAllowed, All-nil IsAllowed, version, own, count_allowed 0 (omega arith), lengths);
       entries = entries_opening nodes;
       decisions = one_field (at_most 1 MAX_DECISIONS 0) (omega arith, refl);
       permanent = opening_image_allowed net number valid;
-      tentative = one_field (flag 0) none;
+      tentative = one_field (flag 0) (omega arith, refl);
     })

@@ -1,21 +1,17 @@
 -- Laws of a node that runs from an image again: its ends of channels between nodes are sound, and stand on the histories
 -- on which the image stands.
-use Rattle.std.proofs.Common.{◌≡◌, ℕ, ◌+◌, ◌≤◌, Bool, true, false, ℤ, List, [], ◌∷◌, length, map, take, drop, Option, Some, None}
-use Rattle.std.proofs.Common.{refl, sym, ap, subst, ◌∙◌, arith}
-use Rattle.std.specs.Prelude.{not, IsTrue, replicate, slice_get}
-use Rattle.std.proofs.lemmas.Bool.{and_parts}
+use Rattle.std.proofs.Common.{◌≡◌, ℕ, ◌≤◌, Bool, true, false, ℤ, List, [], ◌∷◌, length, map, Option, Some, None, refl}
+use Rattle.std.proofs.Common.{ap, ◌∙◌, arith}
+use Rattle.std.specs.Prelude.{IsTrue, replicate, slice_get}
 use Rattle.std.proofs.lemmas.List.{length-append}
-use Rattle.protocol.specs.Node.Common.{approximation, got_on, process_trace, history_of, Code, Network, MAX_COUNT}
-use Rattle.protocol.specs.Node.Common.{Channel, Port, Outside, Process, LogState, log_end, received_at, received_of}
-use Rattle.protocol.specs.Node.Common.{log_at, log_of, sent_in, sent_of, ImageView, RecordView, End, Receives, Sends}
-use Rattle.protocol.specs.Node.Common.{Both, role_of, handled, set_back_to, has_process, port_on, port_away, comes_in}
-use Rattle.protocol.specs.Node.Common.{is_incoming, incoming_on, role_by, RunningView, RunningNode, ImageStands}
-use Rattle.protocol.specs.Node.Common.{IsLaidOut, CountIsWithin, CountsAreWithin, LogsAreWithin, InboxIsSound}
-use Rattle.protocol.specs.Node.Common.{InboxStands, InboxesStand, LinksAreLaidOut, first_acts}
+use Rattle.protocol.specs.Node.Common.{approximation, got_on, history_of, Code, Network, MAX_COUNT, Channel, Port}
+use Rattle.protocol.specs.Node.Common.{Outside, Process, LogState, received_at, received_of, log_of, sent_in, sent_of}
+use Rattle.protocol.specs.Node.Common.{ImageView, RecordView, End, role_of, handled, set_back_to, has_process, port_on}
+use Rattle.protocol.specs.Node.Common.{port_away, comes_in, is_incoming, incoming_on, role_by, RunningView, RunningNode}
+use Rattle.protocol.specs.Node.Common.{ImageStands, IsLaidOut, CountIsWithin, CountsAreWithin, LogsAreWithin}
+use Rattle.protocol.specs.Node.Common.{InboxIsSound, InboxStands, InboxesStand, LinksAreLaidOut, first_acts}
 use Rattle.kahn_net.specs.Laws.Got.{reads}
-use Rattle.kahn_net.specs.Common.{left_after}
-use Rattle.window_link.specs.Laws.Holding.{HoldsOf, holds_none}
-use Rattle.window_link.specs.Windows.{Receiver}
+use Rattle.window_link.specs.Laws.Holding.{holds_none}
 use Rattle.protocol.specs.Node.GoingBack.{handled_at, inbox_set_back, outbox_set_back}
 use Rattle.protocol.specs.Node.Layout.{outgoing_on}
 use Rattle.protocol.specs.Node.Recovering.{restored_inbox, restored_outbox, restored_running}
@@ -44,39 +40,23 @@ record GetsHere (net : Network) (home c : ℕ) : Type 0 where
 gets_here : (net : Network) (home c : ℕ) → IsTrue (is_incoming net home c) → GetsHere net home c
 gets_here net home c is = at (slice_get net.channels c) refl is
   where
-    is_away : (b : Bool) → IsTrue (not b) → b ≡ false
-    is_away true away = absurd (cc)
-    is_away false away = refl
-
     by_ports : (channel : Channel) → slice_get net.channels c ≡ Some channel → (producer consumer : Port)
         → channel.producer ≡ producer → channel.consumer ≡ consumer
         → IsTrue (port_on net home consumer) → IsTrue (port_away net home producer) → GetsHere net home c
-    by_ports channel on Outside consumer from to here away = absurd (cc)
-    by_ports channel on (Process q) Outside from to here away = absurd (cc)
-    by_ports channel on (Process q) (Process p) from to here away = record {
-      channel = channel;
-      on = on;
-      q = q;
-      from = from;
-      away = is_away (has_process net home q) away;
-      p = p;
-      to = to;
-      here = here;
-    }
+    by_ports channel on Outside consumer from to here away = absurd cc
+    by_ports channel on (Process q) Outside from to here away = absurd cc
+    by_ports channel on (Process q) (Process p) from to here away =
+        record { channel = channel; on = on; q = q; from = from; away = grind arith; p = p; to = to; here = here }
 
     at : (o : Option Channel) → slice_get net.channels c ≡ o → IsTrue (comes_in net home o) → GetsHere net home c
-    at None on comes = absurd (cc)
+    at None on comes = absurd cc
     at (Some channel) on comes =
-        let both = and_parts (port_on net home channel.consumer) (port_away net home channel.producer) comes in
-        by_ports channel on channel.producer channel.consumer refl refl both.0 both.1
+        by_ports channel on channel.producer channel.consumer refl refl (grind arith) (grind arith)
 
 link_count : (net : Network) (inputs : List (List ℤ)) (c q : ℕ) (channel : Channel) (gets : Bool) (end : End)
     → slice_get net.channels c ≡ Some channel → channel.producer ≡ Process q → role_of end ≡ role_by false gets
     → CountIsWithin net inputs c end → received_at (Some end) ≤ MAX_COUNT
-link_count net inputs c q channel gets (Receives received) is from role within =
-    within.of_link channel q received is from refl
-link_count net inputs c q channel gets (Sends log) is from role within = absurd (cc)
-link_count net inputs c q channel gets (Both received log) is from role within = absurd (cc)
+link_count net inputs c q channel gets end is from role within = grind (arith, within.of_link channel q)
 
 -- what was received of a channel from another node is a count
 pub received_few : (net : Network) (home : ℕ) (inputs : List (List ℤ)) (image : ImageView) (c : ℕ)
@@ -85,38 +65,28 @@ pub received_few : (net : Network) (home : ℕ) (inputs : List (List ℤ)) (imag
 received_few net home inputs image c laid counts comes =
     let at = gets_here net home c comes in
     let of = end_there net home image c at.channel laid at.on (consumer_on net home at.p at.channel at.to at.here) in
-    let role : role_of of.end ≡ role_by false (port_on net home at.channel.consumer) =
-    of.role
-    ∙ ap (λ (b : Bool). role_by b (port_on net home at.channel.consumer)) (ap (port_on net home) at.from ∙ at.away) in
-    let few = link_count net inputs c at.q at.channel (port_on net home at.channel.consumer) of.end at.on at.from role
-    (count_there net home inputs image c at.channel counts of) in
-    let same : received_of image c ≡ received_at (Some (of.end)) = ap received_at of.there in
-    omega (arith, few, same)
+    let role = rw (at.from, at.away) at of.role in
+    rw of.there
+    (link_count net inputs c at.q at.channel (port_on net home at.channel.consumer) of.end at.on at.from role
+    (count_there net home inputs image c at.channel counts of))
 
 -- and so is what was put on any channel
 pub sent_few : (image : ImageView) (c : ℕ) → LogsAreWithin image → sent_of image c ≤ MAX_COUNT
 sent_few image c logs = at (log_of image c) refl
   where
-    at : (o : Option LogState) → log_of image c ≡ o → sent_of image c ≤ MAX_COUNT
-    at None has = (let none : sent_of image c ≡ 0 = ap sent_in has in omega (arith, none))
+    at : (o : Option LogState) → log_of image c ≡ o → sent_in o ≤ MAX_COUNT
+    at None has = omega arith
     at (Some log) has =
         let found = log_entry image c log has in
         let entry = entry_of image c found.0 found.1 in
-        let last : log_end log ≤ MAX_COUNT = (logs entry.place entry.saved log entry.is
-        (ap (λ (e : End). log_at (Some e)) entry.is_end ∙ found.2)).last in
-        let count : sent_of image c ≡ log_end log = ap sent_in has in
-        omega (arith, last, count)
+        (logs entry.place entry.saved log entry.is (rw entry.is_end found.2)).last
 
 -- a process got no more of a channel than there is on these histories
 got_within : (code : Option Code) (histories : List (List ℤ)) (m c : ℕ)
     → length (got_on c (first_acts code histories m)) ≤ length (history_of histories c)
 got_within None histories m c = omega arith
 got_within (Some code) histories m c =
-    let got : List ℤ = got_on c (take m (process_trace code histories).steps) in
-    let rest : List ℤ = history_of (left_after (take m (process_trace code histories).steps) histories) c in
-    let sum : length (history_of histories c) ≡ length got + length rest =
-    ap (length {A = ℤ}) (reads code histories m c) ∙ length-append got rest in
-    omega (arith, sum)
+    let sum = simp length-append at (ap (length {A = ℤ}) (reads code histories m c)) in omega arith
 
 pub received_behind : (net : Network) (home : ℕ) (histories : List (List ℤ)) (made : ℕ → ℕ) (image : ImageView)
     (c : ℕ) → ImageStands net histories made image → IsLaidOut net home image → is_incoming net home c ≡ true
@@ -146,28 +116,26 @@ pub record BeginAnew (net : Network) (home : ℕ) (kept : RecordView) (inboxes :
   pub each_outbox : (k : ℕ) (outbox : Outbox) → slice_get outboxes k ≡ Some outbox
       → outbox.restored ≡ sent_of kept.permanent outbox.channel
 
+-- what is made anew for a number has that number
+numbers_stay : {A : Type 0} (name : A → ℕ) (restored : ℕ → A) (numbers : List ℕ) → ((n : ℕ) → name (restored n) ≡ n)
+    → map name (map restored numbers) ≡ numbers
+numbers_stay name restored [] same = refl
+numbers_stay name restored (n ∷ numbers) same = rw (same n, numbers_stay name restored numbers same) refl
+
 -- what a node restores begins anew
-inbox_numbers : (image : ImageView) (epoch : ℕ) (numbers : List ℕ)
-    → map (λ (inbox : Inbox). inbox.channel) (map (restored_inbox image epoch) numbers) ≡ numbers
-inbox_numbers image epoch [] = refl
-inbox_numbers image epoch (n ∷ numbers) = ap (λ (ns : List ℕ). n ∷ ns) (inbox_numbers image epoch numbers)
-
-outbox_numbers : (image : ImageView) (numbers : List ℕ)
-    → map (λ (outbox : Outbox). outbox.channel) (map (restored_outbox image) numbers) ≡ numbers
-outbox_numbers image [] = refl
-outbox_numbers image (n ∷ numbers) = ap (λ (ns : List ℕ). n ∷ ns) (outbox_numbers image numbers)
-
 pub restored_begin : (net : Network) (home : ℕ) (kept : RecordView)
     → BeginAnew net home kept (restored_running net home kept).inboxes (restored_running net home kept).outboxes
 restored_begin net home kept = record {
-  incoming = inbox_numbers kept.permanent kept.epoch (incoming_on net home);
-  outgoing = outbox_numbers kept.permanent (outgoing_on net home);
+  incoming =
+      numbers_stay (λ (i : Inbox). i.channel) (restored_inbox kept.permanent kept.epoch) (incoming_on net home)
+      (λ n. refl);
+  outgoing =
+      numbers_stay (λ (o : Outbox). o.channel) (restored_outbox kept.permanent) (outgoing_on net home) (λ n. refl);
   each_inbox = λ k inbox is. (
       let old = map_got (restored_inbox kept.permanent kept.epoch) (incoming_on net home) k inbox is in
-      subst (BeginsAnew kept.permanent kept.epoch) old.2 (record { log = refl; size = WINDOW; window = refl }));
+      rw (← old.2) (record { log = refl; size = WINDOW; window = refl }));
   each_outbox = λ k outbox is. (
-      let old = map_got (restored_outbox kept.permanent) (outgoing_on net home) k outbox is in
-      subst (λ (o : Outbox). o.restored ≡ sent_of kept.permanent o.channel) old.2 refl);
+      let old = map_got (restored_outbox kept.permanent) (outgoing_on net home) k outbox is in rw (← old.2) refl);
 }
 
 -- and so does what it sets back
@@ -186,43 +154,31 @@ set_back_begin net home channel epoch kept running incoming outgoing = record {
   each_inbox = λ k inbox is. (
       let old = map_got (inbox_set_back kept.permanent kept.epoch) (handled_at channel epoch running.inboxes) k inbox
       is in
-      subst (BeginsAnew kept.permanent kept.epoch) old.2
-      (record { log = refl; size = length old.0.window.held; window = refl }));
+      rw (← old.2) (record { log = refl; size = length old.0.window.held; window = refl }));
   each_outbox = λ k outbox is. (
-      let old = map_got (outbox_set_back kept.permanent) running.outboxes k outbox is in
-      subst (λ (o : Outbox). o.restored ≡ sent_of kept.permanent o.channel) old.2 refl);
+      let old = map_got (outbox_set_back kept.permanent) running.outboxes k outbox is in rw (← old.2) refl);
 }
 
 -- ---- they are sound, and stand
 
 anew_sound : (image : ImageView) (epoch : ℕ) (inbox : Inbox) → BeginsAnew image epoch inbox → epoch ≤ MAX_COUNT
     → received_of image inbox.channel ≤ MAX_COUNT → InboxIsSound image inbox
-anew_sound image epoch inbox anew few count =
-    let base : inbox.log.base ≡ received_of image inbox.channel = ap (λ (l : LogState). l.base) anew.log in
-    let items : length inbox.log.items ≡ 0 = ap (λ (l : LogState). length l.items) anew.log in
-    let next : inbox.window.next ≡ received_of image inbox.channel = ap (λ (w : Receiver). w.next) anew.window in
-    let same : inbox.window.epoch ≡ epoch = ap (λ (w : Receiver). w.epoch) anew.window in
-    record {
-      begins = base;
-      next = omega (arith, base, items, next);
-      count = omega (arith, items);
-      last = omega (arith, base, items, count);
-      epoch = omega (arith, same, few);
-    }
+anew_sound image epoch inbox anew few count = record {
+  begins = rw anew.log refl;
+  next = rw (anew.log, anew.window) (omega arith);
+  count = rw anew.log (omega arith);
+  last = rw anew.log (omega arith);
+  epoch = rw anew.window few;
+}
 
 anew_stands : (histories : List (List ℤ)) (image : ImageView) (epoch : ℕ) (inbox : Inbox)
     → BeginsAnew image epoch inbox → received_of image inbox.channel ≤ length (history_of histories inbox.channel)
     → InboxStands histories inbox
-anew_stands histories image epoch inbox anew count =
-    let base : inbox.log.base ≡ received_of image inbox.channel = ap (λ (l : LogState). l.base) anew.log in
-    let none : inbox.log.items ≡ [] = ap (λ (l : LogState). l.items) anew.log in
-    let items : length inbox.log.items ≡ 0 = ap (length {A = ℤ}) none in
-    record {
-      within = omega (arith, base, items, count);
-      items = none ∙ sym (ap (λ (n : ℕ). take n (drop inbox.log.base (history_of histories inbox.channel))) items);
-      held = subst (HoldsOf (history_of histories inbox.channel)) (sym anew.window)
-          (holds_none (history_of histories inbox.channel) epoch (received_of image inbox.channel) anew.size);
-    }
+anew_stands histories image epoch inbox anew count = record {
+  within = rw anew.log (omega arith);
+  items = rw anew.log refl;
+  held = rw anew.window (holds_none (history_of histories inbox.channel) epoch (received_of image inbox.channel) anew.size);
+}
 
 -- a channel of an inbox of the node comes from another one
 from_other : (net : Network) (home : ℕ) (inboxes : List Inbox) (k : ℕ) (inbox : Inbox)
@@ -256,10 +212,7 @@ module _ (net : Network) (inputs : List (List ℤ)) (kept : RecordView) (version
         anew_sound kept.permanent kept.epoch inbox (anew.each_inbox k inbox is) few
         (received_few net kept.node inputs kept.permanent inbox.channel laid counts
         (from_other net kept.node inboxes k inbox anew.incoming is));
-    restored = λ k outbox is. (
-        let same = anew.each_outbox k outbox is in
-        let count = sent_few kept.permanent outbox.channel logs in
-        omega (arith, same, count));
+    restored = λ k outbox is. rw (anew.each_outbox k outbox is) (sent_few kept.permanent outbox.channel logs);
   }
 
   pub inboxes_anew : (n : ℕ) (made : ℕ → ℕ) → ImageStands net (approximation net inputs n) made kept.permanent

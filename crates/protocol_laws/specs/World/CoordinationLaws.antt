@@ -1,18 +1,18 @@
 -- Checkpoints are coordinated in each event: each is steps of the abstract machine of which none but the first writes a
 -- record, so that what the machine's laws say of a step and of records is so of the event.
-use Rattle.std.proofs.Common.{◌≡◌, ◌⊎◌, inl, inr, ℕ, zero, suc, ℤ, Bool, true, false, List, [], ◌∷◌, Option, Some, None}
-use Rattle.std.proofs.Common.{All, refl, sym, ap, subst, ◌∙◌, arith}
+use Rattle.std.proofs.Common.{◌≡◌, ◌⊎◌, inl, inr, ℕ, ℤ, Bool, true, false, List, [], ◌∷◌, Option, Some, None}
+use Rattle.std.proofs.Common.{refl, sym, ap, subst, ◌∙◌, arith}
 use Rattle.std.specs.Prelude.{◌≢◌, slice_get}
 use Rattle.std.proofs.Math.Nat.{ℕ_set}
 use Rattle.std.proofs.Math.Logic.{∥∥₁_elim, ∥∥₁_map, ∥∥₁_map₂}
-use Rattle.std.proofs.lemmas.Option.{slice_get_within}
+use Rattle.std.proofs.lemmas.Option.{get_or_from_slice_get, slice_get_within}
 use Rattle.datagram.proofs.Exactness.{whole_again}
 use Rattle.datagram.specs.Reading.{whole_at}
-use Rattle.protocol.specs.Node.Common.{Body, Network, IsValid, RecordView, are_nodes, names_run, producer_node}
+use Rattle.protocol.specs.Node.Common.{Body, Network, IsValid, RecordView, are_nodes, producer_node}
 use Rattle.protocol.specs.Node.Common.{is_outgoing}
 use Rattle.datagram.specs.declared.packet.Body.TheVariants as says
 use Rattle.datagram.specs.declared.packet.Packet.{Packet as Datagram}
-use Rattle.protocol.specs.World.Common.{Traffic, flights_to, Flight, Image, Net, Packet, Record, World}
+use Rattle.protocol.specs.World.Common.{Traffic, flights_to, Image, Net, Packet, World}
 use Rattle.protocol.specs.World.Common.{Reachable, Leads, RunsOn, SaysWhatWasSent, world_seen, EventView}
 use Rattle.protocol.specs.World.Common.{WorldInvariant, net_seen, ReplyView, StationView, WorldView, IsStep}
 use Rattle.protocol.specs.World.Common.{BytesAreSound, TrafficIsSound}
@@ -35,24 +35,14 @@ use Rattle.protocol_laws.specs.Join.Whole.{runs_still}
 use Rattle.protocol.specs.World.Coordination.{AreCoordinated, AreCoordinatedOn, AsksWereReceived, IsAsked}
 use Rattle.protocol.specs.World.Coordination.{IsCoordinated, SaysWhatIsOver, WasNeeded, WasReceived, last_of}
 use Rattle.protocol.specs.World.InLine.{nodes_seen}
-use Rattle.protocol.specs.World.Traffic.{FlightIsSound, SpellsSound}
+use Rattle.protocol.specs.World.Traffic.{SpellsSound}
 use Rattle.protocol_laws.specs.World.StepKeeps.{step_keeps, step_runs_on}
 
 -- ---- what is wanted, whatever is in flight
 
 wanted_there : (net : Net) (stations : List StationView) (sent : List Packet) (x n c m : ℕ)
     → Wanted net (world_seen stations sent) x n c m → Wanted net (nodes_seen stations) x n c m
-wanted_there net stations sent x n c m wanted = record {
-  live = wanted.live;
-  is = wanted.is;
-  number = wanted.number;
-  by = wanted.by;
-  to = wanted.to;
-  image = wanted.image;
-  held = wanted.held;
-  one_of = wanted.one_of;
-  received = wanted.received;
-}
+wanted_there net stations sent x n c m wanted = search wanted
 
 -- ---- what is asked for
 
@@ -61,15 +51,13 @@ wanted_there net stations sent x n c m wanted = record {
 asked_behind : (net : Net) (base w v : World) (worlds : List World) (x n c m : ℕ) → Reachable net w → Run net w worlds v
     → KeepRecords base worlds → InFlight v (Ask x n c m)
     → InFlight w (Ask x n c m) ⊎ IsReceived net base.records x n c m
-asked_behind net base w v [] x n c m reached run keeps flight =
-    inl (subst (λ (u : World). InFlight u (Ask x n c m)) (sym run) flight)
+asked_behind net base w v [] x n c m reached run keeps flight = inl (rw (← run) at flight)
 asked_behind net base w v (u ∷ worlds) x n c m reached run keeps flight =
     elim (asked_behind net base u v worlds x n c m (runs_on net w u (u ∷ []) reached (run.0, refl)) run.1 keeps.1 flight) [
       | inr received ↦ inr received
       | inl at_u ↦ elim (asks_as_received net w u x n c m reached run.0 at_u) [
         | inl at_w ↦ inl at_w
-        | inr received ↦ inr
-            (subst (λ (r : ℕ → Record). IsReceived net r x n c m) keeps.0 received)
+        | inr received ↦ inr (rw keeps.0 at received)
       ]
     ]
 
@@ -79,30 +67,17 @@ asked_then net w v x n c m reached leads flight = by leads.worlds leads.run lead
   where
     by : (worlds : List World) → Run net w worlds v → WriteAtFirst worlds
         → InFlight w (Ask x n c m) ⊎ IsReceived net v.records x n c m
-    by [] run once = inl (subst (λ (u : World). InFlight u (Ask x n c m)) (sym run) flight)
+    by [] run once = inl (rw (← run) at flight)
     by (u ∷ worlds) run once =
         elim (asked_behind net u w v (u ∷ worlds) x n c m reached run (refl, once) flight) [
           | inl was ↦ inl was
-          | inr received ↦ inr
-              (subst (λ (r : ℕ → Record). IsReceived net r x n c m)
-              (sym (records_at_end net u v worlds run.1 once)) received)
+          | inr received ↦ inr (rw (records_at_end net u v worlds run.1 once) received)
         ]
 
 -- a body that says so of checkpoints is an Ask
 asks_body : (from to : ℕ) (body : Body) (x n c m : ℕ) → body_seen from to body ≡ Some (Ask x n c m)
     → (from ≡ x) × (body ≡ says.Ask n c m)
-asks_body from to (says.Data channel position item) x n c m is = absurd (cc)
-asks_body from to (says.Ack channel epoch next) x n c m is = absurd (cc)
-asks_body from to (says.Kept channel count) x n c m is = absurd (cc)
-asks_body from to (says.Ask number channel count) x n c m is = (cc, cc)
-asks_body from to (says.Took number channel count needs) x n c m is = absurd (cc)
-asks_body from to (says.Covered number channel count) x n c m is = absurd (cc)
-asks_body from to (says.Refused number channel reason) x n c m is = absurd (cc)
-asks_body from to (says.Query number) x n c m is = absurd (cc)
-asks_body from to (says.Commit number) x n c m is = absurd (cc)
-asks_body from to (says.Ended number) x n c m is = absurd (cc)
-asks_body from to (says.Settled number) x n c m is = absurd (cc)
-asks_body from to (says.Undone channel epoch sent) x n c m is = absurd (cc)
+asks_body from to body x n c m is = grind arith
 
 -- an Ask that is in flight is in flight to the node at which it is
 asks_at : (traffic : Traffic) (x n c m : ℕ) (is : IsInFlight traffic (Ask x n c m)) → IsAsked traffic is.to x n c m
@@ -113,31 +88,15 @@ asks_at traffic x n c m is = by (whole_at is.flight.packet) refl is.says
     by None reads told = absurd (cc)
     by (Some packet) reads told =
         let body = asks_body packet.from packet.to packet.body x n c m told in
-        record {
-          place = is.place;
-          flight = is.flight;
-          there = is.there;
-          packet = packet;
-          reads = reads;
-          from = body.0;
-          body = body.1;
-        }
+        record { place = is.place; flight = is.flight; there = is.there; packet = packet; reads = reads; from = body.0; body = body.1 }
 
 asked_bytes : (traffic : Traffic) (p x n c m : ℕ) (asked : IsAsked traffic p x n c m)
     → bytes_seen asked.flight.packet ≡ Some (Ask x n c m)
-asked_bytes traffic p x n c m asked =
-    ap spelled_seen asked.reads
-    ∙ (ap (λ (b : Body). body_seen asked.packet.from asked.packet.to b) asked.body
-    ∙ ap (λ (from : ℕ). Some (Ask from n c m)) asked.from)
+asked_bytes traffic p x n c m asked = rw (asked.reads, asked.body, asked.from)
 
 asked_says : (traffic : Traffic) (p x n c m : ℕ) → IsAsked traffic p x n c m → IsInFlight traffic (Ask x n c m)
-asked_says traffic p x n c m asked = record {
-  to = p;
-  place = asked.place;
-  flight = asked.flight;
-  there = asked.there;
-  says = asked_bytes traffic p x n c m asked;
-}
+asked_says traffic p x n c m asked =
+    record { to = p; place = asked.place; flight = asked.flight; there = asked.there; says = asked_bytes traffic p x n c m asked }
 
 -- the node to which an Ask goes is the one that puts on its channel
 module _ (net : Network) (inputs : List (List ℤ)) (valid : IsValid net) where
@@ -146,38 +105,29 @@ module _ (net : Network) (inputs : List (List ℤ)) (valid : IsValid net) where
   asks_producer to bytes x n c m known told =
       ∥∥₁_elim known (hlevel (ℕ_set)) (λ sound. by sound
       (asks_body sound.packet.from sound.packet.to sound.packet.body x n c m
-      (sym (ap spelled_seen (whole_again bytes sound.packet sound.text)) ∙ told)).1)
+      (rw (whole_again bytes sound.packet sound.text) at told)).1)
     where
       by : (sound : SpellsSound net inputs to bytes) → sound.packet.body ≡ says.Ask n c m → producer_node net c ≡ to
       by sound body =
-          let named : names_run net sound.packet.from to (says.Ask n c m) ≡ true =
-          sym (ap (λ (t : ℕ). names_run net sound.packet.from t (says.Ask n c m)) sound.here)
-          ∙ (sym (ap (λ (b : Body). names_run net sound.packet.from sound.packet.to b) body) ∙ sound.names) in
+          let named = rw (sound.here, body) at sound.names in
           let goes = (both_true (are_nodes net sound.packet.from to) (is_outgoing net to c) named).1 in
           producer_is net c to (goes_cross net to c valid goes).1.from
 
   asked_producer : (traffic : Traffic) → TrafficIsSound net inputs traffic → (p x n c m : ℕ)
       → IsAsked traffic p x n c m → producer_node net c ≡ p
   asked_producer traffic sound p x n c m asked =
-      asks_producer p asked.flight.packet x n c m
-      (flight_sound (flights_to traffic p) asked.place asked.flight (sound p) asked.there)
-      (asked_bytes traffic p x n c m asked)
-    where
-      flight_sound : (flights : List Flight) (place : ℕ) (flight : Flight) → All (FlightIsSound net inputs p) flights
-          → slice_get flights place ≡ Some flight → FlightIsSound net inputs p flight
-      flight_sound [] place flight all there = absurd (cc)
-      flight_sound (f ∷ flights) zero flight all there =
-          let here : f ≡ flight = cc in subst (FlightIsSound net inputs p) here (all zero f (omega arith))
-      flight_sound (f ∷ flights) (suc place) flight all there =
-          let within = slice_get_within flights place flight there in
-          flight_sound flights place flight (λ i d below. all (suc i) d (omega (arith, below))) there
+      let flights = flights_to traffic p in
+      let within = slice_get_within flights asked.place asked.flight asked.there in
+      let known = rw (get_or_from_slice_get flights asked.place asked.flight asked.flight asked.there) at
+      (sound p asked.place asked.flight within) in
+      asks_producer p asked.flight.packet x n c m known (asked_bytes traffic p x n c m asked)
 
   -- so an Ask of a channel of node p is in flight to p
   pub is_asked_of : (traffic : Traffic) → TrafficIsSound net inputs traffic → (p x n c m : ℕ) → producer_node net c ≡ p
       → IsInFlight traffic (Ask x n c m) → IsAsked traffic p x n c m
   is_asked_of traffic sound p x n c m at is =
       let asked = asks_at traffic x n c m is in
-      subst (λ (to : ℕ). IsAsked traffic to x n c m) (sym (asked_producer traffic sound is.to x n c m asked) ∙ at) asked
+      rw (sym (asked_producer traffic sound is.to x n c m asked) ∙ at) at asked
 
 -- ---- an event
 
@@ -211,10 +161,6 @@ module _ (network : Network) (inputs : List (List ℤ)) (valid : IsValid network
   first : FirstStep net W V
   first = first_step net W V leads
 
-  -- what is so of the records behind the first step is so of those behind the last
-  carried : (P : (ℕ → Record) → Type 0) → P first.world.records → P V.records
-  carried P holds = subst P first.same holds
-
   need_there : (p x n : ℕ) (image : Image) → Needed net W first.world p x n image
       → WasNeeded net before traffic p x n image
   need_there p x n image needed = record {
@@ -236,53 +182,41 @@ module _ (network : Network) (inputs : List (List ℤ)) (valid : IsValid network
   commits : (x n p : ℕ) → (W.records x).decided n ≡ false → (V.records x).decided n ≡ true
       → (V.records x).named n p ≡ true
       → (image : Image) × Holds (W.records p) x n image × Holds (V.records p) x n image
-  commits x n p =
-      carried (λ (r : ℕ → Record). (W.records x).decided n ≡ false → (r x).decided n ≡ true → (r x).named n p ≡ true
-      → (image : Image) × Holds (W.records p) x n image × Holds (r p) x n image)
-      (commits_while_held net W first.world x n p reached first.step)
+  commits x n p = rw first.same at (commits_while_held net W first.world x n p reached first.step)
 
   stays : (x n p : ℕ) (image : Image) → Holds (W.records p) x n image → (W.records x).decided n ≡ true
       → (Holds (V.records p) x n image × ((V.records x).decided n ≡ true))
       ⊎ (((V.records p).tentative ≡ None) × ((V.records p).permanent ≡ image))
   stays x n p image held decided =
-      carried (λ (r : ℕ → Record). (Holds (r p) x n image × ((r x).decided n ≡ true))
-      ⊎ (((r p).tentative ≡ None) × ((r p).permanent ≡ image)))
-      (stays_committed net W first.world x n p image reached first.step held decided)
+      rw first.same at (stays_committed net W first.world x n p image reached first.step held decided)
 
   stays_out : (k : ℕ) → ((V.records k).permanent ≡ (W.records k).permanent)
       ⊎ ((x : ℕ) × (n : ℕ) × Holds (W.records k) x n (V.records k).permanent × (Over (nodes_seen before) x n → ⊥))
   stays_out k =
-      carried (λ (r : ℕ → Record). ((r k).permanent ≡ (W.records k).permanent)
-      ⊎ ((x : ℕ) × (n : ℕ) × Holds (W.records k) x n (r k).permanent × (Over (nodes_seen before) x n → ⊥)))
-      (elim (over_stays_out net W first.world k reached first.step) [
+      let out = rw first.same at (over_stays_out net W first.world k reached first.step) in
+      elim out [
         | inl same ↦ inl same
         | inr new ↦ inr (new.0, new.1, new.2, λ over. new.3 (over_here before sent new.0 new.1 over))
-      ])
+      ]
 
   no_smaller : (x n p : ℕ) (part : ℕ → Bool) → (W.records x).decided n ≡ false → (V.records x).decided n ≡ true
       → (V.records x).named n p ≡ true → part x ≡ true → part p ≡ false → NoOrphan net (line_with W.records part) → ⊥
-  no_smaller x n p part =
-      carried (λ (r : ℕ → Record). (W.records x).decided n ≡ false → (r x).decided n ≡ true → (r x).named n p ≡ true
-      → part x ≡ true → part p ≡ false → NoOrphan net (line_with W.records part) → ⊥)
-      (no_smaller_decision net W first.world x n p part reached first.step)
+  no_smaller x n p part = rw first.same at (no_smaller_decision net W first.world x n p part reached first.step)
 
   takes : (p x n : ℕ) (image : Image) → p ≢ x → Holds (V.records p) x n image
       → Holds (W.records p) x n image ⊎ WasNeeded net before traffic p x n image
-  takes p x n image apart =
-      carried (λ (r : ℕ → Record). Holds (r p) x n image
-      → Holds (W.records p) x n image ⊎ WasNeeded net before traffic p x n image)
-      (λ held. elim (takes_where_needed net W first.world p x n image reached first.step apart held) [
+  takes p x n image apart held =
+      let one = rw first.same at (takes_where_needed net W first.world p x n image reached first.step apart) in
+      elim (one held) [
         | inl was ↦ inl was
         | inr needed ↦ inr (need_there p x n image needed)
-      ])
+      ]
 
   names : (x n : ℕ) → (W.records x).decided n ≡ false → (V.records x).decided n ≡ true
       → NamesTheNeeded net (nodes_seen before) V.records x n
-  names x n =
-      carried (λ (r : ℕ → Record). (W.records x).decided n ≡ false → (r x).decided n ≡ true
-      → NamesTheNeeded net (nodes_seen before) r x n)
-      (λ never now. named_there net before sent first.world.records x n
-      (decides_for_the_needed net W first.world x n reached first.step never now))
+  names x n never =
+      let named = rw first.same at (decides_for_the_needed net W first.world x n reached first.step never) in
+      λ now. named_there net before sent V.records x n (named now)
 
   asks : (p x n c m : ℕ) → IsAsked flown p x n c m
       → IsAsked traffic p x n c m ⊎ IsReceived net (nodes_seen after).records x n c m
@@ -329,8 +263,7 @@ events_are_coordinated rooms e old answer new inv step =
     let later = step_keeps rooms e old answer new inv step in
     ∥∥₁_map (step_runs_on rooms e old answer new inv step)
     (event_is_coordinated old.net old.inputs inv.valid old.stations new.stations old.traffic new.traffic inv.traffic
-    (subst (λ (n : Network). TrafficIsSound n old.inputs new.traffic) step.net
-    (subst (λ (i : List (List ℤ)). TrafficIsSound new.net i new.traffic) step.inputs later.traffic)))
+    (rw (step.net, step.inputs) at later.traffic))
 
 -- and where nothing happens
 pub coordinated_still : (world : WorldView) → WorldInvariant world → AreCoordinated world world
@@ -343,8 +276,7 @@ coordinated_still world inv =
 
 none_asked : (traffic : Traffic) (p x n c m : ℕ) → flights_to traffic p ≡ [] → IsAsked traffic p x n c m → ⊥
 none_asked traffic p x n c m none asked =
-    (let there : slice_get [] asked.place ≡ Some asked.flight =
-    subst (λ (flights : List Flight). slice_get flights asked.place ≡ Some asked.flight) none asked.there in cc)
+    let there : slice_get [] asked.place ≡ Some asked.flight = rw none at asked.there in cc
 
 -- an Ask of the first world, or of the last one
 asked_on : (world : WorldView) (worlds : List WorldView) → AreCoordinatedOn world worlds → (p x n c m : ℕ)

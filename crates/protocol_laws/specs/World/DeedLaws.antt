@@ -1,30 +1,26 @@
 -- What is known of each deed: its plan is sound, a node that is down sends nothing by it, and nothing that comes by
 -- it is dropped. A further deed has a case in each of the three laws that go by deeds, at the end of this file.
-use Rattle.std.proofs.Common.{◌≡◌, ℕ, Bool, true, false, cond, ℤ, List, [], map, All, Option, Some, None}
-use Rattle.std.proofs.Common.{option_map, refl, sym, ap, subst, ◌∙◌}
-use Rattle.std.specs.Prelude.{◌==◌, nat_lt, not}
+use Rattle.std.proofs.Common.{◌≡◌, ℕ, Bool, true, false, ℤ, List, [], map, Option, Some, None}
+use Rattle.std.proofs.Common.{option_map, refl, ap, arith}
+use Rattle.std.specs.Prelude.{nat_lt, not}
 use Rattle.std.proofs.Math.Logic.{∥∥₁_elim}
-use Rattle.std.proofs.lemmas.Bool.{and_from, eq-eqb, ltb-true}
+use Rattle.std.proofs.lemmas.Bool.{eq-eqb, ltb-true}
 use Rattle.std.proofs.lemmas.List.Elements.{All-nil}
 use mathlib.Core.HLevel.{⊥_prop}
 use Rattle.datagram.proofs.Exactness.{whole_again}
 use Rattle.datagram.specs.Reading.{whole_at}
-use Rattle.protocol.specs.Node.Common.{Packet, Network, MAX_COUNT, highest_seen, with_epoch, names_right, names_run}
-use Rattle.protocol.specs.Node.Common.{round_later, with_armed, begun, live_asks, live_in, may_start, start_prospect}
-use Rattle.protocol.specs.Node.Common.{grant_prospect, node_job, with_grant, packet_for, deliver_prospect}
-use Rattle.protocol.specs.Node.Common.{hear_prospect, JobView, crashed, is_down, Down, InDoubt, ModeView, NodeView}
-use Rattle.protocol.specs.Node.Common.{Runs, Planned, Prospect, becoming, if_due, packets_by}
-use Rattle.protocol.specs.Node.Common.{putting, unless_spent, recover_prospect, restored, restored_mode}
-use Rattle.protocol.specs.Node.Common.{turn_packets, decide_prospect, may_decide}
-use Rattle.protocol.specs.World.Common.{is_due, Flight, ByNode, ByNetwork, Install, Release, back_reply}
-use Rattle.protocol.specs.World.Common.{delivery_reply, grant_reply, ReplyView, StationView, Setting, deliver_plan}
-use Rattle.protocol.specs.World.Common.{due_bytes, flight_at, plan_of, sending_of, BytesAreSound, TrafficIsSound}
-use Rattle.protocol.specs.World.Common.{IsSoundSetting, IsSoundStation}
+use Rattle.protocol.specs.Node.Common.{Packet, Network, MAX_COUNT, highest_seen, with_epoch, names_right, round_later}
+use Rattle.protocol.specs.Node.Common.{with_armed, live_in, may_start, start_prospect, grant_prospect, node_job}
+use Rattle.protocol.specs.Node.Common.{packet_for, deliver_prospect, hear_prospect, JobView, crashed, is_down, ModeView}
+use Rattle.protocol.specs.Node.Common.{NodeView, Planned, Prospect, becoming, packets_by, unless_spent}
+use Rattle.protocol.specs.Node.Common.{recover_prospect, restored, restored_mode, turn_packets, decide_prospect}
+use Rattle.protocol.specs.Node.Common.{may_decide}
+use Rattle.protocol.specs.World.Common.{is_due, Flight, ByNode, back_reply, delivery_reply, grant_reply, ReplyView}
+use Rattle.protocol.specs.World.Common.{StationView, Setting, deliver_plan, due_bytes, flight_at, plan_of, sending_of}
+use Rattle.protocol.specs.World.Common.{BytesAreSound, TrafficIsSound, IsSoundSetting, IsSoundStation}
 use Rattle.protocol.specs.Node.Delivering.{delivery_of, if_right}
 use Rattle.protocol.specs.Node.Recovering.{crash_prospect}
 use Rattle.protocol.specs.declared.outcome.Outcome.{Outcome}
-use Rattle.protocol.specs.declared.outcome.Outcome.TheVariants as outcome
-use Rattle.protocol.specs.declared.outcome.Refusal.TheVariants.{Spent, TooLarge}
 use Rattle.protocol.specs.declared.event.Deed.{Deed}
 use Rattle.protocol.specs.declared.event.Deed.TheVariants as event
 use Rattle.protocol.specs.World.InFlight.{OnlyNodesThatAreUpSend}
@@ -33,11 +29,9 @@ use Rattle.protocol.specs.World.Steps.{bytes_when}
 use Rattle.protocol.specs.World.Traffic.{SpellsSound}
 use Rattle.protocol_laws.specs.World.HeardLaws.{hear_keeps, named_here, right_is, whole_sound}
 use Rattle.protocol_laws.specs.World.MoveLaws.{decide_keeps, start_keeps}
-use Rattle.protocol_laws.specs.World.PlanLaws.{IsSoundProspect, ProspectKeeps}
-use Rattle.protocol_laws.specs.World.PlanLaws.{back_sound}
-use Rattle.protocol_laws.specs.World.PlanLaws.{down_keeps, grant_sound, keeps_if_due, keeps_still, moved_keeps}
-use Rattle.protocol_laws.specs.World.PlanLaws.{sound_becoming, sound_if_due, sound_unless_spent, whole_plan}
-use Rattle.protocol_laws.specs.World.PlanLaws.{whole_prospect}
+use Rattle.protocol_laws.specs.World.PlanLaws.{IsSoundProspect, ProspectKeeps, back_sound, down_keeps, grant_sound}
+use Rattle.protocol_laws.specs.World.PlanLaws.{keeps_if_due, keeps_still, moved_keeps, sound_becoming, sound_if_due}
+use Rattle.protocol_laws.specs.World.PlanLaws.{sound_unless_spent, whole_plan, whole_prospect}
 use Rattle.protocol_laws.specs.World.SendLaws.{IsSendable}
 use Rattle.protocol_laws.specs.World.TellLaws.{begins_said, decides_said, hears_said, turn_sendable}
 use Rattle.protocol_laws.specs.World.TrafficLaws.{arrives_sound}
@@ -46,74 +40,32 @@ use Rattle.protocol_laws.specs.World.TrafficLaws.{arrives_sound}
 
 -- where nothing is to be sent nothing is
 pub becoming_sends : (node : NodeView) (came : Outcome) → packets_by (becoming node) came ≡ []
-becoming_sends node outcome.NotDue = refl
-becoming_sends node outcome.Made = refl
-becoming_sends node (outcome.Refused TooLarge) = refl
-becoming_sends node (outcome.Refused Spent) = refl
-becoming_sends node outcome.Failed = refl
-
-putting_sends : (grows : Bool) (node : NodeView) (came : Outcome) → packets_by (putting grows node) came ≡ []
-putting_sends grows node outcome.NotDue = refl
-putting_sends grows node outcome.Made = refl
-putting_sends grows node (outcome.Refused TooLarge) = refl
-putting_sends grows node (outcome.Refused Spent) = refl
-putting_sends grows node outcome.Failed = refl
-
-due_sends : (due : Bool) (prospect : Prospect) (came : Outcome) → packets_by prospect came ≡ []
-    → packets_by (if_due due prospect) came ≡ []
-due_sends true prospect came none = none
-due_sends false prospect came none = refl
-
--- nor where it isn't due
-undue_sends : (due : Bool) (prospect : Prospect) (came : Outcome) → due ≡ false
-    → packets_by (if_due due prospect) came ≡ []
-undue_sends due prospect came is = ap (λ (b : Bool). packets_by (if_due b prospect) came) is
-
-spent_sends : (looks less : Bool) (prospect : Prospect) (came : Outcome) → packets_by prospect came ≡ []
-    → packets_by (unless_spent looks less prospect) came ≡ []
-spent_sends looks true prospect came none = none
-spent_sends looks false prospect came none = refl
+becoming_sends node came = grind arith
 
 pub grant_sends : (job : Option JobView) (node : NodeView) (came : Outcome)
     → packets_by (grant_prospect job node) came ≡ []
-grant_sends None node came = refl
-grant_sends (Some job) node came = becoming_sends (with_grant (Some job) node) came
+grant_sends job node came = grind arith
 
 pub crash_sends : (restart : ℕ) (node : NodeView) (came : Outcome)
     → packets_by (crash_prospect restart node) came ≡ []
-crash_sends restart node came =
-    due_sends (not (is_down node.mode)) _ came (becoming_sends (crashed restart node) came)
+crash_sends restart node came = grind arith
 
 pub recover_sends : (net : Network) (home : ℕ) (node : NodeView) (came : Outcome)
     → packets_by (recover_prospect net home node) came ≡ []
-recover_sends net home node came =
-    due_sends (is_down node.mode)
-    (unless_spent true (nat_lt node.kept.epoch MAX_COUNT) (putting false (restored net home node))) came
-    (spent_sends true (nat_lt node.kept.epoch MAX_COUNT) (putting false (restored net home node)) came
-    (putting_sends false (restored net home node) came))
+recover_sends net home node came = grind arith
 
 -- a node that is down hears nothing, and neither begins nor decides
 down_start : (node : NodeView) → is_down node.mode ≡ true → may_start node ≡ false
-down_start node down = by node.mode refl
-  where
-    by : (mode : ModeView) → node.mode ≡ mode → may_start node ≡ false
-    by Down is = rw is refl
-    by InDoubt is = absurd (let bad : is_down node.mode ≡ false = ap is_down is in cc)
-    by (Runs running) is = absurd (let bad : is_down node.mode ≡ false = ap is_down is in cc)
+down_start node down = grind arith
 
 down_decides : (home : ℕ) (node : NodeView) → is_down node.mode ≡ true
     → may_decide home node.kept (live_in node.mode) ≡ false
-down_decides home node down = by node.mode refl
-  where
-    by : (mode : ModeView) → node.mode ≡ mode → may_decide home node.kept (live_in node.mode) ≡ false
-    by Down is = ap (λ (m : ModeView). may_decide home node.kept (live_in m)) is
-    by InDoubt is = absurd (let bad : is_down node.mode ≡ false = ap is_down is in cc)
-    by (Runs running) is = absurd (let bad : is_down node.mode ≡ false = ap is_down is in cc)
+down_decides home node down = grind arith
 
 down_hears : (net : Network) (place : ℕ) (bytes : Option (List ℕ)) (station : StationView) (came : Outcome)
     → is_down station.node.mode ≡ true → packets_by (deliver_plan net place bytes station).prospect came ≡ []
 down_hears net place None station came down = refl
-down_hears net place (Some bytes) station came down = undue_sends (not (is_down station.node.mode)) _ came (ap not down)
+down_hears net place (Some bytes) station came down = rw down refl
 
 -- ---- what is dropped
 
@@ -123,52 +75,37 @@ is_dropped reply.Dropped = true
 is_dropped answer = false
 
 grant_is : (job : Option JobView) → is_dropped (grant_reply job) ≡ false
-grant_is None = refl
-grant_is (Some job) = refl
+grant_is job = grind arith
 
 back_is : (mode : ModeView) → is_dropped (back_reply mode) ≡ false
-back_is Down = refl
-back_is InDoubt = refl
-back_is (Runs running) = refl
+back_is mode = grind arith
 
 -- bytes that are sound spell a packet for the node
 right_now : (net : Network) (home : ℕ) (packet : Packet) → packet.to ≡ home → names_right net packet ≡ true
     → if_right net home (Some packet) ≡ Some packet
-right_now net home packet here names =
-    ap (λ (b : Bool). cond b (Some packet) None)
-    (and_from (packet.to == home) (names_right net packet) (eq-eqb packet.to home here) names)
+right_now net home packet here names = rw (eq-eqb packet.to home here, names) refl
 
 spells_one : (net : Network) (inputs : List (List ℤ)) (home : ℕ) (bytes : List ℕ) → SpellsSound net inputs home bytes
     → packet_for net home bytes ≡ None → ⊥
 spells_one net inputs home bytes says none =
-    let one : packet_for net home bytes ≡ Some says.packet =
-    ap (if_right net home) (whole_again bytes says.packet says.text)
-    ∙ right_now net home says.packet says.here says.names in
+    let one = right_now net home says.packet says.here says.names in
+    let text = whole_again bytes says.packet says.text in
     cc
 
 heard_is : (found : Option Packet) → (found ≡ None → ⊥) → is_dropped (delivery_reply (delivery_of false found)) ≡ false
-heard_is None some = absurd (some refl)
-heard_is (Some packet) some = refl
+heard_is found some = grind arith
 
 module _ (setting : Setting) (flying : TrafficIsSound setting.net setting.inputs setting.traffic) where
   came_is : (k place : ℕ) (old : StationView) → old.number ≡ k → (flight : Option Flight)
       → flight_at setting k place ≡ flight
       → is_dropped (deliver_plan setting.net place (due_bytes setting.round flight) old).answer ≡ false
   came_is k place old here None is = refl
-  came_is k place old here (Some flight) is = at (is_due setting.round flight)
-    where
-      sound : BytesAreSound setting.net setting.inputs old.number flight.packet
-      sound =
-          subst (λ (n : ℕ). BytesAreSound setting.net setting.inputs n flight.packet) (sym here)
-          (arrives_sound setting.net setting.inputs setting.traffic k place flight.packet flying
-          (ap (option_map (λ (f : Flight). f.packet)) is))
-
-      at : (due : Bool) → is_dropped (deliver_plan setting.net place (bytes_when due flight.packet) old).answer ≡ false
-      at false = refl
-      at true =
-          heard_is (packet_for setting.net old.number flight.packet)
-          (λ none. ∥∥₁_elim sound ⊥_prop
-          (λ says. spells_one setting.net setting.inputs old.number flight.packet says none))
+  came_is k place old here (Some flight) is =
+      let sound = arrives_sound setting.net setting.inputs setting.traffic k place flight.packet flying
+      (ap (option_map (λ (f : Flight). f.packet)) is) in
+      let heard = heard_is (packet_for setting.net old.number flight.packet) (λ none. ∥∥₁_elim sound ⊥_prop (λ says.
+      spells_one setting.net setting.inputs old.number flight.packet (rw (← here) at says) none)) in
+      grind (arith, heard)
 
 -- ---- a packet that comes is sound
 
@@ -176,14 +113,17 @@ module _ (setting : Setting) (sure : IsSoundSetting setting) (old : StationView)
   where
     -- ---- what it hears
 
+    idle_sound : IsSoundProspect setting.net setting.inputs old (becoming old.node)
+    idle_sound =
+        sound_becoming setting.net setting.inputs old.node old
+        (moved_keeps setting.net setting.inputs old.node old.failures old.turns old sound.inv.kept sound.inv.runs) refl
+
     told_sound : (bytes : List ℕ) (to : ℕ) → BytesAreSound setting.net setting.inputs to bytes
         → (packet : Option Packet) → packet_for setting.net old.number bytes ≡ packet
         → IsSoundProspect setting.net setting.inputs old (deliver_prospect setting.net old.number packet old.node)
     told_sound bytes to says None is =
         sound_if_due setting.net setting.inputs old (not (is_down old.node.mode)) (becoming old.node)
-        (λ up. sound_becoming setting.net setting.inputs old.node old
-        (moved_keeps setting.net setting.inputs old.node old.failures old.turns old sound.inv.kept sound.inv.runs)
-        refl)
+        (λ up. idle_sound)
     told_sound bytes to says (Some packet) is =
         let right = right_is setting.net old.number (whole_at bytes) packet is in
         let named = named_here setting.net old.number bytes packet is in
@@ -193,7 +133,7 @@ module _ (setting : Setting) (sure : IsSoundSetting setting) (old : StationView)
         (hear_prospect setting.net old.number packet.from packet.body old.node)
         (hear_keeps setting.net setting.inputs sure.valid sure.fits old sound.inv sound.named
         packet.from packet.body (whole_sound setting.net setting.inputs packet to bytes says right.0)
-        (ap (λ (n : ℕ). names_run setting.net packet.from n packet.body) (sym named.0) ∙ named.1))
+        (rw named.0 at named.1))
         (hears_said setting.net setting.inputs sure.valid old sound.inv sound.named sound.below sound.joined
         bytes to says packet is))
 
@@ -201,38 +141,29 @@ module _ (setting : Setting) (sure : IsSoundSetting setting) (old : StationView)
         → IsSoundProspect setting.net setting.inputs old
         (deliver_plan setting.net place (due_bytes setting.round flight) old).prospect
     came_sound k place None is = tt
-    came_sound k place (Some flight) is = at (is_due setting.round flight)
-      where
-        at : (due : Bool)
-            → IsSoundProspect setting.net setting.inputs old
-            (deliver_plan setting.net place (bytes_when due flight.packet) old).prospect
-        at false = tt
-        at true =
-            told_sound flight.packet k
-            (arrives_sound setting.net setting.inputs setting.traffic k place flight.packet sure.traffic
-            (ap (option_map (λ (f : Flight). f.packet)) is))
-            (packet_for setting.net old.number flight.packet) refl
+    came_sound k place (Some flight) is =
+        elim (is_due setting.round flight) as (λ due. IsSoundProspect setting.net setting.inputs old
+        (deliver_plan setting.net place (bytes_when due flight.packet) old).prospect) [
+          | false ↦ tt
+          | true ↦ told_sound flight.packet k
+              (arrives_sound setting.net setting.inputs setting.traffic k place flight.packet sure.traffic
+              (ap (option_map (λ (f : Flight). f.packet)) is)) (packet_for setting.net old.number flight.packet) refl
+        ]
 
     -- ---- it begins, and decides
+
+    unless_spent_keeps : (less : Bool) (prospect : Prospect) → ProspectKeeps setting.net setting.inputs old prospect
+        → ProspectKeeps setting.net setting.inputs old (unless_spent false less prospect)
+    unless_spent_keeps true prospect keeps = keeps
+    unless_spent_keeps false prospect keeps = tt
 
     begins_sound : IsSoundProspect setting.net setting.inputs old (start_prospect setting.net old.number old.node)
     begins_sound =
         whole_prospect setting.net setting.inputs old.number old (start_prospect setting.net old.number old.node)
         (keeps_if_due setting.net setting.inputs old (may_start old.node) _
-        (λ due. by due (nat_lt (highest_seen old.number old.node.kept) MAX_COUNT)))
+        (λ due. unless_spent_keeps (nat_lt (highest_seen old.number old.node.kept) MAX_COUNT) _
+        (start_keeps setting.net setting.inputs old sound.inv sure.valid due _ [])))
         (begins_said setting.net setting.inputs sure.valid old sound.inv sound.named sound.below sound.joined)
-      where
-        by : may_start old.node ≡ true → (less : Bool)
-            → ProspectKeeps setting.net setting.inputs old
-            (unless_spent false less (Planned (record {
-              node = begun setting.net old.number old.node;
-              puts = true;
-              grows = true;
-              packets = live_asks setting.net old.number (live_in (begun setting.net old.number old.node).mode);
-              refused = [];
-            })))
-        by due false = tt
-        by due true = start_keeps setting.net setting.inputs old sound.inv sure.valid due _ []
 
     decides_sound : IsSoundProspect setting.net setting.inputs old (decide_prospect old.number old.node)
     decides_sound =
@@ -284,9 +215,7 @@ module _ (setting : Setting) (sure : IsSoundSetting setting) (old : StationView)
         sound_becoming setting.net setting.inputs (with_armed fault.call rounds old.node) old
         (moved_keeps setting.net setting.inputs (with_armed fault.call rounds old.node) old.failures old.turns old
         sound.inv.kept sound.inv.runs) refl
-    deed_sound k event.Idle =
-        sound_becoming setting.net setting.inputs old.node old
-        (moved_keeps setting.net setting.inputs old.node old.failures old.turns old sound.inv.kept sound.inv.runs) refl
+    deed_sound k event.Idle = idle_sound
 
 deed_sends : (setting : Setting) (k : ℕ) (deed : Deed) (station : StationView) (came : Outcome)
     → is_down station.node.mode ≡ true → packets_by (plan_of setting k deed station).prospect came ≡ []
@@ -294,16 +223,12 @@ deed_sends setting k (event.Deliver place) station came down =
     down_hears setting.net place (due_bytes setting.round (flight_at setting k place)) station came down
 deed_sends setting k event.Grant station came down =
     grant_sends (node_job setting.net setting.inputs setting.rooms station.node) station.node came
-deed_sends setting k event.Send station came down = undue_sends (not (is_down station.node.mode)) _ came (ap not down)
-deed_sends setting k event.Start station came down =
-    undue_sends (may_start station.node) _ came (down_start station.node down)
-deed_sends setting k event.Decide station came down =
-    undue_sends (may_decide station.number station.node.kept (live_in station.node.mode)) _ came
-    (down_decides station.number station.node down)
+deed_sends setting k event.Send station came down = rw down refl
+deed_sends setting k event.Start station came down = rw (down_start station.node down) refl
+deed_sends setting k event.Decide station came down = rw (down_decides station.number station.node down) refl
 deed_sends setting k (event.Crash fill rounds) station came down =
     crash_sends (round_later setting.round rounds) station.node came
-deed_sends setting k event.Recover station came down =
-    recover_sends setting.net station.number station.node came
+deed_sends setting k event.Recover station came down = recover_sends setting.net station.number station.node came
 deed_sends setting k (event.Arm fault rounds) station came down =
     becoming_sends (with_armed fault.call rounds station.node) came
 deed_sends setting k event.Idle station came down = becoming_sends station.node came
@@ -319,6 +244,4 @@ module _ (setting : Setting) (flying : TrafficIsSound setting.net setting.inputs
 pub only_nodes_that_are_up_send : OnlyNodesThatAreUpSend
 only_nodes_that_are_up_send setting (ByNode k deed) came station down =
     ap (map sending_of) (deed_sends setting k deed station came down)
-only_nodes_that_are_up_send setting (Install done) came station down = refl
-only_nodes_that_are_up_send setting (Release k) came station down = refl
-only_nodes_that_are_up_send setting (ByNetwork k place act) came station down = refl
+only_nodes_that_are_up_send setting event came station down = refl

@@ -1,11 +1,10 @@
 -- A station before its first event: nothing was done, and nothing has left.
-use Rattle.std.proofs.Common.{◌≡◌, ℕ, zero, suc, ◌+◌, ◌≤◌, ◌&&◌, Bool, true, false, eqb, cond, ℤ, List, [], ◌∷◌, length}
-use Rattle.std.proofs.Common.{take, map, Some, option_map, refl, sym, ap, subst, ◌∙◌, arith}
+use Rattle.std.proofs.Common.{◌≡◌, ℕ, zero, suc, ◌+◌, ◌≤◌, Bool, true, false, eqb, cond, ℤ, List, [], ◌∷◌, length}
+use Rattle.std.proofs.Common.{map, Some, option_map, refl, sym, ap, ◌∙◌, arith, add-zero}
 use Rattle.std.specs.Prelude.{slice_get, find, filter}
 use Rattle.protocol.specs.Node.Common.{numbers_where, port_on, approximation, Fits, node_count, IsValid, Network}
 use Rattle.protocol.specs.Node.Common.{MAX_NODES, Channel, log_at, base_in, base_of, opening_ends, opening_image}
-use Rattle.protocol.specs.Node.Common.{SavedEnd, AreInOrder, RunningNode, IsPrefix}
-use Rattle.protocol.specs.Node.Layout.{channel_on}
+use Rattle.protocol.specs.Node.Common.{SavedEnd, AreInOrder}
 use Rattle.protocol.specs.Node.Opening.{opening_end, opening_running}
 use Rattle.protocol_laws.specs.Node.ImageLaws.{map_got}
 use Rattle.protocol_laws.specs.Node.PlaceLaws.{nodes_few}
@@ -13,7 +12,7 @@ use Rattle.protocol_laws.specs.Node.SizeLaws.{opening_within}
 use Rattle.protocol_laws.specs.Node.OpeningLaws.{reached_opening, laid_out_opening, counts_opening, logs_opening}
 use Rattle.protocol_laws.specs.Node.OpeningLaws.{links_opening, inboxes_opening}
 use Rattle.protocol.specs.World.Common.{output_of, outputs_of, RunsSoundly, StationInvariant, WorldInvariant}
-use Rattle.protocol.specs.World.Common.{opening_world, OutputView, OutletView, StationView, goes_outside, is_output}
+use Rattle.protocol.specs.World.Common.{opening_world, OutputView, OutletView, StationView, is_output}
 use Rattle.protocol.specs.World.Common.{output_channels, outputs_on, HasCome, IsSound}
 use Rattle.protocol_laws.specs.World.OrderLaws.{behind_itself}
 use Rattle.protocol_laws.specs.World.OutputLaws.{map_at}
@@ -23,7 +22,6 @@ use Rattle.protocol.specs.World.RecordSound.{ImageIsSound}
 use Rattle.protocol_laws.specs.World.TrafficLaws.{traffic_opened}
 use Rattle.protocol_laws.specs.World.RecordLaws.{record_of}
 use Rattle.protocol.specs.World.OpeningWorld.{opening_outlet, outlets_on, opening_station, stations_from}
-use Rattle.protocol.specs.World.Sound.{leaves_from}
 
 -- nothing has left of any output
 abbrev pub NothingLeft : List OutputView → Type 0
@@ -31,9 +29,7 @@ NothingLeft outputs = (j : ℕ) (output : OutputView) → slice_get outputs j �
 
 -- no log begins later than at the first item
 end_begins : (puts gets : Bool) → base_in (log_at (Some (opening_end puts gets))) ≡ 0
-end_begins true true = refl
-end_begins true false = refl
-end_begins false gets = refl
+end_begins puts gets = grind arith
 
 begins_from : (net : Network) (home number c : ℕ) (channels : List Channel)
     → base_in
@@ -41,29 +37,9 @@ begins_from : (net : Network) (home number c : ℕ) (channels : List Channel)
     (find (λ (s : SavedEnd). eqb s.channel c) (opening_ends net home number channels)))) ≡ 0
 begins_from net home number c [] = refl
 begins_from net home number c (x ∷ channels) =
-    at (channel_on net home (Some x)) (eqb number c) (begins_from net home (suc number) c channels)
-  where
-    at : (a b : Bool)
-        → base_in
-        (log_at (option_map (λ (s : SavedEnd). s.end)
-        (find (λ (s : SavedEnd). eqb s.channel c) (opening_ends net home (suc number) channels)))) ≡ 0
-        → base_in (log_at (option_map (λ (s : SavedEnd). s.end) (find (λ (s : SavedEnd). eqb s.channel c)
-        (cond a (record
-        { channel = number; end = opening_end (port_on net home x.producer) (port_on net home x.consumer) }
-        ∷ opening_ends net home (suc number) channels) (opening_ends net home (suc number) channels))))) ≡ 0
-    at false b later = later
-    at true b later = by_number (eqb number c)
-      where
-        by_number : (b : Bool)
-            → base_in
-            (log_at (option_map (λ (s : SavedEnd). s.end)
-            (cond b (Some
-            (record {
-              channel = number;
-              end = opening_end (port_on net home x.producer) (port_on net home x.consumer);
-            })) (find (λ (s : SavedEnd). eqb s.channel c) (opening_ends net home (suc number) channels))))) ≡ 0
-        by_number true = end_begins (port_on net home x.producer) (port_on net home x.consumer)
-        by_number false = later
+    let rest = begins_from net home (suc number) c channels in
+    let here = end_begins (port_on net home x.producer) (port_on net home x.consumer) in
+    grind (arith, rest, here)
 
 module _ (net : Network) (inputs : List (List ℤ)) (nodes number : ℕ) (outputs : List OutputView) where
   no_base : (c : ℕ) → base_of (opening_image net number) c ≡ 0
@@ -74,11 +50,8 @@ module _ (net : Network) (inputs : List (List ℤ)) (nodes number : ℕ) (output
     reached = reached_opening net inputs nodes number;
     inboxes = inboxes_opening net number (approximation net inputs (reached_opening net inputs nodes number).n);
     out = λ job is. absurd (cc);
-    released = λ j p output channel is on from. nothing output.taken _ (none j output is);
+    released = λ j p output channel is on from. rw (none j output is) refl;
   }
-    where
-      nothing : (taken whole : List ℤ) → taken ≡ [] → IsPrefix taken whole
-      nothing taken whole e = e ∙ ap (λ (t : List ℤ). take (length t) whole) (sym e)
 
   pub sound_opened : map (λ (output : OutputView). output.channel) outputs ≡ outputs_on net number
       → NothingLeft outputs → IsSound net inputs (opening_running net nodes number) outputs
@@ -87,8 +60,7 @@ module _ (net : Network) (inputs : List (List ℤ)) (nodes number : ℕ) (output
     kept = record {
       laid_out = laid_out_opening net number;
       counts = counts_opening net number inputs;
-      logs =
-          logs_opening net number;
+      logs = logs_opening net number;
       links = links_opening net nodes number;
     };
     covered = λ j output is. (
@@ -104,8 +76,7 @@ order_opened : (net : Network) (nodes number : ℕ)
 order_opened net nodes number =
     record {
       current_ahead = behind_itself (opening_image net number);
-      held_ahead =
-          λ held is. absurd (cc);
+      held_ahead = λ held is. absurd (cc);
       held_behind = λ held is. absurd (cc);
     }
 
@@ -119,12 +90,6 @@ image_opened net inputs number outputs = record {
   no_gap = λ j output is. (let base = no_base net inputs 1 number outputs output.channel in omega (arith, base));
 }
 
-opens_soundly : (net : Network) (inputs : List (List ℤ)) (nodes number : ℕ) (outputs : List OutputView)
-    → map (λ (output : OutputView). output.channel) outputs ≡ outputs_on net number → NothingLeft outputs
-    → RunsSoundly net inputs (opening_running net nodes number) outputs
-opens_soundly net inputs nodes number outputs listed none =
-    record { order = order_opened net nodes number; sound = sound_opened net inputs nodes number outputs listed none }
-
 station_opened : (net : Network) (inputs : List (List ℤ)) (nodes number failures : ℕ) (outlets : List OutletView)
     → IsValid net → nodes ≤ MAX_NODES
     → map (λ (output : OutputView). output.channel) (outputs_of outlets) ≡ outputs_on net number
@@ -134,13 +99,14 @@ station_opened net inputs nodes number failures outlets valid few listed none = 
   kept = record_of net inputs (outputs_of outlets) (opening_running net nodes number) (omega arith)
       (opening_within net nodes number valid few) (image_opened net inputs number (outputs_of outlets))
       (λ tentative is. absurd (cc)) runs.order runs.sound;
-  runs = λ node
-      is. (let same : opening_running net nodes number ≡ node = cc in
-      subst (λ (n : RunningNode). RunsSoundly net inputs n (outputs_of outlets)) same runs);
+  runs = λ node is. (let same : opening_running net nodes number ≡ node = cc in rw (← same) runs);
 }
   where
     runs : RunsSoundly net inputs (opening_running net nodes number) (outputs_of outlets)
-    runs = opens_soundly net inputs nodes number (outputs_of outlets) listed none
+    runs = record {
+      order = order_opened net nodes number;
+      sound = sound_opened net inputs nodes number (outputs_of outlets) listed none;
+    }
 
 -- The outlets of one node
 
@@ -149,19 +115,9 @@ channels_on : (net : Network) (home : ℕ) (outlets : List OutletView)
     → map (λ (output : OutputView). output.channel) (outputs_of (outlets_on net home outlets))
     ≡ filter (is_output net home) (map (λ (output : OutputView). output.channel) (outputs_of outlets))
 channels_on net home [] = refl
-channels_on net home (x ∷ outlets) = at (is_output net home x.channel) (channels_on net home outlets)
-  where
-    at : (b : Bool)
-        → map (λ (output : OutputView). output.channel) (outputs_of (outlets_on net home outlets))
-        ≡ filter (is_output net home) (map (λ (output : OutputView). output.channel) (outputs_of outlets))
-        → map (λ (output : OutputView). output.channel)
-        (outputs_of (cond b (x ∷ outlets_on net home outlets) (outlets_on net home outlets)))
-        ≡ cond b
-        (x.channel
-        ∷ filter (is_output net home) (map (λ (output : OutputView). output.channel) (outputs_of outlets)))
-        (filter (is_output net home) (map (λ (output : OutputView). output.channel) (outputs_of outlets)))
-    at true rest = ap (λ (numbers : List ℕ). x.channel ∷ numbers) rest
-    at false rest = rest
+channels_on net home (x ∷ outlets) =
+    let rest = channels_on net home outlets in
+    grind (arith, rest)
 
 -- and of all outputs those are, in order
 outputs_are : (net : Network) (home number : ℕ) (channels : List Channel)
@@ -170,45 +126,17 @@ outputs_are : (net : Network) (home number : ℕ) (channels : List Channel)
     ≡ numbers_where (is_output net home) number (length channels)
 outputs_are net home number [] all = refl
 outputs_are net home number (x ∷ channels) all =
-    at (goes_outside x.consumer) refl
-    (outputs_are net home (suc number) channels
-    (λ j. (let sum : suc number + j ≡ number + suc j = omega arith in
-    ap (slice_get net.channels) sum ∙ all (suc j))))
-  where
-    test : is_output net home number ≡ (goes_outside x.consumer && port_on net home x.producer)
-    test = (let sum : number ≡ number + 0 = omega arith in
-        ap (leaves_from net home) (ap (slice_get net.channels) sum ∙ all 0))
-
-    at : (b : Bool) → goes_outside x.consumer ≡ b
-        → filter (is_output net home) (output_channels (suc number) channels)
-        ≡ numbers_where (is_output net home) (suc number) (length channels)
-        → filter (is_output net home)
-        (cond b (number ∷ output_channels (suc number) channels) (output_channels (suc number) channels))
-        ≡ cond (is_output net home number) (number ∷ numbers_where (is_output net home) (suc number) (length channels))
-        (numbers_where (is_output net home) (suc number) (length channels))
-    at false stays rest =
-        rest ∙ ap
-        (λ (b : Bool). cond b (number ∷ numbers_where (is_output net home) (suc number) (length channels))
-        (numbers_where (is_output net home) (suc number) (length channels)))
-        (sym (test ∙ ap (λ (b : Bool). b && port_on net home x.producer) stays))
-    at true goes rest = by (is_output net home number)
-      where
-        by : (b : Bool)
-            → cond b (number ∷ filter (is_output net home) (output_channels (suc number) channels))
-            (filter (is_output net home) (output_channels (suc number) channels))
-            ≡ cond b (number ∷ numbers_where (is_output net home) (suc number) (length channels))
-            (numbers_where (is_output net home) (suc number) (length channels))
-        by true = ap (λ (numbers : List ℕ). number ∷ numbers) rest
-        by false = rest
+    let rest = outputs_are net home (suc number) channels
+    (λ j. (let sum : suc number + j ≡ number + suc j = omega arith in rw sum (all (suc j)))) in
+    let here = rw add-zero at (all 0) in
+    grind (arith, rest, here)
 
 own_listed : (net : Network) (home : ℕ) (outlets : List OutletView)
     → map (λ (output : OutputView). output.channel) (outputs_of outlets) ≡ output_channels 0 net.channels
     → map (λ (output : OutputView). output.channel) (outputs_of (outlets_on net home outlets)) ≡ outputs_on net home
 own_listed net home outlets listed =
-    channels_on net home outlets
-    ∙ (ap (filter (is_output net home)) listed
-    ∙ outputs_are net home 0 net.channels
-    (λ j. (let sum : 0 + j ≡ j = omega arith in ap (slice_get net.channels) sum)))
+    rw (channels_on net home outlets, listed)
+    (outputs_are net home 0 net.channels (λ j. (let sum : 0 + j ≡ j = omega arith in rw sum refl)))
 
 -- what passes a test stands in the whole list
 filter_from : {A : Type 0} (test : A → Bool) (xs : List A) (j : ℕ) (x : A) → slice_get (filter test xs) j ≡ Some x
@@ -240,11 +168,11 @@ station_from net nodes number [] outlets i station is = absurd (cc)
 station_from net nodes number (before ∷ failures) outlets zero station is =
     let same : opening_station net nodes number before (outlets_on net number outlets) ≡ station = cc in
     let sum : number ≡ number + 0 = omega arith in
-    (before, sym same ∙ ap (λ (n : ℕ). opening_station net nodes n before (outlets_on net n outlets)) sum)
+    (before, rw (← sum) (sym same))
 station_from net nodes number (before ∷ failures) outlets (suc i) station is =
     let rest = station_from net nodes (suc number) failures outlets i station is in
     let sum : suc number + i ≡ number + suc i = omega arith in
-    (rest.0, rest.1 ∙ ap (λ (n : ℕ). opening_station net nodes n rest.0 (outlets_on net n outlets)) sum)
+    (rest.0, rw (← sum) rest.1)
 
 count_from : (net : Network) (nodes number : ℕ) (failures : List ℕ) (outlets : List OutletView)
     → length (stations_from net nodes number failures outlets) ≡ length failures
@@ -261,35 +189,22 @@ world_opened net inputs failures outlets valid fits each listed none = record {
   valid = valid;
   fits = fits;
   count = count_from net (node_count net) 0 failures (map opening_outlet outlets) ∙ each;
-  numbered =
-      λ i station is. numbered i station
-      (station_from net (node_count net) 0 failures (map opening_outlet outlets) i station is);
+  numbered = λ i station is. (let r = opens i station is in (rw r.1 refl, rw r.1 refl));
   traffic = traffic_opened net inputs;
   joined = λ i station is. opening_is_joined net failures (map opening_outlet outlets) i station is;
   run = opening_has_run net failures (map opening_outlet outlets)
       (λ i outlet is. none i (output_of outlet) (map_at output_of (map opening_outlet outlets) i outlet is));
-  stations =
-      λ i station is. at i station
-      (station_from net (node_count net) 0 failures (map opening_outlet outlets) i station is);
+  stations = λ i station is. (let r = opens i station is in
+      rw r.1 (station_opened net inputs (node_count net) i r.0 (outlets_on net i (map opening_outlet outlets)) valid
+      (nodes_few net valid) (own_listed net i (map opening_outlet outlets) listed)
+      (own_nothing net i (map opening_outlet outlets) none)));
 }
   where
-    numbered : (i : ℕ) (station : StationView)
+    opens : (i : ℕ) (station : StationView)
+        → slice_get (stations_from net (node_count net) 0 failures (map opening_outlet outlets)) i ≡ Some station
         → (before : ℕ)
-        × (station
-        ≡ opening_station net (node_count net) (0 + i) before (outlets_on net (0 + i) (map opening_outlet outlets)))
-        → (station.number ≡ i) × (station.node.kept.node ≡ i)
-    numbered i station r =
+        × (station ≡ opening_station net (node_count net) i before (outlets_on net i (map opening_outlet outlets)))
+    opens i station is =
+        let r = station_from net (node_count net) 0 failures (map opening_outlet outlets) i station is in
         let sum : 0 + i ≡ i = omega arith in
-        (ap (λ (s : StationView). s.number) r.1 ∙ sum, ap (λ (s : StationView). s.node.kept.node) r.1 ∙ sum)
-
-    at : (i : ℕ) (station : StationView)
-        → (before : ℕ)
-        × (station
-        ≡ opening_station net (node_count net) (0 + i) before (outlets_on net (0 + i) (map opening_outlet outlets)))
-        → StationInvariant net inputs station
-    at i station r =
-        subst (StationInvariant net inputs) (sym r.1)
-        (station_opened net inputs (node_count net) (0 + i) r.0 (outlets_on net (0 + i) (map opening_outlet outlets))
-        valid (nodes_few net valid)
-        (own_listed net (0 + i) (map opening_outlet outlets) listed)
-        (own_nothing net (0 + i) (map opening_outlet outlets) none))
+        (r.0, rw sum at r.1)

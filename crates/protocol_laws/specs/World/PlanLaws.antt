@@ -1,23 +1,22 @@
 -- Laws of deeds: what a plan makes of a sound station is sound, and what follows of it however it comes out.
-use Rattle.std.proofs.Common.{◌≡◌, ◌⊎◌, inl, inr, ⊎_elim, ℕ, ◌<◌, ◌&&◌, Bool, true, false, cond, List, ℤ, [], Option}
-use Rattle.std.proofs.Common.{Some}
-use Rattle.std.proofs.Common.{None, refl, sym, ap, subst, ◌∙◌, All}
+use Rattle.std.proofs.Common.{◌≡◌, ◌⊎◌, inl, inr, ℕ, ◌<◌, ◌&&◌, Bool, true, false, List, ℤ, [], Option, Some, None}
+use Rattle.std.proofs.Common.{refl, sym, ap, All, arith}
 use Rattle.std.proofs.lemmas.List.Elements.{All-nil}
-use Rattle.protocol.specs.Node.Common.{Network, MAX_COUNT, Packet, with_epoch, RecordView, Tentative}
-use Rattle.protocol.specs.Node.Common.{JobView, NodeView, ModeView, Down, InDoubt, Runs, RunningView, RunningNode}
-use Rattle.protocol.specs.Node.Common.{running_node, running_in, running_of, on_mode, Plan, Prospect, Undue}
-use Rattle.protocol.specs.Node.Common.{Exhausted, Planned, becoming, if_due, unless_spent, IsCarriedOut, IsMade}
-use Rattle.protocol.specs.Node.Common.{next_record, restored, granted, grant_prospect, next_job, node_job}
-use Rattle.protocol.specs.Node.Common.{with_grant, crashed, is_running, with_kept, IsBehind}
-use Rattle.protocol.specs.Node.Plans.{HasFailedAt, IsHeldUp, plan_record}
+use Rattle.protocol.specs.Node.Common.{Network, MAX_COUNT, Packet, with_epoch, RecordView, Tentative, JobView, NodeView}
+use Rattle.protocol.specs.Node.Common.{ModeView, Runs, RunningView, RunningNode, running_node, running_in, running_of}
+use Rattle.protocol.specs.Node.Common.{on_mode, Plan, Prospect, Undue, Exhausted, Planned, becoming, if_due}
+use Rattle.protocol.specs.Node.Common.{unless_spent, IsCarriedOut, IsMade, next_record, restored, granted}
+use Rattle.protocol.specs.Node.Common.{grant_prospect, next_job, node_job, with_grant, crashed, is_running, with_kept}
+use Rattle.protocol.specs.Node.Common.{IsBehind}
+use Rattle.protocol.specs.Node.Plans.{IsHeldUp, plan_record}
 use Rattle.protocol.specs.Node.Recovering.{restored_running, restored_with}
 use Rattle.protocol_laws.specs.Node.RestoreLaws.{restored_begin}
 use Rattle.protocol.specs.declared.outcome.Outcome.{Outcome}
 use Rattle.protocol.specs.declared.outcome.Outcome.TheVariants as outcome
 use Rattle.protocol.specs.declared.outcome.Refusal.TheVariants.{TooLarge, Spent}
 use Rattle.protocol.specs.declared.round_turns.RoundTurns.{RoundTurns}
-use Rattle.protocol.specs.World.Common.{outputs_of, RunsSoundly, StationInvariant}
-use Rattle.protocol.specs.World.Common.{OutputView, RecordIsSound, StationView, moved_to}
+use Rattle.protocol.specs.World.Common.{outputs_of, RunsSoundly, StationInvariant, OutputView, RecordIsSound}
+use Rattle.protocol.specs.World.Common.{StationView, moved_to}
 use Rattle.protocol.specs.Node.Choosing.{after_grant, job_at}
 use Rattle.protocol_laws.specs.Join.Sayable.{ProspectSays}
 use Rattle.protocol_laws.specs.Join.Spelled.{all_sendable}
@@ -59,20 +58,14 @@ IsSoundProspect net inputs old (Planned plan) = IsSoundPlan net inputs old plan
 pub ran : (kept : RecordView) (version : ℕ) (change : RunningView → RunningView) (mode : ModeView) (node : RunningNode)
     → running_in kept version (on_mode change mode) ≡ Some node
     → (running : RunningView) × (mode ≡ Runs running) × (running_node kept version (change running) ≡ node)
-ran kept version change Down node is = absurd (cc)
-ran kept version change InDoubt node is = absurd (cc)
-ran kept version change (Runs running) node is =
-    (running, refl, (let same : running_node kept version (change running) ≡ node = cc in same))
+ran kept version change mode node is = grind arith
 
 -- one that may start or decide runs
 pub runs_now : (mode : ModeView) → is_running mode ≡ true → (running : RunningView) × (mode ≡ Runs running)
-runs_now Down is = absurd (cc)
-runs_now InDoubt is = absurd (cc)
-runs_now (Runs running) is = (running, refl)
+runs_now mode is = grind arith
 
 pub first_true : (a b : Bool) → (a && b) ≡ true → a ≡ true
-first_true true b is = refl
-first_true false b is = absurd (cc)
+first_true a b is = grind arith
 
 module _ (net : Network) (inputs : List (List ℤ)) where
   pub moved_keeps : (node : NodeView) (failures : ℕ) (turns : RoundTurns) (old : StationView)
@@ -83,7 +76,7 @@ module _ (net : Network) (inputs : List (List ℤ)) where
 
   pub same_keeps : (old new : StationView) → new ≡ old → StationInvariant net inputs old
       → StationInvariant net inputs new
-  same_keeps old new same inv = subst (StationInvariant net inputs) (sym same) inv
+  same_keeps old new same inv = rw same inv
 
   -- one that is down, with a sound record
   pub down_keeps : (restart : ℕ) (node : NodeView) (failures : ℕ) (turns : RoundTurns) (old : StationView)
@@ -100,19 +93,38 @@ module _ (net : Network) (inputs : List (List ℤ)) where
 
   -- ---- plans
 
+  -- where the record stays, and the node runs soundly with it
+  pub keeps_still : (node : NodeView) (packets refused : List Packet) (old : StationView)
+      → StationInvariant net inputs (moved_to node old.failures old.turns old) → node.kept ≡ old.node.kept
+      → KeepsStation net inputs old
+      (record { node = node; puts = false; grows = false; packets = packets; refused = refused })
+  keeps_still node packets refused old keeps same = record {
+    keeps = keeps;
+    stays = λ none. same;
+    same_node = rw same refl;
+    ahead = rw same (behind_itself old.node.kept.permanent);
+  }
+
+  -- and what the packets of a plan are
+  pub whole_plan : (old : StationView) (plan : Plan) → KeepsStation net inputs old plan
+      → All (IsSendable net inputs) plan.packets → All (IsSendable net inputs) plan.refused
+      → IsSoundPlan net inputs old plan
+  whole_plan old plan keeps sendable refusable = record {
+    keeps = keeps.keeps;
+    stays = keeps.stays;
+    same_node = keeps.same_node;
+    ahead = keeps.ahead;
+    sendable = sendable;
+    refusable = refusable;
+  }
+
   -- a node afterwards with the same record
   pub sound_becoming : (node : NodeView) (old : StationView)
       → StationInvariant net inputs (moved_to node old.failures old.turns old) → node.kept ≡ old.node.kept
       → IsSoundProspect net inputs old (becoming node)
-  sound_becoming node old keeps same = record {
-    keeps = keeps;
-    stays = λ none. same;
-    same_node = ap (λ (r : RecordView). r.node) same;
-    ahead = subst (λ (r : RecordView). IsBehind old.node.kept.permanent r.permanent) (sym same)
-        (behind_itself old.node.kept.permanent);
-    sendable = All-nil (IsSendable net inputs);
-    refusable = All-nil (IsSendable net inputs);
-  }
+  sound_becoming node old keeps same =
+      whole_plan old _ (keeps_still node [] [] old keeps same) (All-nil (IsSendable net inputs))
+      (All-nil (IsSendable net inputs))
 
   pub sound_if_due : (old : StationView) (due : Bool) (prospect : Prospect)
       → (due ≡ true → IsSoundProspect net inputs old prospect) → IsSoundProspect net inputs old (if_due due prospect)
@@ -130,46 +142,18 @@ module _ (net : Network) (inputs : List (List ℤ)) where
   keeps_if_due old true prospect keeps = keeps refl
   keeps_if_due old false prospect keeps = tt
 
-  -- where the record stays, and the node runs soundly with it
-  pub keeps_still : (node : NodeView) (packets refused : List Packet) (old : StationView)
-      → StationInvariant net inputs (moved_to node old.failures old.turns old) → node.kept ≡ old.node.kept
-      → KeepsStation net inputs old
-      (record { node = node; puts = false; grows = false; packets = packets; refused = refused })
-  keeps_still node packets refused old keeps same = record {
-    keeps = keeps;
-    stays = λ none. same;
-    same_node = ap (λ (r : RecordView). r.node) same;
-    ahead = subst (λ (r : RecordView). IsBehind old.node.kept.permanent r.permanent) (sym same)
-        (behind_itself old.node.kept.permanent);
-  }
-
-  -- and what the packets of a plan are
-  pub whole_plan : (old : StationView) (plan : Plan) → KeepsStation net inputs old plan
-      → All (IsSendable net inputs) plan.packets → All (IsSendable net inputs) plan.refused
-      → IsSoundPlan net inputs old plan
-  whole_plan old plan keeps sendable refusable = record {
-    keeps = keeps.keeps;
-    stays = keeps.stays;
-    same_node = keeps.same_node;
-    ahead = keeps.ahead;
-    sendable = sendable;
-    refusable = refusable;
-  }
-
   pub whole_prospect : (home : ℕ) (old : StationView) (prospect : Prospect) → ProspectKeeps net inputs old prospect
       → ProspectSays net inputs home prospect → IsSoundProspect net inputs old prospect
-  whole_prospect home old Undue keeps says = tt
-  whole_prospect home old (Exhausted looks) keeps says = tt
   whole_prospect home old (Planned plan) keeps says =
       whole_plan old plan keeps (all_sendable net inputs plan.packets says.sendable)
       (all_sendable net inputs plan.refused says.refusable)
+  whole_prospect home old _ keeps says = tt
 
   -- ---- a job that is granted
 
   after_grant_is : (kept : RecordView) (version : ℕ) (job : Option JobView) (running : RunningView)
       → running_node kept version (granted job running) ≡ after_grant job (running_node kept version running)
-  after_grant_is kept version None running = refl
-  after_grant_is kept version (Some job) running = refl
+  after_grant_is kept version job running = grind arith
 
   grant_keeps : (rooms : List ℕ) (old : StationView) → StationInvariant net inputs old
       → StationInvariant net inputs
@@ -187,12 +171,10 @@ module _ (net : Network) (inputs : List (List ℤ)) where
           let sound = runs_at old inv before.0 before.1 in
           let next : next_job net inputs rooms node ≡ job =
           sym (ap (λ (m : ModeView). job_at net inputs rooms (running_in old.node.kept old.node.version m)) before.1) in
-          subst (λ (n : RunningNode). RunsSoundly net inputs n (outputs_of old.outlets))
-          (sym (after_grant_is old.node.kept old.node.version job before.0) ∙ before.2)
+          rw (← before.2, after_grant_is old.node.kept old.node.version job before.0)
           (record {
             order = order_granted job node sound.order;
-            sound =
-                granted_sound net inputs (outputs_of old.outlets) rooms job node next sound.sound;
+            sound = granted_sound net inputs (outputs_of old.outlets) rooms job node next sound.sound;
           })
 
   pub grant_sound : (rooms : List ℕ) (old : StationView) → StationInvariant net inputs old
@@ -203,9 +185,7 @@ module _ (net : Network) (inputs : List (List ℤ)) where
           → IsSoundProspect net inputs old (grant_prospect job old.node)
       at None is = tt
       at (Some job) is =
-          sound_becoming (with_grant (Some job) old.node) old
-          (subst (λ (o : Option JobView). StationInvariant net inputs
-          (moved_to (with_grant o old.node) old.failures old.turns old)) is (grant_keeps rooms old inv)) refl
+          sound_becoming (with_grant (Some job) old.node) old (rw (← is) (grant_keeps rooms old inv)) refl
 
   -- ---- a recovery
 
@@ -218,7 +198,7 @@ module _ (net : Network) (inputs : List (List ℤ)) where
       → kept.tentative ≡ None → RecordIsSound net inputs kept outputs
       → RunsSoundly net inputs (running_node kept version (restored_running net home kept)) outputs
   restored_runs home version kept outputs named free sound =
-      subst (λ (h : ℕ). RunsSoundly net inputs (running_node kept version (restored_running net h kept)) outputs) named
+      rw (← named)
       (restarts_soundly net inputs outputs kept version (restored_running net kept.node kept).inboxes
       (restored_running net kept.node kept).outboxes (restored_begin net kept.node kept) free sound)
 
@@ -236,8 +216,7 @@ module _ (net : Network) (inputs : List (List ℤ)) where
       at None free run is =
           let same : running_node (with_epoch old.node.kept) old.node.version
           (restored_running net home (with_epoch old.node.kept)) ≡ run = cc in
-          subst (λ (n : RunningNode). RunsSoundly net inputs n (outputs_of old.outlets)) same
-          (restored_runs home old.node.version (with_epoch old.node.kept) (outputs_of old.outlets) named free
+          rw (← same) (restored_runs home old.node.version (with_epoch old.node.kept) (outputs_of old.outlets) named free
           (epoch_kept old below inv))
 
   pub back_sound : (old : StationView) → old.node.kept.node ≡ old.number → old.node.kept.epoch < MAX_COUNT
@@ -258,61 +237,33 @@ module _ (net : Network) (inputs : List (List ℤ)) where
 module _ (net : Network) (inputs : List (List ℤ)) (old : StationView) where
   -- the record afterwards is the one that is put, or the one of before
   record_is : (plan : Plan) → IsSoundPlan net inputs old plan → plan.node.kept ≡ plan_record plan old.node.kept
-  record_is plan sound = at plan.puts refl
-    where
-      at : (b : Bool) → plan.puts ≡ b → plan.node.kept ≡ cond b plan.node.kept old.node.kept
-      at true is = refl
-      at false is = sound.stays is
+  record_is plan sound = (let stays = sound.stays in grind (arith, stays))
 
   -- so of the next one is known what is known of a plan's
-  next_by : (P : RecordView → Type 0) → P old.node.kept → (prospect : Prospect)
-      → IsSoundProspect net inputs old prospect → ((plan : Plan) → IsSoundPlan net inputs old plan → P plan.node.kept)
-      → P (next_record prospect old.node.kept)
-  next_by P was Undue sound of_plan = was
-  next_by P was (Exhausted looks) sound of_plan = was
-  next_by P was (Planned plan) sound of_plan = subst P (record_is plan sound) (of_plan plan sound)
-
   pub next_record_node : (prospect : Prospect) → IsSoundProspect net inputs old prospect
       → (next_record prospect old.node.kept).node ≡ old.node.kept.node
-  next_record_node prospect sound =
-      next_by (λ (r : RecordView). r.node ≡ old.node.kept.node) refl prospect sound (λ plan is. is.same_node)
+  next_record_node (Planned plan) sound = rw (← record_is plan sound) sound.same_node
+  next_record_node _ sound = refl
 
   pub next_record_ahead : (prospect : Prospect) → IsSoundProspect net inputs old prospect
       → IsBehind old.node.kept.permanent (next_record prospect old.node.kept).permanent
-  next_record_ahead prospect sound =
-      next_by (λ (r : RecordView). IsBehind old.node.kept.permanent r.permanent)
-      (behind_itself old.node.kept.permanent) prospect sound (λ plan is. is.ahead)
+  next_record_ahead (Planned plan) sound = rw (← record_is plan sound) sound.ahead
+  next_record_ahead _ sound = behind_itself old.node.kept.permanent
 
   -- the record that is kept in the end is the one of before or the next one
-  failed_kept : (restart : ℕ) (next : RecordView) (node : NodeView) → HasFailedAt restart next old.node node
-      → (node.kept ≡ old.node.kept) ⊎ (node.kept ≡ next)
-  failed_kept restart next node (inl same) = inl (ap (λ (n : NodeView). n.kept) same)
-  failed_kept restart next node (inr same) = inr (ap (λ (n : NodeView). n.kept) same)
-
   carried_kept : (restart : ℕ) (plan : Plan) (outcome : Outcome) (node : NodeView) → IsSoundPlan net inputs old plan
       → IsCarriedOut restart plan old.node outcome node
       → (node.kept ≡ old.node.kept) ⊎ (node.kept ≡ plan_record plan old.node.kept)
-  carried_kept restart plan outcome.NotDue node sound step = absurd step
-  carried_kept restart plan outcome.Made node sound step =
-      inr (ap (λ (n : NodeView). n.kept) step ∙ record_is plan sound)
-  carried_kept restart plan (outcome.Refused TooLarge) node sound step = inl (ap (λ (n : NodeView). n.kept) step.1)
-  carried_kept restart plan (outcome.Refused Spent) node sound step = absurd step
-  carried_kept restart plan outcome.Failed node sound step =
-      ⊎_elim (λ same. inl same) (λ next. inr (next ∙ record_is plan sound))
-      (failed_kept restart plan.node.kept node step.1)
+  carried_kept restart plan came node sound step = (let put = record_is plan sound in grind arith)
 
   held_kept : (restart : ℕ) (looks : Bool) (outcome : Outcome) (node : NodeView)
       → IsHeldUp restart looks old.node outcome node → node.kept ≡ old.node.kept
-  held_kept restart looks outcome.NotDue node step = absurd step
-  held_kept restart looks outcome.Made node step = absurd step
-  held_kept restart looks (outcome.Refused TooLarge) node step = absurd step
-  held_kept restart looks (outcome.Refused Spent) node step = ap (λ (n : NodeView). n.kept) step
-  held_kept restart looks outcome.Failed node step = ap (λ (n : NodeView). n.kept) step.1
+  held_kept restart looks came node step = grind arith
 
   pub made_kept : (restart : ℕ) (prospect : Prospect) (outcome : Outcome) (node : NodeView)
       → IsSoundProspect net inputs old prospect → IsMade restart prospect old.node outcome node
       → (node.kept ≡ old.node.kept) ⊎ (node.kept ≡ next_record prospect old.node.kept)
-  made_kept restart Undue outcome node sound step = inl (ap (λ (n : NodeView). n.kept) step.1)
+  made_kept restart Undue outcome node sound step = inl (rw step.1 refl)
   made_kept restart (Exhausted looks) outcome node sound step = inl (held_kept restart looks outcome node step)
   made_kept restart (Planned plan) outcome node sound step = carried_kept restart plan outcome node sound step
 
@@ -320,36 +271,30 @@ module _ (net : Network) (inputs : List (List ℤ)) (old : StationView) where
   stays_so : (node : NodeView) (failures : ℕ) (turns : RoundTurns) → StationInvariant net inputs old → node ≡ old.node
       → StationInvariant net inputs (moved_to node failures turns old)
   stays_so node failures turns inv same =
-      subst (λ (n : NodeView). StationInvariant net inputs (moved_to n failures turns old)) (sym same)
-      (moved_keeps net inputs old.node failures turns old inv.kept inv.runs)
+      rw same (moved_keeps net inputs old.node failures turns old inv.kept inv.runs)
 
   carried_keeps : (restart : ℕ) (plan : Plan) (outcome : Outcome) (node : NodeView) (failures : ℕ) (turns : RoundTurns)
       → StationInvariant net inputs old → IsSoundPlan net inputs old plan
       → IsCarriedOut restart plan old.node outcome node → StationInvariant net inputs (moved_to node failures turns old)
-  carried_keeps restart plan outcome.NotDue node failures turns inv sound step = absurd step
   carried_keeps restart plan outcome.Made node failures turns inv sound step =
-      subst (λ (n : NodeView). StationInvariant net inputs (moved_to n failures turns old)) (sym step)
-      (moved_keeps net inputs plan.node failures turns old sound.keeps.kept sound.keeps.runs)
+      rw step (moved_keeps net inputs plan.node failures turns old sound.keeps.kept sound.keeps.runs)
   carried_keeps restart plan (outcome.Refused TooLarge) node failures turns inv sound step =
       stays_so node failures turns inv step.1
-  carried_keeps restart plan (outcome.Refused Spent) node failures turns inv sound step = absurd step
   carried_keeps restart plan outcome.Failed node failures turns inv sound step =
-      ⊎_elim (λ same. subst (λ (n : NodeView). StationInvariant net inputs (moved_to n failures turns old)) (sym same)
-      (down_keeps net inputs restart old.node failures turns old inv.kept))
-      (λ same. subst (λ (n : NodeView). StationInvariant net inputs (moved_to n failures turns old)) (sym same)
-      (down_keeps net inputs restart (with_kept plan.node.kept old.node) failures turns old sound.keeps.kept))
-      step.1
+      elim step.1 [
+        | inl same ↦ rw same (down_keeps net inputs restart old.node failures turns old inv.kept)
+        | inr same ↦ rw same
+            (down_keeps net inputs restart (with_kept plan.node.kept old.node) failures turns old sound.keeps.kept)
+      ]
+  carried_keeps restart plan _ node failures turns inv sound step = absurd step
 
   held_keeps : (restart : ℕ) (looks : Bool) (outcome : Outcome) (node : NodeView) (failures : ℕ) (turns : RoundTurns)
       → StationInvariant net inputs old → IsHeldUp restart looks old.node outcome node
       → StationInvariant net inputs (moved_to node failures turns old)
-  held_keeps restart looks outcome.NotDue node failures turns inv step = absurd step
-  held_keeps restart looks outcome.Made node failures turns inv step = absurd step
-  held_keeps restart looks (outcome.Refused TooLarge) node failures turns inv step = absurd step
   held_keeps restart looks (outcome.Refused Spent) node failures turns inv step = stays_so node failures turns inv step
   held_keeps restart looks outcome.Failed node failures turns inv step =
-      subst (λ (n : NodeView). StationInvariant net inputs (moved_to n failures turns old)) (sym step.1)
-      (down_keeps net inputs restart old.node failures turns old inv.kept)
+      rw step.1 (down_keeps net inputs restart old.node failures turns old inv.kept)
+  held_keeps restart looks _ node failures turns inv step = absurd step
 
   pub made_keeps : (restart : ℕ) (prospect : Prospect) (outcome : Outcome) (node : NodeView) (failures : ℕ)
       (turns : RoundTurns) → StationInvariant net inputs old → IsSoundProspect net inputs old prospect

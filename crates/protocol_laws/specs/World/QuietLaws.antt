@@ -1,8 +1,8 @@
 -- Where nothing is left to do, the streams that left are whole.
-use Rattle.std.proofs.Common.{◌≡◌, ◌⊎◌, inl, inr, ℕ, zero, suc, ◌+◌, ◌-◌, ◌<◌, ◌≤◌, Bool, true, false, ◌&&◌, ◌==◌, ℤ}
-use Rattle.std.proofs.Common.{List, [], ◌∷◌, ◌++◌, length, take, get_or, Option, Some, None, refl, sym, ap, subst, ◌∙◌}
+use Rattle.std.proofs.Common.{◌≡◌, inl, inr, ℕ, zero, suc, ◌+◌, ◌-◌, ◌<◌, ◌≤◌, Bool, ◌&&◌, ◌==◌, ℤ}
+use Rattle.std.proofs.Common.{List, [], ◌∷◌, ◌++◌, length, take, Option, Some, None, refl, sym, ap, ◌∙◌}
 use Rattle.std.proofs.Common.{arith}
-use Rattle.std.specs.Prelude.{slice_get, min, nat_le, IsTrue}
+use Rattle.std.specs.Prelude.{slice_get, min, IsTrue}
 use Rattle.std.proofs.Math.Logic.{∥∥₁_map, ∥∥₁_map₂}
 use Rattle.std.proofs.Math.Nat.{min-eq_left}
 use Rattle.std.proofs.lemmas.Bool.{and_parts, eq-eqb, eqb-true, leb-true}
@@ -10,9 +10,9 @@ use Rattle.std.proofs.lemmas.List.{take-append-le, length-append}
 use Rattle.std.proofs.lemmas.Option.{slice_get_cases, slice_get_within}
 use Rattle.protocol.specs.Node.Common.{history_of, IsPrefix, Fits, node_count, Code, Network, IsValid, Step, StandsAt}
 use Rattle.protocol.specs.Node.Common.{process_trace, sent_on, got_on, approximation, Channel, Port, Outside, Process}
-use Rattle.protocol.specs.Node.Common.{SavedProcessView, ImageView, RecordView, ModeView, Down, InDoubt, Runs}
-use Rattle.protocol.specs.Node.Common.{RunningNode, running_node, running_in, running_of, received_of, sent_of}
-use Rattle.protocol.specs.Node.Common.{SavedEnd, is_none, first_acts, is_on, has_process}
+use Rattle.protocol.specs.Node.Common.{SavedProcessView, ImageView, RecordView, ModeView}
+use Rattle.protocol.specs.Node.Common.{RunningNode, running_in, running_of, received_of, sent_of}
+use Rattle.protocol.specs.Node.Common.{SavedEnd, is_none, first_acts, has_process}
 use Rattle.kahn_net.specs.Streams.{ArePrefixes}
 use Rattle.kahn_net.specs.Common.{code_gets, HasPassingLoop, left_after, IsReached, Next, Gets, Puts, NoNext, next_of}
 use Rattle.kahn_net.specs.Laws.Approximations.{next_histories_past, approximation_grows}
@@ -23,7 +23,6 @@ use Rattle.kahn_net.specs.NextActs.{Begins}
 use Rattle.kahn_net.specs.Laws.Rests.{IsStuck, acts_at_rest}
 use Rattle.kahn_net.specs.Laws.Fixpoints.{put_so_far, put_by_now, put_by_now-at, put_by_now_past, prefix_whole}
 use Rattle.kahn_net.specs.Laws.Fixpoints.{settled_is_reached, settled_rests}
-use Rattle.protocol.specs.Node.Choosing.{next_at}
 use Rattle.protocol_laws.specs.Node.NumberedLaws.{where_there}
 use Rattle.protocol_laws.specs.Node.PlaceLaws.{node_below}
 use Rattle.protocol_laws.specs.Node.InnerLaws.{end_there, consumer_on, outer_within}
@@ -34,56 +33,30 @@ use Rattle.protocol_laws.specs.Node.SentLaws.{sent_stands}
 use Rattle.std.specs.List.{list_all}
 use Rattle.protocol.specs.World.Common.{outputs_of, AreSound, IsNumbered, StationInvariant, WorldInvariant}
 use Rattle.protocol.specs.World.Common.{OutputView, StationView, WorldView, HasCome, IsSound, are_quiet}
-use Rattle.protocol_laws.specs.World.OutputLaws.{IsOutputOf, output_here}
-use Rattle.protocol.specs.World.Quiet.{sent_by, sent_at, put_on_by, got_all, has_got_all, can_rest, is_at_rest}
-use Rattle.protocol.specs.World.Quiet.{are_at_rest, was_put, has_been_put, have_been_put, have_all_left, is_quiet}
+use Rattle.protocol_laws.specs.World.OutputLaws.{output_here}
+use Rattle.protocol.specs.World.Quiet.{put_on_by, got_all, has_got_all, can_rest, is_at_rest}
+use Rattle.protocol.specs.World.Quiet.{are_at_rest, has_been_put, have_been_put, have_all_left, is_quiet}
 use Rattle.protocol.specs.World.Quiet.{is_quiet_at, is_quiet_of, is_node_quiet, AreAll, AreWhole}
 
 -- What the tests say
 
--- each process is at rest
-rests_at : (net : Network) (inputs : List (List ℤ)) (stations : List StationView) (image : ImageView)
-    (processes : List SavedProcessView) (k : ℕ) (saved : SavedProcessView)
-    → IsTrue (are_at_rest net inputs stations image processes) → slice_get processes k ≡ Some saved
-    → IsTrue (is_at_rest net inputs stations image saved)
-rests_at net inputs stations image [] k saved rest is = absurd (cc)
-rests_at net inputs stations image (x ∷ processes) zero saved rest is =
-    let same : x ≡ saved = cc in
-    subst (λ (s : SavedProcessView). IsTrue (is_at_rest net inputs stations image s)) same
-    (and_parts (is_at_rest net inputs stations image x) (are_at_rest net inputs stations image processes) rest).0
-rests_at net inputs stations image (x ∷ processes) (suc k) saved rest is =
-    rests_at net inputs stations image processes k saved
-    (and_parts (is_at_rest net inputs stations image x) (are_at_rest net inputs stations image processes) rest).1 is
-
--- what was received was put
-put_there : (net : Network) (stations : List StationView) (image : ImageView) (ends : List SavedEnd) (k : ℕ)
-    (saved : SavedEnd)
-    → IsTrue (have_been_put net stations image ends) → slice_get ends k ≡ Some saved
-    → IsTrue (has_been_put net stations image saved.channel (slice_get net.channels saved.channel))
-put_there net stations image [] k saved put is = absurd (cc)
-put_there net stations image (x ∷ ends) zero saved put is =
-    let same : x ≡ saved = cc in
-    subst (λ (s : SavedEnd). IsTrue (has_been_put net stations image s.channel (slice_get net.channels s.channel))) same
-    (and_parts (has_been_put net stations image x.channel (slice_get net.channels x.channel))
-    (have_been_put net stations image ends) put).0
-put_there net stations image (x ∷ ends) (suc k) saved put is =
-    put_there net stations image ends k saved
-    (and_parts (has_been_put net stations image x.channel (slice_get net.channels x.channel))
-    (have_been_put net stations image ends) put).1 is
+-- a test by recursion that a list passes is passed by each element
+each_passes : {A : Type 0} (test : A → Bool) (all : List A → Bool)
+    → ((x : A) (xs : List A) → all (x ∷ xs) ≡ (test x && all xs)) → (xs : List A) (k : ℕ) (x : A)
+    → IsTrue (all xs) → slice_get xs k ≡ Some x → IsTrue (test x)
+each_passes test all step [] k x passes is = absurd cc
+each_passes test all step (y ∷ xs) zero x passes is = grind (arith, step y xs)
+each_passes test all step (y ∷ xs) (suc k) x passes is =
+    each_passes test all step xs k x (and_parts (test y) (all xs) (rw step at passes)).1 is
 
 -- each outlet has as many items as were put
 pub left_at : (image : ImageView) (outputs : List OutputView) (j : ℕ) (output : OutputView)
     → IsTrue (have_all_left image outputs) → slice_get outputs j ≡ Some output
     → length output.taken ≡ sent_of image output.channel
-left_at image [] j output all is = absurd (cc)
-left_at image (x ∷ outputs) zero output all is =
-    let same : x ≡ output = cc in
-    subst (λ (o : OutputView). length o.taken ≡ sent_of image o.channel) same
-    (eqb-true (length x.taken) (sent_of image x.channel)
-    (and_parts (length x.taken == sent_of image x.channel) (have_all_left image outputs) all).0)
-left_at image (x ∷ outputs) (suc j) output all is =
-    left_at image outputs j output
-    (and_parts (length x.taken == sent_of image x.channel) (have_all_left image outputs) all).1 is
+left_at image outputs j output all is =
+    eqb-true (length output.taken) (sent_of image output.channel)
+    (each_passes (λ (o : OutputView). length o.taken == sent_of image o.channel) (have_all_left image) (λ x xs. refl)
+    outputs j output all is)
 
 -- where nothing is left to do at a node, its processes are at rest, what it received was put, and all that it put has
 -- left
@@ -97,12 +70,9 @@ end_of_quiet : (net : Network) (inputs : List (List ℤ)) (stations : List Stati
     (outputs : List OutputView) → IsTrue (is_quiet net inputs stations node outputs)
     → IsAtEnd net inputs stations node outputs
 end_of_quiet net inputs stations node outputs quiet =
-    let rest = are_at_rest net inputs stations node.current node.current.processes in
-    let put = have_been_put net stations node.current node.current.ends in
-    let left = have_all_left node.current outputs in
-    let all = and_parts (is_none node.out) (left && (rest && put)) quiet in
-    let first = and_parts left (rest && put) all.1 in
-    let last = and_parts rest put first.1 in
+    let all = (and_parts (is_none node.out) _ quiet).1 in
+    let first = and_parts (have_all_left node.current outputs) _ all in
+    let last = and_parts (are_at_rest net inputs stations node.current node.current.processes) _ first.1 in
     record { rest = last.0; put = last.1; left = first.0 }
 
 -- and it runs
@@ -116,10 +86,7 @@ runs_there net inputs stations (Some node) outputs quiet =
 -- so it is at each station
 pub all_at : {A : Type 0} (test : A → Bool) (xs : List A) (k : ℕ) (x : A) → IsTrue (list_all test xs)
     → slice_get xs k ≡ Some x → IsTrue (test x)
-all_at test [] k x all is = absurd (cc)
-all_at test (y ∷ xs) zero x all is = let same : y ≡ x = cc in
-    ap test (sym same) ∙ (and_parts (test y) (list_all test xs) all).0
-all_at test (y ∷ xs) (suc k) x all is = all_at test xs k x (and_parts (test y) (list_all test xs) all).1 is
+all_at test xs k x all is = each_passes test (list_all test) (λ y ys. refl) xs k x all is
 
 -- Where nothing is left to do in a world, nothing is at a node of it, so that it may be asked first.
 pub quiet_first : (world : WorldView) (number : ℕ) → (is_node_quiet world number && are_quiet world) ≡ are_quiet world
@@ -134,9 +101,7 @@ quiet_first world number =
         (outputs_of s.outlets)) world.stations number station all is
 
     both : (one all : Bool) → (IsTrue all → IsTrue one) → (one && all) ≡ all
-    both true all h = refl
-    both false true h = h refl
-    both false false h = refl
+    both one all h = grind (arith, h)
 
 -- One process of a node
 
@@ -179,11 +144,8 @@ module _ (net : Network) (inputs : List (List ℤ)) (valid : IsValid net) (fits 
       saved = saved_there.1;
       there = saved_there.2;
       number = saved_there.3;
-      stands = λ code there.
-          subst (λ (q : ℕ). StandsAt code (approximation net inputs come.reached.n) (come.reached.current_acts q)
-          saved_there.1.standing) saved_there.3
-          (come.reached.current.processes saved_there.0 saved_there.1 code saved_there.2
-          (ap (slice_get net.codes) saved_there.3 ∙ there));
+      stands = λ code there. rw saved_there.3 at
+          (come.reached.current.processes saved_there.0 saved_there.1 code saved_there.2 (rw saved_there.3 there));
       received =
           λ c channel is to. received_stands net node.kept.node (approximation net inputs come.reached.n)
           come.reached.current_acts node.current c p channel come.reached.current sound.kept.laid_out is to own;
@@ -195,21 +157,16 @@ module _ (net : Network) (inputs : List (List ℤ)) (valid : IsValid net) (fits 
           to. (let end =
           end_there net node.kept.node node.current c channel sound.kept.laid_out is
           (consumer_on net node.kept.node p channel to own) in (end.at, end.saved, end.entry, end.is_channel));
-      released = λ j output channel there is from. come.released j p output channel there is from;
+      released = λ j output channel. come.released j p output channel;
     },
   )
     where
       saved_there : (k : ℕ) × (saved : SavedProcessView) × (slice_get node.current.processes k ≡ Some saved)
           × (saved.number ≡ p)
       saved_there =
-          let within = process_within (slice_get net.codes p) refl own in
+          let within : p < length net.codes = grind (arith, slice_get_within net.codes p) in
           where_there (λ (s : SavedProcessView). s.number) (has_process net node.kept.node) 0 (length net.codes) p
           node.current.processes sound.kept.laid_out.processes own (omega arith) (omega (arith, within))
-        where
-          process_within : (o : Option Code) → slice_get net.codes p ≡ o → IsTrue (is_on node.kept.node o)
-              → p < length net.codes
-          process_within None there on = absurd (cc)
-          process_within (Some code) there on = slice_get_within net.codes p code there
 
   -- the acts are the same on the next approximation
   same_acts : (n made p : ℕ)
@@ -230,34 +187,25 @@ module _ (net : Network) (inputs : List (List ℤ)) (valid : IsValid net) (fits 
       stands = λ code there. (
           let here = has.1.stands code there in
           let same : min has.0 (act_count (slice_get net.codes p) (approximation net inputs n)) ≡ has.0 =
-          ap (λ (o : Option Code). min has.0 (act_count o (approximation net inputs n))) there
-          ∙ min-eq_left here.within in
-          subst (λ (m : ℕ). StandsAt code (approximation net inputs (suc n)) m has.1.saved.standing) (sym same)
+          rw there (min-eq_left here.within) in
+          rw same
           (stands_on code (approximation net inputs n) (approximation net inputs (suc n)) has.0 has.1.saved.standing
           (valid.codes p code there).passes (approximation_grows net valid inputs fits n) here));
-      received =
-          λ c channel is to. has.1.received c channel is to
-          ∙ ap (λ (steps : List Step). length (got_on c steps)) (sym (same_acts n has.0 p));
-      sent = λ c channel is from. has.1.sent c channel is from
-          ∙ ap (λ (steps : List Step). length (sent_on c steps)) (sym (same_acts n has.0 p));
+      received = λ c channel is to. rw (same_acts n has.0 p) (has.1.received c channel is to);
+      sent = λ c channel is from. rw (same_acts n has.0 p) (has.1.sent c channel is from);
       few = has.1.few;
       ends = has.1.ends;
-      released =
-          λ j output channel there is from. subst
-          (λ (steps : List Step). IsPrefix output.taken (sent_on output.channel steps)) (sym (same_acts n has.0 p))
-          (has.1.released j output channel there is from);
+      released = λ j output channel there is from. rw (same_acts n has.0 p) (has.1.released j output channel there is from);
     },
   )
 
   -- and on each later one
   made_later : (m k p : ℕ) (image : ImageView) (outputs : List OutputView) → HasMade net inputs m p image outputs
       → HasMade net inputs (m + k) p image outputs
-  made_later m zero p image outputs has =
-      (let sum : m ≡ m + 0 = omega arith in subst (λ (n : ℕ). HasMade net inputs n p image outputs) sum has)
+  made_later m zero p image outputs has = let sum : m + 0 ≡ m = omega arith in rw sum has
   made_later m (suc k) p image outputs has =
-      (let sum : suc (m + k) ≡ m + suc k = omega arith in
-      subst (λ (n : ℕ). HasMade net inputs n p image outputs) sum
-      (made_next (m + k) p image outputs (made_later m k p image outputs has)))
+      let sum : m + suc k ≡ suc (m + k) = omega arith in
+      rw sum (made_next (m + k) p image outputs (made_later m k p image outputs has))
 
   -- All stations on one approximation
 
@@ -274,38 +222,27 @@ module _ (net : Network) (inputs : List (List ℤ)) (valid : IsValid net) (fits 
   station_later : (station : StationView) (m n : ℕ) → m ≤ n → StationMade station m → StationMade station n
   station_later station m n later made node is p own =
       let sum : m + (n - m) ≡ n = omega (arith, later) in
-      subst (λ (k : ℕ). HasMade net inputs k p node.current (outputs_of station.outlets)) sum
-      (made_later m (n - m) p node.current (outputs_of station.outlets) (made node is p own))
+      rw sum at (made_later m (n - m) p node.current (outputs_of station.outlets) (made node is p own))
 
   -- of one that runs the record is its own
   runs_with : (kept : RecordView) (version : ℕ) (m : ModeView) (node : RunningNode)
       → running_in kept version m ≡ Some node → node.kept ≡ kept
-  runs_with kept version Down node is = absurd (cc)
-  runs_with kept version InDoubt node is = absurd (cc)
-  runs_with kept version (Runs running) node is = let same : running_node kept version running ≡ node = cc in
-      sym (ap (λ (n : RunningNode). n.kept) same)
+  runs_with kept version m node is = grind arith
 
   station_made : (station : StationView) → StationInvariant net inputs station → ∥ ((n : ℕ) × StationMade station n) ∥₁
   station_made station inv = at (running_of station.node) refl
     where
       at : (o : Option RunningNode) → running_of station.node ≡ o → ∥ ((n : ℕ) × StationMade station n) ∥₁
-      at None off = ∣ (0, λ node is p own. (let none : None ≡ Some node = sym off ∙ is in absurd (cc))) ∣₁
+      at None off = ∣ (0, λ node is p own. absurd cc) ∣₁
       at (Some run) on =
-          ∥∥₁_map (inv.runs run on).sound.come (λ come. (come.reached.n, λ node is p own. by come node is p own))
-        where
-          by : (come : HasCome net inputs run (outputs_of station.outlets)) → (node : RunningNode)
-              → running_of station.node ≡ Some node → (p : ℕ) → IsTrue (has_process net station.node.kept.node p)
-              → HasMade net inputs come.reached.n p node.current (outputs_of station.outlets)
-          by come node is p own =
-              let both : Some run ≡ Some node = sym on ∙ is in
-              let same : run ≡ node = cc in
-              let home : run.kept.node ≡ station.node.kept.node =
-              ap (λ (kept : RecordView). kept.node)
-              (runs_with station.node.kept station.node.version station.node.mode run on) in
-              subst (λ (n : RunningNode). HasMade net inputs come.reached.n p n.current (outputs_of station.outlets))
-              same
-              (made_now run (outputs_of station.outlets) (inv.runs run on).sound come p
-              (ap (λ (n : ℕ). has_process net n p) home ∙ own))
+          let home = runs_with station.node.kept station.node.version station.node.mode run on in
+          ∥∥₁_map (inv.runs run on).sound.come (λ come. (
+            come.reached.n,
+            λ node is p own. (
+                let same : run ≡ node = cc in
+                rw (← same)
+                (made_now run (outputs_of station.outlets) (inv.runs run on).sound come p (rw home own))),
+          ))
 
   all_made_there : (stations : List StationView) → AreSound net inputs stations → ∥ ((n : ℕ) × AllMade stations n) ∥₁
   all_made_there [] sound = ∣ (0, λ i station is. absurd (cc)) ∣₁
@@ -315,8 +252,7 @@ module _ (net : Network) (inputs : List (List ℤ)) (valid : IsValid net) (fits 
     where
       at : (m k : ℕ) → StationMade s m → AllMade stations k → AllMade (s ∷ stations) (m + k)
       at m k one others zero station is =
-          let same : s ≡ station = cc in
-          subst (λ (t : StationView). StationMade t (m + k)) same (station_later s m (m + k) (omega arith) one)
+          let same : s ≡ station = cc in rw (← same) (station_later s m (m + k) (omega arith) one)
       at m k one others (suc i) station is = station_later station k (m + k) (omega arith) (others i station is)
 
   -- A world at rest
@@ -341,44 +277,30 @@ module _ (net : Network) (inputs : List (List ℤ)) (valid : IsValid net) (fits 
       pub stands : ProcessStands net inputs base made p node.current (outputs_of station.outlets)
 
     found_at : (p : ℕ) (code : Code) → slice_get net.codes p ≡ Some code → (made : ℕ) × Found code p made
-    found_at p code there = at (slice_get_cases stations code.node).1
-      where
-        below : code.node < length stations
-        below = (let few = node_below net p code there in omega (arith, few, count))
-
-        by : (station : StationView) → slice_get stations code.node ≡ Some station
-            → (node : RunningNode) × (running_of station.node ≡ Some node)
-            × IsAtEnd net inputs stations node (outputs_of station.outlets) → (made : ℕ) × Found code p made
-        by station here run =
-            let home : code.node ≡ station.node.kept.node = sym (numbered code.node station here).1 in
-            let own : IsTrue (has_process net station.node.kept.node p) =
-            ap (is_on station.node.kept.node) there ∙ eq-eqb code.node station.node.kept.node home in
-            let made = all code.node station here run.0 run.1 p own in (
-              made.0,
-              record
-                  { station = station; node = run.0; here = here; runs = run.1; ended = run.2; stands = made.1 },
-            )
-
-        at : ((x : StationView) × (code.node < length stations) × (slice_get stations code.node ≡ Some x)
-            × (get_or stations code.node x ≡ x))
-            ⊎ ((length stations ≤ code.node) × (slice_get stations code.node ≡ None)) → (made : ℕ) × Found code p made
-        at (inr past) = absurd (omega (arith, below, past.0))
-        at (inl station) =
-            by station.0 station.2
-            (runs_there net inputs stations (running_of station.0.node) (outputs_of station.0.outlets)
-            (all_at (λ (s : StationView). is_quiet_at net inputs stations (running_of s.node) (outputs_of s.outlets))
-            stations code.node station.0 quiet station.2))
+    found_at p code there = elim (slice_get_cases stations code.node).1 [
+      | inl at ↦
+          let home : code.node ≡ at.0.node.kept.node = sym (numbered code.node at.0 at.2).1 in
+          let own : IsTrue (has_process net at.0.node.kept.node p) =
+          rw there (eq-eqb code.node at.0.node.kept.node home) in
+          let run = runs_there net inputs stations (running_of at.0.node) (outputs_of at.0.outlets)
+          (all_at (λ (s : StationView). is_quiet_at net inputs stations (running_of s.node) (outputs_of s.outlets))
+          stations code.node at.0 quiet at.2) in
+          let made = all code.node at.0 at.2 run.0 run.1 p own in (
+            made.0,
+            record { station = at.0; node = run.0; here = at.2; runs = run.1; ended = run.2; stands = made.1 },
+          )
+      | inr past ↦ absurd (let few = node_below net p code there in omega (arith, few, count, past.0))
+    ]
 
     found_of : (p : ℕ) → (made : ℕ) × ((code : Code) → slice_get net.codes p ≡ Some code → Found code p made)
     found_of p = at (slice_get net.codes p) refl
       where
         at : (o : Option Code) → slice_get net.codes p ≡ o
             → (made : ℕ) × ((code : Code) → slice_get net.codes p ≡ Some code → Found code p made)
-        at None none = (0, λ code there. (let bad : None ≡ Some code = sym none ∙ there in absurd (cc)))
+        at None none = (0, λ code there. absurd cc)
         at (Some x) is = (
           (found_at p x is).0,
-          λ code there. (let both : Some x ≡ Some code = sym is ∙ there in let same : x ≡ code = cc in
-              subst (λ (c : Code). Found c p (found_at p x is).0) same (found_at p x is).1),
+          λ code there. (let same : x ≡ code = cc in rw (← same) (found_at p x is).1),
         )
 
     -- how many acts each process has made, and which
@@ -397,38 +319,30 @@ module _ (net : Network) (inputs : List (List ℤ)) (valid : IsValid net) (fits 
 
     -- the next approximation has that, and may have more
     now_within : ArePrefixes now (approximation net inputs (suc n))
-    now_within = record { at = λ c. at c (slice_get_cases net.channels c).1 }
+    now_within = record {
+      at = λ c. elim (slice_get_cases net.channels c).1 [
+        | inl here ↦ prefix_along _ _ _ _ (put_by_now-at net inputs made c here.0 here.2) refl
+            (by_port c here.0 here.2 here.0.producer refl)
+        | inr past ↦ prefix_nil _ _ (put_by_now_past net inputs made c past.0)
+      ];
+    }
       where
         by_port : (c : ℕ) (channel : Channel) → slice_get net.channels c ≡ Some channel → (port : Port)
             → channel.producer ≡ port
             → IsPrefix (put_so_far inputs made c port) (history_of (approximation net inputs (suc n)) c)
         by_port c channel is Outside from =
-            prefix_along _ _ _ _ refl (input_stays net inputs (suc n) c channel is from)
-            (prefix_refl (history_of inputs c))
+            rw (input_stays net inputs (suc n) c channel is from) (prefix_refl (history_of inputs c))
         by_port c channel is (Process p) from = acts_put_prefix net inputs n made_by c p channel is from
-
-        at : (c : ℕ)
-            → ((x : Channel) × (c < length net.channels) × (slice_get net.channels c ≡ Some x)
-            × (get_or net.channels c x ≡ x)) ⊎ ((length net.channels ≤ c) × (slice_get net.channels c ≡ None))
-            → IsPrefix (history_of now c) (history_of (approximation net inputs (suc n)) c)
-        at c (inl here) =
-            prefix_along _ _ _ _ (put_by_now-at net inputs made c here.0 here.2) refl
-            (by_port c here.0 here.2 here.0.producer refl)
-        at c (inr past) = prefix_nil _ _ (put_by_now_past net inputs made c past.0)
 
     -- what the tests count as put on a channel is what its process put
     put_counts : (c q : ℕ) (channel : Channel) → slice_get net.channels c ≡ Some channel → channel.producer ≡ Process q
         → put_on_by stations c (slice_get net.codes q) ≡ length (sent_on c (made q))
-    put_counts c q channel is from = at (slice_get_cases net.codes q).1
-      where
-        at : ((x : Code) × (q < length net.codes) × (slice_get net.codes q ≡ Some x) × (get_or net.codes q x ≡ x))
-            ⊎ ((length net.codes ≤ q) × (slice_get net.codes q ≡ None))
-            → put_on_by stations c (slice_get net.codes q) ≡ length (sent_on c (made q))
-        at (inr past) = absurd (let below = valid.producer_is_here c q channel is from in omega (arith, below, past.0))
-        at (inl there) =
-            let f = found q there.0 there.2 in
-            ap (put_on_by stations c) there.2
-            ∙ (ap (sent_at c) f.here ∙ (ap (sent_by c) f.runs ∙ f.stands.sent c channel is from))
+    put_counts c q channel is from = elim (slice_get_cases net.codes q).1 [
+      | inl there ↦
+          let f = found q there.0 there.2 in
+          ap (put_on_by stations c) there.2 ∙ rw (f.here, f.runs) (f.stands.sent c channel is from)
+      | inr past ↦ absurd (let below = valid.producer_is_here c q channel is from in omega (arith, below, past.0))
+    ]
 
     -- A process of the network
 
@@ -451,9 +365,8 @@ module _ (net : Network) (inputs : List (List ℤ)) (valid : IsValid net) (fits 
           let longer =
           longer_process code base (approximation net inputs (suc n)) passing
           (approximation_grows net valid inputs fits n) in
-          ap (take (made_by p)) longer.steps
-          ∙ (take-append-le (made_by p) (process_trace code base).steps longer.more stands_here.within
-          ∙ ap (λ (o : Option Code). first_acts o base (made_by p)) (sym there))
+          rw (there, longer.steps)
+          (take-append-le (made_by p) (process_trace code base).steps longer.more stands_here.within)
 
       -- it got of a channel as many items as its image counts
       got_there : (c : ℕ) (channel : Channel) → slice_get net.channels c ≡ Some channel → IsTrue (code_gets c code)
@@ -462,7 +375,13 @@ module _ (net : Network) (inputs : List (List ℤ)) (valid : IsValid net) (fits 
 
       -- and no more than is there
       got_few : (c : ℕ) → IsTrue (code_gets c code) → length (got_on c (made p)) ≤ length (history_of now c)
-      got_few c gets = at (slice_get_cases net.channels c).1
+      got_few c gets = elim (slice_get_cases net.channels c).1 [
+        | inl here ↦
+            let count = got_there c here.0 here.2 gets in
+            let few = by_port here.0 here.2 here.0.producer refl in
+            rw (put_by_now-at net inputs made c here.0 here.2) (omega (arith, count, few))
+        | inr past ↦ let none = no_channel past.0 in omega (arith, none)
+      ]
         where
           by_port : (channel : Channel) → slice_get net.channels c ≡ Some channel → (port : Port)
               → channel.producer ≡ port → received_of image c ≤ length (put_so_far inputs made c port)
@@ -470,14 +389,11 @@ module _ (net : Network) (inputs : List (List ℤ)) (valid : IsValid net) (fits 
               f.stands.few c channel is from ((valid.consumer c p channel code is there).0 gets)
           by_port channel is (Process q) from =
               let end = f.stands.ends c channel is ((valid.consumer c p channel code is there).0 gets) in
-              let test = put_there net stations image image.ends end.0 end.1 f.ended.put end.2 in
-              let it : IsTrue (has_been_put net stations image c (Some channel)) =
-              ap (has_been_put net stations image c) (sym is)
-              ∙ (ap (λ (d : ℕ). has_been_put net stations image d (slice_get net.channels d)) (sym end.3) ∙ test) in
-              let passes : IsTrue (nat_le (received_of image c) (put_on_by stations c (slice_get net.codes q))) =
-              ap (was_put net stations image c) (sym from) ∙ it in
-              let few : received_of image c ≤ put_on_by stations c (slice_get net.codes q) =
-              leb-true (received_of image c) (put_on_by stations c (slice_get net.codes q)) passes in
+              let test = each_passes
+              (λ (s : SavedEnd). has_been_put net stations image s.channel (slice_get net.channels s.channel))
+              (have_been_put net stations image) (λ x xs. refl) image.ends end.0 end.1 f.ended.put end.2 in
+              let few = leb-true (received_of image c) (put_on_by stations c (slice_get net.codes q))
+              (rw (end.3, is, from) at test) in
               let put = put_counts c q channel is from in
               omega (arith, few, put)
 
@@ -489,23 +405,10 @@ module _ (net : Network) (inputs : List (List ℤ)) (valid : IsValid net) (fits 
               let front : [] ≡ got_on c steps ++ left =
               sym (next_histories_past net inputs base c past)
               ∙ reads code (approximation net inputs (suc n)) (made_by p) c in
-              let count : 0 ≡ length (got_on c steps ++ left) = ap (length {A = ℤ}) front in
-              let sum : length (got_on c steps ++ left) ≡ length (got_on c steps) + length left =
-              length-append (got_on c steps) left in
-              let same : length (got_on c steps) ≡ length (got_on c (made p)) =
-              ap (λ (z : List Step). length (got_on c z)) made_there in
-              omega (arith, count, sum, same)
-
-          at : ((x : Channel) × (c < length net.channels) × (slice_get net.channels c ≡ Some x)
-              × (get_or net.channels c x ≡ x)) ⊎ ((length net.channels ≤ c) × (slice_get net.channels c ≡ None))
-              → length (got_on c (made p)) ≤ length (history_of now c)
-          at (inl here) =
-              let count = got_there c here.0 here.2 gets in
-              let few = by_port here.0 here.2 here.0.producer refl in
-              let all : length (history_of now c) ≡ length (put_so_far inputs made c here.0.producer) =
-              ap (length {A = ℤ}) (put_by_now-at net inputs made c here.0 here.2) in
-              omega (arith, count, few, all)
-          at (inr past) = let none = no_channel past.0 in omega (arith, none)
+              let count : 0 ≡ length (got_on c steps ++ left) = rw (← front) in
+              let sum = length-append (got_on c steps) left in
+              let none : length (got_on c steps) ≡ 0 = omega (arith, count, sum) in
+              rw made_there at none
 
       -- where it can rest, it is stuck on what is there by now
       stuck : (next : Next) → IsTrue (can_rest net inputs stations image next) → IsStuck code now (made p) next
@@ -538,17 +441,13 @@ module _ (net : Network) (inputs : List (List ℤ)) (valid : IsValid net) (fits 
       all_made =
           let standing = f.stands.saved.standing in
           let can : IsTrue (can_rest net inputs stations image (next_of code standing)) =
-          sym (ap (λ (o : Option Code). can_rest net inputs stations image (next_at o standing))
-          (ap (slice_get net.codes) f.stands.number ∙ there))
-          ∙ rests_at net inputs stations image image.processes f.stands.place f.stands.saved f.ended.rest
-          f.stands.there in
+          rw (f.stands.number, there) at
+          (each_passes (is_at_rest net inputs stations image) (are_at_rest net inputs stations image) (λ x xs. refl)
+          image.processes f.stands.place f.stands.saved f.ended.rest f.stands.there) in
           acts_at_rest code now (approximation net inputs (suc n)) (made_by p) standing passing now_within
           (stands_on code base (approximation net inputs (suc n)) (made_by p) standing passing
           (approximation_grows net valid inputs fits n) stands_here)
-          (λ c gets. subst (λ (steps : List Step). length (got_on c steps) ≤ length (history_of now c))
-          (sym made_there) (got_few c gets))
-          (subst (λ (steps : List Step). IsStuck code now steps (next_of code standing)) (sym made_there)
-          (stuck (next_of code standing) can))
+          (λ c gets. rw made_there (got_few c gets)) (rw made_there (stuck (next_of code standing) can))
           ∙ made_there
 
     -- The network
@@ -564,34 +463,23 @@ module _ (net : Network) (inputs : List (List ℤ)) (valid : IsValid net) (fits 
         let there =
         output_here net station.node.kept.node (outputs_of station.outlets) (sound i station at).kept.listed j
         output is in
-        by there (slice_get_cases net.codes there.process).1
-      where
-        by : (there : IsOutputOf net station.node.kept.node output.channel)
-            → ((x : Code) × (there.process < length net.codes) × (slice_get net.codes there.process ≡ Some x)
-            × (get_or net.codes there.process x ≡ x))
-            ⊎ ((length net.codes ≤ there.process) × (slice_get net.codes there.process ≡ None))
-            → output.taken ≡ history_of (approximation net inputs (suc n)) output.channel
-        by there (inr past) =
-            absurd (let below =
-            valid.producer_is_here output.channel there.process there.channel there.there there.producer in
-            omega (arith, below, past.0))
-        by there (inl code) =
-            let f = found there.process code.0 code.2 in
-            let on : code.0.node ≡ station.node.kept.node =
-            eqb-true code.0.node station.node.kept.node
-            (ap (is_on station.node.kept.node) (sym code.2) ∙ there.here) in
-            let place : code.0.node ≡ i = on ∙ (numbered i station at).1 in
-            let both : Some f.station ≡ Some station = sym f.here ∙ (ap (slice_get stations) place ∙ at) in
-            let same : f.station ≡ station = cc in
-            let has : slice_get (outputs_of f.station.outlets) j ≡ Some output =
-            ap (λ (s : StationView). slice_get (outputs_of s.outlets) j) same ∙ is in
-            let count = left_at f.node.current (outputs_of f.station.outlets) j output f.ended.left has in
-            let put = f.stands.sent output.channel there.channel there.there there.producer in
-            prefix_whole output.taken (sent_on output.channel (made there.process))
-            (f.stands.released j output there.channel has there.there there.producer) (omega (arith, count, put))
-            ∙ sym (ap (λ (all : List (List ℤ)). history_of all output.channel) settled
-            ∙ (put_by_now-at net inputs made output.channel there.channel there.there
-            ∙ ap (put_so_far inputs made output.channel) there.producer))
+        elim (slice_get_cases net.codes there.process).1 [
+          | inl code ↦
+              let f = found there.process code.0 code.2 in
+              let on : code.0.node ≡ station.node.kept.node =
+              eqb-true code.0.node station.node.kept.node (rw code.2 at there.here) in
+              let place : code.0.node ≡ i = on ∙ (numbered i station at).1 in
+              let same : f.station ≡ station = cc in
+              let has : slice_get (outputs_of f.station.outlets) j ≡ Some output = rw same is in
+              let count = left_at f.node.current (outputs_of f.station.outlets) j output f.ended.left has in
+              let put = f.stands.sent output.channel there.channel there.there there.producer in
+              rw (settled, put_by_now-at net inputs made output.channel there.channel there.there, there.producer)
+              (prefix_whole output.taken (sent_on output.channel (made there.process))
+              (f.stands.released j output there.channel has there.there there.producer) (omega (arith, count, put)))
+          | inr past ↦ absurd (let below =
+              valid.producer_is_here output.channel there.process there.channel there.there there.producer in
+              omega (arith, below, past.0))
+        ]
 
     whole_there : (m : ℕ) × IsReached net inputs m
         × ((i : ℕ) (station : StationView) → slice_get stations i ≡ Some station

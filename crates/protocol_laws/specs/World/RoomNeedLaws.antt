@@ -1,48 +1,46 @@
 -- Where a world stands still for want of room, some node finds a channel that needs more; and a channel that needs more is
 -- one at which a put is held for want of it.
-use Rattle.std.proofs.Common.{◌≡◌, ◌⊎◌, inl, inr, ℕ, zero, suc, ◌+◌, ◌-◌, ◌*◌, ◌<◌, ◌≤◌, Bool, true, false, ◌&&◌, ◌||◌, ◌==◌, not}
-use Rattle.std.proofs.Common.{cond, eqb, ℤ, List, [], ◌∷◌, length, map, drop, get_or, Option, Some, None, is_some}
-use Rattle.std.proofs.Common.{option_map, refl, sym, ap, subst, ◌∙◌, arith}
-use Rattle.std.specs.Prelude.{slice_get, slice_index, find, IfSome, min, nat_lt}
+use Rattle.std.proofs.Common.{◌≡◌, inl, inr, ℕ, zero, suc, ◌+◌, ◌*◌, ◌<◌, ◌≤◌, Bool, true, false, ◌&&◌, ◌==◌, not, cond}
+use Rattle.std.proofs.Common.{eqb, ℤ, List, [], ◌∷◌, length, map, drop, get_or, Option, Some, None, is_some, refl, sym}
+use Rattle.std.proofs.Common.{ap, ◌∙◌, arith}
+use Rattle.std.specs.Prelude.{slice_get, slice_index, find, min, nat_lt}
 use Rattle.std.specs.List.{list_all, list_any, range_with_len}
 use Rattle.std.proofs.Math.Nat.{min-le_right}
-use Rattle.std.proofs.lemmas.Bool.{and_parts, or_parts, eqb-true, leb-true, ltb-true, ltb-false, le-ltb, lt-ltb}
-use Rattle.std.proofs.lemmas.Bool.{not-true, and_from, or_from, or_left, or_right, eq-eqb, cases_lt}
+use Rattle.std.proofs.lemmas.Bool.{and_parts, eqb-true, leb-true, ltb-true, ltb-false, le-ltb, lt-ltb, and_from}
+use Rattle.std.proofs.lemmas.Bool.{or_from, eq-eqb, cases_lt}
 use Rattle.std.proofs.lemmas.List.{get_or-drop, get_or-set_same, get_or_past}
 use Rattle.std.proofs.lemmas.List.Folds.{Any-from_list_any}
 use Rattle.std.proofs.lemmas.List.FromFn.{length-map-range_with_len, get_or-map-range_with_len}
-use Rattle.std.proofs.lemmas.Option.{slice_get_within, slice_get-get_or}
+use Rattle.std.proofs.lemmas.Option.{slice_get_cases, slice_get_within, slice_get-get_or}
 use Rattle.turns.specs.Turns.{first_ready, least_from, next_in_turn, or_else, start_after}
 use Rattle.kahn_net.specs.Common.{Next, Gets, Puts, NoNext, next_of, Standing, Block, GetThen, AssignThen, PutThen}
 use Rattle.kahn_net.specs.Common.{StopThen, IfThen, RepeatThen, Nothing, sites_of, IsValid, block_puts, code_puts}
-use Rattle.kahn_net.specs.NextActs.{Begins, next_on, next_in_body}
-use Rattle.kahn_net.specs.Processes.Standing.{At, Done, NotBegun}
-use Rattle.kahn_net.specs.Valid.{body_puts}
-use Rattle.protocol.specs.Node.Common.{Network, Code, Channel, Port, Outside, Process, ImageView, SavedProcessView, SavedEnd, RunningNode, JobView}
-use Rattle.protocol.specs.Node.Common.{running_in, running_node, running_of, ModeView, Down, InDoubt, Runs, RecordView, received_of, sent_of, base_of, is_none, may_grant, MAX_COUNT, NodeView}
-use Rattle.protocol.specs.Node.Common.{log_end, log_share, log_of, LogState, has_process, is_on, received_at}
+use Rattle.kahn_net.specs.NextActs.{Begins, next_on}
+use Rattle.protocol.specs.Node.Common.{Network, Code, Channel, Port, Outside, Process, ImageView, SavedProcessView}
+use Rattle.protocol.specs.Node.Common.{SavedEnd, RunningNode, JobView, running_of, received_of, sent_of, base_of}
+use Rattle.protocol.specs.Node.Common.{is_none, may_grant, MAX_COUNT, NodeView, log_share, log_of, LogState}
+use Rattle.protocol.specs.Node.Common.{has_process}
 use Rattle.protocol.specs.Node.Addresses.{consumer_node}
 use Rattle.protocol.specs.Node.Choosing.{has_item, has_room, can_go, next_at, is_ready, ready_process, ready_processes}
-use Rattle.protocol.specs.Node.Choosing.{process_at, next_process, job_at, job_of, job_up_to, next_job}
-use Rattle.protocol.specs.Node.Granting.{room_in, room_of}
+use Rattle.protocol.specs.Node.Choosing.{process_at, job_at, job_of, job_up_to, next_job}
+use Rattle.protocol.specs.Node.Granting.{room_of}
 use Rattle.protocol.specs.Node.Sharing.{even_rooms, full_share, retained_share, wider}
-use Rattle.protocol.specs.declared.limits.TheConstants.{MAX_JOB_ITEMS, MIN_ROOM}
+use Rattle.protocol.specs.declared.limits.TheConstants.{MIN_ROOM}
 use Rattle.protocol.specs.declared.links.Inbox.{Inbox}
 use Rattle.protocol.specs.declared.links.Outbox.{Outbox}
 use Rattle.protocol.specs.declared.stance.Stance.{Stance}
 use Rattle.protocol.specs.declared.stance.Stance.TheVariants.{GoesOn, Ended, Waits, Held, Full}
 use Rattle.ckpt_codec.specs.declared.lengths.TheConstants.{MAX_RETAINED_ITEMS}
 use Rattle.protocol.specs.World.Common.{AreSound, IsNumbered, StationView, WorldView, OutputView, outputs_of}
-use Rattle.protocol.specs.World.Choice.{counts_rose, has_more}
+use Rattle.protocol.specs.World.Choice.{counts_rose}
 use Rattle.protocol.specs.World.Quiet.{have_all_left}
 use Rattle.protocol.specs.Node.Stances.{is_of, own_stance, stance_before, stance_in, stance_there}
-use Rattle.protocol.specs.World.Stances.{beside_others, comes_to, is_coming, got_by, got_at, has_what_was_got, lacks_items}
-use Rattle.protocol.specs.World.Stances.{is_leaving, stance_on, stance_at, stance_with, stance_of}
-use Rattle.protocol.specs.World.Still.{has_come_from, has_let_go, kept_by, kept_at, keeps_all, is_settled, is_settled_at}
-use Rattle.protocol.specs.World.Still.{is_still, wants_room}
-use Rattle.protocol.specs.World.RoomByNeed.{PutIsHeld, NeedIsHeld, NeedGetsMore, NodeNeedIsFound, NeedIsShown, StillShowsNeed}
-use Rattle.protocol.specs.World.RoomNeeds.{awaited, getter_of, is_going}
-use Rattle.protocol.specs.World.RoomNeeds.{process_on, putter_of}
+use Rattle.protocol.specs.World.Stances.{beside_others, is_coming, got_at, has_what_was_got, lacks_items, is_leaving}
+use Rattle.protocol.specs.World.Stances.{stance_on, stance_at, stance_with, stance_of}
+use Rattle.protocol.specs.World.Still.{has_come_from, has_let_go, kept_at, is_settled_at, is_still, wants_room}
+use Rattle.protocol.specs.World.RoomByNeed.{PutIsHeld, NeedIsHeld, NeedGetsMore, NodeNeedIsFound, NeedIsShown}
+use Rattle.protocol.specs.World.RoomByNeed.{StillShowsNeed}
+use Rattle.protocol.specs.World.RoomNeeds.{awaited, getter_of, is_going, process_on, putter_of}
 use Rattle.protocol_laws.specs.Node.GrantLaws.{fewer_places}
 use Rattle.protocol_laws.specs.Node.ImageLaws.{find_within, found_is}
 use Rattle.protocol_laws.specs.Node.NumberedLaws.{where_mark, where_find}
@@ -56,31 +54,13 @@ use Rattle.protocol_laws.specs.World.WayLaws.{need_at_node, need_for_is_need}
 passes_found : {A : Type 0} (test : A → Bool) (xs : List A) (k : ℕ) (x : A) → slice_get xs k ≡ Some x
     → test x ≡ true → is_some (find test xs) ≡ true
 passes_found test [] k x is passes = absurd (cc)
-passes_found {A} test (y ∷ xs) k x is passes =
-    at (test y) refl k is (λ j there. passes_found test xs j x there passes)
-  where
-    at : (b : Bool) → test y ≡ b → (k : ℕ) → slice_get (y ∷ xs) k ≡ Some x
-        → ((j : ℕ) → slice_get xs j ≡ Some x → is_some (find test xs) ≡ true)
-        → is_some (cond (test y) (Some y) (find test xs)) ≡ true
-    at true here k there further = ap (λ (b : Bool). is_some (cond b (Some y) (find test xs))) here
-    at false here zero there further =
-        let same : y ≡ x = cc in
-        let bad : true ≡ false = sym passes ∙ (ap test (sym same) ∙ here) in
-        absurd (cc)
-    at false here (suc k) there further =
-        ap (λ (b : Bool). is_some (cond b (Some y) (find test xs))) here ∙ further k there
+passes_found test (y ∷ xs) zero x is passes = grind arith
+passes_found test (y ∷ xs) (suc k) x is passes = grind (arith, passes_found test xs k x is passes)
 
 -- and the test holds of what is found
 found_passes : {A : Type 0} (test : A → Bool) (xs : List A) (x : A) → find test xs ≡ Some x → test x ≡ true
 found_passes test [] x is = absurd (cc)
-found_passes {A} test (y ∷ xs) x is = at (test y) refl (λ there. found_passes test xs x there)
-  where
-    at : (b : Bool) → test y ≡ b → (find test xs ≡ Some x → test x ≡ true) → test x ≡ true
-    at true here further =
-        let it : Some y ≡ Some x = sym (ap (λ (b : Bool). cond b (Some y) (find test xs)) here) ∙ is in
-        let same : y ≡ x = cc in
-        ap test (sym same) ∙ here
-    at false here further = further (sym (ap (λ (b : Bool). cond b (Some y) (find test xs)) here) ∙ is)
+found_passes test (y ∷ xs) x is = grind (arith, found_passes test xs x)
 
 some_of : {A : Type 0} (o : Option A) → is_some o ≡ true → (x : A) × (o ≡ Some x)
 some_of None is = absurd (cc)
@@ -92,38 +72,19 @@ some_of (Some x) is = (x, refl)
 first_is : (number : ℕ) (ready : List Bool) (q : ℕ) → first_ready number ready ≡ Some q
     → (j : ℕ) × (q ≡ number + j) × (get_or ready j false ≡ true)
 first_is number [] q is = absurd (cc)
-first_is number (b ∷ ready) q is = at b refl (λ there. first_is (suc number) ready q there)
-  where
-    at : (c : Bool) → b ≡ c
-        → (first_ready (suc number) ready ≡ Some q
-        → (j : ℕ) × (q ≡ suc number + j) × (get_or ready j false ≡ true))
-        → (j : ℕ) × (q ≡ number + j) × (get_or (b ∷ ready) j false ≡ true)
-    at true here further =
-        let it : Some number ≡ Some q =
-        sym (ap (λ (c : Bool). cond c (Some number) (first_ready (suc number) ready)) here) ∙ is in
-        let same : number ≡ q = cc in
-        (0, omega (arith, same), here)
-    at false here further =
-        (let rest =
-        further (sym (ap (λ (c : Bool). cond c (Some number) (first_ready (suc number) ready)) here) ∙ is) in
-        let place : q ≡ suc number + rest.0 = rest.1 in
-        (suc rest.0, omega (arith, place), rest.2))
+first_is number (true ∷ ready) q is = (0, (let same : number ≡ q = cc in omega arith), refl)
+first_is number (false ∷ ready) q is =
+    let rest = first_is (suc number) ready q is in
+    let place = rest.1 in
+    (suc rest.0, omega (arith, place), rest.2)
 
 -- where one is ready there is a first one
 first_there : (number : ℕ) (ready : List Bool) (k : ℕ) → get_or ready k false ≡ true
     → (q : ℕ) × (first_ready number ready ≡ Some q)
 first_there number [] k is = absurd (cc)
-first_there number (b ∷ ready) k is = at b refl k is (λ j there. first_there (suc number) ready j there)
-  where
-    at : (c : Bool) → b ≡ c → (k : ℕ) → get_or (b ∷ ready) k false ≡ true
-        → ((j : ℕ) → get_or ready j false ≡ true → (q : ℕ) × (first_ready (suc number) ready ≡ Some q))
-        → (q : ℕ) × (cond b (Some number) (first_ready (suc number) ready) ≡ Some q)
-    at true here k there further =
-        (number, ap (λ (c : Bool). cond c (Some number) (first_ready (suc number) ready)) here)
-    at false here zero there further = let bad : true ≡ false = sym there ∙ here in absurd (cc)
-    at false here (suc k) there further =
-        (let rest = further k there in
-        (rest.0, ap (λ (c : Bool). cond c (Some number) (first_ready (suc number) ready)) here ∙ rest.1))
+first_there number (true ∷ ready) k is = (number, refl)
+first_there number (false ∷ ready) zero is = absurd (cc)
+first_there number (false ∷ ready) (suc k) is = first_there (suc number) ready k is
 
 -- where one is ready, one that is has its turn
 turn_there : (last : Option ℕ) (ready : List Bool) (k : ℕ) → get_or ready k false ≡ true
@@ -134,20 +95,13 @@ turn_there last ready k is = at (least_from (start_after last) ready) refl
         → (q : ℕ) × (or_else (least_from (start_after last) ready) (least_from 0 ready) ≡ Some q)
         × (get_or ready q false ≡ true)
     at (Some q) here =
-        let place = first_is (start_after last) (drop (start_after last) ready) q here in (
-          q,
-          ap (λ (o : Option ℕ). or_else o (least_from 0 ready)) here,
-          ap (λ (n : ℕ). get_or ready n false) place.1
-              ∙ (sym (get_or-drop (start_after last) ready place.0 false) ∙ place.2),
-        )
+        let place = first_is (start_after last) (drop (start_after last) ready) q here in
+        (q, rw here refl, rw (place.1, ← get_or-drop (start_after last) ready place.0 false) place.2)
     at None here =
         let first = first_there 0 ready k is in
         let place = first_is 0 ready first.0 first.1 in
-        let same : first.0 ≡ place.0 = omega (arith, place.1) in (
-          first.0,
-          ap (λ (o : Option ℕ). or_else o (least_from 0 ready)) here ∙ first.1,
-          ap (λ (n : ℕ). get_or ready n false) same ∙ place.2,
-        )
+        let same : first.0 ≡ place.0 = omega (arith, place.1) in
+        (first.0, rw here first.1, rw same place.2)
 
 -- ---- the job of a node
 
@@ -156,20 +110,16 @@ module _ (net : Network) (inputs : List (List ℤ)) (share : ℕ → ℕ) (node 
       → get_or (ready_processes net inputs share node.current node.inboxes) n false ≡ true
       → is_some (ready_process net inputs share node.current node.inboxes n) ≡ true
   unfolding ready_processes
-  ready_at n is = at (cases_lt n (length net.codes))
+  ready_at n is = elim (cases_lt n (length net.codes)) [
+    | inl below ↦ sym (get_or-map-range_with_len goes 0 (length net.codes) n n false below (omega arith)) ∙ is
+    | inr past ↦
+        let long = length-map-range_with_len goes 0 (length net.codes) in
+        let none = get_or_past (map goes (range_with_len 0 (length net.codes))) n false (omega (arith, long, past)) in
+        absurd (cc)
+  ]
     where
       goes : ℕ → Bool
       goes m = is_some (ready_process net inputs share node.current node.inboxes m)
-
-      at : (n < length net.codes) ⊎ (length net.codes ≤ n) → goes n ≡ true
-      at (inl below) =
-          sym (get_or-map-range_with_len goes 0 (length net.codes) n n false below (omega arith)) ∙ is
-      at (inr past) =
-          let long = length-map-range_with_len goes 0 (length net.codes) in
-          let none : get_or (map goes (range_with_len 0 (length net.codes))) n false ≡ false =
-          get_or_past (map goes (range_with_len 0 (length net.codes))) n false (omega (arith, long, past)) in
-          let bad : true ≡ false = sym is ∙ none in
-          absurd (cc)
 
   at_ready : (n : ℕ) → n < length net.codes
       → is_some (ready_process net inputs share node.current node.inboxes n) ≡ true
@@ -189,70 +139,33 @@ module _ (net : Network) (inputs : List (List ℤ)) (share : ℕ → ℕ) (node 
       let found =
       passes_found
       (λ (s : SavedProcessView). (s.number == saved.number) && is_ready net inputs share node.current node.inboxes s)
-      node.current.processes k saved is
-      (ap (λ (b : Bool). b && is_ready net inputs share node.current node.inboxes saved) (same saved.number) ∙ ready) in
+      node.current.processes k saved is (grind (arith, ready)) in
       let turn =
       turn_there node.last (ready_processes net inputs share node.current node.inboxes) saved.number
       (at_ready saved.number below found) in
       let chosen = some_of (ready_process net inputs share node.current node.inboxes turn.0) (ready_at turn.0 turn.2) in
-      ap (λ (b : Bool). is_some (cond b (job_of net inputs share node
-      (next_process net inputs share node.current node.inboxes node.last)) None)) may
-      ∙ (ap (λ (o : Option ℕ). is_some (job_of net inputs share node
-      (process_at net inputs share node.current node.inboxes o))) turn.1
-      ∙ ap (λ (o : Option SavedProcessView). is_some (job_of net inputs share node o)) chosen.1)
-    where
-      same : (n : ℕ) → (n == n) ≡ true
-      same n = grind (arith)
+      rw (may, turn.1, chosen.1) refl
 
   -- and where it grants one, it has a process that is ready
   job_says : is_some (job_up_to net inputs share node) ≡ true
       → (may_grant node ≡ true) × (k : ℕ) × (saved : SavedProcessView)
       × (slice_get node.current.processes k ≡ Some saved)
       × (is_ready net inputs share node.current node.inboxes saved ≡ true)
-  job_says is = at (may_grant node) refl
+  job_says is =
+      let one = chosen (may_grant node)
+      (next_in_turn node.last (ready_processes net inputs share node.current node.inboxes)) is in
+      let test : SavedProcessView → Bool = λ (s : SavedProcessView).
+      (s.number == one.1) && is_ready net inputs share node.current node.inboxes s in
+      let place = find_within test node.current.processes one.2 one.3 in
+      let passes = found_passes test node.current.processes one.2 one.3 in
+      (one.0, place.0, one.2, place.1, grind (arith, passes))
     where
-      next : Option SavedProcessView
-      next = next_process net inputs share node.current node.inboxes node.last
-
-      at : (b : Bool) → may_grant node ≡ b
-          → (may_grant node ≡ true) × (k : ℕ) × (saved : SavedProcessView)
-          × (slice_get node.current.processes k ≡ Some saved)
-          × (is_ready net inputs share node.current node.inboxes saved ≡ true)
-      at false may =
-          (let bad : true ≡ false =
-          sym is ∙ ap (λ (b : Bool). is_some (cond b (job_of net inputs share node next) None)) may in
-          absurd (cc))
-      at true may =
-          by (next_in_turn node.last (ready_processes net inputs share node.current node.inboxes))
-          (sym (ap (λ (b : Bool). is_some (cond b (job_of net inputs share node next) None)) may) ∙ is)
-        where
-          by : (o : Option ℕ)
-              → is_some (job_of net inputs share node (process_at net inputs share node.current node.inboxes o)) ≡ true
-              → (may_grant node ≡ true) × (k : ℕ) × (saved : SavedProcessView)
-              × (slice_get node.current.processes k ≡ Some saved)
-              × (is_ready net inputs share node.current node.inboxes saved ≡ true)
-          by None job = absurd (cc)
-          by (Some number) job = of (ready_process net inputs share node.current node.inboxes number) refl job
-            where
-              of : (o : Option SavedProcessView)
-                  → ready_process net inputs share node.current node.inboxes number ≡ o
-                  → is_some (job_of net inputs share node o) ≡ true
-                  → (may_grant node ≡ true) × (k : ℕ) × (saved : SavedProcessView)
-                  × (slice_get node.current.processes k ≡ Some saved)
-                  × (is_ready net inputs share node.current node.inboxes saved ≡ true)
-              of None there job = absurd (cc)
-              of (Some saved) there job =
-                  let test : SavedProcessView → Bool = λ (s : SavedProcessView).
-                  (s.number == number) && is_ready net inputs share node.current node.inboxes s in
-                  let place = find_within test node.current.processes saved there in
-                  let passes = found_passes test node.current.processes saved there in (
-                    may,
-                    place.0,
-                    saved,
-                    place.1,
-                    (and_parts (saved.number == number)
-                        (is_ready net inputs share node.current node.inboxes saved) passes).1,
-                  )
+      chosen : (may : Bool) (o : Option ℕ)
+          → is_some (cond may (job_of net inputs share node (process_at net inputs share node.current node.inboxes o))
+          None) ≡ true
+          → (may ≡ true) × (number : ℕ) × (saved : SavedProcessView)
+          × (ready_process net inputs share node.current node.inboxes number ≡ Some saved)
+      chosen may o is = grind arith
 
 -- ---- a station that stands still
 
@@ -271,58 +184,21 @@ rest_of : (net : Network) (inputs : List (List ℤ)) (rooms : List ℕ) (station
     (station : StationView) → is_still net inputs rooms stations station ≡ true
     → (node : RunningNode) × (running_of station.node ≡ Some node)
     × IsAtRest net inputs rooms stations (outputs_of station.outlets) node
-rest_of net inputs rooms stations station still = at (running_of station.node) refl still
+rest_of net inputs rooms stations station still = at (running_of station.node) still
   where
-    at : (o : Option RunningNode) → running_of station.node ≡ o
-        → (is_settled_at net stations o (outputs_of station.outlets) && not
-        (is_some (job_at net inputs rooms o))) ≡ true
-        → (node : RunningNode) × (running_of station.node ≡ Some node)
+    at : (o : Option RunningNode)
+        → (is_settled_at net stations o (outputs_of station.outlets) && not (is_some (job_at net inputs rooms o))) ≡ true
+        → (node : RunningNode) × (o ≡ Some node)
         × IsAtRest net inputs rooms stations (outputs_of station.outlets) node
-    at None is tests = absurd (cc)
-    at (Some node) is tests =
-        (let outputs = outputs_of station.outlets in
-        let none = not (is_some (next_job net inputs rooms node)) in
-        let left = have_all_left node.current outputs in
-        let come = list_all (has_come_from net stations) node.inboxes in
-        let gone = list_all (has_let_go net stations node.current) node.outboxes in
-        let parts = and_parts (is_settled net stations node outputs) none tests in
-        let first = and_parts (keeps_all node) (left && (come && gone)) parts.0 in
-        let rest = and_parts left (come && gone) first.1 in
-        let last = and_parts come gone rest.1 in
-        let more = not (has_more (Some node)) in
-        let settled = length node.kept.decisions == 0 in
-        let free = and_parts (is_none node.kept.tentative) (settled && (is_none node.out && more)) first.0 in
-        let late = and_parts settled (is_none node.out && more) free.1 in
-        let idle = and_parts (is_none node.out) more late.1 in (
-          node,
-          is,
-          record {
-            free = free.0;
-            idle = idle.0;
-            rose = not-true (has_more (Some node)) idle.1;
-            left = rest.0;
-            come = last.0;
-            gone = last.1;
-            none = not-true (is_some (next_job net inputs rooms node)) parts.1;
-          },
-        ))
+    at o tests = grind arith
 
 -- where no count rose, no more was received of any channel than is kept for good
 rose_at : (now earlier : ImageView) (ends : List SavedEnd) (k : ℕ) (saved : SavedEnd)
     → counts_rose now earlier ends ≡ false → slice_get ends k ≡ Some saved
     → received_of now saved.channel ≤ received_of earlier saved.channel
 rose_at now earlier [] k saved none is = absurd (cc)
-rose_at now earlier (x ∷ ends) zero saved none is =
-    let same : x ≡ saved = cc in
-    let got = nat_lt (received_of earlier x.channel) (received_of now x.channel) in
-    let put = nat_lt (sent_of earlier x.channel) (sent_of now x.channel) in
-    let parts = or_parts (got || put) (counts_rose now earlier ends) none in
-    subst (λ (s : SavedEnd). received_of now s.channel ≤ received_of earlier s.channel) same
-    (ltb-false (received_of earlier x.channel) (received_of now x.channel) (or_parts got put parts.0).0)
-rose_at now earlier (x ∷ ends) (suc k) saved none is =
-    let got = nat_lt (received_of earlier x.channel) (received_of now x.channel) in
-    let put = nat_lt (sent_of earlier x.channel) (sent_of now x.channel) in
-    rose_at now earlier ends k saved (or_parts (got || put) (counts_rose now earlier ends) none).1 is
+rose_at now earlier (x ∷ ends) zero saved none is = grind (arith, ltb-false)
+rose_at now earlier (x ∷ ends) (suc k) saved none is = rose_at now earlier ends k saved (grind arith) is
 
 got_is_kept : (now earlier : ImageView) → counts_rose now earlier now.ends ≡ false → (channel : ℕ)
     → received_of now channel ≤ received_of earlier channel
@@ -331,15 +207,10 @@ got_is_kept now earlier none channel =
   where
     at : (o : Option SavedEnd) → find (λ (saved : SavedEnd). eqb saved.channel channel) now.ends ≡ o
         → received_of now channel ≤ received_of earlier channel
-    at None is =
-        let nothing : received_of now channel ≡ 0 =
-        ap (λ (o : Option SavedEnd). received_at (option_map (λ (saved : SavedEnd). saved.end) o)) is in
-        omega (arith, nothing)
+    at None is = rw is (omega arith)
     at (Some saved) is =
         let place = find_within (λ (s : SavedEnd). eqb s.channel channel) now.ends saved is in
-        let number : saved.channel ≡ channel =
-        found_is (λ (s : SavedEnd). s.channel) now.ends channel saved is in
-        subst (λ (n : ℕ). received_of now n ≤ received_of earlier n) number
+        rw (← found_is (λ (s : SavedEnd). s.channel) now.ends channel saved is)
         (rose_at now earlier now.ends place.0 saved none place.1)
 
 module _ (net : Network) (inputs : List (List ℤ)) (rooms : List ℕ) (stations : List StationView)
@@ -358,9 +229,8 @@ module _ (net : Network) (inputs : List (List ℤ)) (rooms : List ℕ) (stations
       at : (o : Option StationView) → slice_get stations k ≡ o → got_at channel o ≤ kept_at channel o
       at None is = omega arith
       at (Some station) is =
-          (let node = still_at k station is in
-          subst (λ (o : Option RunningNode). got_by channel o ≤ kept_by channel o) (sym node.1)
-          (got_is_kept node.0.current node.0.kept.permanent node.2.rose channel))
+          let node = still_at k station is in
+          rw node.1 (got_is_kept node.0.current node.0.kept.permanent node.2.rose channel)
 
   -- nothing is under way on its channels
   none_comes : (outputs : List OutputView) (node : RunningNode) → IsAtRest net inputs rooms stations outputs node
@@ -370,11 +240,10 @@ module _ (net : Network) (inputs : List (List ℤ)) (rooms : List ℕ) (stations
     where
       at : (o : Option Inbox) → find (λ (inbox : Inbox). inbox.channel == channel) node.inboxes ≡ o
           → is_coming net stations node.inboxes channel ≡ false
-      at None is = ap (comes_to net stations) is
+      at None is = rw is refl
       at (Some inbox) is =
-          (let place = find_within (λ (i : Inbox). i.channel == channel) node.inboxes inbox is in
-          let come = all_at (has_come_from net stations) node.inboxes place.0 inbox rest.come place.1 in
-          ap (comes_to net stations) is ∙ ap not come)
+          let place = find_within (λ (i : Inbox). i.channel == channel) node.inboxes inbox is in
+          rw (is, all_at (has_come_from net stations) node.inboxes place.0 inbox rest.come place.1) refl
 
   none_leaves : (outputs : List OutputView) (node : RunningNode) → IsAtRest net inputs rooms stations outputs node
       → (channel : ℕ) → is_leaving net stations node outputs channel ≡ false
@@ -388,26 +257,24 @@ module _ (net : Network) (inputs : List (List ℤ)) (rooms : List ℕ) (stations
       log : (o : Option Outbox) → find (λ (o : Outbox). o.channel == channel) node.outboxes ≡ o
           → has_what_was_got net stations node.current (find (λ (o : Outbox). o.channel == channel) node.outboxes)
           ≡ false
-      log None is = ap (has_what_was_got net stations node.current) is
+      log None is = rw is refl
       log (Some outbox) is =
-          (let place = find_within (λ (o : Outbox). o.channel == channel) node.outboxes outbox is in
+          let place = find_within (λ (o : Outbox). o.channel == channel) node.outboxes outbox is in
           let gone = all_at (has_let_go net stations node.current) node.outboxes place.0 outbox rest.gone place.1 in
           let to = consumer_node net outbox.channel in
           let kept = leb-true (kept_at outbox.channel (slice_get stations to))
           (base_of node.current outbox.channel) gone in
           let got = got_within outbox.channel to in
-          ap (has_what_was_got net stations node.current) is
-          ∙ le-ltb (base_of node.current outbox.channel) (got_at outbox.channel (slice_get stations to))
+          rw is (le-ltb (base_of node.current outbox.channel) (got_at outbox.channel (slice_get stations to))
           (omega (arith, kept, got)))
 
       outlet : (o : Option OutputView) → find (λ (o : OutputView). o.channel == channel) outputs ≡ o
           → lacks_items node.current (find (λ (o : OutputView). o.channel == channel) outputs) ≡ false
-      outlet None is = ap (lacks_items node.current) is
+      outlet None is = rw is refl
       outlet (Some output) is =
-          (let place = find_within (λ (o : OutputView). o.channel == channel) outputs output is in
+          let place = find_within (λ (o : OutputView). o.channel == channel) outputs output is in
           let left = left_at node.current outputs place.0 output rest.left place.1 in
-          ap (lacks_items node.current) is
-          ∙ le-ltb (length output.taken) (sent_of node.current output.channel) (omega (arith, left)))
+          rw is (le-ltb (length output.taken) (sent_of node.current output.channel) (omega (arith, left)))
 
   -- ---- a process at such a station
 
@@ -437,13 +304,13 @@ module _ (net : Network) (inputs : List (List ℤ)) (rooms : List ℕ) (stations
 
     -- what it waits for isn't under way
     held_still : (c : ℕ) → beside_others net stations node outputs (Held c) ≡ Held c
-    held_still c = ap (λ (b : Bool). cond b GoesOn (Held c)) (none_leaves outputs node rest c)
+    held_still c = rw (none_leaves outputs node rest c) refl
 
     full_still : (c : ℕ) → beside_others net stations node outputs (Full c) ≡ Full c
-    full_still c = ap (λ (b : Bool). cond b GoesOn (Full c)) (none_leaves outputs node rest c)
+    full_still c = rw (none_leaves outputs node rest c) refl
 
     waits_still : (c : ℕ) → beside_others net stations node outputs (Waits c) ≡ Waits c
-    waits_still c = ap (λ (b : Bool). cond b GoesOn (Waits c)) (none_comes outputs node rest c)
+    waits_still c = rw (none_comes outputs node rest c) refl
 
     before_still : may_grant node ≡ true → (next : Next)
         → next_at (slice_get net.codes saved.number) saved.standing ≡ next
@@ -452,59 +319,27 @@ module _ (net : Network) (inputs : List (List ℤ)) (rooms : List ℕ) (stations
     before_still may Begins comes = absurd (not_ready may Begins comes refl)
     before_still may NoNext comes = record { stays = refl; held = λ grants could. absurd (cc) }
     before_still may (Gets c) comes =
-        at (has_item inputs node.current node.inboxes c (slice_get net.channels c)) refl (not_ready may (Gets c) comes)
+        at (has_item inputs node.current node.inboxes c (slice_get net.channels c)) (not_ready may (Gets c) comes)
       where
-        at : (b : Bool) → has_item inputs node.current node.inboxes c (slice_get net.channels c) ≡ b
-            → (has_item inputs node.current node.inboxes c (slice_get net.channels c) ≡ true → ⊥)
-            → StaysPut node (has_item inputs node.current node.inboxes c (slice_get net.channels c))
-            (beside_others net stations node outputs (stance_before net inputs rooms node.current node.inboxes (Gets c)))
-        at true has never = absurd (never has)
-        at false has never =
-            (let same : beside_others net stations node outputs (stance_before net inputs rooms node.current node.inboxes (Gets c)) ≡ Waits c =
-            ap (λ (b : Bool). beside_others net stations node outputs (cond b GoesOn (Waits c))) has ∙ waits_still c in
-            record { stays = ap is_going same; held = λ grants could. absurd (never could) })
+        at : (b : Bool) → (b ≡ true → ⊥)
+            → StaysPut node b (beside_others net stations node outputs (cond b GoesOn (Waits c)))
+        at true never = absurd (never refl)
+        at false never = record { stays = ap is_going (waits_still c); held = λ grants could. absurd (cc) }
     before_still may (Puts c) comes =
-        at (has_room (retained_share rooms node.current) node.current c (slice_get net.channels c)) refl
-        (not_ready may (Puts c) comes)
+        at (has_room (retained_share rooms node.current) node.current c (slice_get net.channels c))
+        (has_room (full_share node.current) node.current c (slice_get net.channels c)) (not_ready may (Puts c) comes)
       where
-        full : Bool
-        full = has_room (full_share node.current) node.current c (slice_get net.channels c)
-
-        at : (b : Bool) → has_room (retained_share rooms node.current) node.current c (slice_get net.channels c) ≡ b
-            → (has_room (retained_share rooms node.current) node.current c (slice_get net.channels c) ≡ true → ⊥)
-            → StaysPut node full
-            (beside_others net stations node outputs (stance_before net inputs rooms node.current node.inboxes (Puts c)))
-        at true has never = absurd (never has)
-        at false has never =
-            (let put : beside_others net stations node outputs (stance_before net inputs rooms node.current node.inboxes (Puts c))
-            ≡ beside_others net stations node outputs (cond full (Held c) (Full c)) =
-            ap (λ (b : Bool). beside_others net stations node outputs (cond b GoesOn (cond full (Held c) (Full c)))) has in
-            by full refl put)
-          where
-            by : (f : Bool) → full ≡ f
-                → beside_others net stations node outputs (stance_before net inputs rooms node.current node.inboxes (Puts c))
-                ≡ beside_others net stations node outputs (cond full (Held c) (Full c))
-                → StaysPut node full
-                (beside_others net stations node outputs (stance_before net inputs rooms node.current node.inboxes (Puts c)))
-            by true fully put =
-                let same = put
-                ∙ (ap (λ (b : Bool). beside_others net stations node outputs (cond b (Held c) (Full c))) fully
-                ∙ held_still c) in
-                record { stays = ap is_going same; held = λ grants could. (c, same) }
-            by false fully put =
-                (let same = put
-                ∙ (ap (λ (b : Bool). beside_others net stations node outputs (cond b (Held c) (Full c))) fully
-                ∙ full_still c) in
-                record {
-                  stays = ap is_going same;
-                  held = λ grants could. (let bad : true ≡ false = sym could ∙ fully in absurd (cc));
-                })
+        at : (b full : Bool) → (b ≡ true → ⊥)
+            → StaysPut node full (beside_others net stations node outputs (cond b GoesOn (cond full (Held c) (Full c))))
+        at true full never = absurd (never refl)
+        at false true never = record { stays = ap is_going (held_still c); held = λ grants could. (c, held_still c) }
+        at false false never = record { stays = ap is_going (full_still c); held = λ grants could. absurd (cc) }
 
     in_still : StaysPut node
         (can_go net inputs (full_share node.current) node.current node.inboxes
         (next_at (slice_get net.codes saved.number) saved.standing))
         (beside_others net stations node outputs (stance_in net inputs rooms node saved))
-    in_still = at (nat_lt node.version MAX_COUNT) refl
+    in_still = rw (none_out saved.number node.out rest.idle) (at (nat_lt node.version MAX_COUNT) refl)
       where
         next : Next
         next = next_at (slice_get net.codes saved.number) saved.standing
@@ -512,38 +347,14 @@ module _ (net : Network) (inputs : List (List ℤ)) (rooms : List ℕ) (stations
         before : Stance
         before = stance_before net inputs rooms node.current node.inboxes next
 
-        could : Bool
-        could = can_go net inputs (full_share node.current) node.current node.inboxes next
-
-        free : stance_in net inputs rooms node saved ≡ cond (nat_lt node.version MAX_COUNT) before Ended
-        free =
-            ap (λ (b : Bool). cond b GoesOn (cond (nat_lt node.version MAX_COUNT) before Ended))
-            (none_out saved.number node.out rest.idle)
-
         at : (b : Bool) → nat_lt node.version MAX_COUNT ≡ b
-            → StaysPut node could
-            (beside_others net stations node outputs (stance_in net inputs rooms node saved))
+            → StaysPut node (can_go net inputs (full_share node.current) node.current node.inboxes next)
+            (beside_others net stations node outputs (cond b before Ended))
         at true early =
-            let may =
-            and_from (is_none node.kept.tentative) (is_none node.out && nat_lt node.version MAX_COUNT) rest.free
-            (and_from (is_none node.out) (nat_lt node.version MAX_COUNT) rest.idle early) in
-            let found = before_still may next refl in
-            let same =
-            ap (beside_others net stations node outputs) (free ∙ ap (λ (b : Bool). cond b before Ended) early) in
-            record {
-              stays = ap is_going same ∙ found.stays;
-              held = λ grants can. (let one = found.held grants can in (one.0, same ∙ one.1));
-            }
-        at false late =
-            (let same =
-            ap (beside_others net stations node outputs) (free ∙ ap (λ (b : Bool). cond b before Ended) late) in
-            record {
-              stays = ap is_going same;
-              held = λ grants can. (let bad : true ≡ false =
-                  sym (and_parts (is_none node.out) (nat_lt node.version MAX_COUNT)
-                  (and_parts (is_none node.kept.tentative) (is_none node.out && nat_lt node.version MAX_COUNT) grants).1).1
-                  ∙ late in absurd (cc));
-            })
+            before_still
+            (and_from (is_none node.kept.tentative) (is_none node.out && nat_lt node.version MAX_COUNT) rest.free
+            (and_from (is_none node.out) (nat_lt node.version MAX_COUNT) rest.idle early)) next refl
+        at false late = record { stays = refl; held = λ grants can. absurd (grind arith) }
 
   -- ---- nobody goes on
 
@@ -554,43 +365,34 @@ module _ (net : Network) (inputs : List (List ℤ)) (rooms : List ℕ) (stations
       → find (λ (s : SavedProcessView). s.number == p) node.current.processes ≡ o
       → stance_of net inputs rooms stations p
       ≡ beside_others net stations node (outputs_of station.outlets) (stance_there net inputs rooms node o)
-  stance_is p code station node o coded there runs found =
-      ap (stance_with net inputs rooms stations p) coded
-      ∙ (ap (stance_at net inputs rooms stations p) there
-      ∙ (ap (stance_on net inputs rooms stations p (outputs_of station.outlets)) runs
-      ∙ ap (λ (s : Option SavedProcessView). beside_others net stations node (outputs_of station.outlets)
-      (stance_there net inputs rooms node s)) found))
+  stance_is p code station node o coded there runs found = rw (coded, there, runs, found) refl
 
   nobody_goes : (p : ℕ) → is_going (stance_of net inputs rooms stations p) ≡ false
   nobody_goes p = coded (slice_get net.codes p) refl
     where
       coded : (o : Option Code) → slice_get net.codes p ≡ o → is_going (stance_of net inputs rooms stations p) ≡ false
-      coded None is = ap (λ (o : Option Code). is_going (stance_with net inputs rooms stations p o)) is
+      coded None is = rw is refl
       coded (Some code) is = there (slice_get stations code.node) refl
         where
+          found : (station : StationView) → slice_get stations code.node ≡ Some station → (node : RunningNode)
+              → running_of station.node ≡ Some node
+              → IsAtRest net inputs rooms stations (outputs_of station.outlets) node → (o : Option SavedProcessView)
+              → find (λ (s : SavedProcessView). s.number == p) node.current.processes ≡ o
+              → is_going (stance_of net inputs rooms stations p) ≡ false
+          found station at node runs rest None here = rw (stance_is p code station node None is at runs here) refl
+          found station at node runs rest (Some saved) here =
+              let place = find_within (λ (s : SavedProcessView). s.number == p) node.current.processes saved here in
+              let number = found_is (λ (s : SavedProcessView). s.number) node.current.processes p saved here in
+              let within = slice_get_within net.codes p code is in
+              rw (stance_is p code station node (Some saved) is at runs here)
+              (in_still (outputs_of station.outlets) node rest place.0 saved place.1
+              (omega (arith, number, within))).stays
+
           there : (o : Option StationView) → slice_get stations code.node ≡ o
               → is_going (stance_of net inputs rooms stations p) ≡ false
-          there None at =
-              ap (λ (o : Option Code). is_going (stance_with net inputs rooms stations p o)) is
-              ∙ ap (λ (o : Option StationView). is_going (stance_at net inputs rooms stations p o)) at
+          there None at = rw (is, at) refl
           there (Some station) at =
-              found (still_at code.node station at).0 (still_at code.node station at).1 (still_at code.node station at).2
-              (find (λ (s : SavedProcessView). s.number == p) (still_at code.node station at).0.current.processes) refl
-            where
-              found : (node : RunningNode) → running_of station.node ≡ Some node
-                  → IsAtRest net inputs rooms stations (outputs_of station.outlets) node
-                  → (o : Option SavedProcessView)
-                  → find (λ (s : SavedProcessView). s.number == p) node.current.processes ≡ o
-                  → is_going (stance_of net inputs rooms stations p) ≡ false
-              found node runs rest None here = ap is_going (stance_is p code station node None is at runs here)
-              found node runs rest (Some saved) here =
-                  (let place = find_within (λ (s : SavedProcessView). s.number == p) node.current.processes saved here in
-                  let number : saved.number ≡ p =
-                  found_is (λ (s : SavedProcessView). s.number) node.current.processes p saved here in
-                  let within = slice_get_within net.codes p code is in
-                  ap is_going (stance_is p code station node (Some saved) is at runs here)
-                  ∙ (in_still (outputs_of station.outlets) node rest place.0 saved place.1
-                  (omega (arith, number, within))).stays)
+              let node = still_at code.node station at in found station at node.0 node.1 node.2 _ refl
 
 -- ---- and one is held
 
@@ -598,40 +400,26 @@ module _ (net : Network) (inputs : List (List ℤ)) (rooms : List ℕ) (stations
 fuller : (net : Network) (inputs : List (List ℤ)) (rooms : List ℕ) (image : ImageView) (inboxes : List Inbox)
     (next : Next) → can_go net inputs (retained_share rooms image) image inboxes next ≡ true
     → can_go net inputs (full_share image) image inboxes next ≡ true
-fuller net inputs rooms image inboxes Begins can = can
-fuller net inputs rooms image inboxes (Gets c) can = can
-fuller net inputs rooms image inboxes NoNext can = can
 fuller net inputs rooms image inboxes (Puts c) can = at (slice_get net.channels c) can
   where
     at : (o : Option Channel) → has_room (retained_share rooms image) image c o ≡ true
         → has_room (full_share image) image c o ≡ true
     at None can = can
     at (Some ends) can =
-        (let some = ltb-true 0 (room_of (retained_share rooms image c) image c) can in
+        let some = ltb-true 0 (room_of (retained_share rooms image c) image c) can in
         let few = fewer_places (retained_share rooms image c) (log_share image) (log_of image c)
         (min-le_right (slice_index rooms c) (log_share image)) in
-        lt-ltb 0 (room_of (log_share image) image c) (omega (arith, some, few)))
+        lt-ltb 0 (room_of (log_share image) image c) (omega (arith, some, few))
+fuller net inputs rooms image inboxes next can = can
 
 -- a node that runs has its record
 kept_there : (node : NodeView) (running : RunningNode) → running_of node ≡ Some running → running.kept ≡ node.kept
-kept_there node running is = at node.mode is
-  where
-    at : (mode : ModeView) → running_in node.kept node.version mode ≡ Some running → running.kept ≡ node.kept
-    at Down is = absurd (cc)
-    at InDoubt is = absurd (cc)
-    at (Runs r) is =
-        (let same : running_node node.kept node.version r ≡ running = cc in
-        sym (ap (λ (n : RunningNode). n.kept) same))
+kept_there node running is = grind arith
 
 -- a process on a node has its code there
 code_there : (net : Network) (home p : ℕ) → has_process net home p ≡ true
     → (code : Code) × (slice_get net.codes p ≡ Some code) × (code.node ≡ home)
-code_there net home p has = at (slice_get net.codes p) refl has
-  where
-    at : (o : Option Code) → slice_get net.codes p ≡ o → is_on home o ≡ true
-        → (code : Code) × (slice_get net.codes p ≡ Some code) × (code.node ≡ home)
-    at None is on = absurd (cc)
-    at (Some code) is on = (code, is, eqb-true code.node home on)
+code_there net home p has = grind (arith, eqb-true)
 
 -- one of the stations that stand still has a process that is held, where it could grant a job with more room
 one_is_held : (net : Network) (inputs : List (List ℤ)) (rooms : List ℕ) (stations : List StationView)
@@ -641,42 +429,36 @@ one_is_held : (net : Network) (inputs : List (List ℤ)) (rooms : List ℕ) (sta
     → (p c : ℕ) × (code : Code) × (slice_get net.codes p ≡ Some code)
     × (stance_of net inputs rooms stations p ≡ Held c)
 one_is_held net inputs rooms stations all numbered sound k station is wants =
-    at (still_at net inputs rooms stations all k station is)
-  where
-    at : ((node : RunningNode) × (running_of station.node ≡ Some node)
-        × IsAtRest net inputs rooms stations (outputs_of station.outlets) node)
-        → (p c : ℕ) × (code : Code) × (slice_get net.codes p ≡ Some code)
-        × (stance_of net inputs rooms stations p ≡ Held c)
-    at (node, runs, rest) =
-        let even = even_rooms MAX_RETAINED_ITEMS in
-        let share = retained_share even node.current in
-        let job : is_some (job_up_to net inputs share node) ≡ true =
-        sym (ap (λ (o : Option RunningNode). is_some (job_at net inputs even o)) runs) ∙ wants in
-        let says = job_says net inputs share node job in
-        let saved = says.2 in
-        let laid = (sound k station is).runs node runs in
-        let home = node.kept.node in
-        let mark = where_mark (λ (s : SavedProcessView). s.number) (has_process net home) 0 (length net.codes)
-        node.current.processes says.1 saved laid.sound.kept.laid_out.processes says.3 in
-        let found = where_find (λ (s : SavedProcessView). s.number) (has_process net home) 0 (length net.codes)
-        node.current.processes says.1 saved laid.sound.kept.laid_out.processes says.3 in
-        let below : saved.number < length net.codes = omega (arith, mark.2) in
-        let code = code_there net home saved.number mark.0 in
-        let here : code.0.node ≡ k =
-        code.2 ∙ (ap (λ (r : RecordView). r.node) (kept_there station.node node runs) ∙ (numbered k station is).1) in
-        let put = in_still net inputs rooms stations all (outputs_of station.outlets) node rest says.1 saved says.3
-        below in
-        let held = put.held says.0
-        (fuller net inputs even node.current node.inboxes (next_at (slice_get net.codes saved.number) saved.standing)
-        says.4) in (
-          saved.number,
-          held.0,
-          code.0,
-          code.1,
-          stance_is net inputs rooms stations all saved.number code.0 station node (Some saved) code.1
-              (ap (slice_get stations) here ∙ is) runs found
-              ∙ held.1,
-        )
+    let here = still_at net inputs rooms stations all k station is in
+    let node = here.0 in
+    let runs = here.1 in
+    let rest = here.2 in
+    let even = even_rooms MAX_RETAINED_ITEMS in
+    let share = retained_share even node.current in
+    let job : is_some (job_up_to net inputs share node) ≡ true = rw runs at wants in
+    let says = job_says net inputs share node job in
+    let saved = says.2 in
+    let laid = (sound k station is).runs node runs in
+    let home = node.kept.node in
+    let mark = where_mark (λ (s : SavedProcessView). s.number) (has_process net home) 0 (length net.codes)
+    node.current.processes says.1 saved laid.sound.kept.laid_out.processes says.3 in
+    let found = where_find (λ (s : SavedProcessView). s.number) (has_process net home) 0 (length net.codes)
+    node.current.processes says.1 saved laid.sound.kept.laid_out.processes says.3 in
+    let below : saved.number < length net.codes = omega (arith, mark.2) in
+    let code = code_there net home saved.number mark.0 in
+    let at_home : code.0.node ≡ k = rw (code.2, kept_there station.node node runs) (numbered k station is).1 in
+    let put = in_still net inputs rooms stations all (outputs_of station.outlets) node rest says.1 saved says.3
+    below in
+    let held = put.held says.0
+    (fuller net inputs even node.current node.inboxes (next_at (slice_get net.codes saved.number) saved.standing)
+    says.4) in (
+      saved.number,
+      held.0,
+      code.0,
+      code.1,
+      rw (stance_is net inputs rooms stations all saved.number code.0 station node (Some saved) code.1 (rw at_home is)
+          runs found) held.1,
+    )
 
 -- Where a world stands still for want of room, some node finds a channel.
 pub still_shows_need : StillShowsNeed
@@ -703,159 +485,88 @@ own_held : (world : WorldView) (node : RunningNode) (c : ℕ) (next : Next)
     → (next ≡ Puts c)
     × (has_room (retained_share world.rooms node.current) node.current c (slice_get world.net.channels c) ≡ false)
     × (has_room (full_share node.current) node.current c (slice_get world.net.channels c) ≡ true)
-own_held world node c Begins is = absurd (cc)
-own_held world node c NoNext is = absurd (cc)
-own_held world node c (Gets d) is =
-    at (has_item world.inputs node.current node.inboxes d (slice_get world.net.channels d)) is
+own_held world node c (Puts d) is =
+    let held = put_held (has_room (retained_share world.rooms node.current) node.current d (slice_get world.net.channels d))
+    (has_room (full_share node.current) node.current d (slice_get world.net.channels d)) is in
+    (ap Puts held.0, rw (← held.0) held.1, rw (← held.0) held.2)
   where
-    at : (b : Bool) → cond b GoesOn (Waits d) ≡ Held c
-        → (Gets d ≡ Puts c)
-        × (has_room (retained_share world.rooms node.current) node.current c (slice_get world.net.channels c) ≡ false)
-        × (has_room (full_share node.current) node.current c (slice_get world.net.channels c) ≡ true)
-    at true bad = absurd (cc)
-    at false bad = absurd (cc)
-own_held world node c (Puts d) is = at now refl full refl
-  where
-    now : Bool
-    now = has_room (retained_share world.rooms node.current) node.current d (slice_get world.net.channels d)
-
-    full : Bool
-    full = has_room (full_share node.current) node.current d (slice_get world.net.channels d)
-
-    at : (b : Bool) → now ≡ b → (f : Bool) → full ≡ f
-        → (Puts d ≡ Puts c)
-        × (has_room (retained_share world.rooms node.current) node.current c (slice_get world.net.channels c) ≡ false)
-        × (has_room (full_share node.current) node.current c (slice_get world.net.channels c) ≡ true)
-    at true some f fully =
-        let bad : GoesOn ≡ Held c =
-        sym (ap (λ (b : Bool). cond b GoesOn (cond full (Held d) (Full d))) some) ∙ is in
-        absurd (cc)
-    at false none false fully =
-        let bad : Full d ≡ Held c =
-        sym (ap (λ (b : Bool). cond b GoesOn (cond full (Held d) (Full d))) none
-        ∙ ap (λ (b : Bool). cond b (Held d) (Full d)) fully)
-        ∙ is in
-        absurd (cc)
-    at false none true fully =
-        let same_stance : Held d ≡ Held c =
-        sym (ap (λ (b : Bool). cond b GoesOn (cond full (Held d) (Full d))) none
-        ∙ ap (λ (b : Bool). cond b (Held d) (Full d)) fully)
-        ∙ is in
-        let same : d ≡ c = cc in (
-          ap Puts same,
-          subst (λ (e : ℕ). has_room (retained_share world.rooms node.current) node.current e
-              (slice_get world.net.channels e) ≡ false) same none,
-          subst (λ (e : ℕ). has_room (full_share node.current) node.current e (slice_get world.net.channels e) ≡ true)
-              same fully,
-        )
+    put_held : (now full : Bool) → cond now GoesOn (cond full (Held d) (Full d)) ≡ Held c
+        → (d ≡ c) × (now ≡ false) × (full ≡ true)
+    put_held now full is = grind arith
+own_held world node c next is = absurd (grind arith)
 
 -- one that is held beside the others is held at its node, and nothing is on its way out
 held_beside : (net : Network) (stations : List StationView) (node : RunningNode) (outputs : List OutputView)
     (stance : Stance) (c : ℕ) → beside_others net stations node outputs stance ≡ Held c
     → (stance ≡ Held c) × (is_leaving net stations node outputs c ≡ false)
-held_beside net stations node outputs GoesOn c is = absurd (cc)
-held_beside net stations node outputs Ended c is = absurd (cc)
-held_beside net stations node outputs (Waits d) c is = at (is_coming net stations node.inboxes d) is
+held_beside net stations node outputs stance c is = grind arith
+
+-- so it is at a node that runs, at a station, and has its code
+held_on : (world : WorldView) (p c : ℕ) (outputs : List OutputView) (o : Option RunningNode)
+    → stance_on world.net world.inputs world.rooms world.stations p outputs o ≡ Held c
+    → (node : RunningNode) × (o ≡ Some node)
+    × (own_stance world.net world.inputs world.rooms p node ≡ Held c)
+    × (is_leaving world.net world.stations node outputs c ≡ false)
+held_on world p c outputs None is = absurd (cc)
+held_on world p c outputs (Some node) is =
+    let alone = held_beside world.net world.stations node outputs _ c is in (node, refl, alone.0, alone.1)
+
+held_at : (world : WorldView) (p c : ℕ) (o : Option StationView)
+    → stance_at world.net world.inputs world.rooms world.stations p o ≡ Held c → (station : StationView) × (o ≡ Some station)
+    × (stance_on world.net world.inputs world.rooms world.stations p (outputs_of station.outlets)
+    (running_of station.node) ≡ Held c)
+held_at world p c None is = absurd (cc)
+held_at world p c (Some station) is = (station, refl, is)
+
+held_with : (world : WorldView) (p c : ℕ) (o : Option Code)
+    → stance_with world.net world.inputs world.rooms world.stations p o ≡ Held c → (code : Code) × (o ≡ Some code)
+    × (stance_at world.net world.inputs world.rooms world.stations p (slice_get world.stations code.node) ≡ Held c)
+held_with world p c None is = absurd (cc)
+held_with world p c (Some code) is = (code, refl, is)
+
+-- and has no job out, at a node that isn't at the greatest version
+held_there : (world : WorldView) (node : RunningNode) (c : ℕ) (o : Option SavedProcessView)
+    → stance_there world.net world.inputs world.rooms node o ≡ Held c → (saved : SavedProcessView) × (o ≡ Some saved)
+    × (stance_before world.net world.inputs world.rooms node.current node.inboxes
+    (next_at (slice_get world.net.codes saved.number) saved.standing) ≡ Held c)
+held_there world node c None is = absurd (cc)
+held_there world node c (Some saved) is =
+    (saved, refl, no_job (is_of saved.number node.out) (nat_lt node.version MAX_COUNT) _ is)
   where
-    at : (b : Bool) → cond b GoesOn (Waits d) ≡ Held c
-        → (Waits d ≡ Held c) × (is_leaving net stations node outputs c ≡ false)
-    at true bad = absurd (cc)
-    at false bad = absurd (cc)
-held_beside net stations node outputs (Full d) c is = at (is_leaving net stations node outputs d) is
-  where
-    at : (b : Bool) → cond b GoesOn (Full d) ≡ Held c
-        → (Full d ≡ Held c) × (is_leaving net stations node outputs c ≡ false)
-    at true bad = absurd (cc)
-    at false bad = absurd (cc)
-held_beside net stations node outputs (Held d) c is = at (is_leaving net stations node outputs d) refl is
-  where
-    at : (b : Bool) → is_leaving net stations node outputs d ≡ b → cond b GoesOn (Held d) ≡ Held c
-        → (Held d ≡ Held c) × (is_leaving net stations node outputs c ≡ false)
-    at true leaves bad = absurd (cc)
-    at false none same_stance =
-        let same : d ≡ c = cc in
-        (same_stance, subst (λ (e : ℕ). is_leaving net stations node outputs e ≡ false) same none)
+    no_job : (own early : Bool) (before : Stance) → cond own GoesOn (cond early before Ended) ≡ Held c
+        → before ≡ Held c
+    no_job own early before is = grind arith
 
 pub put_is_held : (world : WorldView) (p c : ℕ)
     → stance_of world.net world.inputs world.rooms world.stations p ≡ Held c → PutIsHeld world p c
-put_is_held world p c is = coded (slice_get world.net.codes p) refl is
-  where
-    with_code : Option Code → Stance
-    with_code o = stance_with world.net world.inputs world.rooms world.stations p o
-
-    at_station : Option StationView → Stance
-    at_station o = stance_at world.net world.inputs world.rooms world.stations p o
-
-    coded : (o : Option Code) → slice_get world.net.codes p ≡ o → with_code o ≡ Held c → PutIsHeld world p c
-    coded None coded_is stance = absurd (cc)
-    coded (Some code) coded_is stance = there (slice_get world.stations code.node) refl stance
-      where
-        there : (o : Option StationView) → slice_get world.stations code.node ≡ o → at_station o ≡ Held c
-            → PutIsHeld world p c
-        there None there_is stance = absurd (cc)
-        there (Some station) there_is stance = runs (running_of station.node) refl stance
-          where
-            outputs : List OutputView
-            outputs = outputs_of station.outlets
-
-            runs : (o : Option RunningNode) → running_of station.node ≡ o
-                → stance_on world.net world.inputs world.rooms world.stations p outputs o ≡ Held c
-                → PutIsHeld world p c
-            runs None runs_is stance = absurd (cc)
-            runs (Some node) runs_is stance =
-                found (find (λ (s : SavedProcessView). s.number == p) node.current.processes) refl alone.0
-              where
-                alone : (own_stance world.net world.inputs world.rooms p node ≡ Held c)
-                    × (is_leaving world.net world.stations node outputs c ≡ false)
-                alone =
-                    held_beside world.net world.stations node outputs
-                    (own_stance world.net world.inputs world.rooms p node) c stance
-
-                found : (o : Option SavedProcessView)
-                    → find (λ (s : SavedProcessView). s.number == p) node.current.processes ≡ o
-                    → stance_there world.net world.inputs world.rooms node o ≡ Held c
-                    → PutIsHeld world p c
-                found None found_is bad = absurd (cc)
-                found (Some saved) found_is held =
-                    out (is_of saved.number node.out) (nat_lt node.version MAX_COUNT) held
-                  where
-                    next : Next
-                    next = next_at (slice_get world.net.codes saved.number) saved.standing
-
-                    before : Stance
-                    before = stance_before world.net world.inputs world.rooms node.current node.inboxes next
-
-                    out : (own early : Bool) → cond own GoesOn (cond early before Ended) ≡ Held c
-                        → PutIsHeld world p c
-                    out true early bad = absurd (cc)
-                    out false false bad = absurd (cc)
-                    out false true it =
-                        (let put = own_held world node c next it in
-                        record {
-                          code = code;
-                          station = station;
-                          node = node;
-                          saved = saved;
-                          coded = coded_is;
-                          there = there_is;
-                          runs = runs_is;
-                          found = found_is;
-                          next = put.0;
-                          settled = alone.1;
-                          no_place = put.1;
-                          place = put.2;
-                        })
+put_is_held world p c is =
+    let code = held_with world p c (slice_get world.net.codes p) is in
+    let station = held_at world p c (slice_get world.stations code.0.node) code.2 in
+    let node = held_on world p c (outputs_of station.0.outlets) (running_of station.0.node) station.2 in
+    let saved = held_there world node.0 c (find (λ (s : SavedProcessView). s.number == p) node.0.current.processes)
+    node.2 in
+    let put = own_held world node.0 c (next_at (slice_get world.net.codes saved.0.number) saved.0.standing) saved.2 in
+    record {
+      code = code.0;
+      station = station.0;
+      node = node.0;
+      saved = saved.0;
+      coded = code.1;
+      there = station.1;
+      runs = node.1;
+      found = saved.1;
+      next = put.0;
+      settled = node.3;
+      no_place = put.1;
+      place = put.2;
+    }
 
 -- ---- more room makes a place
 
 -- a channel on which there is room at all is one of the network
 channel_there : (share : ℕ → ℕ) (image : ImageView) (channels : List Channel) (c : ℕ)
     → has_room share image c (slice_get channels c) ≡ true → c < length channels
-channel_there share image channels c has = at (slice_get channels c) refl has
-  where
-    at : (o : Option Channel) → slice_get channels c ≡ o → has_room share image c o ≡ true → c < length channels
-    at None is bad = absurd (cc)
-    at (Some ends) is some = slice_get_within channels c ends is
+channel_there share image channels c has = (let found = slice_get_cases channels c in grind (arith, found))
 
 -- where a put is held for want of room, the channel hasn't all the room that it may have
 pub below_share : (world : WorldView) (p c : ℕ) (held : PutIsHeld world p c)
@@ -872,101 +583,34 @@ below_share world p c held =
     at : (o : Option Channel) (log : Option LogState) → log_of held.node.current c ≡ log
         → has_room (retained_share world.rooms held.node.current) held.node.current c o ≡ false
         → has_room (full_share held.node.current) held.node.current c o ≡ true → room < share
-    at None log is none some = absurd (cc)
-    at (Some ends) None is none some =
-        (let places : room_of share held.node.current c ≡ 0 = ap (room_in share) is in
-        let one = ltb-true 0 (room_of share held.node.current c) some in
-        absurd (omega (arith, places, one)))
-    at (Some ends) (Some log) is none some =
-        (let places : room_of share held.node.current c ≡ room_in share (Some log) = ap (room_in share) is in
-        let one = ltb-true 0 (room_of share held.node.current c) some in
-        let nothing : room_of (min room share) held.node.current c ≡ room_in (min room share) (Some log) =
-        ap (room_in (min room share)) is in
-        let no_one = ltb-false 0 (room_of (min room share) held.node.current c) none in
-        lower room share (length log.items) (MAX_COUNT - log_end log) (omega (arith, places, one))
-        (omega (arith, nothing, no_one)))
-      where
-        lower : (room share items counts : ℕ) → 0 < min MAX_JOB_ITEMS (min (share - items) counts)
-            → min MAX_JOB_ITEMS (min (min room share - items) counts) ≤ 0 → room < share
-        lower room share items counts some none = omega (arith, some, none)
+    at o log is none some = grind (arith, ltb-true, ltb-false)
 
 -- ---- the process that puts there
-
-either : (x y : Bool) → (x ≡ true) ⊎ (y ≡ true) → (x || y) ≡ true
-either x y (inl left) = or_left x y left
-either x y (inr right) = or_right x y right
 
 -- statements that put next on a channel put there
 puts_next : (number : ℕ) (b : Block) (site c : ℕ) → next_on number b site ≡ Puts c → block_puts c b ≡ true
 puts_next number Nothing site c is = absurd (cc)
-puts_next number (GetThen x d rest) site c is =
-    at (number == site) is (λ later. puts_next (number + 1) rest site c later)
-  where
-    at : (b : Bool) → cond b (Gets d) (next_on (number + 1) rest site) ≡ Puts c
-        → (next_on (number + 1) rest site ≡ Puts c → block_puts c rest ≡ true) → block_puts c rest ≡ true
-    at true bad further = absurd (cc)
-    at false later further = further later
+puts_next number (GetThen x d rest) site c is = grind (arith, puts_next (number + 1) rest site c)
 puts_next number (AssignThen x e rest) site c is = puts_next number rest site c is
-puts_next number (PutThen e d rest) site c is =
-    at (number == site) is (λ later. puts_next (number + 1) rest site c later)
-  where
-    at : (b : Bool) → cond b (Puts d) (next_on (number + 1) rest site) ≡ Puts c
-        → (next_on (number + 1) rest site ≡ Puts c → block_puts c rest ≡ true)
-        → ((d == c) || block_puts c rest) ≡ true
-    at true here further =
-        let same : d ≡ c = cc in
-        either (d == c) (block_puts c rest) (inl (eq-eqb d c same))
-    at false later further = either (d == c) (block_puts c rest) (inr (further later))
+puts_next number (PutThen e d rest) site c is = grind (arith, puts_next (number + 1) rest site c, eq-eqb)
 puts_next number (StopThen rest) site c is = puts_next number rest site c is
 puts_next number (IfThen test first second rest) site c is =
-    at (nat_lt site (number + sites_of first)) (nat_lt site (number + sites_of first + sites_of second)) is
-    (λ in_first. puts_next number first site c in_first)
-    (λ in_second. puts_next (number + sites_of first) second site c in_second)
-    (λ later. puts_next (number + sites_of first + sites_of second) rest site c later)
-  where
-    at : (b d : Bool)
-        → cond b (next_on number first site) (cond d (next_on (number + sites_of first) second site)
-        (next_on (number + sites_of first + sites_of second) rest site)) ≡ Puts c
-        → (next_on number first site ≡ Puts c → block_puts c first ≡ true)
-        → (next_on (number + sites_of first) second site ≡ Puts c → block_puts c second ≡ true)
-        → (next_on (number + sites_of first + sites_of second) rest site ≡ Puts c → block_puts c rest ≡ true)
-        → (block_puts c first || (block_puts c second || block_puts c rest)) ≡ true
-    at true d here one two three =
-        either (block_puts c first) (block_puts c second || block_puts c rest) (inl (one here))
-    at false true here one two three =
-        either (block_puts c first) (block_puts c second || block_puts c rest)
-        (inr (either (block_puts c second) (block_puts c rest) (inl (two here))))
-    at false false here one two three =
-        either (block_puts c first) (block_puts c second || block_puts c rest)
-        (inr (either (block_puts c second) (block_puts c rest) (inr (three here))))
+    grind (
+      arith,
+      puts_next number first site c,
+      puts_next (number + sites_of first) second site c,
+      puts_next (number + sites_of first + sites_of second) rest site c,
+    )
 puts_next number (RepeatThen times body rest) site c is =
-    at (nat_lt site (number + sites_of body)) is (λ in_body. puts_next number body site c in_body)
-    (λ later. puts_next (number + sites_of body) rest site c later)
-  where
-    at : (b : Bool) → cond b (next_on number body site) (next_on (number + sites_of body) rest site) ≡ Puts c
-        → (next_on number body site ≡ Puts c → block_puts c body ≡ true)
-        → (next_on (number + sites_of body) rest site ≡ Puts c → block_puts c rest ≡ true)
-        → (block_puts c body || block_puts c rest) ≡ true
-    at true here one two = either (block_puts c body) (block_puts c rest) (inl (one here))
-    at false here one two = either (block_puts c body) (block_puts c rest) (inr (two here))
+    grind (arith, puts_next number body site c, puts_next (number + sites_of body) rest site c)
 
 -- a process that puts next on a channel puts there
 code_puts_next : (code : Code) (standing : Standing) (c : ℕ) → next_of code standing ≡ Puts c
     → code_puts c code ≡ true
-code_puts_next code (NotBegun vars) c is = absurd (cc)
-code_puts_next code (Done vars) c is = absurd (cc)
-code_puts_next code (At point vars) c is = at (nat_lt point.site (sites_of code.prelude)) code.body refl is
-  where
-    at : (b : Bool) (body : Option Block) → code.body ≡ body
-        → cond b (next_on 0 code.prelude point.site) (next_in_body (sites_of code.prelude) body point.site) ≡ Puts c
-        → code_puts c code ≡ true
-    at true body same here =
-        either (block_puts c code.prelude) (body_puts c code.body)
-        (inl (puts_next 0 code.prelude point.site c here))
-    at false None same here = absurd (cc)
-    at false (Some body) same here =
-        either (block_puts c code.prelude) (body_puts c code.body)
-        (inr (ap (body_puts c) same ∙ puts_next (sites_of code.prelude) body point.site c here))
+code_puts_next code standing c is =
+    let before = λ (site : ℕ). puts_next 0 code.prelude site c in
+    let within = λ (body : Block) (site : ℕ). puts_next (sites_of code.prelude) body site c in
+    grind (arith, before, within)
 
 -- so it is the channel's producer
 pub puts_there : (world : WorldView) (p c : ℕ) → IsValid world.net → PutIsHeld world p c
@@ -980,13 +624,11 @@ puts_there world p c valid held = at (slice_get world.net.channels c) refl held.
     at (Some ends) is has =
         let number : held.saved.number ≡ p =
         found_is (λ (s : SavedProcessView). s.number) held.node.current.processes p held.saved held.found in
-        let next : next_of held.code held.saved.standing ≡ Puts c =
-        ap (λ (o : Option Code). next_at o held.saved.standing)
-        (sym held.coded ∙ ap (slice_get world.net.codes) (sym number))
-        ∙ held.next in (
+        let code : slice_get world.net.codes held.saved.number ≡ Some held.code = rw number held.coded in (
           ends,
           is,
-          (valid.producer c p ends held.code is held.coded).0 (code_puts_next held.code held.saved.standing c next),
+          (valid.producer c p ends held.code is held.coded).0
+              (code_puts_next held.code held.saved.standing c (rw code at held.next)),
         )
 
 -- ---- of a world
@@ -999,14 +641,12 @@ end_below : (net : Network) (end : Channel → Port) (process_at : Option Channe
 end_below net end process_at none some here c q is = at (slice_get net.channels c) refl is
   where
     at : (o : Option Channel) → slice_get net.channels c ≡ o → process_at o ≡ Some q → q < length net.codes
-    at None there own = (let bad : None ≡ Some q = sym none ∙ own in absurd (cc))
+    at None there own = absurd (cc)
     at (Some ends) there own = by (end ends) refl (sym (some ends) ∙ own)
       where
         by : (port : Port) → end ends ≡ port → process_on port ≡ Some q → q < length net.codes
         by Outside same bad = absurd (cc)
-        by (Process p) same it =
-            let own : p ≡ q = cc in
-            here c q ends there (same ∙ ap Process own)
+        by (Process p) same it = here c q ends there (cc)
 
 -- so is who puts on a channel, and who gets from one
 putter_below : (net : Network) → IsValid net → (c q : ℕ) → putter_of (slice_get net.channels c) ≡ Some q
@@ -1022,11 +662,10 @@ getter_below net valid =
 -- so whoever is awaited is one
 awaited_below : (net : Network) → IsValid net → (stance : Stance) (q : ℕ) → awaited net stance ≡ Some q
     → q < length net.codes
-awaited_below net valid GoesOn q is = absurd (cc)
-awaited_below net valid Ended q is = absurd (cc)
 awaited_below net valid (Waits c) q is = putter_below net valid c q is
 awaited_below net valid (Held c) q is = getter_below net valid c q is
 awaited_below net valid (Full c) q is = getter_below net valid c q is
+awaited_below net valid other q is = absurd (cc)
 
 -- The channel that is found for a node is one for which a process needs more room.
 pub node_need_is_found : NodeNeedIsFound
@@ -1046,11 +685,7 @@ need_is_shown world p c code coded needs =
 pub need_is_held : NeedIsHeld
 need_is_held world p c valid needs =
     let held = put_is_held world p c needs.held in
-    let there = puts_there world p c valid held in (
-      held,
-      subst (λ (o : Option Channel). IfSome o (λ ends. ends.producer ≡ Process p)) (sym there.1) there.2,
-      below_share world p c held,
-    )
+    let there = puts_there world p c valid held in (held, rw there.1 there.2, below_share world p c held)
 
 -- That channel gets more.
 pub gets_more : NeedGetsMore

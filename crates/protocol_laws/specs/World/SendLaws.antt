@@ -1,9 +1,8 @@
 -- What a sound node says of channels between nodes is right: it may be spelled, it names what there is, and its items
 -- belong. (What it says of checkpoints besides: `Spelled` in `JoinLaws`.)
-use Rattle.std.proofs.Common.{◌≡◌, ◌≢◌, ◌⊎◌, inl, inr, ℕ, zero, suc, ◌+◌, ◌-◌, ◌<◌, ◌≤◌, Bool, true, false, eqb, cond}
-use Rattle.std.proofs.Common.{ℤ, List, [], ◌∷◌, length, map, take, drop, get_or, Option, Some, None, refl, sym, ap, subst}
-use Rattle.std.proofs.Common.{◌∙◌, arith}
-use Rattle.std.specs.Prelude.{◌&&◌, not, All, IsTrue, option_map, slice_get}
+use Rattle.std.proofs.Common.{◌≡◌, ◌≢◌, ℕ, zero, suc, ◌+◌, ◌-◌, ◌<◌, ◌≤◌, Bool, true, false, cond, ℤ, List, [], ◌∷◌}
+use Rattle.std.proofs.Common.{length, map, take, drop, Option, Some, None, refl, sym, ap, subst, ◌∙◌, arith}
+use Rattle.std.specs.Prelude.{All, IsTrue, option_map, slice_get}
 use Rattle.std.specs.List.{flat_map}
 use Rattle.std.proofs.Math.Logic.{∥∥₁_map}
 use Rattle.std.proofs.lemmas.Bool.{and_parts, eqb-true, eq-eqb, ne_eqb}
@@ -12,22 +11,23 @@ use Rattle.std.proofs.lemmas.List.Elements.{All-append, All-cons, All-nil}
 use Rattle.std.proofs.lemmas.Option.{slice_get_cases, slice_get_within}
 use Rattle.protocol.specs.Node.Common.{Code, Network, IsValid, sent_on, approximation, MAX_CHANNELS, MAX_COUNT}
 use Rattle.protocol.specs.Node.Common.{MAX_NODES, Channel, Port, Outside, Process, LogState, IsLogOf, log_end}
-use Rattle.protocol.specs.Node.Common.{items_since, received_of, log_of, log_at, ImageView, End, Packet}
-use Rattle.protocol.specs.Node.Common.{producer_node, names_right, producer_of, consumer_of, incoming_on, is_incoming}
-use Rattle.protocol.specs.Node.Common.{is_on, is_outgoing, comes_in, port_away, port_on, RunningNode, InboxIsSound}
-use Rattle.protocol.specs.Node.Common.{LinksAreLaidOut, acts_of, inbox_packets, first_due, IsWritable, kept_packet}
+use Rattle.protocol.specs.Node.Common.{items_since, received_of, log_of, log_at, ImageView, End, Packet, Body}
+use Rattle.protocol.specs.Node.Common.{producer_node, names_right, names_run, incoming_on, is_incoming, is_outgoing}
+use Rattle.protocol.specs.Node.Common.{comes_in, port_away, port_on, RunningNode, InboxIsSound, LinksAreLaidOut}
+use Rattle.protocol.specs.Node.Common.{acts_of, inbox_packets, first_due, IsWritable, kept_packet}
 use Rattle.kahn_net.specs.Common.{Belongs}
 use Rattle.kahn_net.specs.Laws.Prefixes.{prefix_of, prefix_item}
-use Rattle.datagram.specs.declared.packet.Body.TheVariants.{Data, Ack, Kept}
-use Rattle.protocol.specs.Node.Addresses.{address, port_node, consumer_node, ends_run, runs_between}
+use Rattle.datagram.specs.PacketText.{IsBody}
+use Rattle.datagram.specs.declared.packet.Body.TheVariants.{Data, Ack, Kept, Undone}
+use Rattle.protocol.specs.Node.Addresses.{address, port_node, consumer_node, runs_between}
 use Rattle.protocol.specs.Node.Layout.{goes_out}
-use Rattle.protocol.specs.Node.Sending.{data_packets, items_due, log_packets, outbox_packets}
+use Rattle.protocol.specs.Node.Sending.{FitsItem, data_packets, items_due, log_packets, outbox_packets}
 use Rattle.protocol.specs.Node.Telling.{undone_packet}
 use Rattle.protocol.specs.World.Common.{MayBeAskedFor, RunsSoundly, OutputView}
 use Rattle.protocol_laws.specs.Node.ImageLaws.{entry_of}
 use Rattle.protocol_laws.specs.Node.NumberedLaws.{where_mark}
 use Rattle.protocol_laws.specs.Node.ReleaseLaws.{acts_put_prefix, log_entry, log_stands}
-use Rattle.protocol.specs.World.Traffic.{PacketIsSound}
+use Rattle.protocol.specs.World.Traffic.{BodyIsSound, PacketIsSound}
 use Rattle.protocol.specs.declared.links.Inbox.{Inbox}
 use Rattle.protocol.specs.declared.links.Outbox.{Outbox}
 
@@ -52,10 +52,10 @@ all_mapped P f (x ∷ xs) each =
     All-cons P (f x) (map f xs) (each 0 x refl) (all_mapped P f xs (λ k y is. each (suc k) y is))
 
 got_drop : (k : ℕ) (xs : List ℤ) (j n : ℕ) → n ≡ k + j → slice_get (drop k xs) j ≡ slice_get xs n
-got_drop zero xs j n sum = (let same : j ≡ n = omega (arith, sum) in ap (slice_get xs) same)
+got_drop zero xs j n sum = ap (slice_get xs) (omega arith)
 got_drop (suc k) [] j n sum = refl
-got_drop (suc k) (x ∷ xs) j zero sum = absurd (omega (arith, sum))
-got_drop (suc k) (x ∷ xs) j (suc n) sum = got_drop k xs j n (omega (arith, sum))
+got_drop (suc k) (x ∷ xs) j zero sum = absurd (omega arith)
+got_drop (suc k) (x ∷ xs) j (suc n) sum = got_drop k xs j n (omega arith)
 
 got_take : (k : ℕ) (xs : List ℤ) (j : ℕ) (x : ℤ) → slice_get (take k xs) j ≡ Some x → slice_get xs j ≡ Some x
 got_take k xs j x is =
@@ -74,46 +74,29 @@ pub record IsApart (net : Network) (home : ℕ) (there : Port) : Type 0 where
   pub apart : home ≢ port_node net there
 
 module _ (net : Network) (valid : IsValid net) (home : ℕ) where
+  node_below : (p : ℕ) → port_node net (Process p) < MAX_NODES
+  node_below p = at (slice_get net.codes p) refl
+    where
+      at : (o : Option Code) → slice_get net.codes p ≡ o → address_of o < MAX_NODES
+      at None is = omega arith
+      at (Some code) is = (valid.codes p code is).node
+
   home_is : (here : Port) → port_on net home here ≡ true → home < MAX_NODES
   home_is Outside on = absurd (cc)
-  home_is (Process q) on = at (slice_get net.codes q) refl on
-    where
-      at : (o : Option Code) → slice_get net.codes q ≡ o → is_on home o ≡ true → home < MAX_NODES
-      at None is on = absurd (cc)
-      at (Some code) is on =
-          let same : code.node ≡ home = eqb-true code.node home on in
-          let below = (valid.codes q code is).node in
-          omega (arith, same, below)
+  home_is (Process q) on = (let below = node_below q in grind (arith, eqb-true))
 
   is_apart : (here there : Port) → port_on net home here ≡ true → port_away net home there ≡ true
       → ((p : ℕ) → there ≡ Process p → p < length net.codes) → IsApart net home there
   is_apart here Outside on away within = absurd (cc)
-  is_apart here (Process p) on away within = at (slice_get_cases net.codes p).1
-    where
-      differs : (code : Code) → not (eqb code.node home) ≡ true → home ≢ code.node
-      differs code away same = (let e : eqb code.node home ≡ true = eq-eqb code.node home (sym same) in absurd (cc))
-
-      at : ((x : Code) × (p < length net.codes) × (slice_get net.codes p ≡ Some x) × (get_or net.codes p x ≡ x))
-          ⊎ ((length net.codes ≤ p) × (slice_get net.codes p ≡ None)) → IsApart net home (Process p)
-      at (inr past) = (let here = within p refl in let out = past.0 in absurd (omega (arith, here, out)))
-      at (inl found) =
-          let code = found.0 in
-          let node : port_node net (Process p) ≡ code.node = ap address_of found.2 in
-          let off : not (eqb code.node home) ≡ true =
-          sym (ap (λ (o : Option Code). not (is_on home o)) found.2) ∙ away in
-          let below : code.node < MAX_NODES = (valid.codes p code found.2).node in
-          record {
-            on = ap (λ (o : Option Code). is_on (address_of o) o) found.2 ∙ eq-eqb code.node code.node refl;
-            below = omega (arith, node, below);
-            home_below = home_is here on;
-            apart = λ same. differs code off (same ∙ node);
-          }
-
-  both_true : (a b : Bool) → a ≡ true → b ≡ true → (a && b) ≡ true
-  both_true a b e f = ap (λ (x : Bool). x && b) e ∙ f
-
-  not_same : (m n : ℕ) → m ≢ n → not (eqb m n) ≡ true
-  not_same m n apart = ap not (ne_eqb m n apart)
+  is_apart here (Process p) on away within =
+      let few = within p refl in
+      let found = slice_get_cases net.codes p in
+      record {
+        on = grind (arith, eq-eqb);
+        below = node_below p;
+        home_below = home_is here on;
+        apart = λ same. grind (arith, eq-eqb);
+      }
 
   -- a channel that comes from another node, and one that goes to one
   pub record IsFrom (c : ℕ) : Type 0 where
@@ -135,125 +118,77 @@ module _ (net : Network) (valid : IsValid net) (home : ℕ) where
     pub runs : runs_between net home (consumer_node net c) c ≡ true
 
   comes_from : (c : ℕ) → is_incoming net home c ≡ true → IsFrom c
-  comes_from c comes = at (slice_get_cases net.channels c).1
+  comes_from c comes = at (slice_get net.channels c) refl comes
     where
-      at : ((x : Channel) × (c < length net.channels) × (slice_get net.channels c ≡ Some x)
-          × (get_or net.channels c x ≡ x)) ⊎ ((length net.channels ≤ c) × (slice_get net.channels c ≡ None)) → IsFrom c
-      at (inr past) =
-          (let none : comes_in net home None ≡ true = sym (ap (comes_in net home) past.1) ∙ comes in absurd (cc))
-      at (inl found) =
-          let channel = found.0 in
-          let both =
-          and_parts (port_on net home channel.consumer) (port_away net home channel.producer)
-          (sym (ap (comes_in net home) found.2) ∙ comes) in
-          let side =
-          is_apart channel.consumer channel.producer both.0 both.1
-          (λ p from. valid.producer_is_here c p channel found.2 from) in
-          let node : producer_node net c ≡ port_node net channel.producer =
-          ap (λ (o : Option Channel). address (producer_of net o)) found.2 in
+      at : (o : Option Channel) → slice_get net.channels c ≡ o → comes_in net home o ≡ true → IsFrom c
+      at None is come = absurd (cc)
+      at (Some channel) is come =
+          let both = and_parts (port_on net home channel.consumer) (port_away net home channel.producer) come in
+          let side = is_apart channel.consumer channel.producer both.0 both.1
+          (λ p from. valid.producer_is_here c p channel is from) in
           let few = valid.channel_count in
-          let there = found.1 in
-          let below = side.below in
+          let there = slice_get_within net.channels c channel is in
+          let differ = ne_eqb (port_node net channel.producer) home (λ same. side.apart (sym same)) in
           record {
-            number = omega (arith, few, there);
-            below = omega (arith, node, below);
+            number = omega arith;
+            below = rw is side.below;
             home_below = side.home_below;
-            apart = λ same. side.apart (same ∙ node);
-            runs = ap (λ (n : ℕ). runs_between net n home c) node
-                ∙ both_true (not (eqb (port_node net channel.producer) home))
-                (ends_run net (port_node net channel.producer) home (slice_get net.channels c))
-                (not_same (port_node net channel.producer) home (λ same. side.apart (sym same)))
-                (ap (ends_run net (port_node net channel.producer) home) found.2
-                ∙ both_true (port_on net (port_node net channel.producer) channel.producer)
-                (port_on net home channel.consumer) side.on both.0);
+            apart = rw is side.apart;
+            runs = rw (is, differ, side.on, both.0) refl;
           }
 
-  put_by : {p : Port} (port : Port) → p ≡ port → port_on net home port ≡ true → (q : ℕ) × (p ≡ Process q)
-  put_by Outside is on = absurd (cc)
-  put_by (Process q) is on = (q, is)
-
   goes_to : (c : ℕ) → is_outgoing net home c ≡ true → IsTo c
-  goes_to c goes = at (slice_get_cases net.channels c).1
+  goes_to c goes = at (slice_get net.channels c) refl goes
     where
-      at : ((x : Channel) × (c < length net.channels) × (slice_get net.channels c ≡ Some x)
-          × (get_or net.channels c x ≡ x)) ⊎ ((length net.channels ≤ c) × (slice_get net.channels c ≡ None)) → IsTo c
-      at (inr past) =
-          (let none : goes_out net home None ≡ true = sym (ap (goes_out net home) past.1) ∙ goes in absurd (cc))
-      at (inl found) =
-          let channel = found.0 in
-          let both =
-          and_parts (port_on net home channel.producer) (port_away net home channel.consumer)
-          (sym (ap (goes_out net home) found.2) ∙ goes) in
-          let side =
-          is_apart channel.producer channel.consumer both.0 both.1
-          (λ p to. valid.consumer_is_here c p channel found.2 to) in
-          let put = put_by channel.producer refl both.0 in
-          let node : consumer_node net c ≡ port_node net channel.consumer =
-          ap (λ (o : Option Channel). address (consumer_of net o)) found.2 in
+      put_by : (port : Port) → port_on net home port ≡ true → (q : ℕ) × (port ≡ Process q)
+      put_by Outside on = absurd (cc)
+      put_by (Process q) on = (q, refl)
+
+      at : (o : Option Channel) → slice_get net.channels c ≡ o → goes_out net home o ≡ true → IsTo c
+      at None is go = absurd (cc)
+      at (Some channel) is go =
+          let both = and_parts (port_on net home channel.producer) (port_away net home channel.consumer) go in
+          let side = is_apart channel.producer channel.consumer both.0 both.1
+          (λ p to. valid.consumer_is_here c p channel is to) in
+          let put = put_by channel.producer both.0 in
           let few = valid.channel_count in
-          let there = found.1 in
-          let below = side.below in
+          let there = slice_get_within net.channels c channel is in
+          let differ = ne_eqb home (port_node net channel.consumer) side.apart in
           record {
-            number = omega (arith, few, there);
-            below = omega (arith, node, below);
-            home_below = side.home_below;
-            apart = λ same. side.apart (same ∙ node);
             channel = channel;
             q = put.0;
-            on = found.2;
+            on = is;
             from = put.1;
-            runs = ap (λ (n : ℕ). runs_between net home n c) node
-                ∙ both_true (not (eqb home (port_node net channel.consumer)))
-                (ends_run net home (port_node net channel.consumer) (slice_get net.channels c))
-                (not_same home (port_node net channel.consumer) side.apart)
-                (ap (ends_run net home (port_node net channel.consumer)) found.2
-                ∙ both_true (port_on net home channel.producer)
-                (port_on net (port_node net channel.consumer) channel.consumer) both.0 side.on);
+            number = omega arith;
+            below = rw is side.below;
+            home_below = side.home_below;
+            apart = rw is side.apart;
+            runs = rw (is, differ, both.0, side.on) refl;
           }
 
 -- ---- what is sent
 
 module _ (net : Network) (inputs : List (List ℤ)) (valid : IsValid net) (home : ℕ) where
+  -- a packet to another node
+  sendable : (to : ℕ) (body : Body) → home < MAX_NODES → to < MAX_NODES → home ≢ to → IsTrue (names_run net home to body)
+      → (FitsItem body → IsBody body) → BodyIsSound net inputs body
+      → IsSendable net inputs (record { from = home; to = to; body = body })
+  sendable to body home_below below apart names written sound = record {
+    writable = λ fits. record { from = omega arith; to = omega arith; apart = apart; body = written fits };
+    names = names;
+    sound = sound;
+  }
+
   answers_sendable : (permanent current : ImageView) (inbox : Inbox) → IsFrom net valid home inbox.channel
       → InboxIsSound current inbox → received_of permanent inbox.channel ≤ received_of current inbox.channel
       → All (IsSendable net inputs) (inbox_packets net home permanent inbox)
   answers_sendable permanent current inbox from sound behind =
-      let number = from.number in
-      let below = from.below in
-      let home_below = from.home_below in
-      let begins = sound.begins in
-      let next = sound.next in
-      let last = sound.last in
-      let to = producer_node net inbox.channel in
-      All-cons (IsSendable net inputs)
-      (record { from = home; to = to; body = Ack inbox.channel inbox.window.epoch inbox.window.next })
-      (record { from = home; to = to; body = Kept inbox.channel (received_of permanent inbox.channel) } ∷ [])
-      (record {
-        writable =
-            λ fits. record {
-              from = omega (arith, home_below);
-              to = omega (arith, below);
-              apart = from.apart;
-              body =
-                  (omega (arith, number), sound.epoch, omega (arith, next, last));
-            };
-        names = from.runs;
-        sound = tt;
-      })
-      (All-cons (IsSendable net inputs)
-      (record { from = home; to = to; body = Kept inbox.channel (received_of permanent inbox.channel) }) []
-      (record {
-        writable =
-            λ fits. record {
-              from = omega (arith, home_below);
-              to = omega (arith, below);
-              apart = from.apart;
-              body =
-                  (omega (arith, number), omega (arith, behind, begins, last));
-            };
-        names = from.runs;
-        sound = tt;
-      })
+      All-cons (IsSendable net inputs) _ (kept_packet net home permanent inbox.channel ∷ [])
+      (sendable _ (Ack inbox.channel inbox.window.epoch inbox.window.next) from.home_below from.below from.apart from.runs
+      (λ fits. (omega arith, sound.epoch, omega arith)) tt)
+      (All-cons (IsSendable net inputs) _ []
+      (sendable _ (Kept inbox.channel (received_of permanent inbox.channel)) from.home_below from.below from.apart
+      from.runs (λ fits. (omega arith, omega arith)) tt)
       (All-nil (IsSendable net inputs)))
 
   -- items of a channel
@@ -300,21 +235,8 @@ module _ (net : Network) (inputs : List (List ℤ)) (valid : IsValid net) (home 
           sym (got_drop skip log.items j (skip + j) refl) ∙ since in
           let within : skip + j < length log.items = slice_get_within log.items (skip + j) item there in
           let place : n ≡ log.base + (skip + j) = omega (arith, sum) in
-          let number = to.number in
-          let below = to.below in
-          let home_below = to.home_below in
-          record {
-            writable =
-                λ fits. record {
-                  from = omega (arith, home_below);
-                  to = omega (arith, below);
-                  apart = to.apart;
-                  body =
-                      (omega (arith, number), omega (arith, place, within, last), fits);
-                };
-            names = to.runs;
-            sound = belongs (skip + j) n item there place;
-          }
+          sendable _ (Data outbox.channel n item) to.home_below to.below to.apart to.runs
+          (λ fits. (omega arith, omega arith, fits)) (belongs (skip + j) n item there place)
 
   -- what is kept for good of each channel from another node, where it may be asked for
   pub kept_sendable : (permanent : ImageView) → MayBeAskedFor net home permanent
@@ -325,19 +247,8 @@ module _ (net : Network) (inputs : List (List ℤ)) (valid : IsValid net) (home 
       where_mark (λ (n : ℕ). n) (is_incoming net home) 0 (length net.channels) (incoming_on net home) k channel
       (map_same (incoming_on net home)) is in
       let from = comes_from net valid home channel mark.0 in
-      let number = from.number in
-      let below = from.below in
-      let home_below = from.home_below in
-      record {
-        writable = λ fits. record {
-          from = omega (arith, home_below);
-          to = omega (arith, below);
-          apart = from.apart;
-          body = (omega (arith, number), counts channel mark.0);
-        };
-        names = from.runs;
-        sound = tt;
-      }))
+      sendable _ (Kept channel (received_of permanent channel)) from.home_below from.below from.apart from.runs
+      (λ fits. (omega arith, counts channel mark.0)) tt))
     where
       map_same : (xs : List ℕ) → map (λ (n : ℕ). n) xs ≡ xs
       map_same [] = refl
@@ -359,6 +270,13 @@ module _ (net : Network) (inputs : List (List ℤ)) (valid : IsValid net) (home 
         answers_sendable node.kept.permanent node.current inbox (comes_from net valid home inbox.channel mark.0)
         (links.inboxes k inbox is) (runs.order.current_ahead.received inbox.channel)))
 
+    outbox_to : (k : ℕ) (outbox : Outbox) → slice_get node.outboxes k ≡ Some outbox
+        → IsTo net valid home outbox.channel
+    outbox_to k outbox is =
+        goes_to net valid home outbox.channel
+        (where_mark (λ (o : Outbox). o.channel) (is_outgoing net home) 0 (length net.channels) node.outboxes k outbox
+        links.outgoing is).0
+
     -- what each channel to another node had when an image was restored
     pub undone_sendable : node.kept.epoch ≤ MAX_COUNT → (none : Bool)
         → All (IsSendable net inputs)
@@ -366,24 +284,9 @@ module _ (net : Network) (inputs : List (List ℤ)) (valid : IsValid net) (home 
     undone_sendable few true = All-nil (IsSendable net inputs)
     undone_sendable few false =
         all_mapped (IsSendable net inputs) (undone_packet net home node.kept.epoch) node.outboxes (λ k outbox is. (
-        let mark =
-        where_mark (λ (o : Outbox). o.channel) (is_outgoing net home) 0 (length net.channels) node.outboxes k
-        outbox links.outgoing is in
-        let to = goes_to net valid home outbox.channel mark.0 in
-        let number = to.number in
-        let below = to.below in
-        let home_below = to.home_below in
-        let restored = links.restored k outbox is in
-        record {
-          writable = λ fits. record {
-            from = omega (arith, home_below);
-            to = omega (arith, below);
-            apart = to.apart;
-            body = (omega (arith, number), few, restored);
-          };
-          names = to.runs;
-          sound = tt;
-        }))
+        let to = outbox_to k outbox is in
+        sendable _ (Undone outbox.channel node.kept.epoch outbox.restored) to.home_below to.below to.apart to.runs
+        (λ fits. (omega arith, few, links.restored k outbox is)) tt))
 
     by_log : (outbox : Outbox) → IsTo net valid home outbox.channel → (o : Option LogState)
         → log_of node.current outbox.channel ≡ o → All (IsSendable net inputs) (log_packets net home outbox o)
@@ -409,8 +312,4 @@ module _ (net : Network) (inputs : List (List ℤ)) (valid : IsValid net) (home 
         → All (IsSendable net inputs) (cond free (flat_map (outbox_packets net home node.current) node.outboxes) [])
     outboxes_sendable false = All-nil (IsSendable net inputs)
     outboxes_sendable true = all_of (IsSendable net inputs) (outbox_packets net home node.current) node.outboxes
-        (λ k outbox is. (
-        let mark =
-        where_mark (λ (o : Outbox). o.channel) (is_outgoing net home) 0 (length net.channels) node.outboxes k
-        outbox links.outgoing is in
-        by_log outbox (goes_to net valid home outbox.channel mark.0) (log_of node.current outbox.channel) refl))
+        (λ k outbox is. by_log outbox (outbox_to k outbox is) (log_of node.current outbox.channel) refl)

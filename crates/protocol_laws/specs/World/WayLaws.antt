@@ -1,6 +1,6 @@
 -- Laws of the ways on which processes wait for others: where nobody goes on, one that is held for want of room shows which
 -- channel needs it.
-use Rattle.std.proofs.Common.{◌≡◌, ◌≢◌, ◌⊎◌, inl, inr, ℕ, zero, suc, ◌+◌, ◌-◌, ◌<◌, ◌≤◌, Bool, true, false, ◌&&◌, ◌||◌, cond, eqb, List, [], ◌∷◌}
+use Rattle.std.proofs.Common.{◌≡◌, ◌⊎◌, inl, inr, ℕ, zero, suc, ◌+◌, ◌-◌, ◌<◌, ◌≤◌, Bool, true, false, ◌&&◌, cond, eqb, List, [], ◌∷◌}
 use Rattle.std.proofs.Common.{length, Option, Some, None, refl, sym, ap, ◌∙◌, arith}
 use Rattle.std.proofs.lemmas.Bool.{cases_eq, cases_lt, cases_Bool, eq-eqb, eqb-true, or_parts}
 use Rattle.std.proofs.lemmas.List.Folds.{Any-from_list_any}
@@ -9,58 +9,40 @@ use Rattle.std.proofs.lemmas.Option.{slice_get_within, slice_get-get_or}
 use Rattle.std.specs.List.{AllByRecursion, IsDistinct, list_any}
 use Rattle.std.specs.Prelude.{if◌then◌else◌, slice_get}
 use Rattle.protocol.specs.Node.Common.{Code, Network}
-use Rattle.protocol.specs.Node.Layout.{has_process, is_on}
+use Rattle.protocol.specs.Node.Layout.{has_process}
 use Rattle.turns.specs.Turns.{or_else}
 use Rattle.protocol.specs.World.RoomNeeds.{is_going, held_on, awaited, way, last_held, need_on, way_from, first_of_any}
 use Rattle.protocol.specs.World.RoomNeeds.{IsLastHeld, NeedsRoom, is_held, need_of, onward}
 use Rattle.protocol.specs.declared.stance.Stance.{Stance}
-use Rattle.protocol.specs.declared.stance.Stance.TheVariants.{GoesOn, Ended, Waits, Held, Full}
+use Rattle.protocol.specs.declared.stance.Stance.TheVariants.{Held}
 
 -- ---- the first that is found
+
+-- one of two is something where the second one is
+or_there : (o other : Option ℕ) → (e : ℕ) × (other ≡ Some e) → (e : ℕ) × (or_else o other ≡ Some e)
+or_there (Some d) other rest = (d, refl)
+or_there None other rest = rest
+
+-- and where one of two is something, one of them is that
+or_cases : (o other : Option ℕ) (c : ℕ) → or_else o other ≡ Some c
+    → (o ≡ Some c) ⊎ ((o ≡ None) × (other ≡ Some c))
+or_cases o other c is = grind arith
 
 -- something is found where there is something of one of the numbers
 pub found_there : (found : ℕ → Option ℕ) (first count p d : ℕ) → first ≤ p → p < first + count → found p ≡ Some d
     → (e : ℕ) × (first_of_any found first count ≡ Some e)
 found_there found first zero p d from below is = absurd (omega (arith, from, below))
-found_there found first (suc count) p d from below is =
-    at (found first) refl
-    (λ later. found_there found (suc first) count p d later (omega (arith, below)) is)
-  where
-    at : (o : Option ℕ) → found first ≡ o
-        → (suc first ≤ p → (e : ℕ) × (first_of_any found (suc first) count ≡ Some e))
-        → (e : ℕ) × (or_else (found first) (first_of_any found (suc first) count) ≡ Some e)
-    at (Some e) here further = (e, ap (λ (o : Option ℕ). or_else o (first_of_any found (suc first) count)) here)
-    at None here further = by (cases_eq first p)
-      where
-        by : (first ≡ p) ⊎ (first ≡ p → ⊥)
-            → (e : ℕ) × (or_else (found first) (first_of_any found (suc first) count) ≡ Some e)
-        by (inl same) = (let bad : None ≡ Some d = sym here ∙ (ap found same ∙ is) in absurd (cc))
-        by (inr other) =
-            let apart : first ≢ p = other in
-            let rest = further (omega (arith, from, apart)) in
-            (rest.0, ap (λ (o : Option ℕ). or_else o (first_of_any found (suc first) count)) here ∙ rest.1)
+found_there found first (suc count) p d from below is = elim (cases_eq first p) [
+  | inl here ↦ (d, rw (here, is))
+  | inr apart ↦ or_there (found first) (first_of_any found (suc first) count)
+      (found_there found (suc first) count p d (omega (arith, from, apart)) (omega (arith, below)) is)
+]
 
 -- and what is found is something of one of them
 pub found_of : (found : ℕ → Option ℕ) (first count e : ℕ) → first_of_any found first count ≡ Some e
     → (p : ℕ) × (first ≤ p) × (p < first + count) × (found p ≡ Some e)
 found_of found first zero e is = absurd (cc)
-found_of found first (suc count) e is =
-    at (found first) refl (λ later. found_of found (suc first) count e later)
-  where
-    at : (o : Option ℕ) → found first ≡ o
-        → (first_of_any found (suc first) count ≡ Some e
-        → (p : ℕ) × (suc first ≤ p) × (p < suc first + count) × (found p ≡ Some e))
-        → (p : ℕ) × (first ≤ p) × (p < first + suc count) × (found p ≡ Some e)
-    at (Some d) here further =
-        let same : Some d ≡ Some e =
-        sym (ap (λ (o : Option ℕ). or_else o (first_of_any found (suc first) count)) here) ∙ is in
-        (first, omega arith, omega arith, here ∙ same)
-    at None here further =
-        (let rest =
-        further (sym (ap (λ (o : Option ℕ). or_else o (first_of_any found (suc first) count)) here) ∙ is) in
-        let from : suc first ≤ rest.0 = rest.1 in
-        let below : rest.0 < suc first + count = rest.2 in
-        (rest.0, omega (arith, from), omega (arith, below), rest.3))
+found_of found first (suc count) e is = grind (arith, found_of found (suc first) count e)
 
 -- ---- the last one that is held
 
@@ -68,12 +50,7 @@ module _ (stance : ℕ → Stance) where
   -- a way on which one is held has a last one
   last_there : (p c : ℕ) (others : List ℕ) → stance p ≡ Held c
       → (d : ℕ) × (last_held stance (p ∷ others) ≡ Some d)
-  last_there p c others is = at (last_held stance others) refl
-    where
-      at : (o : Option ℕ) → last_held stance others ≡ o
-          → (d : ℕ) × (or_else (last_held stance others) (held_on (stance p)) ≡ Some d)
-      at (Some d) later = (d, ap (λ (o : Option ℕ). or_else o (held_on (stance p))) later)
-      at None later = (c, ap (λ (o : Option ℕ). or_else o (held_on (stance p))) later ∙ ap held_on is)
+  last_there p c others is = or_there (last_held stance others) (held_on (stance p)) (c, rw is)
 
 -- ---- how far a way leads
 
@@ -85,20 +62,16 @@ module _ (next : ℕ → Option ℕ) where
   -- so many steps, and so many more
   onward_on : (steps more : ℕ) (from : Option ℕ)
       → onward next (steps + more) from ≡ onward next more (onward next steps from)
-  onward_on zero more from = ap (λ (n : ℕ). onward next n from) (omega arith)
-  onward_on (suc steps) more None =
-      ap (λ (n : ℕ). onward next n None) (let e : suc steps + more ≡ suc (steps + more) = omega arith in e)
-      ∙ sym (onward_none more)
+  onward_on zero more from = let sum : zero + more ≡ more = omega arith in rw sum
+  onward_on (suc steps) more None = rw (onward_none (suc steps + more), onward_none more)
   onward_on (suc steps) more (Some p) =
-      ap (λ (n : ℕ). onward next n (Some p)) (let e : suc steps + more ≡ suc (steps + more) = omega arith in e)
-      ∙ onward_on steps more (next p)
+      let sum : suc steps + more ≡ suc (steps + more) = omega arith in rw sum (onward_on steps more (next p))
 
   -- the list of a way has, in order, to whom it leads
   way_at : (count steps : ℕ) (from : Option ℕ) → steps < count
       → slice_get (way next count from) steps ≡ onward next steps from
   way_at zero steps from below = absurd (omega (arith, below))
-  way_at (suc count) zero None below = refl
-  way_at (suc count) (suc steps) None below = refl
+  way_at (suc count) steps None below = sym (onward_none steps)
   way_at (suc count) zero (Some p) below = refl
   way_at (suc count) (suc steps) (Some p) below = way_at count steps (next p) (omega (arith, below))
 
@@ -122,14 +95,7 @@ twice_or_distinct (x ∷ xs) = at (cases_Bool (list_any (eqb x) xs)) (twice_or_d
     at (inl again) rest =
         let one = Any-from_list_any (eqb x) xs again in
         let same : x ≡ one.1 = eqb-true x one.1 one.4 in
-        inr (
-          0,
-          suc one.0,
-          x,
-          omega arith,
-          refl,
-          slice_get-get_or xs one.0 one.1 one.2 ∙ ap Some (one.3 ∙ sym same),
-        )
+        inr (0, suc one.0, x, omega arith, refl, slice_get-get_or xs one.0 one.1 one.2 ∙ ap Some (one.3 ∙ sym same))
     at (inr none) (inl distinct) = inl (all_apart xs none, distinct)
       where
         all_apart : (ys : List ℕ) → list_any (eqb x) ys ≡ false → AllByRecursion (λ (y : ℕ). eqb x y ≡ false) ys
@@ -141,7 +107,10 @@ twice_or_distinct (x ∷ xs) = at (cases_Bool (list_any (eqb x) xs)) (twice_or_d
 
 -- more numbers below n than n are not all different
 some_twice : (xs : List ℕ) (n : ℕ) → n < length xs → ((k x : ℕ) → slice_get xs k ≡ Some x → x < n) → AreTwice xs
-some_twice xs n many below = at (twice_or_distinct xs)
+some_twice xs n many below = elim (twice_or_distinct xs) [
+  | inl distinct ↦ absurd (let few = length-le_from_distinct_below xs n distinct within in omega (arith, few, many))
+  | inr twice ↦ twice
+]
   where
     within : (q : ℕ) → list_any (eqb q) xs ≡ true → q < n
     within q there =
@@ -150,41 +119,26 @@ some_twice xs n many below = at (twice_or_distinct xs)
         let less = below one.0 one.1 (slice_get-get_or xs one.0 one.1 one.2 ∙ ap Some one.3) in
         omega (arith, same, less)
 
-    at : IsDistinct eqb xs ⊎ AreTwice xs → AreTwice xs
-    at (inr twice) = twice
-    at (inl distinct) =
-        (let few = length-le_from_distinct_below xs n distinct within in absurd (omega (arith, few, many)))
-
 -- ---- a way that goes round
 
 module _ (next : ℕ → Option ℕ) (from : Option ℕ) (n i j r : ℕ) (less : i < j) (few : j ≤ n)
     (first : onward next i from ≡ Some r) (second : onward next j from ≡ Some r) where
   again : (s : ℕ) → onward next (j + s) from ≡ onward next (i + s) from
-  again s =
-      onward_on next j s from
-      ∙ (ap (onward next s) (second ∙ sym first) ∙ sym (onward_on next i s from))
+  again s = rw (onward_on next j s from, onward_on next i s from, second, first)
 
   -- to whom it leads at all from some step on, it leads within n steps
   leads_within : (low : ℕ) → low ≤ i → (fuel t : ℕ) → t ≤ fuel → low ≤ t
       → (u : ℕ) × (low ≤ u) × (u ≤ n) × (onward next u from ≡ onward next t from)
   leads_within low under zero t enough past = (t, past, omega (arith, enough), refl)
-  leads_within low under (suc fuel) t enough past =
-      at (cases_lt n t) (λ s later earlier. leads_within low under fuel s later earlier)
-    where
-      at : (n < t) ⊎ (t ≤ n)
-          → ((s : ℕ) → s ≤ fuel → low ≤ s
-          → (u : ℕ) × (low ≤ u) × (u ≤ n) × (onward next u from ≡ onward next s from))
-          → (u : ℕ) × (low ≤ u) × (u ≤ n) × (onward next u from ≡ onward next t from)
-      at (inr here) further = (t, past, here, refl)
-      at (inl beyond) further =
-          let more : ℕ = t - j in
-          let whole : j + more ≡ t = omega (arith, few, beyond) in
-          let rest = further (i + more) (omega (arith, whole, less, enough)) (omega (arith, under)) in (
-            rest.0,
-            rest.1,
-            rest.2,
-            rest.3 ∙ (sym (again more) ∙ ap (λ (s : ℕ). onward next s from) whole),
-          )
+  leads_within low under (suc fuel) t enough past = elim (cases_lt n t) [
+    | inr here ↦ (t, past, here, refl)
+    | inl beyond ↦
+        let more : ℕ = t - j in
+        let whole : j + more ≡ t = omega (arith, few, beyond) in
+        let rest =
+        leads_within low under fuel (i + more) (omega (arith, whole, less, enough)) (omega (arith, under)) in
+        (rest.0, rest.1, rest.2, rest.3 ∙ rw whole at (sym (again more)))
+  ]
 
 -- ---- the last one that is held needs room
 
@@ -193,10 +147,7 @@ each_stays : (stance : ℕ → Stance) (processes : List ℕ) (k q : ℕ)
     → list_any (λ (p : ℕ). is_going (stance p)) processes ≡ false → slice_get processes k ≡ Some q
     → is_going (stance q) ≡ false
 each_stays stance [] k q none is = absurd (cc)
-each_stays stance (p ∷ processes) zero q none is =
-    let same : p ≡ q = cc in
-    ap (λ (r : ℕ). is_going (stance r)) (sym same)
-    ∙ (or_parts (is_going (stance p)) (list_any (λ (r : ℕ). is_going (stance r)) processes) none).0
+each_stays stance (p ∷ processes) zero q none is = grind arith
 each_stays stance (p ∷ processes) (suc k) q none is =
     each_stays stance processes k q
     (or_parts (is_going (stance p)) (list_any (λ (r : ℕ). is_going (stance r)) processes) none).1 is
@@ -205,27 +156,11 @@ each_stays stance (p ∷ processes) (suc k) q none is =
 none_held : (stance : ℕ → Stance) (processes : List ℕ) (k q : ℕ) → last_held stance processes ≡ None
     → slice_get processes k ≡ Some q → held_on (stance q) ≡ None
 none_held stance [] k q none is = absurd (cc)
-none_held stance (p ∷ processes) k q none is =
-    at (last_held stance processes) refl k is (λ j later there. none_held stance processes j q later there)
-  where
-    at : (o : Option ℕ) → last_held stance processes ≡ o → (k : ℕ) → slice_get (p ∷ processes) k ≡ Some q
-        → ((j : ℕ) → last_held stance processes ≡ None → slice_get processes j ≡ Some q → held_on (stance q) ≡ None)
-        → held_on (stance q) ≡ None
-    at (Some d) later k there further =
-        let bad : Some d ≡ None = sym (ap (λ (o : Option ℕ). or_else o (held_on (stance p))) later) ∙ none in
-        absurd (cc)
-    at None later zero there further =
-        let same : p ≡ q = cc in
-        ap (λ (r : ℕ). held_on (stance r)) (sym same)
-        ∙ (sym (ap (λ (o : Option ℕ). or_else o (held_on (stance p))) later) ∙ none)
-    at None later (suc k) there further = further k later there
+none_held stance (p ∷ processes) zero q none is = grind arith
+none_held stance (p ∷ processes) (suc k) q none is = grind (arith, none_held stance processes k q)
 
 held_there : (stance : Stance) (c : ℕ) → held_on stance ≡ Some c → stance ≡ Held c
-held_there GoesOn c is = absurd (cc)
-held_there Ended c is = absurd (cc)
-held_there (Waits d) c is = absurd (cc)
-held_there (Full d) c is = absurd (cc)
-held_there (Held d) c is = let same : d ≡ c = cc in ap Held same
+held_there stance c is = grind arith
 
 -- the last one of a list that is held: where it stands, and that nobody behind it is held
 record IsLastOf (stance : ℕ → Stance) (processes : List ℕ) (c : ℕ) : Type 0 where
@@ -238,41 +173,24 @@ record IsLastOf (stance : ℕ → Stance) (processes : List ℕ) (c : ℕ) : Typ
 last_of : (stance : ℕ → Stance) (processes : List ℕ) (c : ℕ) → last_held stance processes ≡ Some c
     → IsLastOf stance processes c
 last_of stance [] c is = absurd (cc)
-last_of stance (p ∷ processes) c is =
-    at (last_held stance processes) refl (λ later. last_of stance processes c later)
-  where
-    at : (o : Option ℕ) → last_held stance processes ≡ o
-        → (last_held stance processes ≡ Some c → IsLastOf stance processes c) → IsLastOf stance (p ∷ processes) c
-    at (Some d) later further =
-        let same : Some d ≡ Some c = sym (ap (λ (o : Option ℕ). or_else o (held_on (stance p))) later) ∙ is in
-        let rest = further (later ∙ same) in
-        record {
-          place = suc rest.place;
-          process = rest.process;
-          there = rest.there;
-          held = rest.held;
-          last = last_behind rest;
-        }
-      where
-        last_behind : (rest : IsLastOf stance processes c) (k q : ℕ) → suc rest.place < k
-            → slice_get (p ∷ processes) k ≡ Some q → held_on (stance q) ≡ None
-        last_behind rest zero q behind there = absurd (omega (arith, behind))
-        last_behind rest (suc k) q behind there = rest.last k q (omega (arith, behind)) there
-    at None later further =
-        (let here : held_on (stance p) ≡ Some c =
-        sym (ap (λ (o : Option ℕ). or_else o (held_on (stance p))) later) ∙ is in
-        record {
-          place = 0;
-          process = p;
-          there = refl;
-          held = held_there (stance p) c here;
-          last = last_here later;
-        })
-      where
-        last_here : last_held stance processes ≡ None → (k q : ℕ) → 0 < k → slice_get (p ∷ processes) k ≡ Some q
-            → held_on (stance q) ≡ None
-        last_here none zero q behind there = absurd (omega (arith, behind))
-        last_here none (suc k) q behind there = none_held stance processes k q none there
+last_of stance (p ∷ processes) c is = elim (or_cases (last_held stance processes) (held_on (stance p)) c is) [
+  | inl later ↦
+      let rest = last_of stance processes c later in
+      record {
+        place = suc rest.place;
+        process = rest.process;
+        there = rest.there;
+        held = rest.held;
+        last = λ k q behind there. grind (arith, rest.last);
+      }
+  | inr here ↦ record {
+    place = 0;
+    process = p;
+    there = refl;
+    held = held_there (stance p) c here.1;
+    last = λ k q behind there. grind (arith, none_held stance processes);
+  }
+]
 
 -- whom a list of a way has is one of the numbers below n, where each leads to such a one
 below_on : (next : ℕ → Option ℕ) (n : ℕ) → ((p q : ℕ) → next p ≡ Some q → q < n) → (count k x : ℕ)
@@ -291,9 +209,8 @@ module _ (stance : ℕ → Stance) (next : ℕ → Option ℕ) (n : ℕ) (bound 
     (last : IsLastOf stance (way next (suc n) (Some start)) c) where
   place_within : last.place < suc n
   place_within =
-      (let long = way_length next (suc n) (Some start) in
       let within = slice_get_within (way next (suc n) (Some start)) last.place last.process last.there in
-      omega (arith, long, within))
+      omega (arith, way_length next (suc n) (Some start), within)
 
   -- the way comes to it
   comes_there : onward next last.place (Some start) ≡ Some last.process
@@ -330,18 +247,15 @@ module _ (stance : ℕ → Stance) (next : ℕ → Option ℕ) (n : ℕ) (bound 
   }
     where
       early : (t q : ℕ) → onward next t (Some start) ≡ Some q → t ≤ n
-      early t q comes = at (cases_lt n t)
-        where
-          at : (n < t) ⊎ (t ≤ n) → t ≤ n
-          at (inr few) = few
-          at (inl late) =
-              (let more : ℕ = t - n in
-              let whole : n + more ≡ t = omega (arith, late) in
-              let gone : onward next t (Some start) ≡ None =
-              ap (λ (s : ℕ). onward next s (Some start)) (sym whole)
-              ∙ (onward_on next n more (Some start) ∙ (ap (onward next more) ends ∙ onward_none next more)) in
-              let bad : Some q ≡ None = sym comes ∙ gone in
-              absurd (cc))
+      early t q comes = elim (cases_lt n t) [
+        | inr few ↦ few
+        | inl late ↦
+            let more : ℕ = t - n in
+            let whole : n + more ≡ t = omega (arith, late) in
+            let gone : onward next (n + more) (Some start) ≡ None =
+            rw (onward_on next n more (Some start), ends) (onward_none next more) in
+            absurd (cc)
+      ]
 
   -- and where it goes round
   where_it_turns : (i j r : ℕ) → i < j → j ≤ n → onward next i (Some start) ≡ Some r
@@ -350,34 +264,25 @@ module _ (stance : ℕ → Stance) (next : ℕ → Option ℕ) (n : ℕ) (bound 
       record {
         stays = λ steps q comes. (let near = within 0 (omega arith) (last.place + steps) (omega arith) in
             stays_within near.0 q near.2 (near.3 ∙ (comes_on steps ∙ comes)));
-        last_one = at (cases_lt last.place i);
+        last_one = elim (cases_lt last.place i) [
+          | inl before ↦ inr (λ steps q comes. (
+              let near = within (suc last.place) (omega (arith, before)) (last.place + suc steps) (omega arith) in
+              let behind : last.place < near.0 = near.1 in
+              free_within near.0 q near.2 behind (near.3 ∙ (comes_on (suc steps) ∙ comes))))
+          | inr on ↦
+              let round : ℕ = (j - i) - 1 in
+              let more : ℕ = last.place - i in
+              let turned : last.place + suc round ≡ j + more = omega (arith, less, on) in
+              let place : i + more ≡ last.place = omega (arith, on) in
+              let around = again next (Some start) n i j r less few first second more in
+              inl (round, rw (← comes_on (suc round), turned, around, place) comes_there)
+        ];
       }
     where
       within : (low : ℕ) → low ≤ i → (t : ℕ) → low ≤ t
           → (u : ℕ) × (low ≤ u) × (u ≤ n) × (onward next u (Some start) ≡ onward next t (Some start))
       within low under t past =
           leads_within next (Some start) n i j r less few first second low under t t (omega arith) past
-
-      at : (last.place < i) ⊎ (i ≤ last.place) → IsLastHeld next stance last.process
-      at (inl before) =
-          inr
-          (λ steps q comes. (let near =
-          within (suc last.place) (omega (arith, before)) (last.place + suc steps) (omega arith) in
-          let behind : last.place < near.0 = near.1 in
-          free_within near.0 q near.2 behind (near.3 ∙ (comes_on (suc steps) ∙ comes))))
-      at (inr on) =
-          (let round : ℕ = (j - i) - 1 in
-          let more : ℕ = last.place - i in
-          let whole : suc (last.place + round) ≡ j + more = omega (arith, less, on) in
-          let place : i + more ≡ last.place = omega (arith, on) in
-          let turned : last.place + suc round ≡ j + more = omega (arith, whole) in
-          inl (
-            round,
-            sym (comes_on (suc round)) ∙
-                (ap (λ (s : ℕ). onward next s (Some start)) turned ∙
-                (again next (Some start) n i j r less few first second more ∙
-                (ap (λ (s : ℕ). onward next s (Some start)) place ∙ comes_there))),
-          ))
 
   -- one of the two it does
   in_need : IsInNeed
@@ -386,14 +291,12 @@ module _ (stance : ℕ → Stance) (next : ℕ → Option ℕ) (n : ℕ) (bound 
       at : (o : Option ℕ) → onward next n (Some start) ≡ o → IsInNeed
       at None ends = where_it_ends ends
       at (Some x) on =
-          (let there : slice_get (way next (suc n) (Some start)) n ≡ Some x =
-          way_at next (suc n) n (Some start) (omega arith) ∙ on in
+          let there = way_at next (suc n) n (Some start) (omega arith) ∙ on in
           let many = slice_get_within (way next (suc n) (Some start)) n x there in
-          let twice =
-          some_twice (way next (suc n) (Some start)) n many
+          turns
+          (some_twice (way next (suc n) (Some start)) n many
           (λ k q is. below_on next n bound (suc n) k q (Some start)
-          (λ r e. (let same : start ≡ r = cc in omega (arith, same, below))) is) in
-          turns twice)
+          (λ r e. (let same : start ≡ r = cc in omega (arith, same, below))) is))
         where
           turns : AreTwice (way next (suc n) (Some start)) → IsInNeed
           turns (i, j, r, less, first, second) =
@@ -401,37 +304,32 @@ module _ (stance : ℕ → Stance) (next : ℕ → Option ℕ) (n : ℕ) (bound 
               let within = slice_get_within (way next (suc n) (Some start)) j r second in
               let few : j < suc n = omega (arith, long, within) in
               where_it_turns i j r less (omega (arith, few))
-              (sym (way_at next (suc n) i (Some start) (omega (arith, few, less))) ∙ first)
-              (sym (way_at next (suc n) j (Some start) few) ∙ second)
+              (rw (way_at next (suc n) i (Some start) (omega (arith, few, less))) at first)
+              (rw (way_at next (suc n) j (Some start) few) at second)
 
   process_below : last.process < n
   process_below =
       below_on next n bound (suc n) last.place last.process (Some start)
       (λ r e. (let same : start ≡ r = cc in omega (arith, same, below))) last.there
 
+-- what is found where a test fails, and only there, is found because it fails
+not_none : (b : Bool) (o : Option ℕ) (c : ℕ) → cond b None o ≡ Some c → (b ≡ false) × (o ≡ Some c)
+not_none b o c is = grind arith
+
 -- What is needed on the way from a process is a channel that a process needs.
 pub on_way_is_need : (net : Network) (stance : ℕ → Stance) (c : ℕ)
     → ((p q : ℕ) → awaited net (stance p) ≡ Some q → q < length net.codes) → (p : ℕ) → p < length net.codes
     → need_on stance (way_from net stance p) ≡ Some c → (q : ℕ) × (q < length net.codes) × NeedsRoom net stance q c
 on_way_is_need net stance c bound p below need =
-    at (list_any (λ (q : ℕ). is_going (stance q)) (way_from net stance p)) refl
-  where
-    at : (b : Bool) → list_any (λ (q : ℕ). is_going (stance q)) (way_from net stance p) ≡ b
-        → (q : ℕ) × (q < length net.codes) × NeedsRoom net stance q c
-    at true going =
-        let bad : None ≡ Some c =
-        sym (ap (λ (b : Bool). cond b None (last_held stance (way_from net stance p))) going) ∙ need in
-        absurd (cc)
-    at false stuck =
-        (let is_last : last_held stance (way_from net stance p) ≡ Some c =
-        sym (ap (λ (b : Bool). cond b None (last_held stance (way_from net stance p))) stuck) ∙ need in
-        let last = last_of stance (way_from net stance p) c is_last in
-        let needs =
-        in_need stance (λ (q : ℕ). awaited net (stance q)) (length net.codes) bound p c below stuck last in (
-          last.process,
-          process_below stance (λ (q : ℕ). awaited net (stance q)) (length net.codes) bound p c below stuck last,
-          record { held = last.held; stuck = needs.stays; last = needs.last_one },
-        ))
+    let next : ℕ → Option ℕ = λ q. awaited net (stance q) in
+    let from = way_from net stance p in
+    let on = not_none (list_any (λ (q : ℕ). is_going (stance q)) from) (last_held stance from) c need in
+    let last = last_of stance from c on.1 in
+    let needs = in_need stance next (length net.codes) bound p c below on.0 last in (
+      last.process,
+      process_below stance next (length net.codes) bound p c below on.0 last,
+      record { held = last.held; stuck = needs.stays; last = needs.last_one },
+    )
 
 -- On the way from a process that is held for want of room some is needed, where nobody on it goes on.
 needs_on_way : (net : Network) (stance : ℕ → Stance) (p c : ℕ) → stance p ≡ Held c
@@ -442,10 +340,8 @@ needs_on_way net stance p c held stuck =
     let next : ℕ → Option ℕ = λ (q : ℕ). awaited net (stance q) in
     let last = last_there stance p c (way next (length net.codes) (next p)) held in
     let going : list_any (λ (q : ℕ). is_going (stance q)) (way_from net stance p) ≡ false =
-    none_goes next (suc (length net.codes)) (Some p) stuck in (
-      last.0,
-      ap (λ (b : Bool). cond b None (last_held stance (way_from net stance p))) going ∙ last.1,
-    )
+    none_goes next (suc (length net.codes)) (Some p) stuck in
+    (last.0, rw going last.1)
   where
     none_goes : (next : ℕ → Option ℕ) (count : ℕ) (from : Option ℕ)
         → ((steps q : ℕ) → onward next steps from ≡ Some q → is_going (stance q) ≡ false)
@@ -453,8 +349,7 @@ needs_on_way net stance p c held stuck =
     none_goes next zero from none = refl
     none_goes next (suc count) None none = refl
     none_goes next (suc count) (Some q) none =
-        ap (λ (b : Bool). b || list_any (λ (r : ℕ). is_going (stance r)) (way next count (next q))) (none 0 q refl)
-        ∙ none_goes next count (next q) (λ steps r comes. none (suc steps) r comes)
+        rw (none 0 q refl) (none_goes next count (next q) (λ steps r comes. none (suc steps) r comes))
 
 -- The channel that a node is found to need is one that a process needs.
 pub need_for_is_need : (net : Network) (stance : ℕ → Stance) (node c : ℕ)
@@ -464,12 +359,11 @@ pub need_for_is_need : (net : Network) (stance : ℕ → Stance) (node c : ℕ)
 need_for_is_need net stance node c bound is =
     let found = found_of (need_of net stance node) 0 (length net.codes) c is in
     on_way_is_need net stance c bound found.0 (omega (arith, found.2))
-    (at (has_process net node found.0 && is_held (stance found.0)) (way_from net stance found.0) found.3)
+    (only_then (has_process net node found.0 && is_held (stance found.0))
+    (need_on stance (way_from net stance found.0)) found.3)
   where
-    at : (b : Bool) (processes : List ℕ) → (if b then need_on stance processes else None) ≡ Some c
-        → need_on stance processes ≡ Some c
-    at true processes need = need
-    at false processes need = absurd (cc)
+    only_then : (b : Bool) (o : Option ℕ) → (if b then o else None) ≡ Some c → o ≡ Some c
+    only_then b o is = grind arith
 
 -- And by a process that is held for want of room its node finds a channel, where nobody on the way from it goes on.
 pub need_at_node : (net : Network) (stance : ℕ → Stance) (p c : ℕ) (code : Code) → slice_get net.codes p ≡ Some code
@@ -480,9 +374,7 @@ pub need_at_node : (net : Network) (stance : ℕ → Stance) (p c : ℕ) (code :
 need_at_node net stance p c code coded held stuck =
     let on = needs_on_way net stance p c held stuck in
     let below = slice_get_within net.codes p code coded in
-    let here : has_process net code.node p ≡ true = ap (is_on code.node) coded ∙ eq-eqb code.node code.node refl in
-    let is : is_held (stance p) ≡ true = ap is_held held in
-    let shown : need_of net stance code.node p ≡ Some on.0 =
-    ap (λ (b : Bool). if b && is_held (stance p) then need_on stance (way_from net stance p) else None) here
-    ∙ (ap (λ (b : Bool). if b then need_on stance (way_from net stance p) else None) is ∙ on.1) in
+    let here : has_process net code.node p ≡ true = rw coded (eq-eqb code.node code.node refl) in
+    let is : is_held (stance p) ≡ true = rw held in
+    let shown : need_of net stance code.node p ≡ Some on.0 = rw (here, is) on.1 in
     found_there (need_of net stance code.node) 0 (length net.codes) p on.0 (omega arith) (omega (arith, below)) shown

@@ -7,6 +7,7 @@ use Rattle.kahn_net.specs.Common.{network_of, standing_of}
 use Rattle.approximations.proofs.Turning.{code_here, counts_fit, on_then, elsewhere_then, long_then}
 use Rattle.approximations.proofs.Stopping.{fewer_then, all_then, never_both, is_then}
 use Rattle.std.specs.Prelude.{slice_index}
+use Rattle.std.proofs.lemmas.Grind.{elements}
 use Rattle.approximations.proofs.advance.take_turn.Goals as goal
 
 pub count_taken-requires : goal.count_taken-requires
@@ -92,3 +93,18 @@ returns-in_err-add_all_sent-clause-long c =
     (code_here c.args.net.now.value.program.processes.items c.args.process c.requires.here) c.requires.on
     c.in_ok-state.ensures.turn c.requires.channels c.requires.short c.deref.ensures.value c.deref-2.ensures.value
     (c.in_err-add_all_sent.ensures.long (other_err _ _ h)))
+
+pub returns-clause-counts : goal.returns-clause-counts
+returns-clause-counts c = grind (arith, elements)
+
+pub returns-clause-short : goal.returns-clause-short
+returns-clause-short c = grind (arith, common_steps)
+
+pub returns-clause-long : goal.returns-clause-long
+returns-clause-long c = grind (arith, elements)
+
+pub add_all_sent-requires-clause-short : goal.add_all_sent-requires-clause-short
+add_all_sent-requires-clause-short c = grind (arith, elements)
+
+pub add_all_sent-requires-clause-count : goal.add_all_sent-requires-clause-count
+add_all_sent-requires-clause-count c = grind (arith, elements)

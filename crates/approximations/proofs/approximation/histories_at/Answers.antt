@@ -8,6 +8,7 @@ use Rattle.approximations.specs.Adding.{IsAdded}
 use Rattle.approximations.proofs.Beginnings.{begin_on}
 use Rattle.approximations.proofs.Limits.{short_inputs, short_then, on_next, not_long, long_next, at_rest}
 use Rattle.approximations.proofs.Rounds.{length-approximation, next_is}
+use Rattle.std.proofs.lemmas.Grind.{elements}
 use Rattle.approximations.proofs.approximation.histories_at.Goals as goal
 
 pub loop-round-init : goal.loop-round-init
@@ -97,3 +98,18 @@ returns-clause-not_long c =
     let last : c.loop-round.round ≡ c.args.n = omega arith in
     not_long net c.args.net.now.value.valid c.args.inputs.now c.loop-round.histories.items c.args.n c.requires
     (c.loop-round.invariant.value ∙ ap (approximation net c.args.inputs.now) last) c.loop-round.invariant.short
+
+pub advance_all-requires-clause-histories : goal.advance_all-requires-clause-histories
+advance_all-requires-clause-histories c = grind (arith, elements)
+
+pub advance_all-requires-clause-short : goal.advance_all-requires-clause-short
+advance_all-requires-clause-short c = grind (arith, elements)
+
+pub append_all-requires : goal.append_all-requires
+append_all-requires c = grind (arith, elements)
+
+pub returns-clause-long : goal.returns-clause-long
+returns-clause-long c = grind (arith, elements)
+
+pub returns-then-are_empty-clause-long : goal.returns-then-are_empty-clause-long
+returns-then-are_empty-clause-long c = grind (arith, elements)

@@ -5,6 +5,7 @@ use Rattle.kahn_net.specs.Common.{network_of, standing_of}
 use Rattle.approximations.specs.Progress.{HasMade, IsSameElsewhere}
 use Rattle.approximations.proofs.Rounds.{on_at_first, inside_at_first, short_at_first, on_further, put_further}
 use Rattle.approximations.proofs.Rounds.{inside_further, there_at}
+use Rattle.std.proofs.lemmas.Grind.{elements}
 use Rattle.approximations.proofs.round.advance_all.Goals as goal
 
 pub loop-process-init : goal.loop-process-init
@@ -61,3 +62,9 @@ loop-process-preserved c =
       wide = c.advance.auto.added
           ∙ (ap (length {A = List ℤ}) c.deref_mut.ensures.value ∙ c.loop-process.invariant.wide);
     })
+
+pub advance-requires-clause-short : goal.advance-requires-clause-short
+advance-requires-clause-short c = grind (arith, elements)
+
+pub advance-requires-clause-here : goal.advance-requires-clause-here
+advance-requires-clause-here c = grind (arith, elements)

@@ -6,6 +6,8 @@ use Rattle.ckpt_store.proofs.Allowed.{allowed_confirmed}
 use Rattle.ckpt_store.proofs.Spelled.{spelled_is_record, images_stand}
 use Rattle.ckpt_store.proofs.Changes.{kept_at, change_of}
 use Rattle.ckpt_store.specs.Refusals.{no_refusal}
+use Rattle.std.proofs.Common.{arith}
+use Rattle.std.proofs.lemmas.Grind.{elements, pieces}
 use Rattle.ckpt_store.proofs.changing.confirm.Goals as goal
 
 pub confirmed_length-requires : goal.confirmed_length-requires
@@ -66,3 +68,30 @@ returns-in-Ok-clause-change g c = λ effect.
   where
     decisions_are : c.in-Ok.decisions.items ≡ confirmed c.args.number c.args.node c.in-Some.held.kept.decisions
     decisions_are = search rules
+
+pub returns-in-Ok-clause-idle : goal.returns-in-Ok-clause-idle
+returns-in-Ok-clause-idle g c = grind (arith, elements)
+
+pub returns-in-Err-clause-idle : goal.returns-in-Err-clause-idle
+returns-in-Err-clause-idle g c = grind (arith, elements)
+
+pub returns-in-Err-clause-change : goal.returns-in-Err-clause-change
+returns-in-Err-clause-change g c = grind (arith, elements)
+
+pub put_changed-requires-clause-kept : goal.put_changed-requires-clause-kept
+put_changed-requires-clause-kept g c = search (pieces, arith) depth 5 fits 300
+
+pub returns-then-not-is_named-clause-idle : goal.returns-then-not-is_named-clause-idle
+returns-then-not-is_named-clause-idle g c = grind (arith, elements)
+
+pub returns-then-not-has_room-clause-change : goal.returns-then-not-has_room-clause-change
+returns-then-not-has_room-clause-change g c = grind (arith, elements)
+
+pub returns-then-not-has_room-clause-idle : goal.returns-then-not-has_room-clause-idle
+returns-then-not-has_room-clause-idle g c = grind (arith, elements)
+
+pub returns-then-not-is_named-clause-change : goal.returns-then-not-is_named-clause-change
+returns-then-not-is_named-clause-change g c = grind (arith, elements)
+
+pub returns-in_default-clause-change : goal.returns-in_default-clause-change
+returns-in_default-clause-change g c = grind (arith, elements)

@@ -9,6 +9,7 @@ use Rattle.ckpt_store.proofs.Allowed.{allowed_permanent, decision_may_be, decisi
 use Rattle.ckpt_store.proofs.Spelled.{spelled_is_record}
 use Rattle.ckpt_store.proofs.Stands.{promoted_stands, held_to_decide}
 use Rattle.ckpt_store.proofs.Changes.{kept_at, refused_of, decide_of_record, change_of}
+use Rattle.std.proofs.lemmas.Grind.{common_steps, elements}
 use Rattle.ckpt_store.proofs.changing.decide.Goals as goal
 
 pub refusal_to_decide-requires : goal.refusal_to_decide-requires
@@ -165,3 +166,15 @@ returns-in-Ok-clause-change g c =
     decisions_are : c.in-Ok.decisions.items
         ≡ decided_by c.args.number c.args.participants.items c.in-Some.held.kept.decisions
     decisions_are = search rules
+
+pub returns-in_default-clause-change : goal.returns-in_default-clause-change
+returns-in_default-clause-change g c = grind (arith, elements)
+
+pub returns-in-Err-clause-change : goal.returns-in-Err-clause-change
+returns-in-Err-clause-change g c = grind (arith, common_steps)
+
+pub returns-then-not-has_room_once_permanent-clause-change : goal.returns-then-not-has_room_once_permanent-clause-change
+returns-then-not-has_room_once_permanent-clause-change g c = grind (arith, common_steps)
+
+pub returns-in_default-clause-kept : goal.returns-in_default-clause-kept
+returns-in_default-clause-kept g c = grind (arith, elements)

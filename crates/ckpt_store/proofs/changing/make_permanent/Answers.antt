@@ -6,6 +6,8 @@ use Rattle.ckpt_store.proofs.Allowed.{allowed_permanent}
 use Rattle.ckpt_store.proofs.Spelled.{spelled_is_record}
 use Rattle.ckpt_store.proofs.Stands.{promoted_stands}
 use Rattle.ckpt_store.proofs.Changes.{kept_at, change_of}
+use Rattle.std.proofs.Common.{arith}
+use Rattle.std.proofs.lemmas.Grind.{elements}
 use Rattle.ckpt_store.proofs.changing.make_permanent.Goals as goal
 
 pub put_changed-requires-clause-record : goal.put_changed-requires-clause-record
@@ -45,3 +47,9 @@ returns-clause-change g c =
     let none : refusal_unless_held c.args.initiator c.args.number held.kept ≡ None = search rules in
     change_of g.C.StableCell g.C.SlotCell (refusal_unless_held c.args.initiator c.args.number) (with_permanent) c.args.cell.now _ c.args.known.now held _ _ _ _
     (sym c.in-Some.ensures.value) none c.promote-undo.ensures.next c.promote-undo.ensures.back.gives c.put_changed.ensures.change
+
+pub returns-then-not-is_held-clause-change : goal.returns-then-not-is_held-clause-change
+returns-then-not-is_held-clause-change g c = grind (arith, elements)
+
+pub returns-in_default-clause-change : goal.returns-in_default-clause-change
+returns-in_default-clause-change g c = grind (arith, elements)

@@ -6,6 +6,8 @@ use Rattle.ckpt_store.proofs.Spelled.{spelled_is_record}
 use Rattle.ckpt_store.proofs.Stands.{own_stands}
 use Rattle.ckpt_store.proofs.Changes.{kept_at, change_of}
 use Rattle.ckpt_store.specs.Refusals.{refusal_to_raise}
+use Rattle.std.proofs.Common.{arith}
+use Rattle.std.proofs.lemmas.Grind.{elements}
 use Rattle.ckpt_store.proofs.changing.raise_epoch.Goals as goal
 
 pub put_changed-requires-clause-record : goal.put_changed-requires-clause-record
@@ -36,3 +38,6 @@ returns-clause-change g c =
     let none : refusal_to_raise held.kept ≡ None = search rules in
     change_of g.C.StableCell g.C.SlotCell (refusal_to_raise) (with_epoch) c.args.cell.now _ c.args.known.now held _ _ _ _
     (sym c.in-Some.ensures.value) none c.raise-undo.ensures.next c.raise-undo.ensures.back.gives c.put_changed.ensures.change
+
+pub returns-in_default-clause-change : goal.returns-in_default-clause-change
+returns-in_default-clause-change g c = grind (arith, elements)

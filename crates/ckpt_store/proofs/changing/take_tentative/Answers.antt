@@ -7,6 +7,8 @@ use Rattle.ckpt_store.proofs.Allowed.{allowed_tentative}
 use Rattle.ckpt_store.proofs.Changes.{change_refused, kept_at, change_of}
 use Rattle.ckpt_store.proofs.Spelled.{spelled_is_record}
 use Rattle.ckpt_store.proofs.Undone.{may_take, take_of_record, free_to_take}
+use Rattle.std.proofs.Common.{arith}
+use Rattle.std.proofs.lemmas.Grind.{elements}
 use Rattle.ckpt_store.proofs.changing.take_tentative.Goals as goal
 
 pub returns-in-Some-refusal_to_take-clause-change : goal.returns-in-Some-refusal_to_take-clause-change
@@ -76,3 +78,9 @@ returns-clause-change g c =
     let none : refusal_to_take c.args.initiator c.args.number held.kept ≡ None = sym c.refusal_to_take.ensures ∙ c.in_default-refusal_to_take.is in
     change_of g.C.StableCell g.C.SlotCell (refusal_to_take c.args.initiator c.args.number) (with_tentative c.args.initiator c.args.number c.args.image) c.args.cell.now _ c.args.known.now held _ _ _ _
     (sym c.in-Some.ensures.value) none c.take-undo.ensures.next c.take-undo.ensures.back.gives c.put_taken.ensures.change
+
+pub returns-in_default-clause-kept : goal.returns-in_default-clause-kept
+returns-in_default-clause-kept g c = grind (arith, elements)
+
+pub returns-in_default-clause-change : goal.returns-in_default-clause-change
+returns-in_default-clause-change g c = grind (arith, elements)

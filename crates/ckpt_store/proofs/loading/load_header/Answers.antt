@@ -4,6 +4,8 @@ use Rattle.ckpt_codec.specs.Common.{HeaderView, IsHeaderText}
 use Rattle.ckpt_codec.specs.Faults.{IsHeaderFault}
 use Rattle.ckpt_store.specs.Loading.{IsLook, IsRead, IsHeaderOf, IsHeaderWrong}
 use Rattle.ckpt_store.proofs.Loads.{text_found, text_refused, look_done, look_refused, codec_look}
+use Rattle.std.proofs.Common.{arith}
+use Rattle.std.proofs.lemmas.Grind.{elements}
 use Rattle.ckpt_store.proofs.loading.load_header.Goals as goal
 
 pub returns-in-Err-clause-look : goal.returns-in-Err-clause-look
@@ -58,3 +60,6 @@ returns-clause-read g c =
     c.as_slice.result.now
     (g.met.C.SlotCell.shows old ∙ ap Some (sym (c.as_slice.ensures.value ∙ get.value)))
     c.in-Err-read_header.fault read.only read.cause read.each)
+
+pub returns-in-Err-clause-read : goal.returns-in-Err-clause-read
+returns-in-Err-clause-read g c = grind (arith, elements)

@@ -6,6 +6,8 @@ use Rattle.ckpt_codec.specs.declared.header.Instance.{Instance}
 use Rattle.ckpt_store.specs.declared.fault.StoreFault.{StoreFault}
 use Rattle.ckpt_store.specs.Loading.{IsRead, IsHeldOf, IsHeldWrong}
 use Rattle.ckpt_store.proofs.Loads.{held_found, held_not_found}
+use Rattle.std.proofs.Common.{arith}
+use Rattle.std.proofs.lemmas.Grind.{elements}
 use Rattle.ckpt_store.proofs.loading.load_held.Goals as goal
 
 some_in : (o : Option Instance) → is_some o ≡ true → ¬ (o ≡ None)
@@ -31,3 +33,15 @@ returns-in-Err-clause-read g c =
     (IsHeldWrong permanent h.tentative (slot_in (1 - h.slot) w)) result) c.header.view_is
     (held_not_found permanent c.header.inside.tentative (slot_in (1 - c.header.inside.slot) w) c.in-Err.fault
     (some_in c.header.inside.tentative c.if-is_none.ensures) c.in-Err.ensures.read)
+
+pub returns-in-Ok-clause-look : goal.returns-in-Ok-clause-look
+returns-in-Ok-clause-look g c = grind (arith, elements)
+
+pub returns-in-Err-clause-look : goal.returns-in-Err-clause-look
+returns-in-Err-clause-look g c = grind (arith, elements)
+
+pub returns-then-is_none-clause-look : goal.returns-then-is_none-clause-look
+returns-then-is_none-clause-look g c = grind (arith, elements)
+
+pub returns-then-is_none-clause-read : goal.returns-then-is_none-clause-read
+returns-then-is_none-clause-read g c = grind (arith, elements)

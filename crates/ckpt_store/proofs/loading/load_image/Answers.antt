@@ -5,6 +5,8 @@ use Rattle.ckpt_codec.specs.Common.{ImageView, IsImageText}
 use Rattle.ckpt_codec.specs.Faults.{IsImageFault}
 use Rattle.ckpt_store.specs.Loading.{IsRead, IsImageOf, IsImageWrong}
 use Rattle.ckpt_store.proofs.Loads.{text_found, text_refused, image_read}
+use Rattle.std.proofs.Common.{arith}
+use Rattle.std.proofs.lemmas.Grind.{elements}
 use Rattle.ckpt_store.proofs.loading.load_image.Goals as goal
 
 pub returns-in-Ok-read_image-clause-read : goal.returns-in-Ok-read_image-clause-read
@@ -35,3 +37,15 @@ returns-clause-read g c =
     (image_read like found bytes there _
     (text_refused (λ (i : ImageView) b. IsImageText like i b) (λ b fault. IsImageFault like b fault) found bytes there
     c.in-Err-read_image.fault read.only read.cause read.each))
+
+pub returns-in-Err-clause-read : goal.returns-in-Err-clause-read
+returns-in-Err-clause-read g c = grind (arith, elements)
+
+pub returns-clause-look : goal.returns-clause-look
+returns-clause-look g c = grind (arith, elements)
+
+pub returns-in-Err-clause-look : goal.returns-in-Err-clause-look
+returns-in-Err-clause-look g c = grind (arith, elements)
+
+pub returns-in-Ok-read_image-clause-look : goal.returns-in-Ok-read_image-clause-look
+returns-in-Ok-read_image-clause-look g c = grind (arith, elements)

@@ -7,6 +7,8 @@ use Rattle.world.specs.WorldView.{capacities}
 use Rattle.cobaltmidge.specs.Failing.{IsRunFault}
 use Rattle.protocol.specs.Node.Sharing.{IsRoom, even_rooms}
 use Rattle.cobaltmidge.proofs.Turns.{nearest_is_room, opens_first, rooms_given, run_refused}
+use Rattle.std.proofs.lemmas.Grind.{elements}
+use Rattle.std.proofs.Common.{arith}
 use Rattle.cobaltmidge.proofs.opening.open_world.Goals as goal
 
 pub returns-in-Err-clause-err : goal.returns-in-Err-clause-err
@@ -49,3 +51,9 @@ returns-in-Err-clause-handed_back g c = rw c.unbegun-in-Err.ensures.1 c.in-Err.e
 pub unreachable-requires : goal.unreachable-requires
 unreachable-requires g c =
     c.in-Err-set_room.ensures.refused (subst IsRoom (sym c.nearest_room.ensures) (nearest_is_room c.args.room))
+
+pub new-requires-2-clause-each : goal.new-requires-2-clause-each
+new-requires-2-clause-each g c = grind (arith, elements)
+
+pub returns-in_default-empty_disks-clause-err : goal.returns-in_default-empty_disks-clause-err
+returns-in_default-empty_disks-clause-err g c = grind (arith, elements)

@@ -16,6 +16,8 @@ use Rattle.cobaltmidge.specs.declared.unfinished.Left.TheVariants as left
 use Rattle.cobaltmidge.specs.declared.unfinished.Unfinished.{Unfinished}
 use Rattle.cobaltmidge.proofs.Remaining.{left_outputs}
 use Rattle.cobaltmidge.proofs.Turns.{come_so, ended_so, of_end, of_hub, run_stays}
+use Rattle.std.proofs.lemmas.Grind.{elements}
+use Rattle.std.proofs.Common.{arith}
 use Rattle.cobaltmidge.proofs.running.run_network.Goals as goal
 
 pub returns-in_err-world-clause-err : goal.returns-in_err-world-clause-err
@@ -100,3 +102,6 @@ returns-clause-same g c =
       s.0 ∙ ap (λ (w : WorldView). w.net) opened,
       s.1 ∙ ap (λ (w : WorldView). w.inputs) opened,
     )))
+
+pub returns-clause-begun : goal.returns-clause-begun
+returns-clause-begun g c = grind (arith, elements)

@@ -3,6 +3,8 @@ use Rattle.std.proofs.lemmas.Result.{err_from_is_err_and}
 use Rattle.run_files.proofs.Going.{goes_then}
 use Rattle.cobaltmidge.specs.KeptStreams.{files_refused, inputs_stop, net_stops}
 use Rattle.cobaltmidge.proofs.Given.{no_script}
+use Rattle.std.proofs.lemmas.Grind.{elements}
+use Rattle.std.proofs.Common.{arith}
 use Rattle.cobaltmidge.proofs.texts.read_texts.Goals as goal
 
 pub returns-in_err-inputs-clause-goes : goal.returns-in_err-inputs-clause-goes
@@ -55,3 +57,6 @@ pub returns-in_err-tell_apart-clause-cause : goal.returns-in_err-tell_apart-clau
 returns-in_err-tell_apart-clause-cause g c =
     let p = err_from_is_err_and c.from_residual-in_err-tell_apart.result c.from_residual-in_err-tell_apart.ensures.1 in
     rw (p.1, p.2) (files_refused _ c.in_err-tell_apart.ensures.cause)
+
+pub returns-clause-net : goal.returns-clause-net
+returns-clause-net g c = grind (arith, elements)

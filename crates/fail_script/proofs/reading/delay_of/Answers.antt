@@ -10,3 +10,6 @@ returns-in_err-rounds c = grind (arith, elements)
 
 pub returns : goal.returns
 returns c = grind (arith, elements)
+
+pub bounds-words-4 : goal.bounds-words-4
+bounds-words-4 c = grind (arith, elements)

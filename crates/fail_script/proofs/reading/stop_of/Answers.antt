@@ -13,3 +13,9 @@ returns-in_err-fill c = grind (arith, elements)
 
 pub returns : goal.returns
 returns c = grind (arith, elements)
+
+pub bounds-words-4 : goal.bounds-words-4
+bounds-words-4 c = grind (arith, elements)
+
+pub bounds-words-5 : goal.bounds-words-5
+bounds-words-5 c = grind (arith, elements)

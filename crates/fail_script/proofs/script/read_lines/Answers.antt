@@ -1,5 +1,7 @@
 use Rattle.std.proofs.lemmas.Result.{err_from_is_err_and}
 use Rattle.fail_script.proofs.ScriptLaws.{turn_goes_on, turn_fails}
+use Rattle.std.proofs.lemmas.Grind.{elements}
+use Rattle.std.proofs.Common.{arith}
 use Rattle.fail_script.proofs.script.read_lines.Goals as goal
 
 pub returns-in_err-line-clause-err : goal.returns-in_err-line-clause-err
@@ -16,3 +18,6 @@ loop-i-preserved c =
     c.loop-i.lines.items
     c.add_line.new.lines.items c.in_ok-line.line c.in_ok-round.round c.loop-i-test.true c.without_return.ensures
     c.loop-i.invariant c.in_ok-line.ensures.ok c.in_ok-round.ensures.lines c.in_ok-round.ensures.round
+
+pub returns-clause-ok : goal.returns-clause-ok
+returns-clause-ok c = grind (arith, elements)

@@ -57,3 +57,30 @@ returns-in-len6-2 c = (
 
 pub returns-in_default-8 : goal.returns-in_default-8
 returns-in_default-8 c = grind (arith, elements)
+
+pub returns-in_default-6 : goal.returns-in_default-6
+returns-in_default-6 c = grind (arith, elements)
+
+pub returns-in_default-2 : goal.returns-in_default-2
+returns-in_default-2 c = grind (arith, elements)
+
+pub returns-in_default-3 : goal.returns-in_default-3
+returns-in_default-3 c = grind (arith, elements)
+
+pub returns-in_default-5 : goal.returns-in_default-5
+returns-in_default-5 c = grind (arith, elements)
+
+pub returns-in_default-10 : goal.returns-in_default-10
+returns-in_default-10 c = grind (arith, elements)
+
+pub returns-in_default : goal.returns-in_default
+returns-in_default c = grind (arith, elements)
+
+pub returns-in_default-7 : goal.returns-in_default-7
+returns-in_default-7 c = grind (arith, elements)
+
+pub returns-in_default-9 : goal.returns-in_default-9
+returns-in_default-9 c = grind (arith, elements)
+
+pub returns-in_default-4 : goal.returns-in_default-4
+returns-in_default-4 c = grind (arith, elements)

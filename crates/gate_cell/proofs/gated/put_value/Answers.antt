@@ -5,6 +5,7 @@ use Rattle.sector_disk.specs.declared.TheConstants.{SECTOR_BYTES}
 use Rattle.gate_cell.proofs.OnePut.{then_settled, then_value, then_frame}
 use Rattle.gate_cell.proofs.OnePut.{gate_written}
 use Rattle.gate_cell.proofs.PutMoves.{put_setting, first_left, both_left}
+use Rattle.std.proofs.lemmas.Grind.{elements}
 use Rattle.gate_cell.proofs.gated.put_value.Goals as goal
 
 pub returns-in_err-write_through-clause-any_moment : goal.returns-in_err-write_through-clause-any_moment
@@ -95,3 +96,12 @@ returns-clause-frame g c =
 pub returns-clause-gate : goal.returns-clause-gate
 returns-clause-gate g c =
     gate_written _ _ _ _ c.gate_bytes.ensures.long c.gate_bytes.ensures.names c.in_ok-write_through-2.ensures.written
+
+pub overflow_add-other : goal.overflow_add-other
+overflow_add-other g c = grind (arith, elements)
+
+pub overflow_mul-other : goal.overflow_mul-other
+overflow_mul-other g c = grind (arith, elements)
+
+pub write_through-requires-clause-in_range : goal.write_through-requires-clause-in_range
+write_through-requires-clause-in_range g c = grind (arith, elements)

@@ -2,6 +2,7 @@ use Rattle.std.proofs.Common.{◌≡◌, ◌∙◌, ap, sym, arith}
 use Rattle.std.proofs.lemmas.Bool.{false≢true}
 use Rattle.kahn_net.specs.Syntax.{links_of, tree_of}
 use Rattle.kahn_net.proofs.Alike.{as_many_links, chains_same}
+use Rattle.std.proofs.lemmas.Grind.{common_steps}
 use Rattle.kahn_net.proofs.same.+same.Goals as goal
 
 pub is_same_expr-returns-then-is_same_expr : goal.is_same_expr-returns-then-is_same_expr
@@ -25,3 +26,6 @@ is_same_expr-returns-then-is_same_expr t c =
 pub is_same_links-returns-then-a-b : goal.is_same_links-returns-then-a-b
 is_same_links-returns-then-a-b t c =
     (λ h. absurd (false≢true h), λ h. let many = as_many_links c.args.a.now c.args.b.now h in absurd (omega arith))
+
+pub is_same_links-loop-i-preserved : goal.is_same_links-loop-i-preserved
+is_same_links-loop-i-preserved c = grind (arith, common_steps)

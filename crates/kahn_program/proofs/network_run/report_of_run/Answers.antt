@@ -11,6 +11,8 @@ use Rattle.kahn_program.specs.Runs.{IsToldOf, IsWrittenIf}
 use Rattle.kahn_program.proofs.Faults.{fault_is}
 use Rattle.kahn_program.proofs.Released.{report_is}
 use Rattle.kahn_program.proofs.Causes.{run_keeps}
+use Rattle.std.proofs.lemmas.Grind.{elements}
+use Rattle.std.proofs.Common.{arith}
 use Rattle.kahn_program.proofs.network_run.report_of_run.Goals as goal
 
 pub returns-in-Err-clause-err : goal.returns-in-Err-clause-err
@@ -44,3 +46,6 @@ returns-clause-ok g c =
 
 pub returns-in-Err-clause-cause : goal.returns-in-Err-clause-cause
 returns-in-Err-clause-cause g c = run_keeps _ _ _ c.run_failure.ensures
+
+pub returns-in_default-told_of-clause-err : goal.returns-in_default-told_of-clause-err
+returns-in_default-told_of-clause-err g c = grind (arith, elements)

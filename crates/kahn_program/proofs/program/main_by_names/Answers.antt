@@ -3,6 +3,8 @@ use Rattle.kahn_program.specs.Causes.{unsaid}
 use Rattle.kahn_program.proofs.Causes.{cause_later, failed_by}
 use Rattle.kahn_program.proofs.Said.{has_report_later}
 use Rattle.kahn_program.proofs.Logs.{keeps_goes, keeps_then}
+use Rattle.std.proofs.lemmas.Grind.{elements}
+use Rattle.std.proofs.Common.{arith}
 use Rattle.kahn_program.proofs.program.main_by_names.Goals as goal
 
 pub returns-in-Ok-clause-keeps : goal.returns-in-Ok-clause-keeps
@@ -37,3 +39,9 @@ returns-in-Ok-clause-failed g c = λ is.
 pub returns-in-Err-clause-failed : goal.returns-in-Err-clause-failed
 returns-in-Err-clause-failed g c = λ is.
     failed_by _ _ _ _ _ _ c.requires.wanted c.tell_stop.ensures.goes.later c.in-Err.ensures.cause (c.tell_stop.ensures.failed is)
+
+pub returns-in-Err-clause-done : goal.returns-in-Err-clause-done
+returns-in-Err-clause-done g c = grind (arith, elements)
+
+pub returns-in-Ok-clause-refused : goal.returns-in-Ok-clause-refused
+returns-in-Ok-clause-refused g c = grind (arith, elements)

@@ -2,6 +2,8 @@ use Rattle.std.proofs.Common.{rules}
 use Rattle.std.proofs.lemmas.Result.{err_from_is_err_and}
 use Rattle.run_files.proofs.Going.{goes_then}
 use Rattle.kahn_program.proofs.Causes.{by_inputs, by_net, by_script, by_unread_inputs, by_unread_net}
+use Rattle.std.proofs.lemmas.Grind.{elements}
+use Rattle.std.proofs.Common.{arith}
 use Rattle.kahn_program.proofs.program.read_all.Goals as goal
 
 pub returns-in_err-inputs_text-clause-goes : goal.returns-in_err-inputs_text-clause-goes
@@ -45,3 +47,9 @@ returns-in_err-script-clause-cause g c =
     let p = err_from_is_err_and c.from_residual-in_err-script.result c.from_residual-in_err-script.ensures.1 in
     rw (p.1, p.2) (by_script _ _ _ _ _ _ _ _ c.read_bytes-2.ensures.goes.later c.read_lines.ensures.goes.later c.in_ok-net_text.ensures.read
     c.in_ok-net.ensures.net c.node_count.ensures.count c.in_err-script.ensures.cause)
+
+pub returns-clause-lines : goal.returns-clause-lines
+returns-clause-lines g c = grind (arith, elements)
+
+pub returns-clause-net : goal.returns-clause-net
+returns-clause-net g c = grind (arith, elements)

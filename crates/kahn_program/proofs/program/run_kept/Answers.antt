@@ -13,6 +13,8 @@ use Rattle.run_files.specs.Wanted.{wanted_of}
 use Rattle.kahn_program.specs.Causes.{HasFileFault}
 use Rattle.run_files.proofs.Going.{synced_later}
 use Rattle.kahn_program.proofs.Causes.{file_fault_later, stopped_by_files, stopped_later, stopped_none}
+use Rattle.std.proofs.lemmas.Grind.{elements}
+use Rattle.std.proofs.Common.{arith}
 use Rattle.kahn_program.proofs.program.run_kept.Goals as goal
 
 pub run_locked-requires-clause-ready : goal.run_locked-requires-clause-ready
@@ -72,3 +74,6 @@ returns-clause-cause g c =
     let now = g.H.Host.asked c.let_go-in-Err.new.host in
     stopped_later (HasFileFault o before) (HasFileFault o now) o before now _ c.let_go-in-Err.ensures.later
     (file_fault_later o before now c.let_go-in-Err.ensures.later) c.in-Err.ensures.cause
+
+pub run_locked-requires-clause-opened : goal.run_locked-requires-clause-opened
+run_locked-requires-clause-opened g c = grind (arith, elements)

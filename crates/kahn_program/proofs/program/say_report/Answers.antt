@@ -1,6 +1,8 @@
 use Rattle.std.proofs.Common.{rules, ◌∙◌, sym, true, false}
 use Rattle.kahn_program.proofs.Said.{status_is}
 use Rattle.run_files.proofs.Going.{goes_then}
+use Rattle.std.proofs.lemmas.Grind.{elements}
+use Rattle.std.proofs.Common.{arith}
 use Rattle.kahn_program.proofs.program.say_report.Goals as goal
 
 pub returns-in-Err-clause-goes : goal.returns-in-Err-clause-goes
@@ -22,3 +24,6 @@ returns-clause-said g c complete same =
 
 pub returns-in-Err-clause-failed : goal.returns-in-Err-clause-failed
 returns-in-Err-clause-failed g c = λ is. (_, c.tell_words.ensures.later _ c.in-Err.ensures.fault)
+
+pub returns-then-complete-clause-failed : goal.returns-then-complete-clause-failed
+returns-then-complete-clause-failed g c = grind (arith, elements)

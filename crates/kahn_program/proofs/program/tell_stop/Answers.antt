@@ -3,6 +3,8 @@ use Rattle.host.specs.Requests.{Has, Told}
 use Rattle.kahn_program.specs.Failures.{failure_line}
 use Rattle.kahn_program.proofs.Causes.{told_in_vain}
 use Rattle.run_files.proofs.Going.{goes_then}
+use Rattle.std.proofs.lemmas.Grind.{elements}
+use Rattle.std.proofs.Common.{arith}
 use Rattle.kahn_program.proofs.program.tell_stop.Goals as goal
 
 pub returns-clause-goes : goal.returns-clause-goes
@@ -30,3 +32,15 @@ returns-clause-failed g c = λ is.
           c.in_default-tell.ensures.told),
       inl (sym c.status.ensures ∙ is),
     )
+
+pub returns-clause-status : goal.returns-clause-status
+returns-clause-status g c = grind (arith, elements)
+
+pub returns-in-Err-clause-told : goal.returns-in-Err-clause-told
+returns-in-Err-clause-told g c = grind (arith, elements)
+
+pub returns-clause-none : goal.returns-clause-none
+returns-clause-none g c = grind (arith, elements)
+
+pub returns-in_default-clause-told : goal.returns-in_default-clause-told
+returns-in_default-clause-told g c = grind (arith, elements)

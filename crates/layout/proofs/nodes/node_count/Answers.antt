@@ -4,6 +4,7 @@ use Rattle.kahn_net.specs.Syntax.{network_of}
 use Rattle.kahn_net.specs.Nodes.{node_count, nodes_above}
 use Rattle.kahn_net.specs.declared.limits.TheConstants.{MAX_NODES}
 use Rattle.protocol.specs.Node.Common.{Code}
+use Rattle.std.proofs.lemmas.Grind.{common_steps}
 use Rattle.layout.proofs.nodes.node_count.Goals as goal
 
 -- (as in protocol_laws, which isn't below this crate)
@@ -22,3 +23,6 @@ returns-clause-few c =
     let few : nodes_above net.codes ≤ MAX_NODES =
     few_above net.codes (λ p code is. (c.args.net.now.valid.codes p code is).node) in
     omega (arith, all, few)
+
+pub loop-process-preserved : goal.loop-process-preserved
+loop-process-preserved c = grind (arith, common_steps)

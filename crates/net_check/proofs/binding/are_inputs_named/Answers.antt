@@ -7,3 +7,6 @@ returns c = grind (arith, elements)
 
 pub returns-then-not-is_named_if_input : goal.returns-then-not-is_named_if_input
 returns-then-not-is_named_if_input c = grind (arith, elements)
+
+pub loop-c-preserved : goal.loop-c-preserved
+loop-c-preserved c = grind (arith, elements)

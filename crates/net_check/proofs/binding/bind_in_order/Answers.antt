@@ -102,3 +102,9 @@ returns-then-not-are_inputs_named-clause-fault c = grind (arith, elements)
 
 pub returns-then-not-are_inputs_named-clause-fitting : goal.returns-then-not-are_inputs_named-clause-fitting
 returns-then-not-are_inputs_named-clause-fitting c = grind (arith, elements)
+
+pub from_lists-requires : goal.from_lists-requires
+from_lists-requires c = grind (arith, elements)
+
+pub loop-line-init : goal.loop-line-init
+loop-line-init c = grind (arith, elements)

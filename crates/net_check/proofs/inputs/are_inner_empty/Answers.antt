@@ -7,3 +7,6 @@ returns c = grind (arith, elements)
 
 pub returns-then-not-is_empty_where_made : goal.returns-then-not-is_empty_where_made
 returns-then-not-is_empty_where_made c = grind (arith, elements)
+
+pub loop-c-preserved : goal.loop-c-preserved
+loop-c-preserved c = grind (arith, elements)

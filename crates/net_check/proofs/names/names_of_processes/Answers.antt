@@ -1,6 +1,16 @@
 use Rattle.std.proofs.lemmas.Grind.{elements}
 use Rattle.std.proofs.Common.{arith}
+use Rattle.std.proofs.lemmas.Grind.{common_steps}
 use Rattle.net_check.proofs.names.names_of_processes.Goals as goal
 
 pub returns-in_err-push : goal.returns-in_err-push
 returns-in_err-push c = grind (arith, elements)
+
+pub loop-process-preserved-in_ok-push : goal.loop-process-preserved-in_ok-push
+loop-process-preserved-in_ok-push c = grind (arith, common_steps)
+
+pub loop-process-preserved : goal.loop-process-preserved
+loop-process-preserved c = grind (arith, common_steps)
+
+pub returns : goal.returns
+returns c = grind (arith, common_steps)

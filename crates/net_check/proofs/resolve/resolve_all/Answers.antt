@@ -54,3 +54,6 @@ returns-in_err-push-clause-err c = grind (arith, elements)
 
 pub returns-in_err-push-clause-ok : goal.returns-in_err-push-clause-ok
 returns-in_err-push-clause-ok c = grind (arith, elements)
+
+pub loop-number-init : goal.loop-number-init
+loop-number-init c = grind (arith, elements)

@@ -6,6 +6,7 @@ use Rattle.net_text.specs.Spellings.{continues_word}
 use Rattle.net_text.proofs.Runs.{run_le, colon_cut}
 use Rattle.net_text.specs.Names.{NameTree}
 use Rattle.net_text.proofs.Items.{after_name_done, after_name_fails}
+use Rattle.std.proofs.lemmas.Grind.{common_steps}
 use Rattle.net_text.proofs.inputs.after_name.Goals as goal
 
 pub bounds-bytes-len : goal.bounds-bytes-len
@@ -64,3 +65,6 @@ returns-in_err-from_str c = grind (arith, elements)
 pub returns-then-len-bytes : goal.returns-then-len-bytes
 unfolding after_name
 returns-then-len-bytes c = grind (arith, elements)
+
+pub split_at-requires : goal.split_at-requires
+split_at-requires c = grind (arith, common_steps)

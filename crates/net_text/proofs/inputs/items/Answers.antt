@@ -50,3 +50,6 @@ returns-in_err-push c = grind (arith, elements)
 pub returns-then-gap-eq0 : goal.returns-then-gap-eq0
 unfolding items_at
 returns-then-gap-eq0 c = grind (arith, elements)
+
+pub items-init : goal.items-init
+items-init c = grind (arith, elements)

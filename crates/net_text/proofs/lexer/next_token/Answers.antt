@@ -2,6 +2,7 @@ use Rattle.std.proofs.lemmas.Grind.{elements}
 use Rattle.std.proofs.Common.{◌≡◌, ◌≤◌, List, ℕ, ap, sym, ◌∙◌, subst, arith, length, take, drop, length-drop, false-eqb}
 use Rattle.net_text.specs.Spellings.{IsShape, IsPastLimit}
 use Rattle.net_text.proofs.Steps.{lexeme_begins, lexeme_ends, slice_is, past_limit}
+use Rattle.std.proofs.lemmas.Grind.{common_steps}
 use Rattle.net_text.proofs.lexer.next_token.Goals as goal
 
 pub range-text-requires-clause-start_boundary : goal.range-text-requires-clause-start_boundary
@@ -64,3 +65,6 @@ returns-then-is_empty-clause-err c = grind (arith, elements)
 
 pub returns-then-is_empty-clause-ok : goal.returns-then-is_empty-clause-ok
 returns-then-is_empty-clause-ok c = grind (arith, elements)
+
+pub returns-in-Ok-clause-ok : goal.returns-in-Ok-clause-ok
+returns-in-Ok-clause-ok c = grind (arith, common_steps)

@@ -4,6 +4,7 @@ use Rattle.protocol.specs.Node.Common.{may_decide, participants_of}
 use Rattle.protocol.specs.Node.Verdicts.{all_answered}
 use Rattle.node.specs.NodeView.{mode_view}
 use Rattle.node.proofs.Verdicts.{are_others, both_of, decide_fine, decided_fits, participants_few}
+use Rattle.std.proofs.lemmas.Grind.{elements}
 use Rattle.node.proofs.checkpoint.plan_decide.Goals as goal
 
 -- a node that collects answers runs
@@ -41,3 +42,12 @@ returns-clause-can c =
       may_follow = tt;
       fits = λ short capacity fits. decided_fits capacity kept c.requires.decided.bounded fits n items few room;
     }
+
+pub returns-then-not-may_decide-clause-view : goal.returns-then-not-may_decide-clause-view
+returns-then-not-may_decide-clause-view c = grind (arith, elements)
+
+pub returns-clause-view : goal.returns-clause-view
+returns-clause-view c = grind (arith, elements)
+
+pub returns-in_default-clause-view : goal.returns-in_default-clause-view
+returns-in_default-clause-view c = grind (arith, elements)

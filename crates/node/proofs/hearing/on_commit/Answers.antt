@@ -1,6 +1,8 @@
 use Rattle.std.proofs.Common.{sym}
 use Rattle.ckpt_store.proofs.Room.{permanent_fits}
 use Rattle.node.proofs.Verdicts.{fine_unless_held, held_image_is}
+use Rattle.std.proofs.Common.{arith}
+use Rattle.std.proofs.lemmas.Grind.{elements}
 use Rattle.node.proofs.hearing.on_commit.Goals as goal
 
 pub returns-clause-can : goal.returns-clause-can
@@ -14,3 +16,9 @@ returns-clause-can c =
       may_follow = tt;
       fits = λ short room fits. permanent_fits room kept fits;
     }
+
+pub returns-in_default-clause-view : goal.returns-in_default-clause-view
+returns-in_default-clause-view c = grind (arith, elements)
+
+pub returns-clause-view : goal.returns-clause-view
+returns-clause-view c = grind (arith, elements)

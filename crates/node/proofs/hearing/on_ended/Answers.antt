@@ -3,6 +3,8 @@ use Rattle.protocol.specs.Node.Common.{RecordView, holds}
 use Rattle.node.specs.NodeView.{node_view}
 use Rattle.node.specs.Planned.{CanDo}
 use Rattle.node.proofs.Verdicts.{dropped_fits, fine_unless_held}
+use Rattle.std.proofs.Common.{arith}
+use Rattle.std.proofs.lemmas.Grind.{elements}
 use Rattle.node.proofs.hearing.on_ended.Goals as goal
 
 pub returns-clause-can : goal.returns-clause-can
@@ -18,3 +20,9 @@ returns-clause-can c =
       may_follow = tt;
       fits = λ short room fits. dropped_fits room kept c.requires.bounded fits;
     })
+
+pub returns-then-not-holds-clause-view : goal.returns-then-not-holds-clause-view
+returns-then-not-holds-clause-view c = grind (arith, elements)
+
+pub returns-clause-view : goal.returns-clause-view
+returns-clause-view c = grind (arith, elements)

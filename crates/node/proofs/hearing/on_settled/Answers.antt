@@ -4,6 +4,8 @@ use Rattle.protocol.specs.World.Common.{names}
 use Rattle.node.specs.NodeView.{node_view}
 use Rattle.node.specs.Planned.{CanDo}
 use Rattle.node.proofs.Verdicts.{confirmed_fits, names_same}
+use Rattle.std.proofs.Common.{arith}
+use Rattle.std.proofs.lemmas.Grind.{elements}
 use Rattle.node.proofs.hearing.on_settled.Goals as goal
 
 pub returns-clause-can : goal.returns-clause-can
@@ -20,3 +22,9 @@ returns-clause-can c =
       may_follow = tt;
       fits = λ short room fits. confirmed_fits room kept c.requires.bounded fits c.args.number c.args.from;
     })
+
+pub returns-then-not-names-clause-view : goal.returns-then-not-names-clause-view
+returns-then-not-names-clause-view c = grind (arith, elements)
+
+pub returns-clause-view : goal.returns-clause-view
+returns-clause-view c = grind (arith, elements)

@@ -6,6 +6,8 @@ use Rattle.decide_core.specs.InitiatorView.{took_view}
 use Rattle.node.specs.NodeView.{node_view}
 use Rattle.node.specs.Planned.{CanDo}
 use Rattle.node.proofs.Verdicts.{dropped_fits, fine_unless_held}
+use Rattle.std.proofs.Common.{arith}
+use Rattle.std.proofs.lemmas.Grind.{elements}
 use Rattle.node.proofs.hearing.on_took.Goals as goal
 
 -- a checkpoint is given up only where its image is held
@@ -40,3 +42,15 @@ returns-in-GivesUp-clause-can c =
       may_follow = tt;
       fits = λ short room fits. dropped_fits room kept c.requires.bounded fits;
     })
+
+pub returns-in-Ignores-clause-view : goal.returns-in-Ignores-clause-view
+returns-in-Ignores-clause-view c = grind (arith, elements)
+
+pub returns-in_ok-joined-in-Joins-clause-view : goal.returns-in_ok-joined-in-Joins-clause-view
+returns-in_ok-joined-in-Joins-clause-view c = grind (arith, elements)
+
+pub returns-in_default-clause-view : goal.returns-in_default-clause-view
+returns-in_default-clause-view c = grind (arith, elements)
+
+pub returns-in-GivesUp-clause-view : goal.returns-in-GivesUp-clause-view
+returns-in-GivesUp-clause-view c = grind (arith, elements)

@@ -9,6 +9,7 @@ use Rattle.protocol.specs.Node.GoingBack.{answer_at, answer_with, inbox_of}
 use Rattle.protocol.specs.declared.links.Inbox.{Inbox}
 use Rattle.node.specs.NodeView.{node_view}
 use Rattle.node.specs.Planned.{CanDo}
+use Rattle.std.proofs.lemmas.Grind.{elements}
 use Rattle.node.proofs.hearing.on_undone.Goals as goal
 
 -- a node goes back only where it has a next epoch
@@ -49,3 +50,12 @@ returns-in_ok-copy-in-GoesBack-clause-can c =
       );
       fits = λ short room fits. epoch_fits room kept fits;
     })
+
+pub returns-in-PassesOver-clause-view : goal.returns-in-PassesOver-clause-view
+returns-in-PassesOver-clause-view c = grind (arith, elements)
+
+pub returns-in_ok-copy-in-GoesBack-clause-view : goal.returns-in_ok-copy-in-GoesBack-clause-view
+returns-in_ok-copy-in-GoesBack-clause-view c = grind (arith, elements)
+
+pub returns-in-Notes-clause-view : goal.returns-in-Notes-clause-view
+returns-in-Notes-clause-view c = grind (arith, elements)

@@ -6,6 +6,8 @@ use Rattle.ckpt_store.specs.Spelling.{AreOthers, IsLike}
 use Rattle.node.specs.Planned.{MayBePut, cause_of, changed}
 use Rattle.node.specs.declared.plan.Change.{Change}
 use Rattle.node.proofs.Records.{some_known}
+use Rattle.std.proofs.Common.{arith}
+use Rattle.std.proofs.lemmas.Grind.{elements}
 use Rattle.node.proofs.plan.put.Goals as goal
 
 pub take_tentative-requires-clause-listed : goal.take_tentative-requires-clause-listed
@@ -34,3 +36,12 @@ returns-in-Confirms g c =
     subst (λ (change : Change). Changes (cause_of change) (changed change) old c.confirm.new.self c.confirm.result)
     (sym c.in-Confirms.is)
     (c.confirm.ensures.change (ap (has_effect c.in-Confirms.number c.in-Confirms.node) known ∙ may))
+
+pub returns-in-Decides : goal.returns-in-Decides
+returns-in-Decides g c = grind (arith, elements)
+
+pub returns-in-MakesPermanent : goal.returns-in-MakesPermanent
+returns-in-MakesPermanent g c = grind (arith, elements)
+
+pub returns-in-Drops : goal.returns-in-Drops
+returns-in-Drops g c = grind (arith, elements)

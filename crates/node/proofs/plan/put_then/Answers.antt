@@ -6,6 +6,8 @@ use Rattle.node.specs.Planned.{cause_of, change_grows, changed}
 use Rattle.node.specs.Then.{then_node}
 use Rattle.node.proofs.Changes.{same_node, same_nodes}
 use Rattle.node.proofs.Puts.{put_event, put_kept}
+use Rattle.std.proofs.Common.{arith}
+use Rattle.std.proofs.lemmas.Grind.{elements}
 use Rattle.node.proofs.plan.put_then.Goals as goal
 
 pub returns-clause-kept : goal.returns-clause-kept
@@ -46,3 +48,6 @@ returns-clause-event g c = λ packets refused. (
     (λ short. c.requires.can.fits short (S.slot_capacity (cell_in c.args.store.now))
     (record_fits C S met.fits_slot met.whole_may_stay c.args.store.now))
     (Planned (plan packets refused)) refl c.end_put_then.result c.end_put_then.ensures.answer refl)
+
+pub returns-clause-unchanged : goal.returns-clause-unchanged
+returns-clause-unchanged g c = grind (arith, elements)

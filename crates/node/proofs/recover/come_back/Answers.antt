@@ -2,6 +2,8 @@ use Rattle.std.proofs.Common.{sym, ◌∙◌}
 use Rattle.protocol.specs.Node.Common.{network_of, cell_in, record_in}
 use Rattle.ckpt_store.proofs.Room.{epoch_fits, record_fits}
 use Rattle.node.proofs.Recoveries.{not_raised}
+use Rattle.std.proofs.Common.{arith}
+use Rattle.std.proofs.lemmas.Grind.{common_steps, elements}
 use Rattle.node.proofs.recover.come_back.Goals as goal
 
 pub returns-in-Err-clause-kept : goal.returns-in-Err-clause-kept
@@ -45,3 +47,12 @@ returns-in-Err-clause-held g c =
     (epoch_fits (S.slot_capacity (cell_in old)) (record_in old)
     (record_fits C S met.fits_slot met.whole_may_stay old)) c.in-Err.fault c.end_put.result
     c.in-Err.ensures c.end_put.ensures.answer c.end_put.ensures.stays c.end_put.ensures.failed).2
+
+pub returns-in-Err-clause-unchanged : goal.returns-in-Err-clause-unchanged
+returns-in-Err-clause-unchanged g c = grind (arith, elements)
+
+pub returns-then-not-is_down-clause-event : goal.returns-then-not-is_down-clause-event
+returns-then-not-is_down-clause-event g c = grind (arith, elements)
+
+pub returns-in-Ok-clause-event : goal.returns-in-Ok-clause-event
+returns-in-Ok-clause-event g c = grind (arith, common_steps)

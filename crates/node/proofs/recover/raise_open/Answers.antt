@@ -4,6 +4,8 @@ use Rattle.protocol.specs.Node.Common.{restored_mode, received_of}
 use Rattle.ckpt_store.specs.Refusals.{refusal_to_raise}
 use Rattle.node.proofs.Raising.{raised, refused_so}
 use Rattle.node.proofs.Restores.{permanent_counts}
+use Rattle.std.proofs.Common.{arith}
+use Rattle.std.proofs.lemmas.Grind.{elements}
 use Rattle.node.proofs.recover.raise_open.Goals as goal
 
 pub recover-requires-clause-counts : goal.recover-requires-clause-counts
@@ -33,3 +35,12 @@ returns-in-Err g c =
     met.only_now_whole c.raise_epoch.new.self c.in-Err.fault
     (subst (λ (r : Result (Unit {0}) StoreFault). Changes refusal_to_raise with_epoch c.args.store.now
     c.raise_epoch.new.self r) c.in-Err.is c.raise_epoch.ensures)
+
+pub returns-then-kept-ge-MAX_COUNT : goal.returns-then-kept-ge-MAX_COUNT
+returns-then-kept-ge-MAX_COUNT g c = grind (arith, elements)
+
+pub returns-in_default : goal.returns-in_default
+returns-in_default g c = grind (arith, elements)
+
+pub returns-in_default-recover : goal.returns-in_default-recover
+returns-in_default-recover g c = grind (arith, elements)

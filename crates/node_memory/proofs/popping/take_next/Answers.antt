@@ -2,6 +2,8 @@ use Rattle.std.proofs.Common.{◌≡◌, ◌-◌, ◌++◌, [], ◌∷◌, ℤ, 
 use Rattle.protocol.specs.Node.Common.{log_with, popped_times, ready_items}
 use Rattle.window_link.specs.Windows.{received}
 use Rattle.node_memory.proofs.Pops.{taken_is}
+use Rattle.std.proofs.Common.{arith}
+use Rattle.std.proofs.lemmas.Grind.{elements}
 use Rattle.node_memory.proofs.popping.take_next.Goals as goal
 
 pub returns-in-Ok-clause-ok : goal.returns-in-Ok-clause-ok
@@ -18,3 +20,6 @@ returns-in-Ok-clause-ok c =
     (c.in-Ok.ensures.ok ∙ ap (λ (xs : List ℤ). log_with xs c.args.inbox.now.log) c.as_slice.ensures.value)
     (c.pop_times.ensures ∙ ap (popped_times (c.len.result - 1)) c.take.ensures.window
     ∙ ap (λ (i : ℤ). popped_times (c.len.result - 1) ((received c.args.inbox.now.window c.args.position i).window)) whole)
+
+pub overflow_sub-len : goal.overflow_sub-len
+overflow_sub-len c = grind (arith, elements)

@@ -1,6 +1,7 @@
 use Rattle.std.proofs.Common.{◌∙◌, ap, arith, refl, ℤ, ◌++◌, ◌∷◌, [], w64, FitsSigned, rules}
 use Rattle.std.proofs.lemmas.Int.{to_z-of_z}
 use Rattle.output_file.proofs.Lining.{read_more, finds_bad, bad_is_none, to_the_end, so_many}
+use Rattle.std.proofs.lemmas.Grind.{common_steps}
 use Rattle.output_file.proofs.reading.read_items.Goals as goal
 
 pub returns-in_default-item_of-clause-err : goal.returns-in_default-item_of-clause-err
@@ -24,3 +25,6 @@ loop-len-preserved c =
     (c.in_ok-push.ensures.items
     ∙ ap (λ (z : ℤ). c.loop-len.items.items ++ z ∷ []) (to_z-of_z w64 _ f))
     refl
+
+pub returns-clause-ok : goal.returns-clause-ok
+returns-clause-ok c = grind (arith, common_steps)

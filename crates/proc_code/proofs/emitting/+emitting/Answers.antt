@@ -1,5 +1,7 @@
 use Rattle.std.proofs.Common.{◌∙◌}
 use Rattle.proc_code.proofs.Emitted.{if_emits, repeat_emits}
+use Rattle.std.proofs.lemmas.Grind.{common_steps, elements}
+use Rattle.std.proofs.Common.{arith}
 use Rattle.proc_code.proofs.emitting.+emitting.Goals as goal
 
 pub emit_statement-returns-in_ok-emit_statements-in-If-2 : goal.emit_statement-returns-in_ok-emit_statements-in-If-2
@@ -26,3 +28,15 @@ emit_statement-returns-in_ok-emit-in-Repeat-2 t c =
     c.in-Repeat.is c.deref-in-Repeat.ensures.value (c.len-opening.ensures ∙ c.args.code.now.ok.0) c.in_ok-emit-in-Repeat.ensures
     c.in_ok-emit_statements-in-Repeat.ensures.code c.in_ok-emit_statements-in-Repeat.ensures.sites
     c.in_ok-emit-in-Repeat-2.ensures (c.len-in-Repeat.ensures ∙ c.emit-in-Repeat-2.new.code.ok.0)
+
+pub emit_statement-index_mut-requires-in-If : goal.emit_statement-index_mut-requires-in-If
+emit_statement-index_mut-requires-in-If c = grind (arith, elements)
+
+pub emit_statements-loop-statement-preserved : goal.emit_statements-loop-statement-preserved
+emit_statements-loop-statement-preserved c = grind (arith, common_steps)
+
+pub emit_statement-index_mut-requires-in-Repeat : goal.emit_statement-index_mut-requires-in-Repeat
+emit_statement-index_mut-requires-in-Repeat c = grind (arith, elements)
+
+pub emit_statement-index_mut-requires : goal.emit_statement-index_mut-requires
+emit_statement-index_mut-requires c = grind (arith, elements)

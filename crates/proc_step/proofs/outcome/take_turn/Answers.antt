@@ -5,6 +5,8 @@ use Rattle.proc_step.specs.Parts.{Played, taken_of}
 use Rattle.proc_step.proofs.Coded.{runs_at}
 use Rattle.proc_step.proofs.Lifting.{can_stand, lifted_at}
 use Rattle.proc_step.proofs.Stages.{played_as}
+use Rattle.std.proofs.lemmas.Grind.{elements}
+use Rattle.std.proofs.Common.{arith}
 use Rattle.proc_step.proofs.outcome.take_turn.Goals as goal
 
 pub returns : goal.returns
@@ -29,3 +31,6 @@ returns c process passing within compiled inputs m stands next =
     lifted_at process before items room start.unread.items start.sent.items _ end.unread.items end.sent.items
     c.in_ok-taken.taken.items passing at.untaken at.unsent played
     (c.in_ok-taken.ensures ∙ ap (λ (l : List (List ℤ)). taken_of items l) c.deref-2.ensures.value) inputs m stands next
+
+pub play-requires : goal.play-requires
+play-requires c = grind (arith, elements)

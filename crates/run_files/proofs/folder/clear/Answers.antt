@@ -1,4 +1,5 @@
 use Rattle.std.proofs.Common.{refl, sym, subst, arith, take, ◌<◌, ◌≡◌}
+use Rattle.std.proofs.lemmas.Grind.{common_steps}
 use Rattle.std.proofs.lemmas.Option.{slice_get_read}
 use Rattle.run_files.specs.Opening.{IsFileMade, OfFirst}
 use Rattle.run_files.specs.Removing.{IsFileRemoved}
@@ -53,3 +54,6 @@ returns-clause-gone_files g c =
     (g.H.Host.asked c.remove_folder.new.host) c.remove_folder.ensures.goes (λ p is left.
     subst (λ count. AreGone (IsFirst count (take c.args.made c.args.paths.now)) (g.H.Host.asked c.loop-path.host)) all
     c.loop-path.invariant.gone p (first_taken _ _ p is) left)
+
+pub offset_bounds-path-items-path-index : goal.offset_bounds-path-items-path-index
+offset_bounds-path-items-path-index g c = grind (arith, common_steps)

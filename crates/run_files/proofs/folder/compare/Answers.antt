@@ -3,6 +3,8 @@ use Rattle.run_files.proofs.Caused.{caused_as, missing_by, not_there, read_as, u
 use Rattle.run_files.specs.Causes.{other_text}
 use Rattle.run_files.specs.declared.fault.FilesFault.TheVariants.{OtherState}
 use Rattle.std.proofs.Common.{inl, inr, string_bytes}
+use Rattle.std.proofs.lemmas.Grind.{elements}
+use Rattle.std.proofs.Common.{arith}
 use Rattle.run_files.proofs.folder.compare.Goals as goal
 
 pub returns-then-is_same-clause-same : goal.returns-then-is_same-clause-same
@@ -30,3 +32,6 @@ pub returns-clause-other : goal.returns-clause-other
 returns-clause-other g c told =
     let missing = not_there _ _ _ c.of_missing-refusal.ensures c.refused_by.ensures told in
     inr (unread_as _ _ _ _ _ c.in-Ok.ensures missing c.in-Err.ensures.fault)
+
+pub returns-in_default-clause-goes : goal.returns-in_default-clause-goes
+returns-in_default-clause-goes g c = grind (arith, elements)

@@ -4,13 +4,15 @@ use Rattle.run_files.proofs.Going.{first_goes, goes_more, goes_still, made_later
 use Rattle.run_files.proofs.Going.{first_next as more_made}
 use Rattle.run_files.proofs.Left.{first_next}
 use Rattle.run_files.proofs.Caused.{unmade_by}
+use Rattle.std.proofs.lemmas.Grind.{elements}
+use Rattle.std.proofs.Common.{arith}
 use Rattle.run_files.proofs.folder.fill.Goals as goal
 
 pub make_file-requires-after_bounds : goal.make_file-requires-after_bounds
 make_file-requires-after_bounds g c κs within = ready_goes _ _ _ _ c.loop-path.invariant.goes c.requires
 
 pub returns-in-Err-clause-goes : goal.returns-in-Err-clause-goes
-returns-in-Err-clause-goes g c = with_goes _ _ _ _ _ _ c.loop-path.invariant.goes (search rules)
+returns-in-Err-clause-goes g c = with_goes _ _ _ _ _ _ c.loop-path.invariant.goes (grind (arith, elements))
 
 pub returns-in-Err-clause-made : goal.returns-in-Err-clause-made
 returns-in-Err-clause-made g c = first_goes IsFileMade _ _ _ _ (made_later _ _ c.make_file.ensures.goes.later) c.loop-path.invariant.made

@@ -2,6 +2,7 @@ use Rattle.std.proofs.Common.{rules, arith, ◌≡◌, ◌≤◌, ◌++◌, ◌�
 use Rattle.std.specs.Vec.Iter.{into_iter_items}
 use Rattle.run_files.specs.Opening.{AreUsed}
 use Rattle.run_files.proofs.Going.{goes_still, goes_then, no_items, one_longer, one_within, opened_at, opened_goes, used_more}
+use Rattle.std.proofs.lemmas.Grind.{elements}
 use Rattle.run_files.proofs.folder.give_back.Goals as goal
 
 pub give_one-requires-clause-held : goal.give_one-requires-clause-held
@@ -41,7 +42,7 @@ loop-outlet-preserved g c =
 pub returns-clause-used : goal.returns-clause-used
 returns-clause-used g c =
     let so_far = c.loop-outlet.invariant.used in
-    let none : length (into_iter_items c.loop-outlet.outlet-iterator) ≡ 0 = search rules in
+    let none : length (into_iter_items c.loop-outlet.outlet-iterator) ≡ 0 = grind (arith, elements) in
     subst (λ outlets. AreUsed c.args.opened.now outlets (g.H.Host.asked c.loop-outlet.host))
     (sym (append-nil so_far.0)
     ∙ (ap (λ rest. so_far.0 ++ rest) (sym (no_items (into_iter_items c.loop-outlet.outlet-iterator) none)) ∙ so_far.3))

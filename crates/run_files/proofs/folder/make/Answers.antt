@@ -9,6 +9,8 @@ use Rattle.run_files.proofs.Going.{has_goes, none_left, ready_goes, with_goes, w
 use Rattle.run_files.proofs.Left.{files_in, self_in}
 use Rattle.run_files.specs.Leftovers.{AreGone, IsIn}
 use Rattle.run_files.proofs.Caused.{caused_later, of_error}
+use Rattle.std.proofs.lemmas.Grind.{elements}
+use Rattle.std.proofs.Common.{arith}
 use Rattle.run_files.proofs.folder.make.Goals as goal
 
 pub returns-in-Err-clause-goes : goal.returns-in-Err-clause-goes
@@ -72,3 +74,12 @@ returns-in-Ok-false-clause-taken g c = λ is.
 pub returns-clause-cause : goal.returns-clause-cause
 returns-clause-cause g c =
     caused_later _ _ _ c.clear-in-Err-named.ensures.goes.later _ (of_error _ _ _ c.in-Err-named.is c.fill_and_name-made.ensures.cause)
+
+pub returns-in-Ok-false-clause-named : goal.returns-in-Ok-false-clause-named
+returns-in-Ok-false-clause-named g c = grind (arith, elements)
+
+pub returns-in-Ok-true-clause-cleared : goal.returns-in-Ok-true-clause-cleared
+returns-in-Ok-true-clause-cleared g c = grind (arith, elements)
+
+pub returns-in-Ok-true-clause-taken : goal.returns-in-Ok-true-clause-taken
+returns-in-Ok-true-clause-taken g c = grind (arith, elements)

@@ -2,6 +2,8 @@ use Rattle.run_files.proofs.Going.{free_still, held_now, later_by, ready_goes, r
 use Rattle.run_files.proofs.Caused.{caused_later, unlocked_by}
 use Rattle.std.proofs.Common.{refl, string_bytes}
 use Rattle.run_files.proofs.Left.{left_by_goes, left_by_one}
+use Rattle.std.proofs.lemmas.Grind.{elements}
+use Rattle.std.proofs.Common.{arith}
 use Rattle.run_files.proofs.folder.open_folder.Goals as goal
 
 pub returns-in_err-make_if_missing-clause-cleared : goal.returns-in_err-make_if_missing-clause-cleared
@@ -66,3 +68,6 @@ returns-in-Err-open_locked-clause-cleared g c path left =
 
 pub returns-in-Err-open_locked-clause-cause : goal.returns-in-Err-open_locked-clause-cause
 returns-in-Err-open_locked-clause-cause g c = caused_later _ _ _ (later_by _ _ _ c.unlock.ensures) _ c.in-Err-open_locked.ensures.cause
+
+pub returns-in-Err-open_locked-clause-err : goal.returns-in-Err-open_locked-clause-err
+returns-in-Err-open_locked-clause-err g c = grind (arith, elements)

@@ -2,6 +2,7 @@ use Rattle.std.proofs.Common.{refl, arith}
 use Rattle.run_files.specs.Syncing.{IsSynced}
 use Rattle.run_files.proofs.Going.{first_all, first_next, goes_still, goes_then, on_disk_later, ready_goes, synced_if}
 use Rattle.run_files.proofs.Caused.{failed_by}
+use Rattle.std.proofs.lemmas.Grind.{elements}
 use Rattle.run_files.proofs.folder.settle.Goals as goal
 
 pub sync-requires-after_bounds : goal.sync-requires-after_bounds
@@ -25,3 +26,6 @@ returns-clause-synced g c = synced_if _ _ _ (first_all IsSynced _ _ _ c.loop-pat
 
 pub returns-in-Err-clause-cause : goal.returns-in-Err-clause-cause
 returns-in-Err-clause-cause g c = failed_by _ _ _ _ _ c.refused_by.ensures c.in-Err.ensures.fault tt
+
+pub returns-then-not-names-clause-goes : goal.returns-then-not-names-clause-goes
+returns-then-not-names-clause-goes g c = grind (arith, elements)

@@ -1,4 +1,4 @@
-use Rattle.std.proofs.Common.{rules, inr, ℕ, ◌<◌, ◌≤◌, ◌+◌, Err, arith, codes}
+use Rattle.std.proofs.Common.{rules, ℕ, ◌≤◌, Err, arith, codes}
 use Rattle.host.specs.Requests.{Has, MadeFile}
 use Rattle.host.specs.declared.fault.HostFault.TheVariants as host
 use Rattle.run_files.specs.Causes.{tried_name, all_taken}
@@ -9,6 +9,7 @@ use Rattle.run_files.specs.declared.happened.TheConstants.{LAST_NAME}
 use Rattle.run_files.proofs.Caused.{caused_as, taken_more}
 use Rattle.run_files.proofs.Going.{goes_still, goes_then, goes_with, of_none, ready_goes}
 use Rattle.run_files.proofs.Left.{in_fault}
+use Rattle.std.proofs.lemmas.Grind.{elements}
 use Rattle.run_files.proofs.happened.make_beside.Goals as goal
 
 pub make_nth-requires-clause-ready : goal.make_nth-requires-clause-ready
@@ -31,28 +32,16 @@ returns-in_err-history-clause-failed g c =
     in_fault _ _ (λ refused. goes_then _ _ _ _ _ c.loop-nth.invariant.goes c.in_err-history.ensures.failed)
 
 pub returns-in-Some-clause-goes : goal.returns-in-Some-clause-goes
-returns-in-Some-clause-goes g c = goes_with _ _ _ _ _ _ c.loop-nth.invariant.goes (search rules)
+returns-in-Some-clause-goes g c = goes_with _ _ _ _ _ _ c.loop-nth.invariant.goes (grind (arith, elements))
 
-pub make_nth-requires-2-clause-ready : goal.make_nth-requires-2-clause-ready
-make_nth-requires-2-clause-ready g c κs within = ready_goes _ _ _ _ c.loop-nth.invariant.goes c.requires.ready
+pub returns-clause-failed : goal.returns-clause-failed
+returns-clause-failed g c = c.loop-nth.invariant.goes
 
-pub returns-in_err-history-2-clause-failed : goal.returns-in_err-history-2-clause-failed
-returns-in_err-history-2-clause-failed g c =
-    in_fault _ _ (λ refused. goes_then _ _ _ _ _ c.loop-nth.invariant.goes c.in_err-history-2.ensures.failed)
-
-pub returns-in-Some-2-clause-goes : goal.returns-in-Some-2-clause-goes
-returns-in-Some-2-clause-goes g c = goes_with _ _ _ _ _ _ c.loop-nth.invariant.goes (search rules)
-
-pub returns-in-None-2-clause-failed : goal.returns-in-None-2-clause-failed
-returns-in-None-2-clause-failed g c = goes_then _ _ _ _ _ c.loop-nth.invariant.goes (search rules)
-
-pub returns-in-None-2-clause-cause : goal.returns-in-None-2-clause-cause
-returns-in-None-2-clause-cause g c =
-    let unmade = of_none _ (GoesOn g.J.Judge.accepts (wanted_of c.args.names.now) (g.H.Host.asked c.loop-nth.host)
-    (g.H.Host.asked c.make_nth-2.new.host)) c.in-None-2.is c.in_ok-history-2.ensures.unmade in
+pub returns-clause-cause : goal.returns-clause-cause
+returns-clause-cause g c =
     let all : (k : ℕ) → k ≤ LAST_NAME → Has (MadeFile (tried_name c.trim_end_matches-stem.result.now (codes "new") k) (Err host.IsThere))
-    (g.H.Host.asked c.make_nth-2.new.host) = λ k within.
-    taken_more (λ k e. Has (MadeFile (tried_name c.trim_end_matches-stem.result.now (codes "new") k) (Err host.IsThere)) e)
-    LAST_NAME _ _ (λ n h. unmade.later _ h) (λ n below. c.loop-nth.invariant.taken n (omega (arith, below, c.loop-nth-test.false)))
-    (of_none _ _ c.in-None-2.is c.in_ok-history-2.ensures.taken) k (omega (arith, within)) in
-    caused_as _ _ _ Unwritten c.refused.ensures (_, c.requires.wanted, all_taken (c.trim_end_matches-stem.result.now, all))
+    (g.H.Host.asked c.loop-nth.host) = λ k within. c.loop-nth.invariant.taken k (omega (arith, within, c.loop-nth-test.false)) in
+    caused_as _ _ _ Unwritten c.refused_at.ensures (_, c.requires.wanted, all_taken (c.trim_end_matches-stem.result.now, all))
+
+pub returns-in-Some-clause-open : goal.returns-in-Some-clause-open
+returns-in-Some-clause-open g c = grind (arith, elements)

@@ -1,22 +1,25 @@
-use Rattle.std.proofs.Common.{rules}
 use Rattle.run_files.proofs.Going.{goes_then, apart_all}
 use Rattle.run_files.proofs.Caused.{unwritten_by}
 use Rattle.run_files.proofs.places.is_apart.Goals as goal
 
 pub returns-in_err-differ-clause-goes : goal.returns-in_err-differ-clause-goes
-returns-in_err-differ-clause-goes g c = search (rules, goes_then)
+returns-in_err-differ-clause-goes g c = goes_then _ _ _ _ _ c.place.ensures.goes c.differ.ensures.goes
 
 pub returns-in_err-differ-2-clause-goes : goal.returns-in_err-differ-2-clause-goes
-returns-in_err-differ-2-clause-goes g c = search (rules, goes_then)
+returns-in_err-differ-2-clause-goes g c =
+    goes_then _ _ _ _ _ (goes_then _ _ _ _ _ c.place.ensures.goes c.differ.ensures.goes) c.differ-2.ensures.goes
 
 pub returns-in_err-differ_from_script-clause-goes : goal.returns-in_err-differ_from_script-clause-goes
-returns-in_err-differ_from_script-clause-goes g c = search (rules, goes_then)
+returns-in_err-differ_from_script-clause-goes g c =
+    goes_then _ _ _ _ _ (goes_then _ _ _ _ _ (goes_then _ _ _ _ _ c.place.ensures.goes c.differ.ensures.goes) c.differ-2.ensures.goes) c.differ_from_script.ensures.goes
 
 pub returns-in_err-stay_outside_if_asked-clause-goes : goal.returns-in_err-stay_outside_if_asked-clause-goes
-returns-in_err-stay_outside_if_asked-clause-goes g c = search (rules, goes_then)
+returns-in_err-stay_outside_if_asked-clause-goes g c =
+    goes_then _ _ _ _ _ (goes_then _ _ _ _ _ (goes_then _ _ _ _ _ (goes_then _ _ _ _ _ c.place.ensures.goes c.differ.ensures.goes) c.differ-2.ensures.goes) c.differ_from_script.ensures.goes) c.stay_outside_if_asked.ensures.goes
 
 pub returns-clause-goes : goal.returns-clause-goes
-returns-clause-goes g c = search (rules, goes_then)
+returns-clause-goes g c =
+    goes_then _ _ _ _ _ (goes_then _ _ _ _ _ (goes_then _ _ _ _ _ (goes_then _ _ _ _ _ c.place.ensures.goes c.differ.ensures.goes) c.differ-2.ensures.goes) c.differ_from_script.ensures.goes) c.stay_outside_if_asked.ensures.goes
 
 pub returns-clause-apart : goal.returns-clause-apart
 returns-clause-apart g c =

@@ -1,8 +1,6 @@
 use Rattle.std.proofs.Common.{ap, sym}
-use Rattle.station.specs.DoneView.{job_view}
+use Rattle.world.specs.Events.{done_view, event_view, job_view}
 use Rattle.replay.specs.Armed.{OfWorld}
-use Rattle.station.specs.EventView.{event_view}
-use Rattle.station.specs.DoneView.{done_view}
 use Rattle.run_log.proofs.keeping.keep.Goals as goal
 
 -- of a turn that came back, the share is of its job

@@ -7,6 +7,8 @@ use Rattle.run_log.specs.Lines.{happenings, kept_view}
 use Rattle.run_log.specs.Numbers.{counted}
 use Rattle.run_log.specs.declared.history.Line.{Line}
 use Rattle.run_log.specs.declared.seat_count.Counted.TheVariants as kind
+use Rattle.std.proofs.Common.{arith}
+use Rattle.std.proofs.lemmas.Grind.{elements}
 use Rattle.run_log.proofs.making.make_kept.Goals as goal
 
 pub returns-clause-added : goal.returns-clause-added
@@ -22,3 +24,9 @@ returns-clause-added g c =
           ∙ ap (λ (lines : List Line). counted kind.Entry (numbers_in lines stops)) c.reserve.ensures.items;
       is_kept = c.in-Ok.ensures;
     }
+
+pub returns-clause-home : goal.returns-clause-home
+returns-clause-home g c = grind (arith, elements)
+
+pub put_entry-requires : goal.put_entry-requires
+put_entry-requires g c = grind (arith, elements)

@@ -1,7 +1,7 @@
 use Rattle.replay.specs.Armed.{OfWorld}
 use Rattle.replay.specs.declared.kept.Maker.TheVariants.{Node}
 use Rattle.protocol.specs.World.Choice.{choice}
-use Rattle.station.specs.ReplyView.{reply_view}
+use Rattle.world.specs.Events.{reply_view}
 use Rattle.world.specs.WholeView.{world_of}
 use Rattle.run_log.proofs.Kept.{unwritten_next, written_next}
 use Rattle.run_log.proofs.making.make_next.Goals as goal

@@ -1,6 +1,6 @@
 use Rattle.replay.specs.Plain.{run_view}
 use Rattle.replay.specs.declared.kept.Maker.TheVariants.{Driver}
-use Rattle.station.specs.ReplyView.{reply_view}
+use Rattle.world.specs.Events.{reply_view}
 use Rattle.run_log.proofs.Kept.{unwritten_line, unwritten_of, written}
 use Rattle.run_log.proofs.making.make_scripted.Goals as goal
 

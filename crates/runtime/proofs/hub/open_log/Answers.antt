@@ -4,6 +4,7 @@ use Rattle.std.proofs.lemmas.List.FromFn.{map-range_with_len_more}
 use Rattle.std.specs.List.{range_with_len}
 use Rattle.runtime.specs.Seats.{AreOfNodes}
 use Rattle.runtime.specs.declared.seat.NodeSeat.{NodeSeat}
+use Rattle.std.proofs.lemmas.Grind.{elements}
 use Rattle.runtime.proofs.hub.open_log.Goals as goal
 
 pub loop-node-preserved : goal.loop-node-preserved
@@ -12,11 +13,11 @@ loop-node-preserved g c =
     let seat = c.node_seat.result in
     let number = λ (s : NodeSeat _ _ _). s.node in
     record {
-      parts = search rules;
-      numbers = search rules;
-      room = search rules;
-      count = search rules;
-      same_journal = search rules;
+      parts = grind (arith, elements);
+      numbers = grind (arith, elements);
+      room = grind (arith, elements);
+      count = grind (arith, elements);
+      same_journal = grind (arith, elements);
       unwritten = search rules;
       numbered = ap (map number) c.push_reserved.ensures.items
           ∙ (map-append number c.loop-node.seats.items (seat ∷ [])
@@ -30,3 +31,15 @@ pub returns-clause-numbered : goal.returns-clause-numbered
 returns-clause-numbered g c =
     let ended : c.loop-node.node ≡ c.args.nodes = omega (arith, c.loop-node-test.false, c.loop-node.auto.node-end) in
     subst (λ (n : ℕ). AreOfNodes n c.loop-node.seats.items) ended c.loop-node.invariant.numbered
+
+pub new-log-requires-clause-opening : goal.new-log-requires-clause-opening
+new-log-requires-clause-opening g c = grind (arith, elements)
+
+pub returns-clause-unwritten : goal.returns-clause-unwritten
+returns-clause-unwritten g c = grind (arith, elements)
+
+pub loop-node-init : goal.loop-node-init
+loop-node-init g c = grind (arith, elements)
+
+pub returns-clause-none : goal.returns-clause-none
+returns-clause-none g c = grind (arith, elements)

@@ -11,6 +11,8 @@ use Rattle.runtime.proofs.Turns.{unrefused}
 use Rattle.run_log.specs.Lines.{happenings}
 use Rattle.runtime.proofs.Beginnings.{begun_so}
 use Rattle.runtime.proofs.Nowhere.{leads_nowhere, runs_nowhere}
+use Rattle.std.proofs.Common.{arith}
+use Rattle.std.proofs.lemmas.Grind.{elements}
 use Rattle.runtime.proofs.playing.play.Goals as goal
 
 pub returns-in_default-clause-leads : goal.returns-in_default-clause-leads
@@ -48,12 +50,12 @@ over-hub-requires g c =
     let log = c.begin-begun.new.log in
     let first = progress (armed_view c.open_log-log.result.0.armed) 0 in
     let begun = progress (armed_view log.armed) log.passed in
-    let are : lines ≡ first_lines script = search rules in
+    let are : lines ≡ first_lines script = grind (arith, elements) in
     let passed = unrefused (ArePassed rooms script lines first begun) c.begin-begun.result c.in_default-begun.not-Err
     c.begin-begun.ensures.passed in
     record {
-      journal = search rules;
-      unwritten = search rules;
+      journal = grind (arith, elements);
+      unwritten = grind (arith, elements);
       begun = λ told keeps.
           subst (λ (n : ℕ). BeginsByDriver n (happened_in log)) are
           (unrefused (g.ThisRun.Run.keeps ≡ true → BeginsByDriver lines (happened_in log)) c.begin-begun.result c.in_default-begun.not-Err
@@ -67,3 +69,57 @@ over-hub-requires g c =
 -- who watches it may stop it where the run's name says so
 pub returns-clause-stopped : goal.returns-clause-stopped
 returns-clause-stopped g c = λ stopped. sym c.requires.watch ∙ c.close.ensures.stopped stopped
+
+pub returns-in_default-pop-clause-rounds : goal.returns-in_default-pop-clause-rounds
+returns-in_default-pop-clause-rounds g c = grind (arith, elements)
+
+pub open_log-log-requires-clause-deliveries : goal.open_log-log-requires-clause-deliveries
+open_log-log-requires-clause-deliveries g c = grind (arith, elements)
+
+pub returns-in_default-clause-over : goal.returns-in_default-clause-over
+returns-in_default-clause-over g c = grind (arith, elements)
+
+pub returns-in_default-named-clause-begun : goal.returns-in_default-named-clause-begun
+returns-in_default-named-clause-begun g c = grind (arith, elements)
+
+pub open_log-log-requires-clause-room : goal.open_log-log-requires-clause-room
+open_log-log-requires-clause-room g c = grind (arith, elements)
+
+pub returns-in-Err-clause-stopped : goal.returns-in-Err-clause-stopped
+returns-in-Err-clause-stopped g c = grind (arith, elements)
+
+pub returns-clause-rounds : goal.returns-clause-rounds
+returns-clause-rounds g c = grind (arith, elements)
+
+pub returns-in_default-pop-clause-begun : goal.returns-in_default-pop-clause-begun
+returns-in_default-pop-clause-begun g c = grind (arith, elements)
+
+pub returns-in_default-pop-clause-over : goal.returns-in_default-pop-clause-over
+returns-in_default-pop-clause-over g c = grind (arith, elements)
+
+pub returns-in_default-named-clause-over : goal.returns-in_default-named-clause-over
+returns-in_default-named-clause-over g c = grind (arith, elements)
+
+pub returns-in_default-clause-begun : goal.returns-in_default-clause-begun
+returns-in_default-clause-begun g c = grind (arith, elements)
+
+pub returns-in-Err-clause-rounds : goal.returns-in-Err-clause-rounds
+returns-in-Err-clause-rounds g c = grind (arith, elements)
+
+pub begin-begun-requires-clause-lines : goal.begin-begun-requires-clause-lines
+begin-begun-requires-clause-lines g c = grind (arith, elements)
+
+pub returns-in_default-named-clause-rounds : goal.returns-in_default-named-clause-rounds
+returns-in_default-named-clause-rounds g c = grind (arith, elements)
+
+pub returns-in-Err-clause-over : goal.returns-in-Err-clause-over
+returns-in-Err-clause-over g c = grind (arith, elements)
+
+pub returns-in_default-clause-rounds : goal.returns-in_default-clause-rounds
+returns-in_default-clause-rounds g c = grind (arith, elements)
+
+pub begin-begun-requires-clause-part : goal.begin-begun-requires-clause-part
+begin-begun-requires-clause-part g c = grind (arith, elements)
+
+pub returns-in-Err-clause-begun : goal.returns-in-Err-clause-begun
+returns-in-Err-clause-begun g c = grind (arith, elements)

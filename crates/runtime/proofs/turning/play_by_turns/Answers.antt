@@ -1,16 +1,19 @@
 -- where the run didn't begin nothing is written, and the world is the one that was handed in
-use Rattle.std.proofs.Common.{rules, ◌≡◌, ℕ, sym, ap, subst}
+use Rattle.std.proofs.Common.{rules, ◌≡◌, ℕ, true, sym, ap, subst}
 use Rattle.protocol.specs.World.Common.{WorldView}
 use Rattle.replay.specs.Armed.{ArmedView, armed_at_first}
 use Rattle.run_log.specs.ArmedWorlds.{armed_view}
 use Rattle.run_log.specs.Lines.{happenings}
-use Rattle.runtime.specs.Beginning.{first_lines}
+use Rattle.run_log.specs.RunLogs.{happened_in}
+use Rattle.runtime.specs.Beginning.{BeginsByDriver, first_lines}
 use Rattle.runtime.specs.Ending.{IsOver}
 use Rattle.runtime.specs.Turning.{ArePassed, progress}
 use Rattle.world.specs.WholeView.{world_of}
 use Rattle.runtime.proofs.Beginnings.{begun_so}
 use Rattle.runtime.proofs.Nowhere.{leads_nowhere, runs_nowhere}
 use Rattle.runtime.proofs.Turns.{ends_so, unrefused}
+use Rattle.std.proofs.Common.{arith}
+use Rattle.std.proofs.lemmas.Grind.{elements}
 use Rattle.runtime.proofs.turning.play_by_turns.Goals as goal
 
 pub returns-in_default-clause-leads : goal.returns-in_default-clause-leads
@@ -45,3 +48,31 @@ returns-clause-turns g c =
     (subst (λ (n : ℕ). ArePassed rooms script n (progress (armed_at_first g.ThisRun.Run.opening) 0) begun) are
     (subst (λ (a : ArmedView). ArePassed rooms script lines (progress a 0) begun) c.new-log.ensures.first came))
     c.run_out-end.ensures.taken (ap world_of c.close-world-2.ensures.world)
+
+pub new-log-requires-clause-opening : goal.new-log-requires-clause-opening
+new-log-requires-clause-opening g c = grind (arith, elements)
+
+pub begin-begun-requires-clause-none : goal.begin-begun-requires-clause-none
+begin-begun-requires-clause-none g c = grind (arith, elements)
+
+pub returns-in_default-clause-over : goal.returns-in_default-clause-over
+returns-in_default-clause-over g c = grind (arith, elements)
+
+pub returns-in_default-clause-turns : goal.returns-in_default-clause-turns
+returns-in_default-clause-turns g c = grind (arith, elements)
+
+pub returns-in_default-clause-begun : goal.returns-in_default-clause-begun
+returns-in_default-clause-begun g c = grind (arith, elements)
+
+-- one that began well has the lines of round 0 before all else
+pub invariant_of-table : goal.invariant_of-table
+invariant_of-table g c = record {
+  one_part = grind (arith, elements);
+  running = grind (arith, elements);
+  begins = λ keeps.
+      let are : c.first_lines-lines.result ≡ first_lines g.ThisRun.Run.script = grind (arith, elements) in
+      let begun = happened_in c.begin-begun.new.log in
+      subst (λ (n : ℕ). BeginsByDriver n begun) are
+      (unrefused (g.ThisRun.Run.keeps ≡ true → BeginsByDriver c.first_lines-lines.result begun) c.begin-begun.result
+      c.in_default-begun.not-Err c.begin-begun.ensures.begun keeps);
+}

@@ -8,6 +8,7 @@ use Rattle.runtime.specs.Ending.{IsOver, is_over}
 use Rattle.runtime.specs.Turning.{EndsByTurns}
 use Rattle.world.specs.WholeView.{nodes_in, rooms_in, world_of}
 use Rattle.runtime.proofs.Nowhere.{leads_nowhere, runs_nowhere}
+use Rattle.std.proofs.lemmas.Grind.{elements}
 use Rattle.runtime.proofs.turning.run_world_by_turns.Goals as goal
 
 -- where the run didn't begin nothing is written, and the world is the one that was handed in
@@ -45,3 +46,6 @@ returns-clause-turns g c =
     (world_of world) now end) same
     (subst (λ (n : ℕ). EndsByTurns (is_over c.as_slice-channels.result.now c.args.bounds) n (rooms_in world) c.args.script.items
     (world_of world) now end) c.nodes-nodes.ensures c.play_by_turns.ensures.turns)
+
+pub returns-in_default-clause-begun : goal.returns-in_default-clause-begun
+returns-in_default-clause-begun g c = grind (arith, elements)

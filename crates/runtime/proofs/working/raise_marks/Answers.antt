@@ -5,6 +5,8 @@ use Rattle.marks.specs.Seats.{known, node_of, owners_of}
 use Rattle.protocol.specs.World.Common.{released_of}
 use Rattle.world.specs.WholeView.{world_of}
 use Rattle.runtime.proofs.Marked.{others_at, passed_next, raised_at, raised_next}
+use Rattle.std.proofs.Common.{arith}
+use Rattle.std.proofs.lemmas.Grind.{common_steps}
 use Rattle.runtime.proofs.working.raise_marks.Goals as goal
 use Rattle.runtime.proofs.working.raise_marks.Goals.{then-owns+in-Ok-freed, else-owns}
 
@@ -47,3 +49,6 @@ loop-number-preserved g c =
                 (λ channel. ap (λ s. known s channel) seat);
           }
     ]
+
+pub returns-clause-marked : goal.returns-clause-marked
+returns-clause-marked g c = grind (arith, common_steps)

@@ -5,6 +5,8 @@ use Rattle.protocol.specs.World.Common.{Traffic, traffic_of, Sending}
 use Rattle.wire.specs.Traffic.{AreNodes}
 use Rattle.wire.proofs.Ready.{same_room}
 use Rattle.station.proofs.Packets.{are_nodes}
+use Rattle.std.proofs.Common.{arith}
+use Rattle.std.proofs.lemmas.Grind.{common_steps}
 use Rattle.station.proofs.network.make_ready.Goals as goal
 
 pub stage-requires : goal.stage-requires
@@ -28,3 +30,6 @@ returns-clause-ready c =
           (sym c.make_room.ensures.traffic) c.in_ok-batch.ensures.ready);
       room = c.in_ok-make_room.ensures.room;
     }
+
+pub returns-then-is_empty-clause-ready : goal.returns-then-is_empty-clause-ready
+returns-then-is_empty-clause-ready c = grind (arith, common_steps)

@@ -5,6 +5,8 @@ use Rattle.kahn_net.specs.declared.program.Program.{Program}
 use Rattle.kahn_net.specs.declared.program.Process.{Process}
 use Rattle.station.proofs.Rests.{code_found, rest_at, rest_past, got_of}
 use Rattle.station.specs.StationView.{station_view}
+use Rattle.std.proofs.Common.{arith}
+use Rattle.std.proofs.lemmas.Grind.{elements}
 use Rattle.station.proofs.quiet.is_at_rest.Goals as goal
 
 there : (program : Program) (ps : List Process) (n again : ℕ) (p : Process) → ps ≡ program.processes.items
@@ -73,3 +75,6 @@ returns-in-None g c =
     (map (station_view g.O.Outlet.taken g.O.Outlet.failures) c.args.stations.now) c.args.image.now
     c.deref.result.now c.from.result c.saved.inside.number (standing_of c.saved.inside.state) _
     c.deref.ensures.value c.from.ensures c.in-None.ensures.lookup.3 c.saved.view_is
+
+pub has_got_all-requires : goal.has_got_all-requires
+has_got_all-requires g c = grind (arith, elements)

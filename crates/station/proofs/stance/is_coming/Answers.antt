@@ -5,6 +5,8 @@ use Rattle.protocol.specs.World.Stances.{comes_to}
 use Rattle.protocol.specs.declared.links.Inbox.{Inbox}
 use Rattle.station.specs.StationView.{station_view}
 use Rattle.station.proofs.Stances.{looked_on, looked_up}
+use Rattle.std.proofs.Common.{arith}
+use Rattle.std.proofs.lemmas.Grind.{common_steps}
 use Rattle.station.proofs.stance.is_coming.Goals as goal
 
 pub returns-then-from-channel : goal.returns-then-from-channel
@@ -23,3 +25,6 @@ loop-inbox-preserved g c =
     c.inbox-item.result c.loop-inbox-test.true c.inbox-item.is
     (ne_eqb c.inbox-item.result.channel c.args.channel (λ same. c.if-from-channel.false (c.from.ensures ∙ same)))
     c.loop-inbox.invariant
+
+pub returns : goal.returns
+returns g c = grind (arith, common_steps)

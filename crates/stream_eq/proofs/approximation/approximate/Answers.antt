@@ -5,6 +5,7 @@ use Rattle.kahn_net.specs.Approximations.{next_histories}
 use Rattle.stream_eq.specs.Limits.{IsWithin}
 use Rattle.stream_eq.proofs.Errors.{other_err}
 use Rattle.stream_eq.proofs.Lengths.{inputs_within, not_long, long_at, next_round, at_rest}
+use Rattle.std.proofs.lemmas.Grind.{elements}
 use Rattle.stream_eq.proofs.approximation.approximate.Goals as goal
 
 pub loop-round-init : goal.loop-round-init
@@ -73,3 +74,9 @@ returns-clause-not_long c =
     (let last : c.loop-round.round ≡ c.args.n = omega arith in
     c.loop-round.invariant.value ∙ ap (approximation (network_of c.args.net.now.program) c.args.inputs.now) last)
     c.loop-round.invariant.within
+
+pub next-requires-clause-count : goal.next-requires-clause-count
+next-requires-clause-count c = grind (arith, elements)
+
+pub returns-then-are_same-clause-long : goal.returns-then-are_same-clause-long
+returns-then-are_same-clause-long c = grind (arith, elements)

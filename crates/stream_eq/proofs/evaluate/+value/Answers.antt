@@ -3,6 +3,8 @@ use Rattle.std.proofs.lemmas.Int.{to_z-of_z}
 use Rattle.kahn_net.specs.declared.program.Expr.{Expr}
 use Rattle.kahn_net.specs.Common.{value_of, tree_of}
 use Rattle.stream_eq.proofs.Chains.{value_starts}
+use Rattle.std.proofs.lemmas.Grind.{common_steps}
+use Rattle.std.proofs.Common.{arith}
 use Rattle.stream_eq.proofs.evaluate.+value.Goals as goal
 
 pub loop-link-init : goal.loop-link-init
@@ -12,3 +14,6 @@ loop-link-init t c =
     _ c.in-Chain.is c.deref-link-items.ensures.value
     (to_z-of_z w64 c.value-total.result f ∙ c.value-total.ensures
     ∙ ap (λ (e : Expr). value_of (tree_of e) c.args.variables.now) c.deref-in-Chain.ensures)
+
+pub returns-after-loop-link : goal.returns-after-loop-link
+returns-after-loop-link c = grind (arith, common_steps)

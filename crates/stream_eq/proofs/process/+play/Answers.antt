@@ -8,6 +8,7 @@ use Rattle.stream_eq.specs.Play.{IsPlayed}
 use Rattle.stream_eq.proofs.Errors.{other_err}
 use Rattle.stream_eq.proofs.Going.{going_at, goes_further, stays, past_behind, one_less, round_at, round_further}
 use Rattle.stream_eq.proofs.Going.{round_stays, round_past, round_ended, takes_rounds}
+use Rattle.std.proofs.lemmas.Grind.{elements}
 use Rattle.stream_eq.proofs.process.+play.Goals as goal
 
 pub play_statement-returns-then-is_zero-clause-played : goal.play_statement-returns-then-is_zero-clause-played
@@ -149,3 +150,6 @@ play_statement-returns-in-Repeat-clause-long t c h site left =
     (sym (takes_rounds c.args.statement.now c.in-Repeat.times c.in-Repeat.body c.deref-in-Repeat.result.now c.in-Repeat.is
     c.deref-in-Repeat.ensures.value site left vars unread))
     (c.play_repeated.ensures.long h site left)
+
+pub play_statements-loop-statement-init : goal.play_statements-loop-statement-init
+play_statements-loop-statement-init c = grind (arith, elements)

@@ -5,6 +5,8 @@ use Rattle.kahn_net.specs.Syntax.{body_of}
 use Rattle.stream_eq.specs.Limits.{GoesPast}
 use Rattle.stream_eq.proofs.Errors.{other_err}
 use Rattle.stream_eq.proofs.Loops.{ended_then, past_then, then_past, played_at, trace_at, loop_at}
+use Rattle.std.proofs.lemmas.Grind.{elements}
+use Rattle.std.proofs.Common.{arith}
 use Rattle.stream_eq.proofs.process.play.Goals as goal
 
 pub returns-in_err-ended-clause-long : goal.returns-in_err-ended-clause-long
@@ -55,3 +57,12 @@ returns-clause-long c h =
     c.if-not-ended.false first
     (subst (λ (t : Trace). GoesPast c.args.limits.now (put_after t.steps mid.sent)) loop
     (c.play_loop.ensures.long h (sites_of code.prelude)))
+
+pub returns-clause-within : goal.returns-clause-within
+returns-clause-within c = grind (arith, elements)
+
+pub returns-in_default-clause-within : goal.returns-in_default-clause-within
+returns-in_default-clause-within c = grind (arith, elements)
+
+pub returns-then-not-ended-clause-within : goal.returns-then-not-ended-clause-within
+returns-then-not-ended-clause-within c = grind (arith, elements)

@@ -4,6 +4,8 @@ use Rattle.kahn_net.specs.Common.{total, block_of, trace_of, passes}
 use Rattle.stream_eq.specs.Limits.{GoesPast}
 use Rattle.stream_eq.proofs.Errors.{other_err}
 use Rattle.stream_eq.proofs.Loops.{smaller, goes_on, past_then}
+use Rattle.std.proofs.lemmas.Grind.{common_steps}
+use Rattle.std.proofs.Common.{arith}
 use Rattle.stream_eq.proofs.process.play_loop.Goals as goal
 
 pub returns-in_err-play_statements-clause-long : goal.returns-in_err-play_statements-clause-long
@@ -32,3 +34,6 @@ loop-preserved c =
           c.loop.unread c.play_statements.new.unread c.loop.sent c.play_statements.new.sent
           c.in_ok-play_statements.field-0 c.if-branch.true c.requires.passing (e.played site []) ∙ before.leads site;
     }
+
+pub returns-clause-played : goal.returns-clause-played
+returns-clause-played c = grind (arith, common_steps)

@@ -8,6 +8,7 @@ use Rattle.stream_eq.specs.Limits.{GoesPast}
 use Rattle.stream_eq.specs.Play.{put_by_all}
 use Rattle.stream_eq.proofs.Errors.{other_err}
 use Rattle.stream_eq.proofs.Rounds.{put_by_all_is_next}
+use Rattle.std.proofs.lemmas.Grind.{elements}
 use Rattle.stream_eq.proofs.round.next.Goals as goal
 
 pub put_all-requires-clause-passing : goal.put_all-requires-clause-passing
@@ -40,3 +41,6 @@ returns-clause-next c =
     (c.put_all.new.after ++ drop (length c.put_all.new.after) c.in_ok-after.after.items) ≡ c.put_all.new.after =
     grind (arith, common_steps) in
     whole ∙ (c.in_ok-put_all.ensures.put ∙ same)
+
+pub returns-clause-within : goal.returns-clause-within
+returns-clause-within c = grind (arith, elements)

@@ -5,6 +5,8 @@ use Rattle.kahn_net.specs.Laws.Valid.{code_at}
 use Rattle.stream_eq.specs.Limits.{GoesPast}
 use Rattle.stream_eq.proofs.Errors.{other_err}
 use Rattle.stream_eq.proofs.Rounds.{all_more, past_all}
+use Rattle.std.proofs.lemmas.Grind.{common_steps}
+use Rattle.std.proofs.Common.{arith}
 use Rattle.stream_eq.proofs.round.put_all.Goals as goal
 
 pub put_outputs-requires-clause-passing : goal.put_outputs-requires-clause-passing
@@ -26,3 +28,6 @@ returns-in_err-put_outputs-clause-long c =
     (past_all c.args.limits.now (map code_of (drop (i + 1) ps)) histories
     (put_after (process_trace (code_of c.process-item.result) histories).steps c.loop-process.after)
     (c.in_err-put_outputs.ensures.long (other_err _ _ h))))
+
+pub loop-process-preserved : goal.loop-process-preserved
+loop-process-preserved c = grind (arith, common_steps)

@@ -2,6 +2,8 @@ use Rattle.std.proofs.Common.{sym, ap, ◌∙◌, Err}
 use Rattle.kahn_net.specs.Common.{network_of}
 use Rattle.kahn_net.specs.Laws.Approximations.{solution_is_next, next_is_solution}
 use Rattle.stream_eq.proofs.Lengths.{solution_within}
+use Rattle.std.proofs.lemmas.Grind.{elements}
+use Rattle.std.proofs.Common.{arith}
 use Rattle.stream_eq.proofs.solution.solves.Goals as goal
 
 pub returns-in-Ok-clause-answer : goal.returns-in-Ok-clause-answer
@@ -26,3 +28,6 @@ returns-in-Err-Long-clause-answer c =
           (c.in-Err-Long.ensures.long (ap Err c.in-Err-Long.field-0-is))
           s),
     )
+
+pub returns-then-len-inputs-clause-answer : goal.returns-then-len-inputs-clause-answer
+returns-then-len-inputs-clause-answer c = grind (arith, elements)

@@ -5,6 +5,7 @@ use Rattle.wire.specs.Traffic.{AreNodes}
 use Rattle.wire.proofs.Ready.{more_then, same_room, set_room}
 use Rattle.wire.proofs.Roomy.{room_more}
 use Rattle.wire.proofs.Staged.{reserved_next}
+use Rattle.std.proofs.lemmas.Grind.{elements}
 use Rattle.wire.proofs.direct.make_room_for.Goals as goal
 
 pub returns-in_err-reserve-clause-same : goal.returns-in_err-reserve-clause-same
@@ -49,3 +50,9 @@ loop-sending-preserved c =
       more_then c.args.queues.now l.queues _ l.invariant.3
           (set_room l.queues s.to c.index-queues-sending.result c.reserve.new.self within c.reserve.ensures.more),
     )
+
+pub returns-in_err-reserve-clause-len : goal.returns-in_err-reserve-clause-len
+returns-in_err-reserve-clause-len c = grind (arith, elements)
+
+pub returns-clause-room : goal.returns-clause-room
+returns-clause-room c = grind (arith, elements)

@@ -5,6 +5,8 @@ use Rattle.wire.specs.Traffic.{AreNodes, all_sent}
 use Rattle.wire.specs.Staging.{ruled}
 use Rattle.wire.specs.declared.sending.Sending.{Sending}
 use Rattle.std.proofs.Common.{List}
+use Rattle.std.proofs.lemmas.Grind.{common_steps}
+use Rattle.std.proofs.Common.{arith}
 use Rattle.wire.proofs.staging.stage_all.Goals as goal
 
 pub loop-sending-preserved : goal.loop-sending-preserved
@@ -18,3 +20,6 @@ loop-sending-preserved c =
           ∙ (ap (λ (sendings : List Sending). all_sent c.args.round sendings
           (ruled c.args.rules.now c.loop-sending.staged)) (sym (c.in-Some.ensures.steps).0) ∙ i.2),
     )
+
+pub returns-clause-ok : goal.returns-clause-ok
+returns-clause-ok c = grind (arith, common_steps)

@@ -6,6 +6,7 @@ use Rattle.protocol_laws.specs.Node.SizeLaws.{opening_within}
 use Rattle.protocol_laws.specs.Node.LikeLaws.{opening_allowed}
 use Rattle.world.specs.OpeningWorld.{HasRoom, IsNotOpened}
 use Rattle.world.proofs.OpeningStores.{node_left, node_stands}
+use Rattle.std.proofs.lemmas.Grind.{elements}
 use Rattle.world.proofs.opening.open_node.Goals as goal
 
 pub open_store-requires-clause-written : goal.open_store-requires-clause-written
@@ -35,11 +36,11 @@ run_from-requires-clause-named g c =
 
 pub returns-in-Ok-run_from-clause-opened : goal.returns-in-Ok-run_from-clause-opened
 returns-in-Ok-run_from-clause-opened g c = record {
-  number_is = search rules;
-  view = search rules;
-  failures = search rules;
-  armed = search rules;
-  counted = search rules;
+  number_is = grind (arith, elements);
+  view = grind (arith, elements);
+  failures = grind (arith, elements);
+  armed = grind (arith, elements);
+  counted = grind (arith, elements);
   left = node_left _ _ c.in-Ok-run_from.node c.in-Ok-open_store.store _ _ c.in-Ok-run_from.ensures.same.1
       c.in-Ok.ensures c.in-Ok-open_store.ensures.opened.holds;
   formatted = node_stands _ _ c.in-Ok-run_from.node c.in-Ok-open_store.store _ _ c.args.version

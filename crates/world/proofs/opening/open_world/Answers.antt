@@ -6,6 +6,8 @@ use Rattle.station.specs.OutputView.{fresh}
 use Rattle.world.specs.OpeningWorld.{IsWorldRefusal}
 use Rattle.world.proofs.OpenedStations.{opened_all, opened_sound, opened_world, opened_outlets, opened_left}
 use Rattle.world.proofs.OpenedStations.{opened_armed, opened_calls, opened_rooms, opened_fits, opened_versions, world_refused, none_opened}
+use Rattle.std.proofs.Common.{arith}
+use Rattle.std.proofs.lemmas.Grind.{elements}
 use Rattle.world.proofs.opening.open_world.Goals as goal
 
 pub invariant_of-result : goal.invariant_of-result
@@ -63,3 +65,6 @@ returns-in-Err-clause-refused g c = record {
   handed_back = c.in-Err.ensures.handed_back;
   same_outputs = c.in-Err.ensures.same_outputs;
 }
+
+pub open_stations-requires-clause-nodes : goal.open_stations-requires-clause-nodes
+open_stations-requires-clause-nodes g c = grind (arith, elements)

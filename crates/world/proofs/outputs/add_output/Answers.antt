@@ -3,6 +3,8 @@ use Rattle.std.specs.List.{AllByRecursion}
 use Rattle.world.specs.OpeningWorld.{HasNotFailed, IsMade, IsUnused}
 use Rattle.protocol_laws.specs.World.PairLaws.{every_more}
 use Rattle.station.specs.declared.output.Output.{Output}
+use Rattle.std.proofs.Common.{arith}
+use Rattle.std.proofs.lemmas.Grind.{common_steps}
 use Rattle.world.proofs.outputs.add_output.Goals as goal
 
 pub returns-in_ok-push-clause-empty : goal.returns-in_ok-push-clause-empty
@@ -21,3 +23,6 @@ pub returns-in_ok-push-clause-none_failed : goal.returns-in_ok-push-clause-none_
 returns-in_ok-push-clause-none_failed g c =
     λ before. subst (λ (outputs : List (Output _)). AllByRecursion HasNotFailed outputs) (sym c.in_ok-push.ensures.items)
     (every_more HasNotFailed _ _ before refl)
+
+pub returns-in_ok-push-clause-listed : goal.returns-in_ok-push-clause-listed
+returns-in_ok-push-clause-listed g c = grind (arith, common_steps)

@@ -1,5 +1,7 @@
 use Rattle.std.proofs.Common.{rules}
 use Rattle.world.proofs.Openings.{listed_next}
+use Rattle.std.proofs.Common.{arith}
+use Rattle.std.proofs.lemmas.Grind.{common_steps}
 use Rattle.world.proofs.outputs.open_outputs.Goals as goal
 
 pub loop-number-preserved : goal.loop-number-preserved
@@ -10,3 +12,6 @@ loop-number-preserved g c = (
   c.in_ok-add_output.ensures.made,
   c.in_ok-add_output.ensures.none_failed c.loop-number.invariant.3,
 )
+
+pub returns-clause-listed : goal.returns-clause-listed
+returns-clause-listed g c = grind (arith, common_steps)

@@ -11,6 +11,7 @@ use Rattle.world.proofs.ReopenedStations.{all_same, disks_back, more_reopened, n
 use Rattle.world.proofs.ReopenedStations.{station_reopened}
 use Rattle.world.specs.OpeningWorld.{own_outputs}
 use Rattle.world.specs.Reopening.{HoldsItsOwn}
+use Rattle.std.proofs.lemmas.Grind.{elements}
 use Rattle.world.proofs.reopening.+reopen_stations.Goals as goal
 
 pub overflow_cast-number : goal.overflow_cast-number
@@ -65,7 +66,7 @@ returns-in-Err-clause-refused g t c = c.in-Err.ensures.refused.why
 pub returns-in-Ok-reopen_stations-clause-opened : goal.returns-in-Ok-reopen_stations-clause-opened
 returns-in-Ok-reopen_stations-clause-opened g t c =
     let net = network_of c.args.net.now.program in
-    let place : c.len-number.result ≡ length c.take_last.new.disks.items = search rules in
+    let place : c.len-number.result ≡ length c.take_last.new.disks.items = grind (arith, elements) in
     more_reopened g.O.Outlet.taken g.O.Outlet.failures net c.args.outputs.now.items c.take_last.new.disks.items
     c.args.disks.now.items
     c.in-Some.disk c.reopen_stations.new.stations.items c.push_reserved-in-Ok-reopen_stations.new.self.items c.new.result
@@ -91,7 +92,7 @@ returns-in-Ok-reopen_stations-clause-rest g t c =
     (nothing_before c.replace-given.new.dest.items c.part_outputs.new.others.items
     _ (ap (λ outputs. outputs.items) c.replace-given.ensures.after ∙ c.in-Ok-Ok.ensures'.items)
     c.part_outputs.ensures.others)
-    (search rules)
+    (grind (arith, elements))
     (λ home behind. ap (λ given. own_outputs net home given.items) c.replace-given.ensures.value
     ∙ c.in-Ok-reopen_stations.ensures.rest home (omega (arith, behind, c.len-number.ensures)))
 

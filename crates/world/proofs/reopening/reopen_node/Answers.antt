@@ -1,5 +1,7 @@
 use Rattle.std.proofs.Common.{rules, ◌<◌, length, refl, sym, ap, subst, ◌∙◌}
 use Rattle.protocol.specs.Node.Common.{RecordView, Spells}
+use Rattle.std.proofs.lemmas.Grind.{elements}
+use Rattle.std.proofs.Common.{arith}
 use Rattle.world.proofs.reopening.reopen_node.Goals as goal
 
 pub invariant_of-result : goal.invariant_of-result
@@ -18,7 +20,7 @@ returns-clause-opened g c =
     let opened = c.in-Ok.ensures.opened in
     record {
       number_is = refl;
-      view = search rules;
+      view = grind (arith, elements);
       left = λ left might. subst (Spells _) (sym (opened.settled left might)) opened.holds;
       failures = opened.failures;
       armed = opened.armed;

@@ -9,12 +9,15 @@ use Rattle.run_files.specs.declared.held_file.OpenedName.{OpenedName}
 use Rattle.run_files.proofs.Going.{synced_later}
 use Rattle.run_files.proofs.Left.{left_by_goes}
 use Rattle.cobaltmidge.specs.FileNames.{file_names}
-use Rattle.cobaltmidge.specs.KeptRuns.{IsKeptRun}
+use Rattle.cobaltmidge.specs.KeptRuns.{IsKeptRun, IsKeptWhereRefused}
 use Rattle.cobaltmidge.specs.KeptStreams.{AreKept, AreKeptIn, IsStateCause}
 use Rattle.cobaltmidge.specs.Names.{script_of}
 use Rattle.cobaltmidge.specs.declared.kept_run.KeptRun.{KeptRun}
 use Rattle.cobaltmidge.specs.declared.state_error.StateError.{StateError}
 use Rattle.cobaltmidge.proofs.InFolder.{cause_later, kept_as, kept_run_maps}
+use Rattle.cobaltmidge.proofs.LeftKept.{refused_maps}
+use Rattle.std.proofs.lemmas.Grind.{elements}
+use Rattle.std.proofs.Common.{arith}
 use Rattle.cobaltmidge.proofs.run.Run.state.Goals as goal
 
 pub let_go-requires-clause-held : goal.let_go-requires-clause-held
@@ -67,3 +70,36 @@ returns-clause-cause g c =
     (λ (error : StateError). IsStateCause true o now error.fault)
     (λ error why. cause_later true o before now error.fault c.let_go.ensures.later why)
     c.run_locked-kept.ensures.cause
+
+pub returns-clause-left : goal.returns-clause-left
+returns-clause-left g c =
+    let run = c.args.self in
+    let known = run.network.now.net.value in
+    let net = network_of known.program in
+    let sync = c.args.names.now.sync in
+    let folder = string_bytes c.args.folder.now in
+    let before = g.H.Host.asked c.run_locked-kept.new.host in
+    let now = g.H.Host.asked c.let_go.new.host in
+    let names = opened_names c.as_slice.result.now in
+    let outputs = file_names known.program.channels.items known.channel_names.items in
+    let listed = c.in_ok-outputs.ensures
+    ∙ ap (λ (it : Net). file_names it.program.channels.items it.channel_names.items) c.deref.ensures in
+    let filed : List (List ℤ) → Type 0 = λ streams. AreKeptIn sync folder names before streams in
+    let kept : List (List ℤ) → Type 0 = λ streams. AreKept sync (Some folder) outputs now streams in
+    IfErr-weaker c.run_locked-kept.result
+    (λ (error : StateError). IsKeptWhereRefused net run.inputs filed error.fault)
+    (λ (error : StateError). IsKeptWhereRefused net run.inputs kept error.fault)
+    (λ error. refused_maps net run.inputs filed kept
+    (kept_as sync folder names outputs before now
+    (ap (λ (opened : List OpenedName). opened_names opened) c.as_slice.ensures.value ∙ (c.in_ok-open.ensures.named ∙ listed))
+    c.let_go.ensures.later
+    (subst (λ (all : List (List ℕ)). AreSyncedIf sync (paths_in folder all ++ folder ∷ []) now) listed
+    (synced_later _ _ _ _ (λ r h. c.let_go.ensures.later r (c.run_locked-kept.ensures.goes.later r h)) c.in_ok-open.ensures.synced)))
+    error.fault)
+    c.run_locked-kept.ensures.left
+
+pub returns-clause-rules : goal.returns-clause-rules
+returns-clause-rules g c = grind (arith, elements)
+
+pub run_locked-kept-requires-clause-opened : goal.run_locked-kept-requires-clause-opened
+run_locked-kept-requires-clause-opened g c = grind (arith, elements)

@@ -5,6 +5,7 @@ use Rattle.protocol.specs.Node.LiveView.{QuestionView}
 use Rattle.protocol.specs.Node.Needs.{question_on}
 use Rattle.decide_core.specs.InitiatorView.{question_view}
 use Rattle.decide_core.proofs.Listing.{each_length}
+use Rattle.std.proofs.lemmas.Grind.{elements}
 use Rattle.decide_core.proofs.initiator.Initiator.begin.Goals as goal
 
 pub invariant_of-result : goal.invariant_of-result
@@ -17,3 +18,6 @@ invariant_of-result c =
     ∙ each_length (question_on (network_of c.args.net.now.program) c.args.home c.kept.inside.permanent
     c.args.image.now) 0 (length channels)) in
     omega (arith, few, long)
+
+pub overflow_add-result : goal.overflow_add-result
+overflow_add-result c = grind (arith, elements)

@@ -3,6 +3,7 @@ use Rattle.layout.proofs.Walking.{taken_next, passed_next}
 use Rattle.protocol.specs.Node.Layout.{numbers_where}
 use Rattle.recovery_line.specs.Observers.{has_node}
 use Rattle.decide_core.proofs.Listing.{map_same}
+use Rattle.std.proofs.lemmas.Grind.{common_steps}
 use Rattle.decide_core.proofs.initiator.Initiator.participants.Goals as goal
 use Rattle.decide_core.proofs.initiator.Initiator.participants.Goals.{then-has_node+in_ok-push, else-has_node}
 
@@ -27,3 +28,6 @@ loop-node-preserved c =
           _ _ _ c.loop-node.node c.args.nodes c.loop-node-test.true c.loop-node.invariant
           (sym c.has_node.ensures ∙ w.if-has_node.false) (search rules)
     ]
+
+pub returns : goal.returns
+returns c = grind (arith, common_steps)

@@ -1,13 +1,12 @@
-use Rattle.std.proofs.Common.{rules, ◌≡◌, ◌*◌, ◌∷◌, length, refl, sym, subst, ap, ◌∙◌}
+use Rattle.std.proofs.lemmas.Grind.{elements}
+use Rattle.std.proofs.Common.{rules, arith, ◌*◌, length, refl, sym, subst, ap, ◌∙◌}
 use Rattle.sector_disk.specs.declared.TheConstants.{SECTOR_BYTES}
 use Rattle.sector_disk.specs.Disk.{IsInRange, SameOutside}
-use Rattle.sector_disk.specs.Past.{states_of}
 use Rattle.sector_disk.proofs.Writes.{same_outside}
 use Rattle.file_disk.proofs.Goes.{mark_goes}
 use Rattle.file_disk.proofs.Keeping.{unasked, left_by_now, left_by_old, one_put}
 use Rattle.file_disk.proofs.Rewrites.{rewrites}
 use Rattle.file_disk.proofs.disk.FileDiskDisk.write.Goals as goal
-use Rattle.file_disk.proofs.disk.FileDiskDisk.write.Goals.{else-not-done-via-then-not-done+else-fail, else-not-done-via-else-not-done}
 
 pub returns-then-not-is_in_range-clause-kept : goal.returns-then-not-is_in_range-clause-kept
 returns-then-not-is_in_range-clause-kept g c here content held =
@@ -36,8 +35,8 @@ returns-then-count_call-clause-kept g c here content held =
     left_by_old was c.mark.new.self _ _ c.note.ensures content
     (unasked _ _ was refl (c.args.self.now.goes.in_step here) content held)
 
-pub invariant_of-self-then-not-done : goal.invariant_of-self-then-not-done
-invariant_of-self-then-not-done g c =
+pub invariant_of-self-2 : goal.invariant_of-self-2
+invariant_of-self-2 g c =
     let first = c.args.first in
     let len = length c.args.bytes.now in
     let was = c.args.self.now.sectors in
@@ -48,8 +47,8 @@ invariant_of-self-then-not-done g c =
           (rewrites first len was _ fits c.write.ensures.elsewhere c.write.ensures.flags);
     }
 
-pub returns-then-fail-clause-kept : goal.returns-then-fail-clause-kept
-returns-then-fail-clause-kept g c here =
+pub returns-then-has_failed-clause-kept : goal.returns-then-has_failed-clause-kept
+returns-then-has_failed-clause-kept g c here =
     let first = c.args.first in
     let len = length c.args.bytes.now in
     let was = c.args.self.now.sectors in
@@ -60,32 +59,41 @@ returns-then-fail-clause-kept g c here =
     one_put was c.write.new.self _ _ c.note.ensures _ _ _ _ _ _ (c.put-done.ensures.passed here)
     (c.args.self.now.goes.in_step here) (goes.in_step (c.put-done.ensures.lost ∙ here))
 
-pub invariant_of-self-else-not-done : goal.invariant_of-self-else-not-done
-invariant_of-self-else-not-done g c =
+pub returns-clause-kept : goal.returns-clause-kept
+returns-clause-kept g c here =
     let first = c.args.first in
     let len = length c.args.bytes.now in
     let was = c.args.self.now.sectors in
     let fits : IsInRange (length was.doubt.flags.items) first len =
     subst (λ n. IsInRange n first len) (search rules) (c.if-not-is_in_range.ensures.0 refl) in
-    record {
-      goes = c.put-done.ensures.goes was c.args.self.now.goes
-          (rewrites first len was _ fits c.write.ensures.elsewhere c.write.ensures.flags);
-    }
+    let goes = c.put-done.ensures.goes was c.args.self.now.goes
+    (rewrites first len was _ fits c.write.ensures.elsewhere c.write.ensures.flags) in
+    one_put was c.write.new.self _ _ c.note.ensures _ _ _ _ _ _ (c.put-done.ensures.passed here)
+    (c.args.self.now.goes.in_step here) (goes.in_step (c.put-done.ensures.lost ∙ here))
 
-pub returns-clause-kept : goal.returns-clause-kept
-returns-clause-kept g c here =
-    let now = c.else-not-done.self in
-    let past_is : states_of now.past ≡ c.args.self.now.sectors ∷ states_of c.args.self.now.past =
-    elim c.else-not-done.branch [
-      | else-not-done-via-then-not-done+else-fail w ↦ ap (λ d. states_of d.past) w.self-is ∙ c.note.ensures
-      | else-not-done-via-else-not-done w ↦ ap (λ d. states_of d.past) w.self-is ∙ c.note.ensures
-    ] in
-    let backing_is : now.backing ≡ c.put-done.new.self =
-    elim c.else-not-done.branch [
-      | else-not-done-via-then-not-done+else-fail w ↦ ap (λ d. d.backing) w.self-is
-      | else-not-done-via-else-not-done w ↦ ap (λ d. d.backing) w.self-is
-    ] in
-    one_put c.args.self.now.sectors now.sectors _ _ past_is _ _ _ _ _ _
-    (ap (λ b. g.F.SectorFile.history b.file) backing_is ∙ c.put-done.ensures.passed here)
-    (c.args.self.now.goes.in_step here)
-    (now.goes.in_step (ap (λ b. b.lost) backing_is ∙ c.put-done.ensures.lost ∙ here))
+pub returns-then-count_call-clause-out_of_range : goal.returns-then-count_call-clause-out_of_range
+returns-then-count_call-clause-out_of_range g c = grind (arith, elements)
+
+pub returns-then-count_call-clause-time : goal.returns-then-count_call-clause-time
+returns-then-count_call-clause-time g c = grind (arith, elements)
+
+pub returns-then-count_call-clause-passed_on : goal.returns-then-count_call-clause-passed_on
+returns-then-count_call-clause-passed_on g c = grind (arith, elements)
+
+pub returns-then-count_call-clause-fails : goal.returns-then-count_call-clause-fails
+returns-then-count_call-clause-fails g c = grind (arith, elements)
+
+pub returns-then-has_failed-clause-out_of_range : goal.returns-then-has_failed-clause-out_of_range
+returns-then-has_failed-clause-out_of_range g c = grind (arith, elements)
+
+pub returns-then-has_failed-clause-time : goal.returns-then-has_failed-clause-time
+returns-then-has_failed-clause-time g c = grind (arith, elements)
+
+pub returns-clause-out_of_range : goal.returns-clause-out_of_range
+returns-clause-out_of_range g c = grind (arith, elements)
+
+pub returns-clause-time : goal.returns-clause-time
+returns-clause-time g c = grind (arith, elements)
+
+pub returns-clause-fails : goal.returns-clause-fails
+returns-clause-fails g c = grind (arith, elements)

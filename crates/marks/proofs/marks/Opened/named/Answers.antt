@@ -9,6 +9,7 @@ use Rattle.marks.specs.Rules.{HoldsOfMarks, dealer, dealt}
 use Rattle.marks.specs.Seats.{known, node_of}
 use Rattle.marks.proofs.Moves.{deals, nothing_dealt}
 use Rattle.marks.proofs.Nodes.{one_seat_more, all_and_one}
+use Rattle.std.proofs.lemmas.Grind.{common_steps, elements}
 use Rattle.marks.proofs.marks.Opened.named.Goals as goal
 
 pub split_seat-seat-requires : goal.split_seat-seat-requires
@@ -45,3 +46,9 @@ loop-node-preserved g c =
       count = search rules;
       room = search rules;
     }
+
+pub returns-clause-fresh : goal.returns-clause-fresh
+returns-clause-fresh g c = grind (arith, elements)
+
+pub returns-clause-seats : goal.returns-clause-seats
+returns-clause-seats g c = grind (arith, common_steps)

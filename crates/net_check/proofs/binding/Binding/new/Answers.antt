@@ -37,3 +37,6 @@ returns-in_err-push-clause-lists c = grind (arith, elements)
 
 pub returns-in_err-push-clause-named : goal.returns-in_err-push-clause-named
 returns-in_err-push-clause-named c = grind (arith, elements)
+
+pub loop-preserved : goal.loop-preserved
+loop-preserved c = grind (arith, elements)

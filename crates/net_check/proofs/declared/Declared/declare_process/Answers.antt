@@ -7,6 +7,7 @@ use Rattle.net_check.proofs.Places.{when_some, when_none}
 use Rattle.net_check.proofs.Declaring.{declared_process, fault_here, twice_process, many_processes_at}
 use Rattle.std.proofs.lemmas.Result.{err_from_is_err_and}
 use Rattle.std.proofs.lemmas.List.{length-map, map-append}
+use Rattle.std.proofs.lemmas.Grind.{common_steps}
 use Rattle.net_check.proofs.declared.Declared.declare_process.Goals as goal
 
 pub returns-then-is_some-clause-err : goal.returns-then-is_some-clause-err
@@ -82,3 +83,6 @@ returns-then-len-ge-MAX_PROCESSES-clause-declared c = grind (arith, elements)
 
 pub returns-then-len-ge-MAX_PROCESSES-clause-processes : goal.returns-then-len-ge-MAX_PROCESSES-clause-processes
 returns-then-len-ge-MAX_PROCESSES-clause-processes c = grind (arith, elements)
+
+pub returns-clause-processes : goal.returns-clause-processes
+returns-clause-processes c = grind (arith, common_steps)

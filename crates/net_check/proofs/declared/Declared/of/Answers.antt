@@ -1,5 +1,6 @@
 use Rattle.std.proofs.lemmas.Grind.{elements}
 use Rattle.std.proofs.Common.{arith}
+use Rattle.std.proofs.lemmas.Grind.{common_steps}
 use Rattle.net_check.proofs.declared.Declared.of.Goals as goal
 
 pub returns-clause-declared : goal.returns-clause-declared
@@ -31,3 +32,15 @@ returns-in_err-declare_process-in-Process-clause-err c = grind (arith, elements)
 
 pub returns-in_err-declare_process-in-Process-clause-processes : goal.returns-in_err-declare_process-in-Process-clause-processes
 returns-in_err-declare_process-in-Process-clause-processes c = grind (arith, elements)
+
+pub returns-clause-channels : goal.returns-clause-channels
+returns-clause-channels c = grind (arith, common_steps)
+
+pub loop-declaration-preserved : goal.loop-declaration-preserved
+loop-declaration-preserved c = grind (arith, common_steps)
+
+pub returns-clause-processes : goal.returns-clause-processes
+returns-clause-processes c = grind (arith, common_steps)
+
+pub loop-declaration-preserved-in-Continue-1 : goal.loop-declaration-preserved-in-Continue-1
+loop-declaration-preserved-in-Continue-1 c = grind (arith, common_steps)

@@ -13,3 +13,6 @@ returns-in_err-push-clause-count c = grind (arith, elements)
 
 pub returns-in_err-push-clause-outside : goal.returns-in_err-push-clause-outside
 returns-in_err-push-clause-outside c = grind (arith, elements)
+
+pub loop-preserved : goal.loop-preserved
+loop-preserved c = grind (arith, elements)

@@ -2,6 +2,8 @@ use Rattle.std.proofs.Common.{◌≡◌, sym, ◌∙◌, rules}
 use Rattle.net_text.specs.Trees.{link_tree}
 use Rattle.net_text.proofs.Loops.{link_shortens, links_more}
 use Rattle.net_text.proofs.Openings.{parenthesised_steps, minus_steps, factor_parenthesised, factor_minus, factor_atom}
+use Rattle.std.proofs.lemmas.Grind.{elements}
+use Rattle.std.proofs.Common.{arith}
 use Rattle.net_text.proofs.parser.Parser.+expression.Goals as goal
 
 pub factor-returns-then-begins_with_symbol : goal.factor-returns-then-begins_with_symbol
@@ -40,19 +42,19 @@ pub parenthesised-returns-in_err-value : goal.parenthesised-returns-in_err-value
 parenthesised-returns-in_err-value t c = let e = parenthesised_steps c.args.edition c.args.left c.args.self.now in rw e (search rules)
 
 pub parenthesised-returns-in_err-symbol : goal.parenthesised-returns-in_err-symbol
-parenthesised-returns-in_err-symbol t c = let e = parenthesised_steps c.args.edition c.args.left c.args.self.now in rw e (search rules)
+parenthesised-returns-in_err-symbol t c = let e = parenthesised_steps c.args.edition c.args.left c.args.self.now in rw e (grind (arith, elements))
 
 pub parenthesised-returns : goal.parenthesised-returns
 parenthesised-returns t c = let e = parenthesised_steps c.args.edition c.args.left c.args.self.now in rw e (search rules)
 
 pub minus-returns-in_err-opening : goal.minus-returns-in_err-opening
-minus-returns-in_err-opening t c = let e = minus_steps c.args.edition c.args.left c.args.self.now in rw e (search rules)
+minus-returns-in_err-opening t c = let e = minus_steps c.args.edition c.args.left c.args.self.now in rw e (grind (arith, elements))
 
 pub minus-returns-in_err-value : goal.minus-returns-in_err-value
-minus-returns-in_err-value t c = let e = minus_steps c.args.edition c.args.left c.args.self.now in rw e (search rules)
+minus-returns-in_err-value t c = let e = minus_steps c.args.edition c.args.left c.args.self.now in rw e (grind (arith, elements))
 
 pub minus-returns : goal.minus-returns
 minus-returns t c =
     let e = minus_steps c.args.edition c.args.left c.args.self.now in
-    let kept : c.in_ok-new.field-0.value ≡ c.in_ok-value.value = search rules in
-    rw (e, kept) (search rules)
+    let kept : c.in_ok-new.field-0.value ≡ c.in_ok-value.value = grind (arith, elements) in
+    rw (e, kept) (grind (arith, elements))

@@ -4,6 +4,8 @@ use Rattle.net_text.proofs.Loops.{statement_shortens, statements_more, statement
 use Rattle.net_text.specs.Editions.{Ranged}
 use Rattle.net_text.specs.Reading.{if_at, else_at, repeat_at}
 use Rattle.net_text.proofs.Openings.{block_steps}
+use Rattle.std.proofs.lemmas.Grind.{elements}
+use Rattle.std.proofs.Common.{arith}
 use Rattle.net_text.proofs.parser.Parser.+statement.Goals as goal
 
 pub statements-loop-edition-smaller : goal.statements-loop-edition-smaller
@@ -24,13 +26,13 @@ statements-returns t c =
     (sym c.loop-edition-test.ensures)
 
 pub block-returns-in_err-opening : goal.block-returns-in_err-opening
-block-returns-in_err-opening t c = let e = block_steps c.args.edition Ranged c.args.left c.args.self.now in rw e (search rules)
+block-returns-in_err-opening t c = let e = block_steps c.args.edition Ranged c.args.left c.args.self.now in rw e (grind (arith, elements))
 
 pub block-returns-in_err-statements : goal.block-returns-in_err-statements
 block-returns-in_err-statements t c = let e = block_steps c.args.edition Ranged c.args.left c.args.self.now in rw e (search rules)
 
 pub block-returns-in_err-symbol : goal.block-returns-in_err-symbol
-block-returns-in_err-symbol t c = let e = block_steps c.args.edition Ranged c.args.left c.args.self.now in rw e (search rules)
+block-returns-in_err-symbol t c = let e = block_steps c.args.edition Ranged c.args.left c.args.self.now in rw e (grind (arith, elements))
 
 pub block-returns : goal.block-returns
 block-returns t c = let e = block_steps c.args.edition Ranged c.args.left c.args.self.now in rw e (search rules)
@@ -43,7 +45,7 @@ conditional-returns t c =
       IfTree (expr_tree c.in_ok-test.test) (block_tree c.in_ok-first.first.items)
           (block_tree c.in_ok-second.second.items) NothingTree,
       c.otherwise.new.self,
-    ) = search rules in
+    ) = grind (arith, elements) in
     if_made (if_at c.args.edition Ranged c.args.left c.args.self.now) c.in_ok-test.test c.in_ok-first.first c.in_ok-second.second
     c.otherwise.new.self e
 

@@ -2,6 +2,8 @@ use Rattle.std.proofs.Common.{◌≡◌, List, ℕ, ℤ, Some, sym, subst}
 use Rattle.protocol.specs.Node.Common.{Job, ImageTakes}
 use Rattle.node_memory.specs.JobView.{job_view}
 use Rattle.node_memory.specs.RunningView.{running_view}
+use Rattle.std.proofs.Common.{arith}
+use Rattle.std.proofs.lemmas.Grind.{elements}
 use Rattle.node_memory.proofs.running.Running.install.Goals as goal
 
 pub install_from-requires-clause-takes : goal.install_from-requires-clause-takes
@@ -19,3 +21,9 @@ install_from-requires-clause-takes c =
     running.current) (sym c.deref-2.ensures.value)
     (subst (λ (job : Job). ImageTakes c.args.channels.now job.process done.taken.items done.sent.items running.current)
     (sym c.deref-job.ensures) takes))
+
+pub returns-clause-step : goal.returns-clause-step
+returns-clause-step c = grind (arith, elements)
+
+pub returns-then-not-is_out-clause-step : goal.returns-then-not-is_out-clause-step
+returns-then-not-is_out-clause-step c = grind (arith, elements)

@@ -3,6 +3,7 @@ use Rattle.std.specs.Prelude.{IsOk}
 use Rattle.std.specs.Fmt.{signed_decimal}
 use Rattle.std.proofs.lemmas.Int.{to_z-of_z}
 use Rattle.output_file.proofs.Placing.{one_line_more, with_room}
+use Rattle.std.proofs.lemmas.Grind.{common_steps, elements}
 use Rattle.output_file.proofs.line_block.LineBlock.add.Goals as goal
 
 pub returns-clause-added : goal.returns-clause-added
@@ -22,3 +23,18 @@ returns-clause-added g c = λ added start lines was.
     (c.make_room.ensures.written start lines was) text
     (c.push_reserved.ensures.items ∙ ap (λ (xs : List ℕ). xs ++ 10 ∷ []) more)
     (omega (arith, c.in-Some.ensures.1, c.make_room.ensures.same_end))
+
+pub returns-in_default-clause-cause : goal.returns-in_default-clause-cause
+returns-in_default-clause-cause g c = grind (arith, common_steps)
+
+pub returns-clause-small : goal.returns-clause-small
+returns-clause-small g c = grind (arith, elements)
+
+pub push_reserved-requires : goal.push_reserved-requires
+push_reserved-requires g c = grind (arith, elements)
+
+pub returns-then-not-make_room-clause-cause : goal.returns-then-not-make_room-clause-cause
+returns-then-not-make_room-clause-cause g c = grind (arith, elements)
+
+pub returns-clause-cause : goal.returns-clause-cause
+returns-clause-cause g c = grind (arith, elements)

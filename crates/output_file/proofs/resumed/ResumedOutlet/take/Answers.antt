@@ -5,6 +5,7 @@ use Rattle.std.proofs.lemmas.List.{length-append}
 use Rattle.std.proofs.lemmas.Result.{err_from_is_err_and}
 use Rattle.output_file.specs.Lines.{item_line}
 use Rattle.output_file.proofs.Placing.{not_refusing, written_more, all_bytes, refused_append, same_output, written_alike}
+use Rattle.std.proofs.lemmas.Grind.{common_steps, elements}
 use Rattle.output_file.proofs.resumed.ResumedOutlet.take.Goals as goal
 
 pub invariant_of-self : goal.invariant_of-self
@@ -86,3 +87,12 @@ returns-clause-meets g c = λ takes is.
       c.len.ensures,
       c.args.self.now.items.ok,
     ))
+
+pub returns-then-is_refusing-clause-appends : goal.returns-then-is_refusing-clause-appends
+returns-then-is_refusing-clause-appends g c = grind (arith, elements)
+
+pub returns-clause-ok : goal.returns-clause-ok
+returns-clause-ok g c = grind (arith, common_steps)
+
+pub append_line-requires-clause-within : goal.append_line-requires-clause-within
+append_line-requires-clause-within g c = grind (arith, common_steps)

@@ -9,6 +9,7 @@ use Rattle.kahn_net.specs.Statements.{apply}
 use Rattle.proc_code.specs.Machine.{behind_value, stack_with, value_in, vars_with}
 use Rattle.proc_step.specs.Stepping.{held}
 use Rattle.proc_step.proofs.Machines.{apply_moves, get_moves, put_moves}
+use Rattle.std.proofs.lemmas.Grind.{common_steps, elements}
 use Rattle.proc_step.proofs.machine.Machine.perform.Goals as goal
 
 pub returns-in-Some : goal.returns-in-Some
@@ -84,3 +85,39 @@ returns-in_ok-put_value-in-Apply c place =
           ∙ (ap (λ (y : ℤ). vars_with to y c.deref_mut-in-Apply.result.now) value
           ∙ ap (vars_with to x) c.deref_mut-in-Apply.ensures.value)),
     )
+
+pub returns-else-branch : goal.returns-else-branch
+returns-else-branch c = grind (arith, elements)
+
+pub returns-in_ok-open-in-Repeat : goal.returns-in_ok-open-in-Repeat
+returns-in_ok-open-in-Repeat c = grind (arith, elements)
+
+pub returns-then-branch : goal.returns-then-branch
+returns-then-branch c = grind (arith, elements)
+
+pub returns-else-take_value-eq0 : goal.returns-else-take_value-eq0
+returns-else-take_value-eq0 c = grind (arith, elements)
+
+pub returns-then-take_value-eq0 : goal.returns-then-take_value-eq0
+returns-then-take_value-eq0 c = grind (arith, elements)
+
+pub returns-in-Store : goal.returns-in-Store
+returns-in-Store c = grind (arith, common_steps)
+
+pub send-requires : goal.send-requires
+send-requires c = grind (arith, common_steps)
+
+pub returns-in-Stop : goal.returns-in-Stop
+returns-in-Stop c = grind (arith, elements)
+
+pub returns-in-End : goal.returns-in-End
+returns-in-End c = grind (arith, elements)
+
+pub returns-in_default : goal.returns-in_default
+returns-in_default c = grind (arith, common_steps)
+
+pub returns-in_ok-put_value-in-Negate : goal.returns-in_ok-put_value-in-Negate
+returns-in_ok-put_value-in-Negate c = grind (arith, common_steps)
+
+pub returns-then-not-has_room : goal.returns-then-not-has_room
+returns-then-not-has_room c = grind (arith, elements)

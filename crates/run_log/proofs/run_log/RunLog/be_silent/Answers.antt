@@ -4,6 +4,8 @@ use Rattle.run_log.specs.Numbers.{Numbers, counted}
 use Rattle.run_log.specs.SeatCounts.{run_numbers}
 use Rattle.run_log.specs.declared.seat_count.Counted.{Counted}
 use Rattle.run_log.proofs.Adding.{stays_silent, tells_silence}
+use Rattle.std.proofs.Common.{arith}
+use Rattle.std.proofs.lemmas.Grind.{elements}
 use Rattle.run_log.proofs.run_log.RunLog.be_silent.Goals as goal
 
 pub invariant_of-self-2-clause-replays : goal.invariant_of-self-2-clause-replays
@@ -23,3 +25,6 @@ pub returns-clause-told : goal.returns-clause-told
 returns-clause-told g c =
     let old = c.args.self.now in
     tells_silence _ _ _ _ old.lines.items old.passed _ c.args.reason old.replays c.requires.own
+
+pub invariant_of-self : goal.invariant_of-self
+invariant_of-self g c = grind (arith, elements)

@@ -5,6 +5,8 @@ use Rattle.run_log.specs.Numbers.{Numbers, counted}
 use Rattle.run_log.specs.declared.seat_count.Counted.TheVariants as kind
 use Rattle.run_log.proofs.Adding.{makes, tells}
 use Rattle.run_log.proofs.Rested.{noted_event}
+use Rattle.std.proofs.Common.{arith}
+use Rattle.std.proofs.lemmas.Grind.{elements}
 use Rattle.run_log.proofs.run_log.RunLog.make.Goals as goal
 
 pub invariant_of-self-2-clause-replays : goal.invariant_of-self-2-clause-replays
@@ -42,3 +44,24 @@ invariant_of-self-2-clause-rest g c =
     noted_event _ g.ThisRun.Run.script c.args.node old.passed _ _ _ _ _ old.resting _ _ _ _ old.armed.world.sound c.requires.own
     c.in-Ok.ensures.step c.round-round.ensures c.is_in_round-others_stay.ensures c.is_idle-passes.ensures c.has_passed.ensures all
     c.note_event.ensures)
+
+pub returns-clause-home : goal.returns-clause-home
+returns-clause-home g c = grind (arith, elements)
+
+pub invariant_of-self-2-clause-same_stops : goal.invariant_of-self-2-clause-same_stops
+invariant_of-self-2-clause-same_stops g c = grind (arith, elements)
+
+pub returns-in-Err-clause-refused : goal.returns-in-Err-clause-refused
+returns-in-Err-clause-refused g c = grind (arith, elements)
+
+pub invariant_of-self-in-Err-1 : goal.invariant_of-self-in-Err-1
+invariant_of-self-in-Err-1 g c = grind (arith, elements)
+
+pub returns-then-made-ge-MAX_COUNT-clause-refused : goal.returns-then-made-ge-MAX_COUNT-clause-refused
+returns-then-made-ge-MAX_COUNT-clause-refused g c = grind (arith, elements)
+
+pub invariant_of-self-2-clause-running : goal.invariant_of-self-2-clause-running
+invariant_of-self-2-clause-running g c = grind (arith, elements)
+
+pub invariant_of-self : goal.invariant_of-self
+invariant_of-self g c = grind (arith, elements)

@@ -4,6 +4,8 @@ use Rattle.replay.proofs.Choices.{choice_at_home}
 use Rattle.replay.proofs.Rests.{widening_is}
 use Rattle.run_log.proofs.Needed.{is_needed}
 use Rattle.world.specs.WholeView.{world_of}
+use Rattle.std.proofs.Common.{arith}
+use Rattle.std.proofs.lemmas.Grind.{elements}
 use Rattle.run_log.proofs.run_log.RunLog.pass.Goals as goal
 
 -- a channel gets more room that a process needs
@@ -42,3 +44,9 @@ returns-in-Ok-clause-answered g c =
       passed = made.passed;
       running = made.running;
     }
+
+pub returns-in-Ok-clause-goes_on : goal.returns-in-Ok-clause-goes_on
+returns-in-Ok-clause-goes_on g c = grind (arith, elements)
+
+pub returns-in_ok-widen-in-Widen-clause-goes_on : goal.returns-in_ok-widen-in-Widen-clause-goes_on
+returns-in_ok-widen-in-Widen-clause-goes_on g c = grind (arith, elements)

@@ -6,6 +6,8 @@ use Rattle.run_log.proofs.Adding.{makes, tells}
 use Rattle.world.specs.WholeView.{world_of}
 use Rattle.replay.specs.Rests.{AllRest}
 use Rattle.replay.proofs.Rests.{none_noted}
+use Rattle.std.proofs.Common.{arith}
+use Rattle.std.proofs.lemmas.Grind.{elements}
 use Rattle.run_log.proofs.run_log.RunLog.play.Goals as goal
 
 pub invariant_of-self-2-clause-replays : goal.invariant_of-self-2-clause-replays
@@ -36,3 +38,21 @@ pub invariant_of-self-2-clause-rest : goal.invariant_of-self-2-clause-rest
 invariant_of-self-2-clause-rest g c =
     let world = world_of c.make_scripted.new.world.world in
     ∣ subst (λ (list : List Bool). AllRest list world) (sym c.none_rest.ensures) (none_noted world) ∣₁
+
+pub overflow_add-passed : goal.overflow_add-passed
+overflow_add-passed g c = grind (arith, elements)
+
+pub returns-then-made-ge-MAX_COUNT-clause-refused : goal.returns-then-made-ge-MAX_COUNT-clause-refused
+returns-then-made-ge-MAX_COUNT-clause-refused g c = grind (arith, elements)
+
+pub invariant_of-self-in_default : goal.invariant_of-self-in_default
+invariant_of-self-in_default g c = grind (arith, elements)
+
+pub returns-in_default-clause-refused : goal.returns-in_default-clause-refused
+returns-in_default-clause-refused g c = grind (arith, elements)
+
+pub invariant_of-self : goal.invariant_of-self
+invariant_of-self g c = grind (arith, elements)
+
+pub invariant_of-self-2-clause-same_stops : goal.invariant_of-self-2-clause-same_stops
+invariant_of-self-2-clause-same_stops g c = grind (arith, elements)

@@ -4,6 +4,8 @@ use Rattle.std.proofs.lemmas.Result.{IfErr-weaker, IfOk-weaker}
 use Rattle.replay.proofs.Choices.{choice_at_home}
 use Rattle.world.specs.WholeView.{world_of}
 use Rattle.run_log.proofs.Stepped.{answered_before, makes_next, refused_before, some_so}
+use Rattle.std.proofs.Common.{arith}
+use Rattle.std.proofs.lemmas.Grind.{elements}
 use Rattle.run_log.proofs.run_log.RunLog.turn.Goals as goal
 
 pub returns-then-self-clause-answered : goal.returns-then-self-clause-answered
@@ -48,3 +50,18 @@ returns-in-None-clause-refused g c =
     let none = c.in_ok-reply.ensures.none (rw c.in-None.is refl) in
     IfErr-weaker c.pass.result _ _ (λ fault refused. refused_before fault c.args.self.now c.step.new.self c.pass.new.self _ _ _ none.0 none.1 refused)
     c.pass.ensures.refused
+
+pub returns-in-None-clause-stopped : goal.returns-in-None-clause-stopped
+returns-in-None-clause-stopped g c = grind (arith, elements)
+
+pub returns-in-Some-clause-stopped : goal.returns-in-Some-clause-stopped
+returns-in-Some-clause-stopped g c = grind (arith, elements)
+
+pub returns-in-Some-clause-goes_on : goal.returns-in-Some-clause-goes_on
+returns-in-Some-clause-goes_on g c = grind (arith, elements)
+
+pub returns-then-is_line_late-clause-stopped : goal.returns-then-is_line_late-clause-stopped
+returns-then-is_line_late-clause-stopped g c = grind (arith, elements)
+
+pub returns-then-is_at_rest-clause-stopped : goal.returns-then-is_at_rest-clause-stopped
+returns-then-is_at_rest-clause-stopped g c = grind (arith, elements)

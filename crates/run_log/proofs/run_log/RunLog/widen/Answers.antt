@@ -8,6 +8,8 @@ use Rattle.run_log.proofs.Adding.{numbers_widened, tells_need, widens}
 use Rattle.world.specs.WholeView.{world_of}
 use Rattle.replay.specs.Rests.{AllRest}
 use Rattle.replay.proofs.Rests.{none_noted}
+use Rattle.std.proofs.Common.{arith}
+use Rattle.std.proofs.lemmas.Grind.{elements}
 use Rattle.run_log.proofs.run_log.RunLog.widen.Goals as goal
 
 pub invariant_of-self-2-clause-replays : goal.invariant_of-self-2-clause-replays
@@ -36,3 +38,15 @@ pub invariant_of-self-2-clause-rest : goal.invariant_of-self-2-clause-rest
 invariant_of-self-2-clause-rest g c =
     let world = world_of c.widen_at.new.self in
     ∣ subst (λ (list : List Bool). AllRest list world) (sym c.none_rest.ensures) (none_noted world) ∣₁
+
+pub returns-clause-wider : goal.returns-clause-wider
+returns-clause-wider g c = grind (arith, elements)
+
+pub returns-then-made-ge-MAX_COUNT-clause-refused : goal.returns-then-made-ge-MAX_COUNT-clause-refused
+returns-then-made-ge-MAX_COUNT-clause-refused g c = grind (arith, elements)
+
+pub invariant_of-self : goal.invariant_of-self
+invariant_of-self g c = grind (arith, elements)
+
+pub invariant_of-self-in-Break-1 : goal.invariant_of-self-in-Break-1
+invariant_of-self-in-Break-1 g c = grind (arith, elements)

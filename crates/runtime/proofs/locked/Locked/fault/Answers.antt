@@ -14,6 +14,8 @@ use Rattle.runtime.proofs.Beginnings.{faulted}
 use Rattle.runtime.proofs.Calls.{either_so}
 use Rattle.runtime.proofs.Causes.{bound_within, err_so, fault_keeps, fault_within}
 use Rattle.runtime.proofs.Shown as shown
+use Rattle.std.proofs.Common.{arith}
+use Rattle.std.proofs.lemmas.Grind.{elements}
 use Rattle.runtime.proofs.locked.Locked.fault.Goals as goal
 
 pub invariant_of-self : goal.invariant_of-self
@@ -73,3 +75,6 @@ returns-clause-shown g c = λ keeps.
     (mid.log.same_keeps ∙ keeps) c.fault-answer.result
     (IfOk-weaker c.fault-answer.result _ (IsFaultWritten mid.log.keeps mid.log.lines.items now)
     (λ answer told. told.written) c.fault-answer.ensures.answered)
+
+pub returns-clause-told : goal.returns-clause-told
+returns-clause-told g c = grind (arith, elements)

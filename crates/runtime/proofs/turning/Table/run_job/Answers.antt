@@ -8,6 +8,8 @@ use Rattle.station.specs.DoneView.{done_view}
 use Rattle.station.specs.ReplyView.{Reply, reply_view}
 use Rattle.runtime.proofs.Beginnings.{installed}
 use Rattle.runtime.proofs.Calls.{either_so, refused_so}
+use Rattle.std.proofs.Common.{arith}
+use Rattle.std.proofs.lemmas.Grind.{elements}
 use Rattle.runtime.proofs.turning.Table.run_job.Goals as goal
 
 pub invariant_of-self : goal.invariant_of-self
@@ -26,3 +28,6 @@ invariant_of-self g c =
           c.install.new.self.lines.items) (λ reply made. made.added) c.install.ensures.made)
           held;
     }
+
+pub returns-in-Ok-install-clause-follows : goal.returns-in-Ok-install-clause-follows
+returns-in-Ok-install-clause-follows g c = grind (arith, elements)

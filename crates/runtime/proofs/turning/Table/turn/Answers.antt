@@ -3,6 +3,8 @@ use Rattle.std.proofs.lemmas.Result.{IfOk-weaker}
 use Rattle.run_log.specs.Answers.{IsTurnWritten}
 use Rattle.runtime.proofs.Beginnings.{turned}
 use Rattle.runtime.proofs.Calls.{either_so, refused_so}
+use Rattle.std.proofs.Common.{arith}
+use Rattle.std.proofs.lemmas.Grind.{elements}
 use Rattle.runtime.proofs.turning.Table.turn.Goals as goal
 
 pub invariant_of-self-2 : goal.invariant_of-self-2
@@ -22,3 +24,12 @@ invariant_of-self-2 g c =
 
 pub returns-then-is_at_rest-clause-turned : goal.returns-then-is_at_rest-clause-turned
 returns-then-is_at_rest-clause-turned g c = (c.requires.in_time, c.is_at_rest.ensures (cc c.if-is_at_rest.true), refl)
+
+pub returns-clause-goes_on : goal.returns-clause-goes_on
+returns-clause-goes_on g c = grind (arith, elements)
+
+pub returns-clause-home : goal.returns-clause-home
+returns-clause-home g c = grind (arith, elements)
+
+pub returns-clause-turned : goal.returns-clause-turned
+returns-clause-turned g c = grind (arith, elements)

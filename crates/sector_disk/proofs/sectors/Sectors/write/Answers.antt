@@ -3,6 +3,7 @@ use Rattle.std.proofs.lemmas.List.{with_items_is}
 use Rattle.sector_disk.specs.declared.TheConstants.{SECTOR_BYTES}
 use Rattle.sector_disk.specs.Disk.{IsOverwritten, SameOutside}
 use Rattle.sector_disk.proofs.Writes.{overwritten_outside, write_crash}
+use Rattle.std.proofs.lemmas.Grind.{elements}
 use Rattle.sector_disk.proofs.sectors.Sectors.write.Goals as goal
 
 pub returns-clause-elsewhere : goal.returns-clause-elsewhere
@@ -22,3 +23,9 @@ pub returns-clause-crash : goal.returns-clause-crash
 returns-clause-crash c =
     write_crash c.args.first (length c.args.bytes.now) _ _ _ _ c.args.self.now.whole c.requires
     (returns-clause-elsewhere c) c.mark.ensures
+
+pub invariant_of-self : goal.invariant_of-self
+invariant_of-self c = grind (arith, elements)
+
+pub returns-clause-bytes : goal.returns-clause-bytes
+returns-clause-bytes c = grind (arith, elements)

@@ -3,6 +3,8 @@ use Rattle.gate_cell.specs.Layout.{frame_size, named, IsFrame}
 use Rattle.slot_cell.specs.SplitLayout.{whole_on}
 use Rattle.slot_cell.specs.declared.TheConstants.{HEADER_SECTORS}
 use Rattle.slot_cell.proofs.Heading.{laid_whole}
+use Rattle.std.proofs.lemmas.Grind.{elements}
+use Rattle.std.proofs.Common.{arith}
 use Rattle.slot_cell.proofs.split.SplitCell.format.Goals as goal
 
 pub returns-clause-formatted : goal.returns-clause-formatted
@@ -23,3 +25,6 @@ returns-clause-formatted g c =
       uncounted = laid.uncounted;
       none_failed = laid.none_failed;
     }
+
+pub returns-clause-failures : goal.returns-clause-failures
+returns-clause-failures g c = grind (arith, elements)

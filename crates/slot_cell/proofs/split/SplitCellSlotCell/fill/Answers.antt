@@ -1,5 +1,6 @@
 use Rattle.std.proofs.Common.{inl, arith}
 use Rattle.slot_cell.proofs.Filling.{same_slot}
+use Rattle.std.proofs.lemmas.Grind.{elements, pieces}
 use Rattle.slot_cell.proofs.split.SplitCellSlotCell.fill.Goals as goal
 
 pub returns-then-not-self-clause-any_moment : goal.returns-then-not-self-clause-any_moment
@@ -56,3 +57,9 @@ returns-clause-any_moment g c = c.fill_framed.ensures.any_moment
 
 pub returns-clause-same_setup : goal.returns-clause-same_setup
 returns-clause-same_setup g c = c.fill_framed.ensures.same_setup
+
+pub returns-clause-unchanged : goal.returns-clause-unchanged
+returns-clause-unchanged g c = search (pieces, arith) depth 5 fits 300
+
+pub returns-clause-ok : goal.returns-clause-ok
+returns-clause-ok g c = grind (arith, elements)

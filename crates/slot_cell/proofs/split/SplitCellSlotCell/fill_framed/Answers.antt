@@ -7,6 +7,7 @@ use Rattle.gate_cell.proofs.Lift.{lifted}
 use Rattle.slot_cell.specs.Whole.{LeftByFill}
 use Rattle.slot_cell.specs.SplitLayout.{whole_on}
 use Rattle.slot_cell.proofs.Filling.{filling, same_slot, fill_run, then_filled, still_stands, still_settled}
+use Rattle.std.proofs.lemmas.Grind.{elements}
 use Rattle.slot_cell.proofs.split.SplitCellSlotCell.fill_framed.Goals as goal
 
 pub returns-then-not-self-clause-any_moment : goal.returns-then-not-self-clause-any_moment
@@ -144,3 +145,12 @@ returns-in_err-write_through-clause-same_setup g c = search (pieces, arith) dept
 
 pub returns-clause-same_setup : goal.returns-clause-same_setup
 returns-clause-same_setup g c = search (pieces, arith) depth 5 fits 300
+
+pub overflow_add-slot : goal.overflow_add-slot
+overflow_add-slot g c = grind (arith, elements)
+
+pub write_through-requires-clause-in_range : goal.write_through-requires-clause-in_range
+write_through-requires-clause-in_range g c = grind (arith, elements)
+
+pub overflow_mul-slot : goal.overflow_mul-slot
+overflow_mul-slot g c = grind (arith, elements)

@@ -4,6 +4,7 @@ use Rattle.std.proofs.lemmas.List.{with_items_is}
 use Rattle.gate_cell.proofs.Lift.{lifted_quiet}
 use Rattle.slot_cell.specs.SplitLayout.{slot_room_on, whole_on}
 use Rattle.slot_cell.proofs.Slotting.{holds_none, holds_read, two_looks}
+use Rattle.std.proofs.lemmas.Grind.{pieces}
 use Rattle.slot_cell.proofs.split.SplitCellSlotCell.slot.Goals as goal
 
 pub returns-then-len-slot_room_of-clause-beside : goal.returns-then-len-slot_room_of-clause-beside
@@ -151,3 +152,27 @@ look-requires-2 g c = grind (arith, elements)
 
 pub unframed-requires : goal.unframed-requires
 unframed-requires g c = grind (arith, elements)
+
+pub returns-clause-unchanged : goal.returns-clause-unchanged
+returns-clause-unchanged g c = grind (arith, elements)
+
+pub invariant_of-self-2 : goal.invariant_of-self-2
+invariant_of-self-2 g c = search (pieces, arith) depth 5 fits 300
+
+pub returns-clause-stopped : goal.returns-clause-stopped
+returns-clause-stopped g c = grind (arith, elements)
+
+pub invariant_of-self-in-Break-branch-2 : goal.invariant_of-self-in-Break-branch-2
+invariant_of-self-in-Break-branch-2 g c = search (pieces, arith) depth 5 fits 300
+
+pub returns-then-not-self-clause-beside : goal.returns-then-not-self-clause-beside
+returns-then-not-self-clause-beside g c = search (pieces, arith) depth 5 fits 300
+
+pub returns-then-len-slot_room_of-clause-stopped : goal.returns-then-len-slot_room_of-clause-stopped
+returns-then-len-slot_room_of-clause-stopped g c = grind (arith, elements)
+
+pub returns-clause-cause : goal.returns-clause-cause
+returns-clause-cause g c = search (pieces, arith) depth 5 fits 300
+
+pub invariant_of-self-then-len-slot_room_of : goal.invariant_of-self-then-len-slot_room_of
+invariant_of-self-then-len-slot_room_of g c = search (pieces, arith) depth 5 fits 300

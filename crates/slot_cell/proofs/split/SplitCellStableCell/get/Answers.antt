@@ -66,3 +66,15 @@ returns-clause-same_setup g c = search (pieces, arith) depth 5 fits 300
 
 pub unframed-requires : goal.unframed-requires
 unframed-requires g c = grind (arith, elements)
+
+pub returns-in_err-frame-clause-beside : goal.returns-in_err-frame-clause-beside
+returns-in_err-frame-clause-beside g c = search (pieces, arith) depth 5 fits 300
+
+pub returns-then-not-self-clause-beside : goal.returns-then-not-self-clause-beside
+returns-then-not-self-clause-beside g c = search (pieces, arith) depth 5 fits 300
+
+pub returns-then-not-self-clause-any_moment : goal.returns-then-not-self-clause-any_moment
+returns-then-not-self-clause-any_moment g c = search (pieces, arith) depth 5 fits 300
+
+pub returns-in_err-look-clause-any_moment : goal.returns-in_err-look-clause-any_moment
+returns-in_err-look-clause-any_moment g c = search (pieces, arith) depth 5 fits 300

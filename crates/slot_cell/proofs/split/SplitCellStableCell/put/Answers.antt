@@ -8,6 +8,7 @@ use Rattle.slot_cell.specs.Whole.{LeftByPut, AsBefore}
 use Rattle.slot_cell.specs.SplitLayout.{slot_room_on, header_on, whole_on}
 use Rattle.slot_cell.specs.declared.TheConstants.{HEADER_SECTORS}
 use Rattle.slot_cell.proofs.Heading.{header_run, whole_run, put_stands}
+use Rattle.std.proofs.lemmas.Grind.{elements, pieces}
 use Rattle.slot_cell.proofs.split.SplitCellStableCell.put.Goals as goal
 
 pub returns-then-new-room_of-clause-beside : goal.returns-then-new-room_of-clause-beside
@@ -145,3 +146,18 @@ returns-clause-same_setup g c =
       same_faults = c.put_value.ensures.setup.same_faults;
       counts_on = omega (arith, c.in_ok-put_value.ensures.calls, g.met.D.Disk.is_countable c.args.self.now.disk);
     }
+
+pub returns-clause-stopped : goal.returns-clause-stopped
+returns-clause-stopped g c = grind (arith, elements)
+
+pub returns-clause-gate : goal.returns-clause-gate
+returns-clause-gate g c = grind (arith, elements)
+
+pub returns-then-not-self-clause-any_moment : goal.returns-then-not-self-clause-any_moment
+returns-then-not-self-clause-any_moment g c = search (pieces, arith) depth 5 fits 300
+
+pub returns-clause-calls : goal.returns-clause-calls
+returns-clause-calls g c = grind (arith, elements)
+
+pub returns-then-new-room_of-clause-any_moment : goal.returns-then-new-room_of-clause-any_moment
+returns-then-new-room_of-clause-any_moment g c = search (pieces, arith) depth 5 fits 300

@@ -4,6 +4,7 @@ use Rattle.gate_cell.proofs.Lift.{lifted_quiet}
 use Rattle.gate_cell.proofs.Standing.{length_fits, settled_stands}
 use Rattle.slot_cell.specs.SplitLayout.{slot_room_on, header_on, whole_on}
 use Rattle.slot_cell.specs.declared.TheConstants.{HEADER_SECTORS}
+use Rattle.std.proofs.lemmas.Grind.{common_steps}
 use Rattle.slot_cell.proofs.split.SplitCellStableCell.reopen.Goals as goal
 
 pub invariant_of-self-2 : goal.invariant_of-self-2
@@ -53,3 +54,6 @@ returns-clause-beside g c =
       same_slot_room = ap slot_room_on same;
       any_moment = record { later = up.later; each = up.each; before = up.before; keeps = up.keeps };
     }
+
+pub returns-in_err-found-clause-any_moment : goal.returns-in_err-found-clause-any_moment
+returns-in_err-found-clause-any_moment g c = grind (arith, common_steps)

@@ -32,6 +32,7 @@ use Rattle.station.specs.StationView.{station_view}
 use Rattle.station.proofs.Arriving.{arrives_allowed, arrives_heard}
 use Rattle.station.proofs.Events.{acted_came, installed_came, moved_put, released_came}
 use Rattle.station.proofs.Planned.{deed_came, quiet_came}
+use Rattle.std.proofs.lemmas.Grind.{elements}
 use Rattle.station.proofs.station.Station.act.Goals as goal
 
 -- a deed of a node, as the three matches found it
@@ -305,3 +306,51 @@ never_down P (Err e) none = none
 
 pub returns-in-Send-clause-armed : goal.returns-in-Send-clause-armed
 returns-in-Send-clause-armed g c = never_down _ c.send.result c.send.ensures.up
+
+pub returns-in-Grant-clause-moved : goal.returns-in-Grant-clause-moved
+returns-in-Grant-clause-moved g c = grind (arith, elements)
+
+pub returns-in-Arm-clause-unchanged : goal.returns-in-Arm-clause-unchanged
+returns-in-Arm-clause-unchanged g c = grind (arith, elements)
+
+pub returns-in-Install-clause-armed : goal.returns-in-Install-clause-armed
+returns-in-Install-clause-armed g c = grind (arith, elements)
+
+pub returns-in-Release-clause-armed : goal.returns-in-Release-clause-armed
+returns-in-Release-clause-armed g c = grind (arith, elements)
+
+pub returns-in-Crash-clause-armed : goal.returns-in-Crash-clause-armed
+returns-in-Crash-clause-armed g c = grind (arith, elements)
+
+pub returns-in-Install-clause-moved : goal.returns-in-Install-clause-moved
+returns-in-Install-clause-moved g c = grind (arith, elements)
+
+pub returns-in-Arm-clause-armed : goal.returns-in-Arm-clause-armed
+returns-in-Arm-clause-armed g c = grind (arith, elements)
+
+pub returns-in-Recover-clause-moved : goal.returns-in-Recover-clause-moved
+returns-in-Recover-clause-moved g c = grind (arith, elements)
+
+pub returns-in-Release-clause-moved : goal.returns-in-Release-clause-moved
+returns-in-Release-clause-moved g c = grind (arith, elements)
+
+pub returns-in-Send-clause-moved : goal.returns-in-Send-clause-moved
+returns-in-Send-clause-moved g c = grind (arith, elements)
+
+pub returns-in-Decide-clause-moved : goal.returns-in-Decide-clause-moved
+returns-in-Decide-clause-moved g c = grind (arith, elements)
+
+pub returns-in-Grant-clause-armed : goal.returns-in-Grant-clause-armed
+returns-in-Grant-clause-armed g c = grind (arith, elements)
+
+pub returns-in-ByNetwork-clause-armed : goal.returns-in-ByNetwork-clause-armed
+returns-in-ByNetwork-clause-armed g c = grind (arith, elements)
+
+pub returns-in-ByNetwork-clause-moved : goal.returns-in-ByNetwork-clause-moved
+returns-in-ByNetwork-clause-moved g c = grind (arith, elements)
+
+pub returns-in-Arm-clause-moved : goal.returns-in-Arm-clause-moved
+returns-in-Arm-clause-moved g c = grind (arith, elements)
+
+pub returns-in-Idle-clause-moved : goal.returns-in-Idle-clause-moved
+returns-in-Idle-clause-moved g c = grind (arith, elements)

@@ -6,6 +6,8 @@ use Rattle.protocol.specs.World.Steps.{arm_plan}
 use Rattle.station.specs.StationView.{station_view}
 use Rattle.station.proofs.Planned.{becomes, seen_moved}
 use Rattle.station.proofs.Cells.{through_crash}
+use Rattle.std.proofs.Common.{arith}
+use Rattle.std.proofs.lemmas.Grind.{elements}
 use Rattle.station.proofs.station.Station.arm.Goals as goal
 
 pub returns-in-Ok-clause-leaves : goal.returns-in-Ok-clause-leaves
@@ -28,3 +30,6 @@ returns-in-Ok-clause-step g c =
     (seen_moved seen _ _ _ _ _ c.arm.ensures.same_number refl
     ∙ (ap (λ (f : ℕ). moved_to (view_of c.arm.new.self) f was.turns seen) c.arm.ensures.failures
     ∙ ap (λ (n : NodeView). moved_to n seen.failures was.turns seen) c.in-Ok.ensures.armed))
+
+pub returns-in-Err-clause-refused : goal.returns-in-Err-clause-refused
+returns-in-Err-clause-refused g c = grind (arith, elements)

@@ -13,6 +13,8 @@ use Rattle.station.specs.StationView.{outlet_views}
 use Rattle.station.specs.StationView.{station_view}
 use Rattle.station.proofs.Cells.{through, untouched}
 use Rattle.station.proofs.Planned.{own_traffic, seen_moved, turns_kept, undue_silent}
+use Rattle.std.proofs.Common.{arith}
+use Rattle.std.proofs.lemmas.Grind.{elements}
 use Rattle.station.proofs.station.Station.decide.Goals as goal
 
 pub carry_out-requires-clause-allowed : goal.carry_out-requires-clause-allowed
@@ -73,3 +75,9 @@ returns-clause-come g c = λ k.
           (c.in_ok-outcome.ensures.traffic ∙ ap (λ (p : Prospect). all_sent c.args.lent.now.round (map sending_of (packets_by p came))
           (traffic_of c.args.wire.now)) c.in_ok-prospect.ensures.view);
     }
+
+pub returns-clause-unchanged : goal.returns-clause-unchanged
+returns-clause-unchanged g c = grind (arith, elements)
+
+pub returns-clause-armed : goal.returns-clause-armed
+returns-clause-armed g c = grind (arith, elements)

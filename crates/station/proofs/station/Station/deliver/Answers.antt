@@ -10,6 +10,8 @@ use Rattle.station.specs.StationView.{station_view}
 use Rattle.station.proofs.Cells.{untouched}
 use Rattle.station.proofs.Planned.{came_heard}
 use Rattle.station.specs.Lending.{net_lent}
+use Rattle.std.proofs.Common.{arith}
+use Rattle.std.proofs.lemmas.Grind.{elements}
 use Rattle.station.proofs.station.Station.deliver.Goals as goal
 
 pub returns-in_default-clause-leaves : goal.returns-in_default-clause-leaves
@@ -62,3 +64,27 @@ returns-in-Some-2-clause-come g c =
     (reply_view r) (traffic_of c.args.wire.now) (traffic_of c.hear.new.wire)
     _ c.in-Some.bytes.now c.in-Some-2.packet c.in-Some.ensures.bytes spelled up heard)
     c.hear.ensures.come
+
+pub returns-then-is_down-clause-come : goal.returns-then-is_down-clause-come
+returns-then-is_down-clause-come g c = grind (arith, elements)
+
+pub returns-in_default-clause-come : goal.returns-in_default-clause-come
+returns-in_default-clause-come g c = grind (arith, elements)
+
+pub returns-in-Some-2-clause-leaves : goal.returns-in-Some-2-clause-leaves
+returns-in-Some-2-clause-leaves g c = grind (arith, elements)
+
+pub returns-then-is_down-clause-armed : goal.returns-then-is_down-clause-armed
+returns-then-is_down-clause-armed g c = grind (arith, elements)
+
+pub returns-in-None-clause-come : goal.returns-in-None-clause-come
+returns-in-None-clause-come g c = grind (arith, elements)
+
+pub returns-in-None-clause-armed : goal.returns-in-None-clause-armed
+returns-in-None-clause-armed g c = grind (arith, elements)
+
+pub hear-requires-clause-allowed : goal.hear-requires-clause-allowed
+hear-requires-clause-allowed g c = grind (arith, elements)
+
+pub lose-requires-clause-there : goal.lose-requires-clause-there
+lose-requires-clause-there g c = grind (arith, elements)

@@ -17,6 +17,8 @@ use Rattle.station.proofs.Planned.{heard_silently, seen_moved}
 use Rattle.station.proofs.Ready.{heard_sent, still_there}
 use Rattle.station.specs.Lending.{net_lent}
 use Rattle.protocol.specs.Node.Delivering.{IsHeard}
+use Rattle.std.proofs.Common.{arith}
+use Rattle.std.proofs.lemmas.Grind.{elements}
 use Rattle.station.proofs.station.Station.hear.Goals as goal
 
 pub plan_packet-requires : goal.plan_packet-requires
@@ -151,3 +153,15 @@ returns-clause-come g c =
           ∙ ap (λ (p : Prospect). all_sent c.args.lent.now.round (map sending_of (packets_by p came))
           (taken_by came (traffic_of c.args.wire.now) c.args.to c.args.place)) told;
     }
+
+pub lose-requires-clause-there : goal.lose-requires-clause-there
+lose-requires-clause-there g c = grind (arith, elements)
+
+pub returns-then-is_of_channel-clause-armed : goal.returns-then-is_of_channel-clause-armed
+returns-then-is_of_channel-clause-armed g c = grind (arith, elements)
+
+pub returns-clause-unchanged : goal.returns-clause-unchanged
+returns-clause-unchanged g c = grind (arith, elements)
+
+pub returns-clause-armed : goal.returns-clause-armed
+returns-clause-armed g c = grind (arith, elements)

@@ -16,6 +16,8 @@ use Rattle.station.specs.StationView.{station_view}
 use Rattle.station.proofs.Cells.{through}
 use Rattle.station.proofs.Planned.{answer_then, back_mode, seen_moved, silent_allowed, turns_kept}
 use Rattle.station.specs.Lending.{net_lent}
+use Rattle.std.proofs.Common.{arith}
+use Rattle.std.proofs.lemmas.Grind.{elements}
 use Rattle.station.proofs.station.Station.recover.Goals as goal
 
 pub returns-in-Err-clause-leaves : goal.returns-in-Err-clause-leaves
@@ -65,3 +67,12 @@ returns-in-Ok-clause-step g c =
         same = seen_moved seen _ _ _ _ _ c.recover.ensures.same_number (turns_kept was.turns came);
       },
     )
+
+pub returns-in-Err-clause-refused : goal.returns-in-Err-clause-refused
+returns-in-Err-clause-refused g c = grind (arith, elements)
+
+pub returns-in-Ok-clause-unchanged : goal.returns-in-Ok-clause-unchanged
+returns-in-Ok-clause-unchanged g c = grind (arith, elements)
+
+pub returns-in-Ok-clause-armed : goal.returns-in-Ok-clause-armed
+returns-in-Ok-clause-armed g c = grind (arith, elements)

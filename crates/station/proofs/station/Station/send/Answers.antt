@@ -5,6 +5,8 @@ use Rattle.station.specs.StationView.{station_view}
 use Rattle.station.proofs.Packets.{are_nodes}
 use Rattle.station.proofs.Sends.{sends}
 use Rattle.station.specs.Lending.{net_lent}
+use Rattle.std.proofs.Common.{arith}
+use Rattle.std.proofs.lemmas.Grind.{elements}
 use Rattle.station.proofs.station.Station.send.Goals as goal
 
 pub send_all-requires : goal.send_all-requires
@@ -23,3 +25,15 @@ returns-clause-come g c = λ k.
     (c.in_ok-packets.ensures ∙ ap (λ (n : Net). turn_packets (network_of n.program) was.node.number seen.node.kept
     seen.node.mode) c.deref.ensures)
     (search rules) refl (search rules) (search rules) k
+
+pub spell_all-requires : goal.spell_all-requires
+spell_all-requires g c = grind (arith, elements)
+
+pub returns-in_default-clause-come : goal.returns-in_default-clause-come
+returns-in_default-clause-come g c = grind (arith, elements)
+
+pub returns-clause-up : goal.returns-clause-up
+returns-clause-up g c = grind (arith, elements)
+
+pub returns-then-is_down-clause-come : goal.returns-then-is_down-clause-come
+returns-then-is_down-clause-come g c = grind (arith, elements)

@@ -1,6 +1,7 @@
 use Rattle.std.proofs.Common.{◌<◌, length, arith}
 use Rattle.wire.specs.Queue.{with_delay}
 use Rattle.wire.proofs.Seen.{seen_there, seen_delayed}
+use Rattle.std.proofs.lemmas.Grind.{elements}
 use Rattle.wire.proofs.wire.Wire.delay.Goals as goal
 
 pub returns-clause-traffic : goal.returns-clause-traffic
@@ -14,3 +15,9 @@ returns-clause-traffic c =
     queues c.self.inside.rules
     c.args.self.now c.args.to c.index_mut-queue.result.now c.delay.new.self c.self.view_is within
     c.index_mut-queue.ensures.value c.delay.ensures)
+
+pub delay-requires : goal.delay-requires
+delay-requires c = grind (arith, elements)
+
+pub returns-clause-late : goal.returns-clause-late
+returns-clause-late c = grind (arith, elements)

@@ -4,6 +4,8 @@ use Rattle.world.specs.Closing.{all_outputs, disks_of}
 use Rattle.world.specs.WholeView.{world_of}
 use Rattle.world.proofs.Closed.{closed_listed}
 use Rattle.world.proofs.Left.{closed_left}
+use Rattle.std.proofs.Common.{arith}
+use Rattle.std.proofs.lemmas.Grind.{elements}
 use Rattle.world.proofs.closing.World+SplitCell+D+O.close.Goals as goal
 
 -- what was collected is all outputs, and sorting only moves them
@@ -30,3 +32,9 @@ returns-clause-left g c =
     (c.in_ok-parts.ensures.disks ∙ ap (λ stations. disks_of stations.items) c.into_stations.ensures) moved
     (closed_listed g.O.Outlet.taken g.O.Outlet.failures (world_of c.args.self) c.args.self.stations.items
     c.sort_outputs.new.outputs.items c.args.self.sound refl moved c.sort_outputs.ensures.sorted)
+
+pub returns-clause-channels : goal.returns-clause-channels
+returns-clause-channels g c = grind (arith, elements)
+
+pub returns-clause-disks : goal.returns-clause-disks
+returns-clause-disks g c = grind (arith, elements)

@@ -2,6 +2,8 @@ use Rattle.std.proofs.Common.{rules, inl, ℕ, ◌≡◌, length, refl, subst}
 use Rattle.protocol.specs.Node.Common.{network_of}
 use Rattle.world.specs.OpeningWorld.{AreVersionsFor}
 use Rattle.world.proofs.OpenedStations.{none_tried, not_new_from}
+use Rattle.std.proofs.Common.{arith}
+use Rattle.std.proofs.lemmas.Grind.{elements}
 use Rattle.world.proofs.opening.World+SplitCell+D+O.new_from.Goals as goal
 
 pub returns-then-not-are_versions_for-clause-refused : goal.returns-then-not-are_versions_for-clause-refused
@@ -24,3 +26,6 @@ returns-clause-refused g c =
     (subst (λ (n : ℕ). AreVersionsFor n c.args.versions.now) long
     (c.are_versions_for.ensures.0 c.if-not-are_versions_for.false))
     c.open_world.ensures.refused
+
+pub open_world-requires-clause-versions : goal.open_world-requires-clause-versions
+open_world-requires-clause-versions g c = grind (arith, elements)

@@ -8,6 +8,8 @@ use Rattle.protocol_laws.specs.World.QuietLaws.{quiet_is_whole}
 use Rattle.world.specs.WholeView.{world_of}
 use Rattle.station.specs.StationView.{station_view}
 use Rattle.station.specs.declared.station.Station.{Station}
+use Rattle.std.proofs.Common.{arith}
+use Rattle.std.proofs.lemmas.Grind.{common_steps}
 use Rattle.world.proofs.world.World.complete.Goals as goal
 
 pub returns-clause-whole : goal.returns-clause-whole
@@ -20,3 +22,12 @@ returns-clause-whole g c is =
     (λ (station : StationView). is_quiet_at (network_of now.net.value.program) now.inputs.value
     (map view now.stations.items) (running_of station.node) (outputs_of station.outlets)) (map view l))
     (drop_all c.loop-station.station-index c.deref-station-items.result.now c.loop-station-test.false))
+
+pub loop-station-preserved : goal.loop-station-preserved
+loop-station-preserved g c = grind (arith, common_steps)
+
+pub returns-then-not-is_complete-clause-quiet : goal.returns-then-not-is_complete-clause-quiet
+returns-then-not-is_complete-clause-quiet g c = grind (arith, common_steps)
+
+pub returns-clause-quiet : goal.returns-clause-quiet
+returns-clause-quiet g c = grind (arith, common_steps)

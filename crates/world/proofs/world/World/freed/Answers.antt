@@ -3,6 +3,8 @@ use Rattle.std.proofs.Math.Logic.{∥∥₁_map}
 use Rattle.kahn_net.specs.Laws.Prefixes.{prefix_length}
 use Rattle.protocol.specs.Node.Common.{Net, HistoryReaches, approximation, history_of, network_of}
 use Rattle.world.specs.WholeView.{inputs_in, net_in}
+use Rattle.std.proofs.lemmas.Grind.{elements}
+use Rattle.std.proofs.Common.{arith}
 use Rattle.world.proofs.world.World.freed.Goals as goal
 
 -- what has left is a prefix of the history in some approximation, which so has as many items
@@ -10,7 +12,7 @@ pub invariant_of-result : goal.invariant_of-result
 invariant_of-result g c =
     let items = c.released.result.now in
     let channel = c.args.channel in
-    let net : c.in_ok-try_clone.field-0.value ≡ (net_in c.args.self.now).value = search rules in
+    let net : c.in_ok-try_clone.field-0.value ≡ (net_in c.args.self.now).value = grind (arith, elements) in
     let inputs : c.in_ok-try_clone-2.field-0.value ≡ (inputs_in c.args.self.now).value = search rules in
     record {
       reached =

@@ -20,6 +20,8 @@ use Rattle.station.specs.declared.station.Station.{Station}
 use Rattle.world.proofs.Held.{held_at}
 use Rattle.world.proofs.Lines.{keeps_line, one_line}
 use Rattle.world.proofs.Views.{setting_is, world_steps}
+use Rattle.std.proofs.Common.{arith}
+use Rattle.std.proofs.lemmas.Grind.{elements}
 use Rattle.world.proofs.world.World.make.Goals as goal
 
 -- the one law keeps what the type says
@@ -212,6 +214,12 @@ returns-in-Err g c =
       armed = tt;
       device = c.in-Err.ensures.device;
       others = c.act_at.ensures.others;
-      refused = search rules;
+      refused = grind (arith, elements);
       memory = c.in-Err.ensures.refused.1;
     }
+
+pub invariant_of-self-in-Err : goal.invariant_of-self-in-Err
+invariant_of-self-in-Err g c = grind (arith, elements)
+
+pub act_at-requires-clause-count : goal.act_at-requires-clause-count
+act_at-requires-clause-count g c = grind (arith, elements)

@@ -1,4 +1,5 @@
 use Rattle.std.proofs.Common.{rules, ◌≡◌, ◌<◌, ◌≤◌, ◌∙◌, ℕ, ℤ, List, length, map, ap, sym, arith}
+use Rattle.std.proofs.lemmas.Grind.{elements}
 use Rattle.std.proofs.lemmas.List.{length-map}
 use Rattle.std.proofs.lemmas.Option.{slice_get_past}
 use Rattle.protocol.specs.Node.Common.{network_of, Net}
@@ -14,18 +15,18 @@ pub pick-requires : goal.pick-requires
 pick-requires g c =
     let was = c.args.self.now in
     let view = station_view {cell = g.C.StableCell} {slots = g.C.SlotCell} g.O.Outlet.taken g.O.Outlet.failures in
-    let within : c.args.node < length was.stations.items = search rules in
+    let within : c.args.node < length was.stations.items = grind (arith, elements) in
     number_few (world_of was) c.args.node (view c.in-Some.station.now) was.sound
-    (seen_at view was.stations.items c.args.node c.in-Some.station.now within (search rules))
+    (seen_at view was.stations.items c.args.node c.in-Some.station.now within (grind (arith, elements)))
 
 pub returns-in-Some : goal.returns-in-Some
 returns-in-Some g c =
     let was = c.args.self.now in
     let view = station_view {cell = g.C.StableCell} {slots = g.C.SlotCell} g.O.Outlet.taken g.O.Outlet.failures in
     let world = world_of was in
-    let within : c.args.node < length was.stations.items = search rules in
+    let within : c.args.node < length was.stations.items = grind (arith, elements) in
     let station = view c.in-Some.station.now in
-    let there = seen_at view was.stations.items c.args.node c.in-Some.station.now within (search rules) in
+    let there = seen_at view was.stations.items c.args.node c.in-Some.station.now within (grind (arith, elements)) in
     let many : c.len.result ≡ length was.stations.items = search rules in
     c.pick.ensures
     ∙ (ap (λ (net : Net). station_choice (network_of net.program) c.deref-in-Some-2.result.now was.channel_rooms
@@ -42,7 +43,7 @@ pub returns-in-None : goal.returns-in-None
 returns-in-None g c =
     let was = c.args.self.now in
     let view = station_view {cell = g.C.StableCell} {slots = g.C.SlotCell} g.O.Outlet.taken g.O.Outlet.failures in
-    let past : length was.stations.items ≤ c.args.node = search rules in
+    let past : length was.stations.items ≤ c.args.node = grind (arith, elements) in
     let many = length-map was.stations.items view in
     c.by_node.ensures
     ∙ sym (ap (choice_of (world_of was) c.args.node)

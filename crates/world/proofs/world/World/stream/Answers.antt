@@ -2,6 +2,8 @@ use Rattle.std.proofs.Common.{◌∙◌, ap}
 use Rattle.station.specs.StationView.{outlet_views}
 use Rattle.station.specs.StationView.{station_view}
 use Rattle.world.proofs.Showing.{shown_here, shown_later}
+use Rattle.std.proofs.Common.{arith}
+use Rattle.std.proofs.lemmas.Grind.{common_steps}
 use Rattle.world.proofs.world.World.stream.Goals as goal
 
 pub returns-in-Some : goal.returns-in-Some
@@ -21,3 +23,6 @@ loop-station-preserved g c =
     c.loop-station-test.true c.station-item.is (ap (outlet_views O.taken O.failures) c.deref.ensures.value)
     c.released_by.ensures c.in_default.is
     ∙ c.loop-station.invariant
+
+pub returns : goal.returns
+returns g c = grind (arith, common_steps)

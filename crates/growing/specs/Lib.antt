@@ -1,0 +1,3 @@
+pub mod LaterInputs
+pub mod WhateverComes
+pub mod Laws

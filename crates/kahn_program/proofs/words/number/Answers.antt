@@ -1,0 +1,6 @@
+use Rattle.std.proofs.lemmas.Grind.{elements}
+use Rattle.std.proofs.Common.{arith}
+use Rattle.kahn_program.proofs.words.number.Goals as goal
+
+pub returns-clause-rule : goal.returns-clause-rule
+returns-clause-rule c = grind (arith, elements)

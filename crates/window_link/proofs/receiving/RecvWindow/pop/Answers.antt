@@ -1,0 +1,6 @@
+use Rattle.std.proofs.lemmas.Grind.{elements}
+use Rattle.std.proofs.Common.{arith}
+use Rattle.window_link.proofs.receiving.RecvWindow.pop.Goals as goal
+
+pub invariant_of-self : goal.invariant_of-self
+invariant_of-self c = grind (arith, elements)

@@ -1,0 +1,6 @@
+use Rattle.std.proofs.lemmas.Grind.{elements}
+use Rattle.std.proofs.Common.{arith}
+use Rattle.wire.proofs.wire.Wire.join_queues.Goals as goal
+
+pub invariant_of-self : goal.invariant_of-self
+invariant_of-self c = grind (arith, elements)
