@@ -1,10 +1,8 @@
 -- Whether a history is too long.
-use Rattle.std.proofs.Common.{◌≡◌, ◌⊎◌, inl, inr, ℕ, suc, ◌+◌, ◌<◌, ◌≤◌, ℤ, List, [], ◌++◌, length, get_or, refl, sym, ap, ◌∙◌, subst}
+use Rattle.std.proofs.Common.{◌≡◌, ◌⊎◌, inl, inr, ℕ, suc, ◌+◌, ◌<◌, ◌≤◌, ℤ, List, [], ◌++◌, length, refl, sym, ap, ◌∙◌, subst}
 use Rattle.std.proofs.Common.{arith, append-nil}
-use Rattle.std.specs.Prelude.{slice_get, Some, None}
 use Rattle.std.proofs.lemmas.Bool.{cases_lt}
 use Rattle.std.proofs.lemmas.List.{get_or_past, length-append}
-use Rattle.std.proofs.lemmas.Option.{slice_get_cases, get_or_from_slice_get}
 use Rattle.kahn_net.specs.Common.{history_of, Network, IsValid, Fits, approximation}
 use Rattle.kahn_net.specs.Approximations.{next_history, next_histories, output_at}
 use Rattle.kahn_net.specs.Laws.Prefixes.{prefix_length, prefix_of, prefix_nil}
@@ -12,7 +10,7 @@ use Rattle.kahn_net.specs.Laws.Approximations.{agreement, approximations_grow, n
 use Rattle.kahn_net.specs.Streams.{ArePrefixes, IsPrefix}
 use Rattle.kahn_net.specs.declared.program.Port.{Port}
 use Rattle.kahn_net.specs.declared.limits.TheConstants.{MAX_HISTORY_ITEMS}
-use Rattle.stream_eq.specs.Limits.{HasLongHistory}
+use Rattle.stream_eq.specs.Limits.{AreShort, HasLongHistory}
 use Rattle.approximations.specs.Adding.{IsAdded, AreAllEmpty}
 use Rattle.approximations.specs.Progress.{AreOn, AreShortWith, GivesLongSomewhere, HaveAllPut, IsInside}
 use Rattle.approximations.proofs.Rounds.{code_there, made_on, next_is}
@@ -20,17 +18,10 @@ use Rattle.approximations.specs.declared.progress.Progress.{Progress}
 use Rattle.std.proofs.Math.Logic.{∥∥₁_map}
 use Rattle.kahn_net.specs.Common.{standing_of}
 
--- inputs that fit are short
-pub short_inputs : (net : Network) (inputs here : List (List ℤ)) → Fits net inputs → here ≡ inputs → AreShortWith here []
-short_inputs net inputs here fits same = subst (λ (h : List (List ℤ)). AreShortWith h []) (sym same) (λ c. at c (slice_get_cases inputs c).1)
-  where
-    at : (c : ℕ)
-        → ((x : List ℤ) × (c < length inputs) × (slice_get inputs c ≡ Some x) × (get_or inputs c x ≡ x))
-        ⊎ ((length inputs ≤ c) × (slice_get inputs c ≡ None)) → length (history_of inputs c) + 0 ≤ MAX_HISTORY_ITEMS
-    at c (inl there) =
-        let few = fits.few c there.0 there.2 in
-        omega (arith, few, ap (length {A = ℤ}) (get_or_from_slice_get inputs c there.0 [] there.2))
-    at c (inr past) = omega (arith, ap (length {A = ℤ}) (get_or_past inputs c [] past.0))
+-- short inputs are so with nothing added
+pub short_inputs : (inputs here : List (List ℤ)) → AreShort inputs → here ≡ inputs → AreShortWith here []
+short_inputs inputs here short same =
+    subst (λ (h : List (List ℤ)). AreShortWith h []) (sym same) (λ c. let few = short c in omega (arith, few))
 
 -- with what was added they still are
 pub short_then : (here added after : List (List ℤ)) → AreShortWith here added → IsAdded added here after

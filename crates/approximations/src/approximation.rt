@@ -12,7 +12,7 @@ use kahn_net::History;
 use net_check::{Inputs, Net};
 use std::alloc::Global;
 use std::sync::Arc;
-use stream_eq::{Fault, Histories};
+use stream_eq::{Fault, Histories, are_short};
 
 /// The n-th approximation, from a list of items for each channel.
 fn histories_at(
@@ -27,6 +27,10 @@ fn histories_at(
     ensures long { IsErrOf result Fault.Long → HasLongHistory (network_of net.now.value.program) inputs.now n }
     ensures not_long { OnOk result (¬ HasLongHistory (network_of net.now.value.program) inputs.now n) }
 {
+    if !are_short(inputs) {
+        // The inputs are approximation 0.
+        return Err(Fault::Long);
+    }
     let mut histories = copies(alloc, inputs)?;
     let mut all = beginnings(alloc, &net.program.processes, net.program.channels.len())?;
     for round in 0..n {

@@ -5,6 +5,7 @@ ghost use Rattle.std.specs.List.{AllByRecursion};
 ghost use Rattle.protocol.specs.Node.Common.{Fits, MAX_NODES, network_of, node_count};
 ghost use Rattle.protocol.specs.World.Common.{output_channels};
 ghost use Rattle.protocol.specs.declared.limits.TheConstants.{DEFAULT_ROOM};
+ghost use Rattle.live.specs.LiveViews.{world_on};
 ghost use Rattle.fail_script.specs.Lines.{IsScript};
 ghost use Rattle.fail_script.specs.declared.act.ScriptLine.{ScriptLine as LineValue};
 ghost use Rattle.net_check.specs.Resolution.{Reads};
@@ -25,10 +26,13 @@ use crate::opening::open_world;
 use crate::scripting::events_of;
 use fail_script::parse_script;
 use kahn_net::{Channel, Port};
+use live::Live;
 use net_check::{Inputs, Net, bind, check};
 use net_text::{Name, parse, parse_inputs};
 use outlet::ListOutlet;
 use replay::ScriptedEvent;
+use sector_disk::MemDisk;
+use slot_cell::SplitCell;
 use std::alloc::{AllocError, Global};
 use std::sync::Arc;
 use world::{DEFAULT_ROOM, Output, list_outputs, node_count};
@@ -274,6 +278,25 @@ impl Network {
         ) {
             Ok(world) => Ok(world),
             Err(unfinished) => Err(run_error(unfinished.fault)),
+        }
+    }
+
+    /// The network at work on these inputs, with disks and outlets in memory: more is fed to it as it comes (`Live::feed`), it goes on
+    /// (`Live::advance`), and what leaves is taken (`Live::next`). Its inputs may be empty at first, as by `network.inputs(alloc, "i:")`.
+    pub fn live(
+        &self,
+        alloc: Global,
+        inputs: Inputs,
+    ) -> Result<Live<SplitCell<MemDisk>, ListOutlet>, Error>
+        requires fitting { Fits (network_of self.now.net.value.program) inputs }
+        ensures first { IfOk result (λ live. world_on live
+            ≡ first_world (network_of self.now.net.value.program) inputs DEFAULT_ROOM) }
+        // A device failed (20), or memory is missing (1).
+        ensures err { IfErr result (IsRunError false) }
+    {
+        match self.open(alloc, inputs) {
+            Ok(world) => Ok(Live::new(world)),
+            Err(error) => Err(error),
         }
     }
 }

@@ -5,7 +5,7 @@ use Rattle.std.specs.Prelude.{slice_get, slice_set}
 use Rattle.std.proofs.lemmas.List.{get_or-set_other, get_or-set_same, length-set, set-get_or}
 use Rattle.std.proofs.lemmas.Option.{slice_get-get_or, slice_get_within}
 use Rattle.kahn_net.specs.Laws.Prefixes.{prefix_of, prefix_refl, prefixes_refl, prefixes_trans}
-use Rattle.kahn_net.specs.declared.limits.TheConstants.{MAX_HISTORY_ITEMS}
+use Rattle.kahn_net.specs.declared.limits.TheConstants.{MAX_COUNT}
 use Rattle.protocol.specs.Node.Common.{Channel, Fits, history_of, IsPrefix, Network, Outside, Process}
 use Rattle.protocol_laws.specs.Join.Leading.{set_there}
 use Rattle.protocol_laws.specs.World.OutputLaws.{set_cases}
@@ -66,17 +66,17 @@ module _ (net : Network) (inputs : List (List ℤ)) (input : ℕ) (channel : Cha
 
   later_from_outside : channel.producer ≡ Outside
       → AreLaterInputs net inputs (fed input items inputs)
-      ↔ (length (history_of inputs input) + length items ≤ MAX_HISTORY_ITEMS)
+      ↔ (length (history_of inputs input) + length items ≤ MAX_COUNT)
   later_from_outside outside = (short_enough, later)
     where
       count : length grown ≡ length (history_of inputs input) + length items
       count = length-append (history_of inputs input) items
 
       short_enough : AreLaterInputs net inputs (fed input items inputs)
-          → length (history_of inputs input) + length items ≤ MAX_HISTORY_ITEMS
+          → length (history_of inputs input) + length items ≤ MAX_COUNT
       short_enough all = let few = all.fits.few input grown grown_there in omega (arith, few, count)
 
-      later : length (history_of inputs input) + length items ≤ MAX_HISTORY_ITEMS
+      later : length (history_of inputs input) + length items ≤ MAX_COUNT
           → AreLaterInputs net inputs (fed input items inputs)
       later few = record {
         longer = fed_is_longer inputs input items;

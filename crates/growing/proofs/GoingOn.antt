@@ -96,7 +96,7 @@ same_inputs : (old new : WorldView) → new.inputs ≡ old.inputs → ArePrefixe
 same_inputs old new same =
     subst (λ (inputs : List (List ℤ)). ArePrefixes old.inputs inputs) (sym same) (prefixes_refl old.inputs)
 
-goes_on : (old new : WorldView) → WorldInvariant old → Becomes old new → HasGoneOn old new
+pub goes_on : (old new : WorldView) → WorldInvariant old → Becomes old new → HasGoneOn old new
 goes_on old new inv (ByEvent fits event answer step) =
     gone_on old new (step_keeps fits event old answer new inv step) step.net (same_inputs old new step.inputs)
     (step_keeps_left fits event old answer new step)
@@ -112,7 +112,7 @@ goes_on old new inv (ByStart again) =
     (λ c. subst (IsPrefix (released_of c old.stations)) (sym ((has_the_same old new again).0 c))
     (prefix_refl (released_of c old.stations)))
 
-goes_on_then : (first next last : WorldView) → HasGoneOn first next → HasGoneOn next last → HasGoneOn first last
+pub goes_on_then : (first next last : WorldView) → HasGoneOn first next → HasGoneOn next last → HasGoneOn first last
 goes_on_then first next last one other =
     gone_on first last other.sound (other.same_net ∙ one.same_net) (prefixes_trans _ _ _ one.longer other.longer)
     (λ c. prefix_trans _ _ _ (one.kept c) (other.kept c))

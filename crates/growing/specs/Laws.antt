@@ -3,7 +3,7 @@ use Rattle.std.specs.Prelude.{◌≡◌, ◌≢◌, ◌↔◌, ◌+◌, ◌≤�
 use Rattle.kahn_net.specs.Approximations.{IsSolution}
 use Rattle.kahn_net.specs.Common.{Belongs}
 use Rattle.kahn_net.specs.Streams.{ArePrefixes}
-use Rattle.kahn_net.specs.declared.limits.TheConstants.{MAX_HISTORY_ITEMS}
+use Rattle.kahn_net.specs.declared.limits.TheConstants.{MAX_COUNT}
 use Rattle.protocol.specs.Node.Common.{approximation, Channel, Fits, history_of, HistoryReaches, ImageView, IsJobOf}
 use Rattle.protocol.specs.Node.Common.{IsValid, JobView, Network, Outside, Process, RecordView}
 use Rattle.protocol.specs.World.Common.{are_quiet, OutputView, StationView, WorldInvariant, WorldView}
@@ -62,13 +62,13 @@ OthersStay = (inputs : List (List ℤ)) (input other : ℕ) (items : List ℤ) �
 abbrev pub FedIsLonger : Type 0
 FedIsLonger = (inputs : List (List ℤ)) (input : ℕ) (items : List ℤ) → ArePrefixes inputs (fed input items inputs)
 
--- Where items come from outside, inputs that fit are fed to later inputs of the network exactly where the limit of a
--- history isn't passed.
+-- Where items come from outside, inputs that fit are fed to later inputs of the network exactly where the greatest count
+-- isn't passed.
 abbrev pub FedIsLater : Type 0
 FedIsLater = (net : Network) (inputs : List (List ℤ)) (input : ℕ) (channel : Channel) (items : List ℤ)
     → Fits net inputs → slice_get net.channels input ≡ Some channel → channel.producer ≡ Outside
     → AreLaterInputs net inputs (fed input items inputs)
-    ↔ (length (history_of inputs input) + length items ≤ MAX_HISTORY_ITEMS)
+    ↔ (length (history_of inputs input) + length items ≤ MAX_COUNT)
 
 -- Where a process puts, they are so exactly where no items are given.
 abbrev pub FedWhereMade : Type 0

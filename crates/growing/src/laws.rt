@@ -29,7 +29,7 @@ pub fn adding_law()
     ensures others { OthersStay }
     // Inputs of which one is fed are longer.
     ensures longer { FedIsLonger }
-    // Where items come from outside, they are later inputs exactly where the limit of a history isn't passed.
+    // Where items come from outside, they are later inputs exactly where the greatest count isn't passed.
     ensures later { FedIsLater }
     // Where a process puts, they are later inputs exactly where no items are given.
     ensures made { FedWhereMade }

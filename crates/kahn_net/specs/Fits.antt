@@ -3,7 +3,7 @@ use Rattle.std.specs.Prelude.{◌≡◌, ℕ, ℤ, ◌≤◌, List, [], length, 
 use Rattle.kahn_net.specs.Syntax.{Network}
 use Rattle.kahn_net.specs.declared.program.Channel.{Channel}
 use Rattle.kahn_net.specs.declared.program.Port.TheVariants.{Process}
-use Rattle.kahn_net.specs.declared.limits.TheConstants.{MAX_HISTORY_ITEMS}
+use Rattle.kahn_net.specs.declared.limits.TheConstants.{MAX_COUNT}
 
 -- where a process puts on a channel, no items come from outside
 abbrev pub IsEmptyWhereMade : Channel → List ℤ → Type 0
@@ -17,13 +17,13 @@ IsEmptyAt channels inputs c =
 abbrev pub IsEmptyInside : List Channel → List (List ℤ) → Type 0
 IsEmptyInside channels inputs = (c : ℕ) → IsEmptyAt channels inputs c
 
--- each list is within the limit of a history
-abbrev pub AreShort : List (List ℤ) → Type 0
-AreShort lists = (c : ℕ) (items : List ℤ) → slice_get lists c ≡ Some items → length items ≤ MAX_HISTORY_ITEMS
+-- the places of each list are numbers that a count may have
+abbrev pub AreCounted : List (List ℤ) → Type 0
+AreCounted lists = (c : ℕ) (items : List ℤ) → slice_get lists c ≡ Some items → length items ≤ MAX_COUNT
 
--- inputs fit a network: there is a list for each channel, none longer than the limit, and it is empty where a process
+-- inputs fit a network: there is a list for each channel, none longer than a count goes, and it is empty where a process
 -- puts
 pub record Fits (net : Network) (inputs : List (List ℤ)) : Type 0 where
   pub count : length inputs ≡ length net.channels
-  pub few : AreShort inputs
+  pub few : AreCounted inputs
   pub inside : IsEmptyInside net.channels inputs

@@ -15,7 +15,7 @@ pub const MAX_VARIABLES: usize = 64;
 /// The most units of a process, which measure the length of its statements.
 pub const MAX_UNITS: usize = 4_096;
 
-/// The most items of an input, and of a history that is computed whole.
+/// The most items of an input that is read from a text, and of a history that is computed whole.
 pub const MAX_HISTORY_ITEMS: usize = 1_048_576;
 
 /// The greatest count of items: no position, number, epoch or round passes it either.

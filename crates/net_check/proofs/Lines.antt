@@ -173,7 +173,7 @@ pub bound_fits : (names : List NameTree) (net : Network) (lines : List InputTree
     → ((c : ℕ) (items : List ℤ) → slice_get lists c ≡ Some items → length items ≤ MAX_HISTORY_ITEMS) → Fits net lists
 bound_fits names net lines lists b few = record {
   count = b.count;
-  few = few;
+  few = λ c items is. let short = few c items is in omega (arith, short);
   inside =
       λ c channel items hc hi p e. b.elsewhere c channel items hc hi
       (λ o. let k : Process p ≡ Outside = sym e ∙ o in absurd (cc));

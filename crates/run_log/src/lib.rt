@@ -22,7 +22,7 @@ pub use answer::{FaultAnswer, HeldBack, HubFault, TurnAnswer};
 pub use armed::{ArmedWorld, no_deliveries};
 pub use history::{Entry, History, KeptEvent, Line, LongLine, USUALS, Usual, UsualEvent};
 pub use keeping::{back_reply, keep_reply};
-pub use run_log::{Moment, RunLog};
+pub use run_log::{Moment, RunLog, is_complete, next_turn};
 pub use seat_count::{
     Counted, Entries, NoMores, NotYets, Nothings, Run, RunCount, RunLedgers, SeatCount, Stops,
     UnusedLedgers,

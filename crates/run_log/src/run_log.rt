@@ -1,5 +1,5 @@
 // The log of a run, with the world to which it leads.
-ghost use Rattle.std.specs.Prelude.{◌≡◌, ◌==◌, ◌≢◌, ◌+◌, ◌-◌, ◌<◌, ◌≤◌, [], true, false, is_none, is_some, length, IfErr, IfOk, IfSome, IsNone, IsTrue, OnOk, slice_get};
+ghost use Rattle.std.specs.Prelude.{◌≡◌, ◌==◌, ◌≢◌, ◌&&◌, ◌+◌, ◌-◌, ◌<◌, ◌≤◌, [], true, false, is_none, is_some, length, IfErr, IfOk, IfSome, IsNone, IsTrue, OnOk, not, slice_get, slice_index_or};
 ghost use Rattle.protocol.specs.World.Common.{choice, event_node, Install, are_quiet, released_of, IsGrantedAt};
 ghost use Rattle.replay.specs.Armed.{OfWorld, armed_at_first, armed_widened};
 ghost use Rattle.replay.specs.Plain.{run_view};
@@ -130,8 +130,8 @@ fn has_idled<C: SlotCell, O: Outlet>(world: &World<C, O>, node: u8) -> bool
     }
 }
 
-// What comes at a node's turn, where this event is next for it.
-fn next_turn<C: SlotCell, O: Outlet>(world: &World<C, O>, event: &Event, node: u8) -> NextTurn
+/// What comes at a node's turn, where this event is next for it.
+pub fn next_turn<C: SlotCell, O: Outlet>(world: &World<C, O>, event: &Event, node: u8) -> NextTurn
     requires { event_view event.now ≡ choice (world_of world.now) node }
     ensures { result ≡ next_turn (world_of world.now) node }
 {
@@ -154,9 +154,9 @@ fn is_in_round<C: SlotCell, O: Outlet>(world: &World<C, O>, round: u64) -> bool
     world.round() == round
 }
 
-// Whether nothing is left to do. A node at which something was left before is asked first: mostly something still is, and then no other
-// needs to be asked. Where it has nothing left, another takes its place.
-fn is_complete<C: SlotCell, O: Outlet>(world: &World<C, O>, busy: &mut u8) -> bool
+/// Whether nothing is left to do. A node at which something was left before is asked first: mostly something still is, and then no other
+/// needs to be asked. Where it has nothing left, another takes its place.
+pub fn is_complete<C: SlotCell, O: Outlet>(world: &World<C, O>, busy: &mut u8) -> bool
     ensures { result ≡ are_quiet (world_of world.now) }
 {
     if !world.is_quiet(*busy) {
@@ -394,7 +394,10 @@ impl<C: SlotCell, O: Outlet, ThisRun: Run> RunLog<C, O, ThisRun> {
     /// Whether it is known that a node has nothing to do, and the world need not be asked: it is noted that the node rests, and no packet is due
     /// for it.
     pub fn is_at_rest(&self, node: u8) -> bool
-        ensures { IsTrue result → next_turn (world_of self.now.armed.world) node ≡ next.Rest }
+        ensures rests { IsTrue result → next_turn (world_of self.now.armed.world) node ≡ next.Rest }
+        // It is so exactly where that is noted, and no packet is due.
+        ensures noted { result ≡ (slice_index_or self.now.resting node false
+            && not (has_due (world_of self.now.armed.world) node)) }
     {
         if usize::from(node) >= NODES {
             return false;

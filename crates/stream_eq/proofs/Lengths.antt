@@ -1,15 +1,14 @@
 -- Limits of 1,048,576 items, and limits that are the lengths of given histories.
-use Rattle.std.proofs.Common.{◌≡◌, ◌⊎◌, inl, inr, ℕ, zero, suc, ◌+◌, ◌<◌, ◌≤◌, List, ℤ, [], ◌∷◌, Some, None, length}
-use Rattle.std.proofs.Common.{get_or, map, replicate, refl, sym, ap, subst, ◌∙◌, arith}
-use Rattle.std.specs.Prelude.{slice_get, slice_index}
+use Rattle.std.proofs.Common.{◌≡◌, ◌⊎◌, inl, inr, ℕ, zero, suc, ◌+◌, ◌<◌, ◌≤◌, List, ℤ, [], ◌∷◌, length}
+use Rattle.std.proofs.Common.{map, replicate, refl, sym, ap, subst, ◌∙◌, arith}
+use Rattle.std.specs.Prelude.{slice_index}
 use Rattle.std.proofs.lemmas.Bool.{cases_lt}
 use Rattle.std.proofs.lemmas.List.{get_or-replicate, get_or_past, length-replicate}
-use Rattle.std.proofs.lemmas.Option.{slice_get_cases, get_or_from_slice_get}
 use Rattle.kahn_net.specs.Common.{history_of, Fits, Network, IsValid, approximation}
 use Rattle.kahn_net.specs.Approximations.{next_histories, IsSolution}
 use Rattle.kahn_net.specs.Laws.Prefixes.{prefix_length}
 use Rattle.kahn_net.specs.Laws.Approximations.{approximations_grow, agreement, length-next_from, solution_is_next}
-use Rattle.stream_eq.specs.Limits.{HasLongHistory, IsWithin, GoesPast}
+use Rattle.stream_eq.specs.Limits.{AreShort, HasLongHistory, HasLongList, IsWithin, GoesPast}
 use Rattle.kahn_net.specs.declared.limits.TheConstants.{MAX_HISTORY_ITEMS}
 
 limit_most : (k c : ℕ) → slice_index (replicate k MAX_HISTORY_ITEMS) c ≤ MAX_HISTORY_ITEMS
@@ -25,23 +24,26 @@ limit_most k c = at (cases_lt c k)
         get_or_past (replicate k MAX_HISTORY_ITEMS) c 0 past in
         omega arith
 
--- inputs that fit are within the limit
-pub inputs_within : (net : Network) (inputs all : List (List ℤ)) (limits : List ℕ) → Fits net inputs
+-- short inputs are within the limit
+pub inputs_within : (inputs all : List (List ℤ)) (limits : List ℕ) → AreShort inputs
     → limits ≡ replicate (length inputs) MAX_HISTORY_ITEMS → all ≡ inputs → IsWithin limits all
-inputs_within net inputs all limits fits e same =
+inputs_within inputs all limits short e same =
     subst (IsWithin limits) (sym same)
-    (subst (λ (l : List ℕ). IsWithin l inputs) (sym e) (record { at = λ c. at c (slice_get_cases inputs c).1 }))
+    (subst (λ (l : List ℕ). IsWithin l inputs) (sym e) (record { at = λ c. at c (cases_lt c (length inputs)) }))
   where
-    at : (c : ℕ)
-        → ((x : List ℤ) × (c < length inputs) × (slice_get inputs c ≡ Some x) × (get_or inputs c x ≡ x))
-        ⊎ ((length inputs ≤ c) × (slice_get inputs c ≡ None))
+    at : (c : ℕ) → (c < length inputs) ⊎ (length inputs ≤ c)
         → length (history_of inputs c) ≤ slice_index (replicate (length inputs) MAX_HISTORY_ITEMS) c
     at c (inl here) =
-        let few = fits.few c here.0 here.2 in
+        let few = short c in
         let limit : slice_index (replicate (length inputs) MAX_HISTORY_ITEMS) c ≡ MAX_HISTORY_ITEMS =
-        get_or-replicate (length inputs) c MAX_HISTORY_ITEMS 0 here.1 in
-        omega (arith, ap (length {A = ℤ}) (get_or_from_slice_get inputs c here.0 [] here.2))
-    at c (inr past) = omega (arith, ap (length {A = ℤ}) (get_or_past inputs c [] past.0))
+        get_or-replicate (length inputs) c MAX_HISTORY_ITEMS 0 here in
+        omega arith
+    at c (inr past) = omega (arith, ap (length {A = ℤ}) (get_or_past inputs c [] past))
+
+-- inputs of which one is too long are an approximation that is
+pub long_at_once : (net : Network) (inputs : List (List ℤ)) (n : ℕ) → HasLongList inputs → HasLongHistory net inputs n
+long_at_once net inputs n list =
+    record { round = 0; up_to = omega arith; channel = list.channel; long = list.long }
 
 -- where an approximation is within the limit, none up to it is too long
 pub not_long : (net : Network) → IsValid net → (inputs all : List (List ℤ)) (limits : List ℕ) (n : ℕ) → Fits net inputs

@@ -3,6 +3,15 @@ use Rattle.std.specs.Prelude.{ℕ, ℤ, List, ◌≤◌, ◌<◌, length, slice_
 use Rattle.kahn_net.specs.Common.{history_of, Network, approximation}
 use Rattle.kahn_net.specs.declared.limits.TheConstants.{MAX_HISTORY_ITEMS}
 
+-- each list has at most 1,048,576 items
+abbrev pub AreShort : List (List ℤ) → Type 0
+AreShort lists = (c : ℕ) → length (history_of lists c) ≤ MAX_HISTORY_ITEMS
+
+-- some list has more
+pub record HasLongList (lists : List (List ℤ)) : Type 0 where
+  pub channel : ℕ
+  pub long : MAX_HISTORY_ITEMS < length (history_of lists channel)
+
 -- an approximation up to the n-th has a history of more than 1,048,576 items
 pub record HasLongHistory (net : Network) (inputs : List (List ℤ)) (n : ℕ) : Type 0 where
   pub round : ℕ

@@ -5,7 +5,7 @@ ghost use Rattle.kahn_net.specs.Common.{network_of, Fits, approximation};
 ghost use Rattle.stream_eq.specs.Limits.{HasLongHistory};
 
 use crate::fault::Fault;
-use crate::histories::{Histories, are_same, copies};
+use crate::histories::{Histories, are_same, are_short, copies};
 use crate::round::next;
 use kahn_net::{History, MAX_HISTORY_ITEMS};
 use net_check::{Inputs, Net};
@@ -27,6 +27,10 @@ fn approximate(alloc: Global, net: &Net, inputs: &[History], n: u64) -> Result<H
         → HasLongHistory (network_of net.now.program) inputs.now n }
     ensures not_long { OnOk result (¬ HasLongHistory (network_of net.now.program) inputs.now n) }
 {
+    if !are_short(inputs) {
+        // The inputs are approximation 0.
+        return Err(Fault::Long);
+    }
     let limits = same_limits(alloc, inputs.len())?;
     let mut histories = copies(alloc, inputs)?;
     for round in 0..n {

@@ -1,8 +1,10 @@
 //! A history for each channel of a network.
 
+ghost use Rattle.std.specs.Bool.{MatchBool};
 ghost use Rattle.std.specs.Prelude.{◌≡◌, ◌↔◌, IsTrue, IfOk};
+ghost use Rattle.stream_eq.specs.Limits.{AreShort, HasLongList};
 
-use kahn_net::History;
+use kahn_net::{History, MAX_HISTORY_ITEMS};
 use std::alloc::{AllocError, Global};
 use std::marker::Model;
 
@@ -44,6 +46,18 @@ pub fn copies(alloc: Global, histories: &[History]) -> Result<Vec<History>, Allo
         all.push(history.copy(alloc)?)?;
     }
     Ok(all)
+}
+
+/// Whether no history has more than 1,048,576 items.
+pub fn are_short(histories: &[History]) -> bool
+    ensures { MatchBool result (AreShort histories.now) (HasLongList histories.now) }
+{
+    for history in histories {
+        if history.len() > MAX_HISTORY_ITEMS {
+            return false;
+        }
+    }
+    true
 }
 
 /// Whether two histories are equal.

@@ -17,7 +17,7 @@ pub use approximation::approx;
 pub use evaluate::{is_zero, operate, set_variable, value};
 pub use fault::Fault;
 pub use freed::Freed;
-pub use histories::{Histories, are_same};
+pub use histories::{Histories, are_same, are_short};
 pub use laws::{
     agreement_law, growth_law, least_solution_law, monotone_law, one_item_law, standing_law,
     well_founded_law,

@@ -14,3 +14,4 @@ mod Restarts
 mod Held
 mod Collected
 mod Walks
+mod Fed

@@ -1,4 +1,5 @@
 pub mod WorldView
+pub mod Feeding
 pub mod WholeView
 pub mod Acting
 pub mod RecoveryLine

@@ -15,6 +15,7 @@ use Rattle.station.specs.StationView.{outlet_views}
 use Rattle.station.specs.declared.output.Output.{Output}
 use Rattle.world.specs.OpeningWorld.{armed_on, calls_on, AreFormatted, AreHandedBack, AreVersionsFor, HaveOutlets}
 use Rattle.world.specs.OpeningWorld.{HaveRoom, IsWorldRefusal, LeaveOnlyRecords}
+use Rattle.world.specs.Feeding.{none_closed}
 use Rattle.world.specs.WholeView.{world_of}
 use Rattle.world.specs.WorldView.{capacities}
 use Rattle.world.specs.declared.opening.OpeningRefused.{OpeningRefused}
@@ -30,6 +31,8 @@ pub record IsNew {D O : Type 0} {disk : DiskWords D} {cell : CellWords (SplitCel
       ≡ opening_world (network_of net.value.program) inputs.value (map (λ (d : D). disk.failure_count d) disks)
       (outlet_views outlet.taken outlet.failures outputs)
   pub same : (world.net ≡ net) × (world.inputs ≡ inputs)
+  -- None of its inputs is closed.
+  pub fresh_inputs : world.closed ≡ none_closed
   pub outlets : HaveOutlets (network_of net.value.program) 0 outputs world.stations.items
   -- What has left is a prefix of each channel's history.
   pub prefix : AreApproximated (world_of world)

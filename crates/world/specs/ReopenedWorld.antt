@@ -21,6 +21,7 @@ use Rattle.station.specs.declared.station.Station.{Station}
 use Rattle.world.specs.Left.{AreLeft, records_on}
 use Rattle.world.specs.OpeningWorld.{armed_on, AreHandedBack, calls_on, HaveOutlets, LeavesOnlyRecord}
 use Rattle.world.specs.Reopening.{IsDiskAsLeft, world_again}
+use Rattle.world.specs.Feeding.{none_closed}
 use Rattle.world.specs.WholeView.{world_of}
 use Rattle.world.specs.WorldView.{capacities}
 use Rattle.world.specs.declared.opening.OpeningRefused.{OpeningRefused}
@@ -39,6 +40,8 @@ pub record IsReopened {D O : Type 0} {disk : DiskWords D} {cell : CellWords (Spl
       (outputs_view outlet.taken outputs) (world_of world)
   pub same_left : outputs_left (world_of world) ≡ outputs_view outlet.taken outputs
   pub same : (world.net ≡ net) × (world.inputs ≡ inputs)
+  -- None of its inputs is closed.
+  pub fresh_inputs : world.closed ≡ none_closed
   pub outlets : HaveOutlets (network_of net.value.program) 0 outputs world.stations.items
   -- What has left is a prefix of each channel's history.
   pub prefix : AreApproximated (world_of world)

@@ -21,8 +21,8 @@ world_of {C} {O} {cell} {slots} {outlet} world =
     world_view outlet.taken outlet.failures world.net world.inputs world.stations.items (traffic_of world.wire)
     world.round world.channel_rooms
 
--- What a world is made of, in the words by which clauses name it: its network, its inputs, its stations, what is in flight, how many nodes it has,
--- and of each cell what it has room for.
+-- What a world is made of, in the words by which clauses name it: its network, its inputs, its stations, what is in flight, which inputs are
+-- closed, how many nodes it has, and of each cell what it has room for.
 abbrev pub net_in : {C O : Type 0} {cell : CellWords C} {slots : SlotWords C} {outlet : OutletWords O}
     → World C O slots cell outlet → Arc Net Global
 net_in world = world.net
@@ -38,6 +38,10 @@ stations_in world = world.stations.items
 abbrev pub wire_in : {C O : Type 0} {cell : CellWords C} {slots : SlotWords C} {outlet : OutletWords O}
     → World C O slots cell outlet → Wire
 wire_in world = world.wire
+
+abbrev pub closed_in : {C O : Type 0} {cell : CellWords C} {slots : SlotWords C} {outlet : OutletWords O}
+    → World C O slots cell outlet → List Bool
+closed_in world = world.closed
 
 abbrev pub nodes_in : {C O : Type 0} {cell : CellWords C} {slots : SlotWords C} {outlet : OutletWords O}
     → World C O slots cell outlet → ℕ

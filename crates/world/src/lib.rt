@@ -6,6 +6,7 @@
 #![tactic(auto)]
 
 mod closing;
+mod feeding;
 mod laws;
 mod needs;
 mod opening;
@@ -19,6 +20,7 @@ mod room;
 mod still;
 mod world;
 
+pub use feeding::FeedFault;
 pub use gate_cell::SECTORS;
 pub use laws::{line_law, need_law, room_law, step_law, traffic_law};
 pub use opening::OpeningRefused;

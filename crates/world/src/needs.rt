@@ -6,7 +6,7 @@ ghost use Rattle.protocol.specs.World.RoomNeeds.{awaited, first_of_any, getter_o
 ghost use Rattle.protocol.specs.World.Stances.{stance_of};
 ghost use Rattle.turns.specs.Turns.{or_else};
 ghost use Rattle.station.specs.StationView.{station_view};
-ghost use Rattle.world.specs.WholeView.{inputs_in, net_in, stations_in, wire_in, world_of};
+ghost use Rattle.world.specs.WholeView.{closed_in, inputs_in, net_in, stations_in, wire_in, world_of};
 
 use crate::world::World;
 use kahn_net::Port;
@@ -222,6 +222,7 @@ impl<C: SlotCell, O: Outlet> World<C, O> {
         ensures set { world_of self.new ≡ widened_at channel (world_of self.old) }
         ensures same { (net_in self.new ≡ net_in self.old) × (inputs_in self.new ≡ inputs_in self.old)
             × (stations_in self.new ≡ stations_in self.old) × (wire_in self.new ≡ wire_in self.old) }
+        ensures same_closed { closed_in self.new ≡ closed_in self.old }
     {
         self.channel_rooms.widen(channel);
     }

@@ -19,6 +19,7 @@ ghost use Rattle.world.specs.OpeningWorld.{AreHandedBack, IsNotOpened, IsWorldRe
 ghost use Rattle.world.specs.OpeningWorld.{version_for, AreVersions, AreVersionsFor, IsVersion};
 ghost use Rattle.kahn_net.specs.declared.limits.TheConstants.{MAX_NODES};
 
+use crate::feeding::none_closed;
 use crate::world::World;
 use ckpt_codec::{FIRST_VERSION, VERSION, spelled_image_length, write_header_in, write_image};
 use ckpt_store::{Store, StoreFault};
@@ -341,6 +342,7 @@ fn open_world<D: Disk, O: Outlet>(
             wire,
             round: 0,
             channel_rooms: Rooms::even(DEFAULT_ROOM),
+            closed: none_closed(),
         }),
         Err(fault) => Err(OpeningRefused {
             disks,

@@ -11,6 +11,7 @@ ghost use Rattle.world.specs.ReopenedWorld.{IsNotReopened, IsReopened};
 ghost use Rattle.world.specs.Reopening.{HoldsItsOwn, HoldTheirOwn, IsDiskAsLeft, IsDiskRefused};
 ghost use Rattle.world.specs.Reopening.{IsReopenedNode, IsReopenedStation, IsReopenedStore};
 
+use crate::feeding::none_closed;
 use crate::opening::{NotOpened, OpeningRefused, forget_failures, part_outputs};
 use crate::world::World;
 use ckpt_store::{Store, StoreFault};
@@ -207,6 +208,7 @@ impl<D: Disk, O: Outlet> World<SplitCell<D>, O> {
                 wire,
                 round: 0,
                 channel_rooms: Rooms::even(DEFAULT_ROOM),
+                closed: none_closed(),
             }),
             Err(fault) => Err(OpeningRefused {
                 disks,

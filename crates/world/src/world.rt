@@ -21,6 +21,7 @@ ghost use Rattle.world.specs.WorldView.{capacities, HoldsAsBeforeAt, IsGrown, Le
 ghost use Rattle.station.specs.Leaving.{IsCellUnchanged};
 ghost use Rattle.station.specs.StationView.{station_view};
 
+use crate::feeding::ClosedInputs;
 use net_check::{Inputs, Net};
 use outlet::Outlet;
 use protocol::Rooms;
@@ -45,6 +46,8 @@ pub struct World<C: SlotCell, O: Outlet> {
     pub(crate) round: u64,
     /// How many items each channel retains at most, where its share of a record isn't less.
     pub(crate) channel_rooms: Rooms,
+    /// Which inputs are closed.
+    pub(crate) closed: ClosedInputs,
     pub ghost sound: { WorldInvariant
         (world_view O.taken O.failures net inputs stations.items (traffic_of wire) round channel_rooms) },
 }
@@ -59,6 +62,7 @@ impl<C: SlotCell, O: Outlet> Drop for World<C, O> {
             wire,
             round,
             channel_rooms,
+            closed,
         } = self;
     }
 }
@@ -139,7 +143,7 @@ fn round_after<C: SlotCell, O: Outlet>(reply: &Reply, round: u64, stations: &[St
 
 impl<C: SlotCell, O: Outlet> World<C, O> {
     ghost use Rattle.world.specs.Applied.{IsApplied};
-    ghost use Rattle.world.specs.WholeView.{HaveGrown, capacities_in, inputs_in, net_in, rooms_in, stations_in, world_of};
+    ghost use Rattle.world.specs.WholeView.{HaveGrown, capacities_in, closed_in, inputs_in, net_in, rooms_in, stations_in, world_of};
 
     // Its stations. All else is gone.
     pub(crate) fn into_stations(self) -> Vec<Station<C, O>>
@@ -152,6 +156,7 @@ impl<C: SlotCell, O: Outlet> World<C, O> {
             wire: _,
             round: _,
             channel_rooms: _,
+            closed: _,
         } = self;
         stations
     }
@@ -214,6 +219,8 @@ impl<C: SlotCell, O: Outlet> World<C, O> {
         ensures prefix { AreApproximated (world_of self.new) }
         // The network and its inputs stay.
         ensures same { (net_in self.new ≡ net_in self.old) × (inputs_in self.new ≡ inputs_in self.old) }
+        // No input is closed by an event, and none is opened.
+        ensures same_closed { closed_in self.new ≡ closed_in self.old }
         // It is a step of the world: what is answered, and what is there afterwards.
         ensures step { IfOk result
             (λ reply. IsStep (rooms_in self.old) (event_view event)

@@ -30,7 +30,6 @@ use Rattle.protocol_laws.specs.Node.ReachedLaws.{items_of_channel}
 use Rattle.protocol_laws.specs.Node.SharingLaws.{share_within, share_kept}
 use Rattle.protocol_laws.specs.Node.InstallLaws.{turn_of_job, job_has_code, log_then}
 use Rattle.protocol.specs.declared.links.Inbox.{Inbox}
-use Rattle.kahn_net.specs.declared.limits.TheConstants.{MAX_HISTORY_ITEMS}
 use Rattle.protocol.specs.declared.limits.TheConstants.{MAX_JOB_ITEMS}
 use Rattle.record.specs.Common.{MAX_LOG_ITEMS}
 
@@ -166,10 +165,10 @@ takes_room share None items below within room = tt
 takes_room share (Some log) items below within room =
     let then_within = log_with_room share log items (within log refl) room in grind (arith, length-append)
 
--- the lists that fit are short
-history_is_short : (net : Network) (inputs : List (List ℤ)) (c : ℕ) → Fits net inputs
-    → length (history_of inputs c) ≤ MAX_HISTORY_ITEMS
-history_is_short net inputs c fits = grind (arith, fits.few c, slice_get_cases inputs c, get_or_from_slice_get, get_or_past)
+-- the lists that fit are no longer than a count goes
+history_is_counted : (net : Network) (inputs : List (List ℤ)) (c : ℕ) → Fits net inputs
+    → length (history_of inputs c) ≤ MAX_COUNT
+history_is_counted net inputs c fits = grind (arith, fits.few c, slice_get_cases inputs c, get_or_from_slice_get, get_or_past)
 
 -- the turn fits the image: no count and no log comes past its limit
 pub image_takes_turn : (net : Network) (home : ℕ) (inputs : List (List ℤ)) (n : ℕ) (made : ℕ → ℕ) (image : ImageView)
@@ -188,7 +187,7 @@ image_takes_turn net home inputs n made image inboxes job code after taken sent 
           let sum =
           taken_is_there net home inputs n made image inboxes job code after taken sent stands laid hand counts begin
           of there turn k saved channel.0 is channel.1 in
-          grind (arith, sum, history_is_short net inputs saved.channel fits, λ (log : LogState). logs k saved log is);
+          grind (arith, sum, history_is_counted net inputs saved.channel fits, λ (log : LogState). logs k saved log is);
       put =
           let room =
           put_has_room net inputs n made image inboxes job code after taken sent stands hand of there turn

@@ -13,7 +13,7 @@ use Rattle.protocol.specs.Node.Common.{SavedProcessView, ImageView, log_at, Save
 use Rattle.protocol.specs.Node.Common.{variables_of, role_of, IsRecord, MAX_DECISIONS, numbers_where, has_process}
 use Rattle.protocol.specs.Node.Common.{has_end, ImageStands, IsLaidOut, CountIsWithin, CountsAreWithin, LogsAreWithin}
 use Rattle.protocol.specs.Node.Common.{opening_image, opening_record}
-use Rattle.kahn_net.specs.Fits.{AreShort}
+use Rattle.kahn_net.specs.Fits.{AreCounted}
 use Rattle.record.specs.Common.{NotBegun, Done, MAX_TIMES, MAX_REPEATS, MAX_LOG_ITEMS}
 use Rattle.ckpt_codec.specs.Common.{MAX_PROCESSES, MAX_VARIABLES, Field, IsAllowed, AreAllowed, at_most, count}
 use Rattle.ckpt_codec.specs.Common.{image_fields}
@@ -190,11 +190,11 @@ standing_short net home histories made image valid laid stands k saved is =
     }
 
 -- no input is longer than the greatest count
-input_short : (inputs : List (List ℤ)) (c : ℕ) → AreShort inputs → length (history_of inputs c) ≤ MAX_COUNT
+input_short : (inputs : List (List ℤ)) (c : ℕ) → AreCounted inputs → length (history_of inputs c) ≤ MAX_COUNT
 input_short inputs c short = grind (arith, short c, slice_get_cases inputs c, get_or_from_slice_get, get_or_past)
 
 -- each end may be written
-end_short : (net : Network) (home : ℕ) (inputs : List (List ℤ)) (image : ImageView) → AreShort inputs
+end_short : (net : Network) (home : ℕ) (inputs : List (List ℤ)) (image : ImageView) → AreCounted inputs
     → IsLaidOut net home image → CountsAreWithin net inputs image → LogsAreWithin image → (k : ℕ) (saved : SavedEnd)
     → slice_get image.ends k ≡ Some saved → IsShortEnd saved.end
 end_short net home inputs image short laid counts logs k saved is =
@@ -222,7 +222,7 @@ end_short net home inputs image short laid counts logs k saved is =
 
 -- What a node has of a valid network may be written alone.
 pub image_allowed : (net : Network) (home : ℕ) (inputs histories : List (List ℤ)) (made : ℕ → ℕ) (image : ImageView)
-    → IsValid net → AreShort inputs → IsLaidOut net home image → ImageStands net histories made image
+    → IsValid net → AreCounted inputs → IsLaidOut net home image → ImageStands net histories made image
     → CountsAreWithin net inputs image → LogsAreWithin image → AreAllowed (image_fields None image)
 image_allowed net home inputs histories made image valid short laid stands counts logs =
     let processes =
@@ -303,7 +303,7 @@ same_shape net home histories later made come permanent image first stands secon
 -- So one that may be written alone may be written beside another.
 pub image_like : (net : Network) (home : ℕ) (inputs histories later : List (List ℤ)) (made come : ℕ → ℕ)
     (permanent image : ImageView)
-    → IsValid net → AreShort inputs → IsLaidOut net home permanent → ImageStands net histories made permanent
+    → IsValid net → AreCounted inputs → IsLaidOut net home permanent → ImageStands net histories made permanent
     → IsLaidOut net home image → ImageStands net later come image
     → CountsAreWithin net inputs image → LogsAreWithin image → IsLike permanent image
 image_like net home inputs histories later made come permanent image valid short first stands second goes counts logs =

@@ -4,6 +4,7 @@ use Rattle.std.proofs.lemmas.Result.{err_from_is_err_and}
 use Rattle.kahn_net.specs.Common.{network_of, code_of, approximation, history_of}
 use Rattle.net_check.specs.declared.net.Net.{Net}
 use Rattle.stream_eq.proofs.Errors.{other_err}
+use Rattle.stream_eq.proofs.Lengths.{long_at_once}
 use Rattle.approximations.specs.Adding.{IsAdded}
 use Rattle.approximations.proofs.Beginnings.{begin_on}
 use Rattle.approximations.proofs.Limits.{short_inputs, short_then, on_next, not_long, long_next, at_rest}
@@ -25,8 +26,12 @@ loop-round-init c =
           (c.deref-2.ensures.value ∙ ap (λ (n : Net). n.program.processes.items) c.deref.ensures)))
           c.in_ok-histories.ensures
           (c.len.ensures ∙ (count ∙ ap (λ (n : Net). length n.program.channels.items) c.deref-3.ensures)) c.in_ok-all.ensures;
-      short = short_inputs net c.args.inputs.now here c.requires c.in_ok-histories.ensures;
+      short = short_inputs c.args.inputs.now here c.if-not-are_short.ensures c.in_ok-histories.ensures;
     }
+
+pub returns-then-not-are_short-clause-long : goal.returns-then-not-are_short-clause-long
+returns-then-not-are_short-clause-long c =
+    λ long. long_at_once (network_of c.args.net.now.value.program) c.args.inputs.now c.args.n c.if-not-are_short.ensures
 
 pub returns-in_err-added-clause-long : goal.returns-in_err-added-clause-long
 returns-in_err-added-clause-long c =

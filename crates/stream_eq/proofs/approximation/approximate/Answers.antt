@@ -4,7 +4,7 @@ use Rattle.kahn_net.specs.Common.{network_of, approximation}
 use Rattle.kahn_net.specs.Approximations.{next_histories}
 use Rattle.stream_eq.specs.Limits.{IsWithin}
 use Rattle.stream_eq.proofs.Errors.{other_err}
-use Rattle.stream_eq.proofs.Lengths.{inputs_within, not_long, long_at, next_round, at_rest}
+use Rattle.stream_eq.proofs.Lengths.{inputs_within, not_long, long_at, long_at_once, next_round, at_rest}
 use Rattle.std.proofs.lemmas.Grind.{elements}
 use Rattle.stream_eq.proofs.approximation.approximate.Goals as goal
 
@@ -12,9 +12,13 @@ pub loop-round-init : goal.loop-round-init
 loop-round-init c = record {
   value = c.in_ok-histories.ensures;
   within =
-      inputs_within (network_of c.args.net.now.program) c.args.inputs.now c.in_ok-histories.histories.items
-      c.in_ok-limits.limits.items c.requires c.in_ok-limits.ensures c.in_ok-histories.ensures;
+      inputs_within c.args.inputs.now c.in_ok-histories.histories.items c.in_ok-limits.limits.items
+      c.if-not-are_short.ensures c.in_ok-limits.ensures c.in_ok-histories.ensures;
 }
+
+pub returns-then-not-are_short-clause-long : goal.returns-then-not-are_short-clause-long
+returns-then-not-are_short-clause-long c =
+    λ long. long_at_once (network_of c.args.net.now.program) c.args.inputs.now c.args.n c.if-not-are_short.ensures
 
 pub returns-in_err-after-clause-long : goal.returns-in_err-after-clause-long
 returns-in_err-after-clause-long c =
@@ -58,7 +62,8 @@ loop-round-preserved c =
     let net = network_of c.args.net.now.program in
     let limits = c.deref-in-loop-round.ensures.value ∙ c.in_ok-limits.ensures in
     let start =
-    inputs_within net c.args.inputs.now c.args.inputs.now c.deref-in-loop-round.result.now c.requires limits refl in
+    inputs_within c.args.inputs.now c.args.inputs.now c.deref-in-loop-round.result.now c.if-not-are_short.ensures limits
+    refl in
     record {
       value = next_round net c.args.inputs.now c.deref.result.now c.in_ok-after.after.items c.loop-round.round
           (c.deref.ensures.value ∙ c.loop-round.invariant.value) c.in_ok-after.ensures.next;

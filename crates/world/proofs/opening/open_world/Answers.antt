@@ -37,6 +37,7 @@ returns-in-Ok-clause-made g c =
           (map fresh outputs) stations c.deref.ensures refl c.in-Ok.ensures.opened c.args.inputs.value
           (traffic_of c.in-Ok-Ok.wire) c.even.result c.in-Ok-Ok.ensures c.even.ensures;
       same = (refl, refl);
+      fresh_inputs = c.none_closed.ensures;
       outlets = opened_outlets taken failures net versions outputs 0 disks stations all;
       prefix = released_prefix _
           (opened_sound taken failures c.deref.result.now c.args.net.value versions disks outputs (map fresh outputs)

@@ -16,8 +16,8 @@ not_true : (b : Bool) → IsTrue (not b) → b ≡ false
 not_true true is = absurd (cc)
 not_true false is = refl
 
-pub returns : goal.returns
-returns g c done =
+pub returns-clause-rests : goal.returns-clause-rests
+returns-clause-rests g c done =
     let log = c.args.self.now in
     let world = world_of log.armed.world in
     let node = c.args.node in

@@ -23,7 +23,7 @@ invariant_of-self-2 g c =
     }
 
 pub returns-then-is_at_rest-clause-turned : goal.returns-then-is_at_rest-clause-turned
-returns-then-is_at_rest-clause-turned g c = (c.requires.in_time, c.is_at_rest.ensures (cc c.if-is_at_rest.true), refl)
+returns-then-is_at_rest-clause-turned g c = (c.requires.in_time, c.is_at_rest.ensures.rests (cc c.if-is_at_rest.true), refl)
 
 pub returns-clause-goes_on : goal.returns-clause-goes_on
 returns-clause-goes_on g c = grind (arith, elements)

@@ -58,6 +58,7 @@ returns-in-Ok-clause-made g c =
           c.in-Ok.ensures.opened;
       same_left = sound.1;
       same = (refl, refl);
+      fresh_inputs = c.none_closed.ensures;
       outlets = reopened_outlets taken failures net outputs 0 disks stations all;
       prefix = released_prefix _ sound.0;
       left = reopened_left taken failures net (map fresh outputs) 0 disks stations all;

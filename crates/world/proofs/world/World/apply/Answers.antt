@@ -19,6 +19,9 @@ returns-in-Ok-clause-prefix g c = c.in-Ok.ensures.prefix
 pub returns-in-Ok-clause-same : goal.returns-in-Ok-clause-same
 returns-in-Ok-clause-same g c = c.in-Ok.ensures.same
 
+pub returns-in-Ok-clause-same_closed : goal.returns-in-Ok-clause-same_closed
+returns-in-Ok-clause-same_closed g c = c.in-Ok.ensures.same_closed
+
 pub returns-in-Ok-clause-step : goal.returns-in-Ok-clause-step
 returns-in-Ok-clause-step g c = c.in-Ok.ensures.step
 
@@ -66,6 +69,9 @@ returns-in-Err-clause-prefix g c = c.in-Err.ensures.prefix
 
 pub returns-in-Err-clause-same : goal.returns-in-Err-clause-same
 returns-in-Err-clause-same g c = c.in-Err.ensures.same
+
+pub returns-in-Err-clause-same_closed : goal.returns-in-Err-clause-same_closed
+returns-in-Err-clause-same_closed g c = c.in-Err.ensures.same_closed
 
 pub returns-in-Err-clause-same_capacities : goal.returns-in-Err-clause-same_capacities
 returns-in-Err-clause-same_capacities g c = c.in-Err.ensures.same_capacities

@@ -136,6 +136,7 @@ returns-in-Ok g c =
           (world_of c.args.self.now)
           (reply_view c.in-Ok.reply) _ c.args.self.now.sound step;
       same = (refl, refl);
+      same_closed = refl;
       same_capacities = c.in-Ok.ensures.same_capacities;
       unchanged = c.in-Ok.ensures.unchanged;
       armed = c.in-Ok.ensures.armed;
@@ -206,6 +207,7 @@ returns-in-Err g c =
           c.in-Err.ensures.refused.1
           c.in-Err.ensures.held c.in-Err.ensures.unchanged;
       same = (refl, refl);
+      same_closed = refl;
       same_capacities = c.in-Err.ensures.same_capacities;
       roomy = λ room. tt;
       heard = tt;
