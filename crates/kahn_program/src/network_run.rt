@@ -4,6 +4,7 @@ ghost use Rattle.std.specs.Prelude.{◌≡◌, ◌≤◌, ◌++◌, ◌∷◌, [
 ghost use Rattle.protocol.specs.Node.Common.{Fits, network_of, MAX_CHANNELS};
 ghost use Rattle.protocol.specs.World.Common.{released_of, goes_outside, output_channels};
 ghost use Rattle.cobaltmidge.specs.Common.{happenings, history_text, net_in, world_of};
+ghost use Rattle.cobaltmidge.specs.Remaining.{streams_left};
 ghost use Rattle.cobaltmidge.specs.Runs.{released_streams};
 ghost use Rattle.kahn_program.specs.Keeping.{IsKeeperFailure, IsKeptFailure};
 ghost use Rattle.kahn_program.specs.Runnable.{IsReportless, run_failure};
@@ -15,8 +16,8 @@ use crate::failure::Failure;
 use crate::keeper::Keeper;
 use crate::reporting::{Stream, report};
 use cobaltmidge::{
-    Ended, History, RunEnd, RunFault, RunWatch, RunWorld, TurnWatch, cut, run_network,
-    write_history,
+    Ended, History, Left, RunEnd, RunFault, RunWatch, RunWorld, TurnWatch, Unfinished, cut,
+    run_network, write_history,
 };
 use kahn_net::{Channel, Port};
 use net_check::{Inputs, Net};
@@ -152,6 +153,22 @@ fn close_outputs<O: Outlet, K: Keeper<O>>(
     keeper.close(alloc, outputs)
 }
 
+/// What had left of a run that came to no end goes back to where its outlets come from.
+fn put_left<O: Outlet, K: Keeper<O>>(
+    alloc: Global,
+    left: Left<O>,
+    keeper: &mut K,
+) -> Result<(), Failure>
+    ensures kept { OnOk result (K.has_kept keeper.new (streams_left left)) }
+    ensures err { IfErr result (IsKeeperFailure K.keeps) }
+    ensures cause { IfErr result (IsKeptFailure (K.has_failed keeper.new)) }
+{
+    match left {
+        Left::Outputs(outputs) => keeper.close(alloc, outputs),
+        Left::World(world, _) => close_outputs(alloc, world, keeper),
+    }
+}
+
 /// The text of what happened, where that is asked for.
 fn history_if_asked(
     alloc: Global,
@@ -249,16 +266,22 @@ pub fn report_of_run<
         watch,
     ) {
         Ok(ended) => ended,
-        Err(unfinished) => return Err(run_failure(unfinished.fault)),
+        Err(unfinished) => {
+            let Unfinished { fault, left } = unfinished;
+            put_left(alloc, left, keeper)?;
+            return Err(run_failure(fault));
+        }
     };
     let Ended {
         world,
         history: happened,
         end,
     } = ended;
-    let Ok(told) = told_of(alloc, options, &net, &world, end, &happened, script_text) else {
-        return Err(Failure::NoMemory);
-    };
+    let told = told_of(alloc, options, &net, &world, end, &happened, script_text);
+    // Also where there is no memory to tell of it.
     close_outputs(alloc, world, keeper)?;
-    Ok(told)
+    match told {
+        Ok(told) => Ok(told),
+        Err(_) => Err(Failure::NoMemory),
+    }
 }

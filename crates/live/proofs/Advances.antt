@@ -1,6 +1,6 @@
 -- Steps, one after another: whatever they are, the world goes on.
 use Rattle.std.proofs.Common.{◌≡◌, ◌∙◌, ℕ, zero, suc, Bool, ℤ, List, [], Option, Some, None, sym, ap, subst}
-use Rattle.std.specs.Prelude.{Result, Ok, Err, IfOk, OnErr, OnOk}
+use Rattle.std.specs.Prelude.{Result, Ok, Err, IfSome, OnErr, OnOk}
 use Rattle.growing.proofs.GoingOn.{goes_on, goes_on_then, goes_on_whatever_comes}
 use Rattle.growing.specs.LaterInputs.{AreLaterInputs, with_inputs}
 use Rattle.growing.specs.WhateverComes.{ByEvent, ByInputs, ByRooms, HasGoneOn}
@@ -9,6 +9,7 @@ use Rattle.protocol.specs.World.Common.{choice, EventView, Install, IsStep, Repl
 use Rattle.replay.specs.Rests.{next_turn}
 use Rattle.replay.specs.declared.kept.NextTurn.{NextTurn}
 use Rattle.replay.specs.declared.kept.NextTurn.TheVariants as next
+use Rattle.world.specs.Applied.{IfRefused}
 use Rattle.live.specs.Steps.{AreSteps, IsLiveStep, IsLiveStepBy, IsTurn, IsTurnBy, LiveView}
 
 -- a world comes to itself
@@ -43,12 +44,11 @@ steps_go_on fits nodes (suc steps) old new inv are =
     goes_on_then old.world are.0.world new.world before (step_goes_on fits nodes are.0 new before.sound are.3)
 
 -- and so by an event, made or refused
-pub applied : {R E : Type 0} (view : R → ReplyView) (fits : List (RecordView → Bool)) (event : EventView) (old new : WorldView)
-    (result : Result R E) → WorldInvariant old → IfOk result (λ reply. IsStep fits event old (view reply) new)
-    → OnErr result (new ≡ old) → HasGoneOn old new
-applied {R} {E} view fits event old new (Ok reply) inv step refused =
-    goes_on old new inv (ByEvent fits event (view reply) step)
-applied {R} {E} view fits event old new (Err e) inv step refused = stays_on old new inv refused
+pub applied : (fits : List (RecordView → Bool)) (event : EventView) (old new : WorldView) (answer : Option ReplyView)
+    → WorldInvariant old → IfSome answer (λ reply. IsStep fits event old reply new) → IfRefused answer (new ≡ old)
+    → HasGoneOn old new
+applied fits event old new (Some reply) inv step refused = goes_on old new inv (ByEvent fits event reply step)
+applied fits event old new None inv step refused = stays_on old new inv refused
 
 -- more came on the inputs, or nothing did
 pub came : {E : Type 0} (old new : WorldView) (inputs : List (List ℤ)) (result : Result (Unit {0}) E) → WorldInvariant old

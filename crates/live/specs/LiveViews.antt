@@ -9,8 +9,9 @@ use Rattle.kahn_net.specs.declared.limits.TheConstants.{MAX_CHANNELS}
 use Rattle.net_check.specs.declared.inputs.Inputs.{Inputs}
 use Rattle.protocol.specs.Node.Common.{Net, RecordView}
 use Rattle.protocol.specs.World.Common.{WorldView}
+use Rattle.station.specs.declared.station.Station.{Station}
 use Rattle.world.specs.Events.{shared_view}
-use Rattle.world.specs.WholeView.{closed_in, inputs_in, net_in, nodes_in, rooms_in, world_of}
+use Rattle.world.specs.WholeView.{closed_in, inputs_in, net_in, nodes_in, rooms_in, stations_in, world_of}
 use Rattle.live.specs.Steps.{LiveView}
 use Rattle.live.specs.declared.live.Live.{Live}
 
@@ -33,6 +34,9 @@ module _ {C O : Type 0} {cell : CellWords C} {slots : SlotWords C} {outlet : Out
 
   abbrev pub nodes_on : Live C O slots cell outlet → ℕ
   nodes_on live = nodes_in live.world
+
+  abbrev pub stations_on : Live C O slots cell outlet → List (Station C O slots cell)
+  stations_on live = stations_in live.world
 
   -- its world, whose turn is next, and the job that is out
   abbrev pub live_view : Live C O slots cell outlet → LiveView

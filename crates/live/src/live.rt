@@ -3,12 +3,14 @@ ghost use Rattle.std.specs.Prelude.{◌≡◌, ◌+◌, ◌≤◌, if◌then◌e
 ghost use Rattle.growing.specs.LaterInputs.{fed, with_inputs};
 ghost use Rattle.growing.specs.WhateverComes.{HasGoneOn};
 ghost use Rattle.protocol.specs.Node.Common.{MAX_NODES, network_of};
-ghost use Rattle.protocol.specs.World.Common.{released_of, IsStep};
+ghost use Rattle.protocol.specs.World.Common.{released_of};
+ghost use Rattle.station.specs.ReplyView.{answer_view};
+ghost use Rattle.world.specs.Applied.{IsApplied};
 ghost use Rattle.protocol.specs.World.Quiet.{are_quiet, AreWhole};
 ghost use Rattle.world.specs.Events.{event_view, reply_view, shared_view};
 ghost use Rattle.world.specs.Feeding.{feed_refusal, is_input, told_by};
 ghost use Rattle.world.specs.WholeView.{closed_in, rooms_in, world_of};
-ghost use Rattle.live.specs.LiveViews.{closed_on, inputs_on, live_view, net_on, nodes_on, none_taken, rooms_on, taken_of, world_on};
+ghost use Rattle.live.specs.LiveViews.{closed_on, inputs_on, live_view, net_on, nodes_on, none_taken, rooms_on, stations_on, taken_of, world_on};
 ghost use Rattle.live.specs.Steps.{granted_job, next_node, ArePart, IsAdvance, IsLiveStep, IsTurn};
 ghost use Rattle.live.specs.declared.live.Pause.TheVariants.{Rests};
 
@@ -134,7 +136,8 @@ impl<C: SlotCell, O: Outlet> Live<C, O> {
         // What has left is right on the inputs that there are now, and begins with what had left.
         ensures gone_on { HasGoneOn (world_on self.old) (world_on self.new) }
         ensures same { (self.new.node ≡ self.old.node) × (self.new.out ≡ self.old.out)
-            × (self.new.taken ≡ self.old.taken) × (closed_on self.new ≡ closed_on self.old) }
+            × (self.new.taken ≡ self.old.taken) × (closed_on self.new ≡ closed_on self.old)
+            × (stations_on self.new ≡ stations_on self.old) }
     {
         self.world.feed(alloc, input, items)
     }
@@ -145,8 +148,9 @@ impl<C: SlotCell, O: Outlet> Live<C, O> {
         ensures unchanged { OnErr result (closed_on self.new ≡ closed_on self.old) }
         ensures here { OnOk result (is_input (network_of (net_on self.old).value.program) input ≡ true) }
         ensures refused { OnErr result (is_input (network_of (net_on self.old).value.program) input ≡ false) }
-        ensures same { (world_on self.new ≡ world_on self.old) × (self.new.node ≡ self.old.node)
-            × (self.new.out ≡ self.old.out) × (self.new.taken ≡ self.old.taken) }
+        ensures same { (world_on self.new ≡ world_on self.old) × (stations_on self.new ≡ stations_on self.old)
+            × (self.new.node ≡ self.old.node) × (self.new.out ≡ self.old.out)
+            × (self.new.taken ≡ self.old.taken) }
     {
         self.world.close_input(input)
     }
@@ -243,14 +247,17 @@ impl<C: SlotCell, O: Outlet> Live<C, O> {
 
     /// One event, as by `World::apply`: a crash of a node, or one of the network.
     pub fn apply(&mut self, alloc: Global, event: Event) -> Result<Reply, Refused>
-        ensures step { IfOk result (λ reply. IsStep (rooms_on self.old) (event_view event) (world_on self.old)
-            (reply_view reply) (world_on self.new)) }
-        ensures refused { OnErr result (world_on self.new ≡ world_on self.old) }
+        // All that `World::apply` promises of an event: each of its clauses is a field of this.
+        ensures applied { IsApplied (event_view event) self.old.world self.new.world (answer_view result) }
+        ensures handed_back { IfErr result (λ refused. refused.event ≡ event) }
         ensures gone_on { HasGoneOn (world_on self.old) (world_on self.new) }
         ensures same { (self.new.node ≡ self.old.node) × (self.new.out ≡ self.old.out)
-            × (self.new.taken ≡ self.old.taken) × (closed_on self.new ≡ closed_on self.old) }
+            × (self.new.taken ≡ self.old.taken) }
     {
-        self.world.apply(alloc, event)
+        match self.world.make(alloc, &event) {
+            Ok(reply) => Ok(reply),
+            Err(_) => Err(Refused { event }),
+        }
     }
 
     /// Its world, as it stands.

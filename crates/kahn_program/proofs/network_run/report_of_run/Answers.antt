@@ -11,8 +11,6 @@ use Rattle.kahn_program.specs.Runs.{IsToldOf, IsWrittenIf}
 use Rattle.kahn_program.proofs.Faults.{fault_is}
 use Rattle.kahn_program.proofs.Released.{report_is}
 use Rattle.kahn_program.proofs.Causes.{run_keeps}
-use Rattle.std.proofs.lemmas.Grind.{elements}
-use Rattle.std.proofs.Common.{arith}
 use Rattle.kahn_program.proofs.network_run.report_of_run.Goals as goal
 
 pub returns-in-Err-clause-err : goal.returns-in-Err-clause-err
@@ -20,8 +18,8 @@ returns-in-Err-clause-err g c =
     subst (IsReportless g.K.Keeper.keeps) (sym c.run_failure.ensures)
     (inl (fault_is true c.in-Err.unfinished.fault c.in-Err.ensures.err))
 
-pub returns-clause-ok : goal.returns-clause-ok
-returns-clause-ok g c =
+pub returns-in-Ok-told-clause-ok : goal.returns-in-Ok-told-clause-ok
+returns-in-Ok-told-clause-ok g c =
     let options = c.args.options.now in
     let net = c.args.net in
     let inputs = c.args.inputs in
@@ -29,7 +27,7 @@ returns-clause-ok g c =
     let made : c.in-Ok.net.value ≡ net = c.in-Ok.ensures.ok in
     let now = world_of c.in-Ok-run_network.ended.world in
     let happened = happenings c.in-Ok-run_network.ended.history.lines.items in
-    let told = c.in-Ok-told_of.told in
+    let told = c.in-Ok-told.told in
     let seen : c.deref.result.now ≡ net = c.deref.ensures ∙ made in
     let wrote : List ℕ → Type 0 = λ text. told.1.items ≡ text in
     report_is (g.K.Keeper.has_kept c.close_outputs.new.keeper) wrote options net inputs script happened now told.0.bytes.items told.0.complete
@@ -40,12 +38,9 @@ returns-clause-ok g c =
     c.in-Ok-run_network.ensures.end))
     (subst (λ (n : Net). IsRun (network_of n.program) inputs (released_streams (network_of n.program) now.stations)
     (are_quiet now)) made c.in-Ok-run_network.ensures.run)
-    (subst (λ (n : Net). IsToldOf n options.items now told.0.bytes.items told.0.complete) seen c.in-Ok-told_of.ensures.told)
+    (subst (λ (n : Net). IsToldOf n options.items now told.0.bytes.items told.0.complete) seen c.in-Ok-told.ensures.told)
     c.in_ok-close_outputs.ensures.kept
-    (subst (λ (n : Net). IsWrittenIf (is_some options.history) wrote (history_text n happened)) seen c.in-Ok-told_of.ensures.written)
+    (subst (λ (n : Net). IsWrittenIf (is_some options.history) wrote (history_text n happened)) seen c.in-Ok-told.ensures.written)
 
 pub returns-in-Err-clause-cause : goal.returns-in-Err-clause-cause
 returns-in-Err-clause-cause g c = run_keeps _ _ _ c.run_failure.ensures
-
-pub returns-in_default-told_of-clause-err : goal.returns-in_default-told_of-clause-err
-returns-in_default-told_of-clause-err g c = grind (arith, elements)

@@ -1,7 +1,11 @@
-use Rattle.world.specs.Events.{reply_view}
+use Rattle.station.specs.ReplyView.{answer_view}
 use Rattle.live.proofs.Advances.{applied}
 use Rattle.live.proofs.live.Live.apply.Goals as goal
 
-pub returns-clause-gone_on : goal.returns-clause-gone_on
-returns-clause-gone_on g c =
-    applied reply_view _ _ _ _ c.apply.result c.args.self.now.world.sound c.apply.ensures.step c.apply.ensures.refused
+pub returns-in-Ok-clause-gone_on : goal.returns-in-Ok-clause-gone_on
+returns-in-Ok-clause-gone_on g c =
+    applied _ _ _ _ (answer_view c.make.result) c.args.self.now.world.sound c.make.ensures.step c.make.ensures.refused
+
+pub returns-in-Err-clause-gone_on : goal.returns-in-Err-clause-gone_on
+returns-in-Err-clause-gone_on g c =
+    applied _ _ _ _ (answer_view c.make.result) c.args.self.now.world.sound c.make.ensures.step c.make.ensures.refused
