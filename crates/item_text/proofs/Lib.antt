@@ -1,0 +1,3 @@
+pub mod Pieces
+pub mod Counting
+pub mod Spelled
