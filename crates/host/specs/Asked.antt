@@ -7,7 +7,7 @@ use Rattle.host.specs.Requests as requests
 use Rattle.host.specs.declared.asked.Asked.{Asked}
 use Rattle.host.specs.declared.asked.Noted.{Noted}
 use Rattle.host.specs.declared.asked.Noted.TheVariants.{Read, Looked, Placed, MadeFile, MadeFolder, OpenedDevice, Wrote, Synced, Renamed, RemovedFile}
-use Rattle.host.specs.declared.asked.Noted.TheVariants.{RemovedFolder, Locked, Unlocked, Opened, Cut, Used, Said, Told}
+use Rattle.host.specs.declared.asked.Noted.TheVariants.{RemovedFolder, Locked, Unlocked, Opened, Cut, Used, Said, Told, OpenedSource, Took}
 
 abbrev pub request_of : Noted → requests.Request
 request_of (Read path answer) = requests.Read (string_bytes path.value) (answered (λ bytes. bytes.items) answer.value)
@@ -29,6 +29,8 @@ request_of (Cut name len answer) = requests.Cut (string_bytes name.value) len an
 request_of (Used name asked) = requests.Used (string_bytes name.value) (line_requests_in asked.value)
 request_of (Said bytes answer) = requests.Said bytes.value.items answer
 request_of (Told bytes answer) = requests.Told bytes.value.items answer
+request_of (OpenedSource number path answer) = requests.OpenedSource number (string_bytes path.value) answer
+request_of (Took number answer) = requests.Took number (answered (λ bytes. bytes.value.items) answer)
 
 -- the requests, the newest first
 abbrev pub requests_in : Asked → List requests.Request

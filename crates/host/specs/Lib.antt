@@ -5,5 +5,6 @@ pub mod HostLines
 pub mod Writes
 pub mod Answers
 pub mod Requests
+pub mod Sources
 pub mod Asked
 pub mod StdHost

@@ -37,6 +37,10 @@ pub data Request : Type 0 where
   -- these bytes on standard output, or on standard error
   Said : (bytes : List ℕ) (answer : Answer) → Request
   Told : (bytes : List ℕ) (answer : Answer) → Request
+  -- what stands under this name, or standard input, to be read a piece at a time; its opener knows it by this number
+  OpenedSource : (number : ℕ) (path : List ℕ) (answer : Answer) → Request
+  -- what came next of the source of this number; nothing is its end
+  Took : (number : ℕ) (answer : Result (List ℕ) HostFault) → Request
 
 -- it was asked this, with this answer
 abbrev pub Has : Request → List Request → Type 0
@@ -78,6 +82,8 @@ lock_change (Cut name len answer) = Leaves
 lock_change (Used name asked) = Leaves
 lock_change (Said bytes answer) = Leaves
 lock_change (Told bytes answer) = Leaves
+lock_change (OpenedSource number path answer) = Leaves
+lock_change (Took number answer) = Leaves
 
 -- the newest request about a lock took that of this folder
 abbrev pub held_by : List ℕ → LockChange → Type 0 → Type 0

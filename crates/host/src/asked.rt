@@ -48,6 +48,8 @@ pub enum Noted {
     Used(Path, Snapshot<LinesAsked>),
     Said(Bytes, Answer),
     Told(Bytes, Answer),
+    OpenedSource(u8, Path, Answer),
+    Took(u8, Result<Bytes, HostFault>),
 }
 
 /// What a host was asked, for whoever implements `Host`.

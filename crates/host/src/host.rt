@@ -1,12 +1,16 @@
 //! The host as a program sees it: what it may be asked, and what it was asked.
-ghost use Rattle.std.specs.Prelude.{◌≡◌, [], ◌∷◌, List, ℕ, IfOk, string_bytes};
+ghost use Rattle.std.specs.Prelude.{◌≡◌, ◌≤◌, [], ◌∷◌, List, ℕ, length, IfOk, OnErr, string_bytes};
 ghost use Rattle.host.specs.Answers.{answered};
 ghost use Rattle.host.specs.Requests.{Request, Read, Looked, Placed, MadeFile, MadeFolder, OpenedDevice, Wrote, Synced, Renamed, RemovedFile, RemovedFolder};
-ghost use Rattle.host.specs.Requests.{Locked, Unlocked, Opened, Cut, Used, Said, Told};
+ghost use Rattle.host.specs.Requests.{Locked, Unlocked, Opened, Cut, Used, Said, Told, OpenedSource, Took};
+ghost use Rattle.host.specs.declared.host.TheConstants.{MAX_PIECE_BYTES};
 
 use crate::fault::HostFault;
 use crate::line_file::LineFile;
 use std::alloc::{AllocError, Global};
+
+/// How many bytes come of a source at once, at most.
+pub const MAX_PIECE_BYTES: usize = 65_536;
 
 /// What stands under a name.
 #[derive(Clone, Copy, Debug, PartialEq, Eq)]
@@ -32,12 +36,18 @@ pub trait Host {
     /// A file of lines of a folder, which has a share of its lock.
     type Lines: LineFile + Send;
 
+    /// A file or a pipe that is read from its beginning on, a piece at a time, while it may still grow.
+    type Source: Drop;
+
     /// What it was asked, the newest first.
     ghost asked: { Self → List Request };
 
     ghost path_of: { Self.File → List ℕ };
 
     ghost folder_of: { Self.Lock → List ℕ };
+
+    /// By which number its opener knows it.
+    ghost source_number: { Self.Source → ℕ };
 
     /// All that a file holds.
     fn read(&mut self, path: &String) -> Result<Vec<u8>, HostFault>
@@ -124,6 +134,21 @@ pub trait Host {
     /// Writes these bytes to standard error.
     fn tell(&mut self, bytes: &Vec<u8>) -> Result<(), HostFault>
         ensures { asked self.new ≡ Told bytes.now.items result ∷ asked self.old };
+
+    /// A source, from its beginning on: what stands under this name, or standard input where the name is `-`. Its opener tells sources apart by a
+    /// number of its own.
+    fn open_source(&mut self, number: u8, path: &String) -> Result<Self::Source, HostFault>
+        ensures asked { asked self.new ≡ OpenedSource number (string_bytes path.now) (answered (λ source. tt) result) ∷ asked self.old }
+        ensures number { IfOk result (λ source. source_number source ≡ number) };
+
+    /// What comes next of a source, in the place of what `piece` held. It waits until there is something, and gives what is there then. Nothing is
+    /// the source's end.
+    fn take(&mut self, source: &mut Self::Source, piece: &mut Vec<u8>) -> Result<(), HostFault>
+        ensures asked { asked self.new ≡ Took (source_number source.old) (answered (λ done. piece.new.items) result) ∷ asked self.old }
+        ensures number { source_number source.new ≡ source_number source.old }
+        ensures few { length piece.new.items ≤ MAX_PIECE_BYTES }
+        // A call that failed leaves nothing in `piece`.
+        ensures failed { OnErr result (piece.new.items ≡ []) };
 
     /// Why the newest request wasn't done, in the host's own words.
     fn words(&self, alloc: Global) -> Result<String, AllocError>;

@@ -1,19 +1,21 @@
 // The host that a program runs on. That each call makes the call of the system that it notes stands here alone, and is read.
-ghost use Rattle.std.specs.Prelude.{◌≡◌, [], ◌∷◌, IfOk, string_bytes};
+ghost use Rattle.std.specs.Prelude.{◌≡◌, ◌≤◌, [], ◌∷◌, length, IfOk, OnErr, string_bytes};
 ghost use Rattle.std.specs.Result.{result_ok};
 ghost use Rattle.host.specs.Answers.{answered};
 ghost use Rattle.host.specs.Asked.{request_of};
 ghost use Rattle.host.specs.HostLines.{is_waiting, lines_name, requests_of as lines_requests};
-ghost use Rattle.host.specs.StdHost.{held_folder, made_path, requests_of};
+ghost use Rattle.host.specs.StdHost.{held_folder, made_path, number_of, requests_of};
+ghost use Rattle.host.specs.declared.host.TheConstants.{MAX_PIECE_BYTES};
 
 use crate::asked::{Answer, Asked, Bytes, Noted, answer_of};
 use crate::fault::HostFault;
 use crate::host::{Host, Standing};
 use crate::host_lines::HostLines;
+use crate::pieces::take_piece;
 use crate::std_file::StdFile;
 use std::alloc::{AllocError, Global};
 use std::fs::{File, OpenOptions, TryLockError};
-use std::io::{Read, Write};
+use std::io::{Read, Stdin, Write};
 use std::path::Path;
 use std::snapshot::Snapshot;
 use std::time::{Clock, Duration};
@@ -44,6 +46,20 @@ pub struct MadeFile {
 pub struct HeldLock {
     file: File,
     folder: String,
+}
+
+// What a source is read from.
+#[derive(Drop)]
+enum Reading {
+    File(File),
+    Input(Stdin),
+}
+
+/// A file that is read from its beginning on, or standard input.
+#[derive(Drop)]
+pub struct StdSource {
+    number: u8,
+    reading: Reading,
 }
 
 // Whether a name is a link. A file that is renamed would take the link's place, as that of /dev/stdout.
@@ -208,6 +224,38 @@ fn held_of(opened: &Result<(HostLines, Vec<u8>), HostFault>) -> Result<Bytes, Ho
     }
 }
 
+fn open_source(rt: &HostRuntime, number: u8, path: &str) -> io::Result<StdSource>
+    ensures { IfOk result (λ source. source.number ≡ number) }
+{
+    let reading = if path == "-" {
+        Reading::Input(rt.stdin())
+    } else {
+        Reading::File(fs::open(rt, path)?)
+    };
+    Ok(StdSource { number, reading })
+}
+
+// What comes next of what a source is read from.
+fn take(reading: &mut Reading, piece: &mut Vec<u8>) -> io::Result<()>
+    ensures few { length piece.new.items ≤ MAX_PIECE_BYTES }
+    ensures failed { OnErr result (piece.new.items ≡ []) }
+{
+    match reading {
+        Reading::File(file) => take_piece(file, piece),
+        Reading::Input(input) => take_piece(input, piece),
+    }
+}
+
+// What a source gave.
+fn given_of(answer: &Answer, piece: &Vec<u8>) -> Result<Bytes, HostFault>
+    ensures { answered (λ bytes. bytes.value.items) result ≡ answered (λ done. piece.now.items) answer.now }
+{
+    match answer {
+        Ok(()) => Ok(Snapshot::of(piece)),
+        Err(fault) => Err(*fault),
+    }
+}
+
 fn say<W: Write>(out: &mut W, bytes: &Vec<u8>) -> io::Result<()> {
     out.write_all(bytes)?;
     out.flush()
@@ -254,11 +302,15 @@ impl Host for StdHost {
 
     type Lines = HostLines;
 
+    type Source = StdSource;
+
     ghost asked = { requests_of };
 
     ghost path_of = { made_path };
 
     ghost folder_of = { held_folder };
+
+    ghost source_number = { number_of };
 
     fn read(&mut self, path: &String) -> Result<Vec<u8>, HostFault> {
         let rt = self.rt;
@@ -388,6 +440,19 @@ impl Host for StdHost {
         let answer = say(&mut self.rt.stderr(), bytes);
         let answer = self.kept(answer);
         self.note(Noted::Told(Snapshot::of(bytes), answer));
+        answer
+    }
+
+    fn open_source(&mut self, number: u8, path: &String) -> Result<StdSource, HostFault> {
+        let rt = self.rt;
+        let opened = self.kept(open_source(&rt, number, path.as_str()));
+        self.note(Noted::OpenedSource(number, Snapshot::of(path), answer_of(&opened)));
+        opened
+    }
+
+    fn take(&mut self, source: &mut StdSource, piece: &mut Vec<u8>) -> Answer {
+        let answer = self.kept(take(&mut source.reading, piece));
+        self.note(Noted::Took(source.number, given_of(&answer, piece)));
         answer
     }
 

@@ -2,7 +2,7 @@
 use Rattle.std.specs.Fmt.{decimal}
 use Rattle.std.specs.Prelude.{◌≡◌, ◌≢◌, ◌⊎◌, ◌≤◌, ℕ, zero, suc, Bool, true, List, ◌∷◌, ◌++◌, Some, Ok, Err, codes}
 use Rattle.host.specs.Requests.{Request, Read, Looked, Placed, MadeFile, MadeFolder, OpenedDevice, Wrote, Synced, Renamed, RemovedFile, RemovedFolder}
-use Rattle.host.specs.Requests.{Locked, Unlocked, Opened, Cut, Used, Said, Told, Has}
+use Rattle.host.specs.Requests.{Locked, Unlocked, Opened, Cut, Used, Said, Told, OpenedSource, Took, Has}
 use Rattle.host.specs.declared.fault.HostFault.{HostFault}
 use Rattle.host.specs.declared.fault.HostFault.TheVariants as host
 use Rattle.host.specs.declared.host.Standing.TheVariants.{Folder}
@@ -55,6 +55,8 @@ IsUndone o (Cut name len (Ok done)) = ⊥
 IsUndone o (Used name asked) = ⊥
 IsUndone o (Said bytes answer) = ⊥
 IsUndone o (Told bytes answer) = ⊥
+IsUndone o (OpenedSource number path answer) = ⊥
+IsUndone o (Took number answer) = ⊥
 
 -- a request about the file of this name, into which what happens is to be written, that the host didn't do
 abbrev pub IsUnwritten : List ℕ → Request → Type 0
@@ -82,6 +84,8 @@ IsUnwritten name (Cut file len answer) = ⊥
 IsUnwritten name (Used file asked) = ⊥
 IsUnwritten name (Said bytes answer) = ⊥
 IsUnwritten name (Told bytes answer) = ⊥
+IsUnwritten name (OpenedSource number path answer) = ⊥
+IsUnwritten name (Took number answer) = ⊥
 
 -- the name that is tried for a file or a folder that is made: `stem.ending` first, and then with a number
 abbrev pub tried_name : List ℕ → List ℕ → ℕ → List ℕ

@@ -3,7 +3,7 @@ use Rattle.std.specs.Prelude.{◌≡◌, ◌≢◌, ◌⊎◌, ℕ, zero, suc, t
 use Rattle.std.specs.declared.alloc.Global.{Global}
 use Rattle.std.specs.declared.string.String.{String}
 use Rattle.host.specs.Requests.{Request, Read, Looked, Placed, MadeFile, MadeFolder, OpenedDevice, Wrote, Synced, Renamed, RemovedFile, RemovedFolder}
-use Rattle.host.specs.Requests.{Locked, Unlocked, Opened, Cut, Used, Said, Told}
+use Rattle.host.specs.Requests.{Locked, Unlocked, Opened, Cut, Used, Said, Told, OpenedSource, Took}
 use Rattle.run_files.specs.Places.{is_within}
 
 -- what a request does to what was made
@@ -37,6 +37,8 @@ trace_of (Cut name len answer) = Stays
 trace_of (Used name asked) = Stays
 trace_of (Said bytes answer) = Stays
 trace_of (Told bytes answer) = Stays
+trace_of (OpenedSource number path answer) = Stays
+trace_of (Took number answer) = Stays
 
 abbrev pub left_by : List ℕ → Trace → Type 0 → Type 0
 left_by path (Makes made) before = (path ≡ made) ⊎ before

@@ -1,7 +1,7 @@
 -- What stands in a host's log before each request of a run.
 use Rattle.std.specs.Prelude.{◌≡◌, ◌≢◌, ◌⊎◌, ℕ, false, List, ◌++◌, Option, Some, None, Ok, codes}
 use Rattle.host.specs.Requests.{Request, Read, Looked, Placed, MadeFile, MadeFolder, OpenedDevice, Wrote, Synced, Renamed, RemovedFile, RemovedFolder}
-use Rattle.host.specs.Requests.{Locked, Unlocked, Opened, Cut, Used, Said, Told, Has, HasUnder, Later, Each, IsHeld, IsFree}
+use Rattle.host.specs.Requests.{Locked, Unlocked, Opened, Cut, Used, Said, Told, OpenedSource, Took, Has, HasUnder, Later, Each, IsHeld, IsFree}
 use Rattle.host.specs.declared.host.Standing.TheVariants.{Device}
 use Rattle.run_files.specs.Leftovers.{IsLeft, no_path}
 use Rattle.run_files.specs.Places.{is_within}
@@ -95,6 +95,8 @@ rule accepts o (Cut name len answer) e =
 rule accepts o (Used name asked) e = (folder bytes : List ℕ) × IsHeld folder e × Has (Opened folder name o.sync (Ok bytes)) e
 rule accepts o (Said bytes answer) e = Unit {0}
 rule accepts o (Told bytes answer) e = Unit {0}
+rule accepts o (OpenedSource number path answer) e = Unit {0}
+rule accepts o (Took number answer) e = Unit {0}
 
 -- What a call asks keeps the rules, and it leaves the lock as it was. Of what it made only this may be left.
 pub record GoesWith (made : List ℕ → Type 0) (accepts : Given → Type 0) (o : Wanted) (old new : List Request) : Type 0 where
