@@ -1,3 +1,5 @@
 pub mod Pieces
 pub mod Counting
 pub mod Spelled
+pub mod Complete
+pub mod Sound

@@ -1,6 +1,7 @@
--- How the items of a stream are read, byte by byte: numbers in decimal digits, each with one `-` before it or none, and separators
--- between them.
-use Rattle.std.specs.Prelude.{ℕ, suc, ◌+◌, ◌-◌, ◌*◌, ◌^◌, ◌≤◌, min, Bool, true, false, ◌==◌, ◌||◌, nat_le, if◌then◌else◌}
+-- How the items of a stream are read, byte by byte: numbers in decimal digits, each with one `-` before it or none, and
+-- separators between them.
+use Rattle.std.specs.Prelude.{ℕ, suc, ◌+◌, ◌-◌, ◌*◌, ◌^◌, ◌≤◌, min, Bool, true, false, ◌==◌, ◌||◌, nat_le}
+use Rattle.std.specs.Prelude.{if◌then◌else◌}
 use Rattle.std.specs.Prelude.{List, [], ◌∷◌, ◌++◌, ℤ, pos, neg_ℤ, Option, Some, None, is_some}
 use Rattle.std.specs.Char.{is_ascii_digit}
 use Rattle.item_text.specs.declared.fault.ItemFault.{ItemFault}
@@ -8,8 +9,8 @@ use Rattle.item_text.specs.declared.fault.ItemFault.TheVariants.{BadToken, Numbe
 use Rattle.item_text.specs.declared.token.Token.{Token}
 use Rattle.item_text.specs.declared.token.Token.TheVariants.{Between, Minus, Digits}
 
--- what a reader keeps between two pieces: the token at the end of what was read, the line in which the next byte stands, and the fault if
--- there was one
+-- what a reader keeps between two pieces: the token at the end of what was read, the line in which the next byte
+-- stands, and the fault if there was one
 pub record ReaderState : Type 0 where
   pub token : Token
   pub line : ℕ
@@ -57,7 +58,8 @@ refused r = record (r) { fault = Some (BadToken r.line) }
 abbrev pub separated : Token → Reading → Reading
 separated Between r = r
 separated Minus r = refused r
-separated (Digits negative magnitude) r = record (r) { token = Between; items = r.items ++ signed negative magnitude ∷ [] }
+separated (Digits negative magnitude) r =
+    record (r) { token = Between; items = r.items ++ signed negative magnitude ∷ [] }
 
 -- A line feed ends its line. Lines past the largest number of 64 bits have that number.
 abbrev pub past_byte : ℕ → Reading → Reading

@@ -1,3 +1,4 @@
 pub mod Faults
 pub mod Items
 pub mod Lines
+pub mod Texts

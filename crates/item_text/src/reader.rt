@@ -88,7 +88,10 @@ impl ItemReader {
                 self.refuse();
                 None
             }
-            Token::Digits { negative, magnitude } => {
+            Token::Digits {
+                negative,
+                magnitude,
+            } => {
                 self.token = Token::Between;
                 Some(signed(negative, magnitude))
             }
@@ -124,7 +127,10 @@ impl ItemReader {
                     magnitude: digit,
                 };
             }
-            Token::Digits { negative, magnitude } => {
+            Token::Digits {
+                negative,
+                magnitude,
+            } => {
                 if magnitude <= (largest(negative) - digit) / 10 {
                     self.token = Token::Digits {
                         negative,
