@@ -1,6 +1,6 @@
 //! A reader of the items of a stream.
 
-ghost use Rattle.std.specs.Prelude.{◌≡◌, ◌+◌, ◌-◌, ◌*◌, ◌<◌, ◌≤◌, List, ℤ, ◌++◌, OnOk, OnErr, Some, is_some, if◌then◌else◌};
+ghost use Rattle.std.specs.Prelude.{◌≡◌, ◌+◌, ◌/◌, ◌<◌, ◌≤◌, List, ℤ, ◌++◌, OnOk, OnErr, length, vec_len, vec_capacity, Some, is_some, if◌then◌else◌};
 ghost use Rattle.std.specs.Option.{option_to_list};
 ghost use Rattle.item_text.specs.declared.fault.ItemFault.TheVariants.{BadToken};
 ghost use Rattle.item_text.specs.Items.{beginning, reading, read_byte, read_bytes, separated, with_minus, with_digit, is_separator, largest, signed, pending};
@@ -175,6 +175,10 @@ impl ItemReader {
         ensures ok { OnOk result (reading self.new items.new.items
             ≡ read_bytes bytes.now (reading self.old items.old.items)) }
         ensures err { OnErr result ((self.new ≡ self.old) × (items.new.items ≡ items.old.items)) }
+        // It asks for memory only where the room that `items` has isn't enough for all items that may end in these bytes.
+        ensures room { OnErr result
+            (vec_capacity items.old < vec_len items.old + (length bytes.now + 1) / 2) }
+        ensures capacity { vec_capacity items.old ≤ vec_capacity items.new }
     {
         // room for all is made at once, so that nothing is half read: each item takes two bytes but for the first, which may have begun before
         items.reserve(bytes.len().div_ceil(2))?;
