@@ -175,7 +175,7 @@ impl ItemReader {
         ensures ok { OnOk result (reading self.new items.new.items
             ≡ read_bytes bytes.now (reading self.old items.old.items)) }
         ensures err { OnErr result ((self.new ≡ self.old) × (items.new.items ≡ items.old.items)) }
-        // It asks for memory only where the room that `items` has isn't enough for all items that may end in these bytes.
+        // It refuses only where the room that `items` has isn't enough for all items that may end in these bytes.
         ensures room { OnErr result
             (vec_capacity items.old < vec_len items.old + (length bytes.now + 1) / 2) }
         ensures capacity { vec_capacity items.old ≤ vec_capacity items.new }
