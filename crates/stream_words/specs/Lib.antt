@@ -1,0 +1,3 @@
+pub mod FlagWords
+pub mod CommandLine
+pub mod Asked
