@@ -13,7 +13,7 @@
 //! refused (or help is asked for), and 1 for any other failure, as where a line can't be written.
 #![tactic(auto)]
 
-use kahn_program::run_on_host;
+use stream_program::run_on_host;
 use std::process::ExitCode;
 
 fn main(rt: HostRuntime) -> ExitCode {

@@ -43,6 +43,30 @@ steps_go_on fits nodes (suc steps) old new inv are =
     let before = steps_go_on fits nodes steps old are.0 inv are.1 in
     goes_on_then old.world are.0.world new.world before (step_goes_on fits nodes are.0 new before.sound are.3)
 
+-- ---- no step brings items on an input
+
+inputs_by_turn : (turn : NextTurn) (fits : List (RecordView → Bool)) (node : ℕ) (old new : WorldView) (job : Option JobView)
+    → IsTurnBy turn fits node old job new → new.inputs ≡ old.inputs
+inputs_by_turn next.Rest fits node old new job is = ap (λ (world : WorldView). world.inputs) is.1
+inputs_by_turn (next.Widen channel) fits node old new job is = ap (λ (world : WorldView). world.inputs) is.1
+inputs_by_turn next.Make fits node old new job is = is.step.inputs
+
+inputs_by_out : (out : Option JobView) (fits : List (RecordView → Bool)) (nodes : ℕ) (old new : LiveView)
+    → IsLiveStepBy out fits nodes old new → new.world.inputs ≡ old.world.inputs
+inputs_by_out (Some job) fits nodes old new is = is.0.step.inputs
+inputs_by_out None fits nodes old new is = inputs_by_turn (next_turn old.world old.node) fits old.node old.world new.world new.out is.0
+
+pub inputs_stay : (fits : List (RecordView → Bool)) (nodes steps : ℕ) (old new : LiveView) → AreSteps fits nodes steps old new
+    → new.world.inputs ≡ old.world.inputs
+inputs_stay fits nodes zero old new are = ap (λ (live : LiveView). live.world.inputs) are
+inputs_stay fits nodes (suc steps) old new are =
+    inputs_by_out are.0.out fits nodes are.0 new are.3 ∙ inputs_stay fits nodes steps old are.0 are.1
+
+-- a view that is the same has the same inputs
+pub inputs_then_same : (inputs : List (List ℤ)) (old new : LiveView) → old.world.inputs ≡ inputs → new ≡ old
+    → new.world.inputs ≡ inputs
+inputs_then_same inputs old new are same = ap (λ (live : LiveView). live.world.inputs) same ∙ are
+
 -- and so by an event, made or refused
 pub applied : (fits : List (RecordView → Bool)) (event : EventView) (old new : WorldView) (answer : Option ReplyView)
     → WorldInvariant old → IfSome answer (λ reply. IsStep fits event old reply new) → IfRefused answer (new ≡ old)

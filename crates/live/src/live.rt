@@ -9,6 +9,7 @@ ghost use Rattle.world.specs.Applied.{IsApplied};
 ghost use Rattle.protocol.specs.World.Quiet.{are_quiet, AreWhole};
 ghost use Rattle.world.specs.Events.{event_view, reply_view, shared_view};
 ghost use Rattle.world.specs.Feeding.{feed_refusal, is_input, told_by};
+ghost use Rattle.world.specs.declared.feeding.FeedFault.TheVariants.{NoInput};
 ghost use Rattle.world.specs.WholeView.{closed_in, rooms_in, world_of};
 ghost use Rattle.live.specs.LiveViews.{closed_on, inputs_on, live_view, net_on, nodes_on, none_taken, rooms_on, stations_on, taken_of, world_on};
 ghost use Rattle.live.specs.Steps.{granted_job, next_node, ArePart, IsAdvance, IsLiveStep, IsTurn};
@@ -142,12 +143,13 @@ impl<C: SlotCell, O: Outlet> Live<C, O> {
         self.world.feed(alloc, input, items)
     }
 
-    /// Nothing comes on an input any more, as `World::close_input` has it.
+    /// Nothing comes on an input any more, as `World::close_input` has it. Refuses a channel that is no input (11).
     pub fn close_input(&mut self, input: u8) -> Result<(), FeedFault>
         ensures closed { OnOk result (closed_on self.new ≡ slice_set (closed_on self.old) input true) }
         ensures unchanged { OnErr result (closed_on self.new ≡ closed_on self.old) }
         ensures here { OnOk result (is_input (network_of (net_on self.old).value.program) input ≡ true) }
-        ensures refused { OnErr result (is_input (network_of (net_on self.old).value.program) input ≡ false) }
+        ensures refused { IfErr result (λ fault. (fault ≡ NoInput)
+            × (is_input (network_of (net_on self.old).value.program) input ≡ false)) }
         ensures same { (world_on self.new ≡ world_on self.old) × (stations_on self.new ≡ stations_on self.old)
             × (self.new.node ≡ self.old.node) × (self.new.out ≡ self.old.out)
             × (self.new.taken ≡ self.old.taken) }
@@ -213,6 +215,8 @@ impl<C: SlotCell, O: Outlet> Live<C, O> {
         ensures gone_on { HasGoneOn (world_on self.old) (world_on self.new) }
         // Where nothing is left to do, each output is its channel's whole stream in the least solution on the inputs so far.
         ensures whole { IfOk result (λ pause. pause ≡ Rests → AreWhole (world_on self.new)) }
+        // Nothing comes on an input meanwhile, and none is closed.
+        ensures inputs { (world_on self.new).inputs ≡ (world_on self.old).inputs }
         ensures same { (closed_on self.new ≡ closed_on self.old) × (self.new.taken ≡ self.old.taken) }
     {
         let nodes = self.world.nodes();

@@ -8,7 +8,7 @@ use Rattle.protocol_laws.specs.World.QuietLaws.{quiet_is_whole}
 use Rattle.world.specs.WholeView.{nodes_in, world_of}
 use Rattle.station.specs.StationView.{station_view}
 use Rattle.live.specs.LiveViews.{live_view, world_on}
-use Rattle.live.proofs.Advances.{steps_go_on, then_same}
+use Rattle.live.proofs.Advances.{inputs_stay, inputs_then_same, steps_go_on, then_same}
 use Rattle.live.proofs.live.Live.advance.Goals as goal
 
 pub returns-then-rests-clause-gone_on : goal.returns-then-rests-clause-gone_on
@@ -52,3 +52,23 @@ pub returns-else-rests-2-clause-gone_on : goal.returns-else-rests-2-clause-gone_
 returns-else-rests-2-clause-gone_on g c =
     then_same (world_on c.args.self.now) (live_view c.loop-step.self) (live_view c.rests-2.new.self)
     (steps_go_on _ _ _ _ (live_view c.loop-step.self) c.args.self.now.world.sound c.loop-step.invariant.made) c.rests-2.ensures.same.0
+
+pub returns-then-rests-clause-inputs : goal.returns-then-rests-clause-inputs
+returns-then-rests-clause-inputs g c =
+    inputs_then_same _ (live_view c.loop-step.self) (live_view c.rests.new.self)
+    (inputs_stay _ _ _ _ (live_view c.loop-step.self) c.loop-step.invariant.made) c.rests.ensures.same.0
+
+pub returns-in_err-step-clause-inputs : goal.returns-in_err-step-clause-inputs
+returns-in_err-step-clause-inputs g c =
+    inputs_then_same _ (live_view c.loop-step.self) (live_view c.step.new.self)
+    (inputs_stay _ _ _ _ (live_view c.loop-step.self) c.loop-step.invariant.made) (c.in_err-step.ensures.refused ∙ c.rests.ensures.same.0)
+
+pub returns-then-rests-2-clause-inputs : goal.returns-then-rests-2-clause-inputs
+returns-then-rests-2-clause-inputs g c =
+    inputs_then_same _ (live_view c.loop-step.self) (live_view c.rests-2.new.self)
+    (inputs_stay _ _ _ _ (live_view c.loop-step.self) c.loop-step.invariant.made) c.rests-2.ensures.same.0
+
+pub returns-else-rests-2-clause-inputs : goal.returns-else-rests-2-clause-inputs
+returns-else-rests-2-clause-inputs g c =
+    inputs_then_same _ (live_view c.loop-step.self) (live_view c.rests-2.new.self)
+    (inputs_stay _ _ _ _ (live_view c.loop-step.self) c.loop-step.invariant.made) c.rests-2.ensures.same.0

@@ -1,0 +1,3 @@
+mod Ported
+mod Saying
+mod Taking

@@ -1,0 +1,31 @@
+-- What was said stands in the log, and changes nothing of what came.
+use Rattle.std.proofs.Common.{◌≡◌, ◌∙◌, inr, List, ℕ, [], ◌∷◌, ◌++◌, Option, sym, append-nil}
+use Rattle.std.proofs.Math.Logic.{∥∥₁_map}
+use Rattle.std.specs.Prelude.{Ok, Err}
+use Rattle.host.specs.Answers.{Answer}
+use Rattle.host.specs.Requests.{Later, Request, Said}
+use Rattle.host.specs.Sources.{said_bytes}
+use Rattle.host.specs.declared.fault.HostFault.{HostFault}
+use Rattle.host_ports.specs.Ports.{PortsStand}
+use Rattle.host_ports.specs.declared.port.Port.{Port}
+
+-- all that waited was said, and nothing waits
+pub said_all : (all text left : List ℕ) (e now : List Request) → now ≡ Said text (Ok tt) ∷ e → left ≡ []
+    → all ≡ said_bytes e ++ text → all ≡ said_bytes now ++ left
+said_all all text left e now asked none spoken =
+    rw (asked, none) (spoken ∙ sym (append-nil (said_bytes e ++ text)))
+
+-- what couldn't be said waits
+pub said_nothing : (all text : List ℕ) (fault : HostFault) (said : List ℕ) (e now : List Request) → now ≡ Said said (Err fault) ∷ e
+    → all ≡ said_bytes e ++ text → all ≡ said_bytes now ++ text
+said_nothing all text fault said e now asked spoken = rw asked spoken
+
+pub stand_said : {S : Type 0} (source_number : S → ℕ) (ports : List (Option (Port S))) (text : List ℕ) (answer : Answer)
+    (e now : List Request) → now ≡ Said text answer ∷ e → PortsStand source_number e ports → PortsStand source_number now ports
+stand_said {S} source_number ports text answer e now asked stand =
+    rw asked (λ input port here. let is = stand input port here in
+    record { number = is.number; stands = record { ended = is.stands.ended; read = is.stands.read } })
+
+-- what was asked before was asked still, behind one request more
+pub one_later : (first e now : List Request) (r : Request) → now ≡ r ∷ e → ∥ Later first e ∥₁ → ∥ Later first now ∥₁
+one_later first e now r asked later = rw asked (∥∥₁_map later (λ were one had. inr (were one had)))

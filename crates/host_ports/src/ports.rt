@@ -1,0 +1,164 @@
+//! The streams of a network on its host.
+
+ghost use Rattle.std.specs.Prelude.{◌≡◌, ◌++◌, ◌∷◌, [], ℕ, List, IfErr, OnErr, OnOk, Option, Some, None, option_map, slice_get};
+ghost use Rattle.host.specs.Requests.{Later};
+ghost use Rattle.host.specs.Sources.{has_ended, said_bytes};
+ghost use Rattle.sector_disk.specs.Past.{states_of};
+ghost use Rattle.host_ports.specs.Ports.{IsPortFault, PortsStand, is_at_end, items_from};
+ghost use Rattle.host_ports.specs.Speaking.{departures_text};
+
+use crate::fault::PortFault;
+use crate::port::{Port, goes_on, read_answer};
+use crate::speaking::speak;
+use host::Host;
+use net_text::Name;
+use outside::{Departure, Outside};
+use sector_disk::Past;
+use std::alloc::Global;
+use std::snapshot::Snapshot;
+
+/// What stays as it is while streams go on.
+#[derive(Drop)]
+pub struct Fixed<'a, H> {
+    /// The names of the channels, where a line says by which output an item left.
+    pub names: Option<&'a [Name]>,
+    /// The host when they began. At run time there is nothing of it.
+    pub begun: Snapshot<H>,
+}
+
+/// The sources of a network's inputs, and the one output of the host to which all leaves.
+pub struct Ports<'a, H: Host> {
+    host: H,
+    // By the number of the input; nothing where it has no source.
+    ports: Vec<Option<Port<H::Source>>>,
+    fixed: Fixed<'a, H>,
+    // What was put out, and wasn't said yet.
+    text: Vec<u8>,
+    // Room for one more line.
+    line: String,
+    // What came of a source last.
+    piece: Vec<u8>,
+    put: Past<Departure>,
+    pub ghost spoken: { departures_text (option_map (λ names. names.now) fixed.names) (states_of put)
+        ≡ said_bytes (H.asked host) ++ text.items },
+    // What was asked before was asked still.
+    pub ghost later: { ∥ Later (H.asked fixed.begun.value) (H.asked host) ∥₁ },
+    pub ghost stand: { PortsStand H.source_number (H.asked host) ports.items },
+}
+
+impl<'a, H: Host> Ports<'a, H> {
+    /// These sources, of which nothing was taken yet, and a host that said nothing yet. Where names are given each line has that of its output.
+    pub fn new(
+        alloc: Global,
+        host: H,
+        ports: Vec<Option<Port<H::Source>>>,
+        names: Option<&'a [Name]>,
+    ) -> Ports<'a, H>
+        requires silent { said_bytes (H.asked host) ≡ [] }
+        requires stand { PortsStand H.source_number (H.asked host) ports.items }
+        ensures host { result.host ≡ host }
+        ensures ports { result.ports.items ≡ ports.items }
+        ensures none { states_of result.put ≡ [] }
+        ensures fixed { (result.fixed.begun.value ≡ host)
+            × (option_map (λ names. names.now) result.fixed.names ≡ option_map (λ names. names.now) names.entry) }
+    {
+        let begun = Snapshot::of(&host);
+        Ports {
+            host,
+            ports,
+            fixed: Fixed { names, begun },
+            text: Vec::new(alloc),
+            line: String::new(alloc),
+            piece: Vec::new(alloc),
+            put: Past::new(),
+        }
+    }
+
+    /// Its host.
+    pub fn into_host(self) -> H
+        ensures { result ≡ self.entry.host }
+    {
+        let Ports {
+            host,
+            ports,
+            fixed,
+            text,
+            line,
+            piece,
+            put,
+        } = self;
+        host
+    }
+}
+
+impl<'a, H: Host> Outside for Ports<'a, H> {
+    type Fault = PortFault;
+
+    type Fixed = Fixed<'a, H>;
+
+    ghost fixed = { λ ports. ports.fixed };
+
+    ghost came = { λ ports input. items_from input (H.asked ports.host) };
+
+    ghost has_ended = { λ ports input. is_at_end (slice_get ports.ports.items input) (has_ended input (H.asked ports.host)) };
+
+    ghost left = { λ ports. states_of ports.put };
+
+    ghost has_failed = { λ ports fault. IsPortFault (H.asked ports.host) fault };
+
+    fn take(&mut self, alloc: Global, input: u8, items: &mut Vec<i64>) -> Result<bool, PortFault> {
+        items.clear();
+        let Ports {
+            host,
+            ports,
+            piece,
+            ..
+        } = self;
+        let number = usize::from(input);
+        if number >= ports.len() {
+            return Ok(false);
+        }
+        match goes_on(input, &ports[number]) {
+            Ok(true) => {}
+            Ok(false) => return Ok(false),
+            Err(fault) => return Err(fault),
+        }
+        let Some(port) = ports[number].take() else {
+            unreachable!();
+        };
+        let mut port = port;
+        let answer = host.take(&mut port.source, piece);
+        let taken = read_answer(input, &mut port, answer, piece, items);
+        ports[number] = Some(port);
+        taken
+    }
+
+    fn put(&mut self, alloc: Global, departure: Departure) -> Result<(), PortFault> {
+        let Ports {
+            fixed,
+            text,
+            line,
+            put,
+            ..
+        } = self;
+        if speak(text, line, fixed.names, departure).is_err() {
+            return Err(PortFault::NoMemory);
+        }
+        put.note(&departure);
+        Ok(())
+    }
+
+    fn flush(&mut self) -> Result<(), PortFault> {
+        let Ports { host, text, .. } = self;
+        if text.is_empty() {
+            return Ok(());
+        }
+        match host.say(text) {
+            Ok(()) => {
+                text.clear();
+                Ok(())
+            }
+            Err(_) => Err(PortFault::Unsaid),
+        }
+    }
+}

@@ -1,0 +1,2 @@
+mod Preparing
+mod Right

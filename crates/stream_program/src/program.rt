@@ -1,0 +1,439 @@
+//! The whole streaming program over its host.
+
+ghost use Rattle.std.specs.Prelude.{◌≡◌, ◌≢◌, ◌≤◌, ◌++◌, [], ℕ, IfErr, IfOk, IsTrue, None, Ok, OnOk, Some, length, option_map, replicate, string_bytes};
+ghost use Rattle.host.specs.Requests.{Has, Read};
+ghost use Rattle.host.specs.Sources.{said_bytes};
+ghost use Rattle.host_ports.specs.Ports.{PortIsFor, PortsStand};
+ghost use Rattle.protocol.specs.Node.Common.{Fits, network_of};
+ghost use Rattle.kahn_net.specs.declared.limits.TheConstants.{MAX_CHANNELS};
+ghost use Rattle.live.specs.LiveViews.{closed_on, none_taken, world_on};
+ghost use Rattle.world.specs.Feeding.{is_input, none_closed};
+ghost use Rattle.cobaltmidge.specs.Names.{IsInputNamed};
+ghost use Rattle.stream_program.specs.Causes.{IsTextUnread, failure_of, opening_failure};
+ghost use Rattle.stream_program.specs.Streamed.{AreInputsRead, HasEnded, IsFresh, IsNetRead, IsPreparing, IsStreamed, IsUntaken, line_if_input, no_items};
+ghost use Rattle.stream_program.specs.declared.failure.StreamFailure.TheVariants.{Missing, Refused};
+
+use crate::failure::StreamFailure;
+use cobaltmidge::{Error, MemDisk, Network, RunWorld, SplitCell};
+use host::{Host, HostFault};
+use host_ports::{Port, PortFault, Ports};
+use item_text::ItemReader;
+use kahn_net::{Channel, MAX_CHANNELS, Port as End};
+use kahn_program::{Failure, Source, read_inputs, read_net};
+use live::Live;
+use net_check::{Inputs, Net};
+use net_text::Name;
+use outlet::ListOutlet;
+use std::alloc::{AllocError, Global};
+use std::sync::Arc;
+use stream_run::{Stopped, stream};
+use stream_words::{InputSource, StreamOptions};
+
+// There is no memory.
+const NO_MEMORY: StreamFailure = StreamFailure::Text(Failure::NoMemory);
+
+// The bytes of a text.
+fn read_text<H: Host>(host: &mut H, source: Source, path: &String) -> Result<Vec<u8>, StreamFailure>
+    ensures prepares { IsPreparing (H.asked host.old) (H.asked host.new) }
+    ensures read { IfOk result (λ bytes. Has (Read (string_bytes path.now) (Ok bytes.items)) (H.asked host.new)) }
+    ensures unread { IfErr result (IsTextUnread source (string_bytes path.now) (H.asked host.new)) }
+{
+    match host.read(path) {
+        Ok(bytes) => Ok(bytes),
+        Err(HostFault::NoMemory) => Err(NO_MEMORY),
+        Err(_) => Err(StreamFailure::Text(Failure::Unreadable(source))),
+    }
+}
+
+// The network of a text.
+fn read_network<H: Host>(
+    alloc: Global,
+    host: &mut H,
+    path: &String,
+) -> Result<Network, StreamFailure>
+    ensures prepares { IsPreparing (H.asked host.old) (H.asked host.new) }
+    ensures net { IfOk result (λ network. IsNetRead (string_bytes path.now) network.net.value (H.asked host.new)) }
+{
+    let text = read_text(host, Source::Net, path)?;
+    let net = match read_net(alloc, text.as_slice()) {
+        Ok(net) => net,
+        Err(failure) => return Err(StreamFailure::Text(failure)),
+    };
+    match Arc::new(alloc, net) {
+        Ok(net) => Ok(Network { net }),
+        Err(_) => Err(NO_MEMORY),
+    }
+}
+
+// Whether a channel is an input.
+fn is_input(net: &Net, number: usize) -> bool
+    ensures { result ≡ is_input (network_of net.now.program) number }
+{
+    match net.program.channels.get(number) {
+        Some(channel) => match channel.producer {
+            End::Outside => true,
+            End::Process(_) => false,
+        },
+        None => false,
+    }
+}
+
+// How many outputs a network has.
+fn output_count(net: &Net) -> usize {
+    let mut count = 0;
+    for channel in &net.program.channels {
+        if let End::Outside = channel.consumer {
+            count += 1;
+        }
+    }
+    count
+}
+
+// Adds a line without items, where the channel is an input.
+fn add_line(text: &mut String, channel: &Channel, name: &Name) -> Result<(), AllocError>
+    ensures { OnOk result (string_bytes text.new ≡ string_bytes text.old ++ line_if_input channel.now.producer name.now []) }
+{
+    if let End::Outside = channel.producer {
+        text.push_str(name.as_str())?;
+        text.push_str(":\n")?;
+    }
+    Ok(())
+}
+
+// A text of the inputs that has a line for each, without an item.
+fn no_items(alloc: Global, channels: &[Channel], names: &[Name]) -> Result<Vec<u8>, AllocError>
+    requires { length names.now ≡ length channels.now }
+    ensures { IfOk result (λ text. text.items ≡ no_items channels.now names.now) }
+{
+    let mut text = String::new(alloc);
+    for (number, channel) in channels.iter().enumerate() {
+        add_line(&mut text, channel, &names[number])?;
+    }
+    Ok(text.into_bytes())
+}
+
+// The items with which the inputs begin: those of their text, and else none.
+fn first_inputs<H: Host>(
+    alloc: Global,
+    host: &mut H,
+    options: &StreamOptions,
+    net: &Net,
+) -> Result<Inputs, StreamFailure>
+    ensures prepares { IsPreparing (H.asked host.old) (H.asked host.new) }
+    ensures first { IfOk result (λ inputs. AreInputsRead (option_map string_bytes options.now.inputs) net.now inputs (H.asked host.new)) }
+    ensures fitting { IfOk result (Fits (network_of net.now.program)) }
+{
+    let text = match &options.inputs {
+        Some(path) => read_text(host, Source::Inputs, path)?,
+        None => match no_items(alloc, &net.program.channels, &net.channel_names) {
+            Ok(text) => text,
+            Err(_) => return Err(NO_MEMORY),
+        },
+    };
+    match read_inputs(alloc, text.as_slice(), net) {
+        Ok(inputs) => Ok(inputs),
+        Err(failure) => Err(StreamFailure::Text(failure)),
+    }
+}
+
+// The input of a source.
+fn input_of_source(
+    network: &Network,
+    place: usize,
+    source: &InputSource,
+) -> Result<u8, StreamFailure>
+    ensures number { IfOk result (IsInputNamed network.now.net.value (string_bytes source.now.input)) }
+    ensures unknown { IfErr result (λ failure. (failure ≡ Refused place 11)
+        × ((number : ℕ) → IsInputNamed network.now.net.value (string_bytes source.now.input) number → ⊥)) }
+{
+    match network.input(source.input.as_str()) {
+        Some(number) => Ok(number),
+        None => Err(StreamFailure::Refused { place, number: 11 }),
+    }
+}
+
+// The inputs of the sources, in order.
+fn inputs_of_sources(
+    alloc: Global,
+    network: &Network,
+    sources: &[InputSource],
+) -> Result<Vec<u8>, StreamFailure>
+    ensures each { IfOk result (λ numbers. length numbers.items ≡ length sources.now) }
+{
+    let mut numbers: Vec<u8> = Vec::new(alloc);
+    for (place, source) in sources.iter().enumerate() {
+        let number = input_of_source(network, place, source)?;
+        if numbers.contains(&number) {
+            return Err(StreamFailure::Refused { place, number: 10 });
+        }
+        if numbers.push(number).is_err() {
+            return Err(NO_MEMORY);
+        }
+    }
+    Ok(numbers)
+}
+
+// Refuses an input without a source, where no text gives its items.
+fn check_given(options: &StreamOptions, net: &Net, numbers: &[u8]) -> Result<(), StreamFailure>
+    ensures missing { IfErr result (λ failure. (input : ℕ) × (failure ≡ Missing input)
+        × IsTrue (is_input (network_of net.now.program) input) × (options.now.inputs ≡ None)) }
+{
+    if options.inputs.is_some() {
+        return Ok(());
+    }
+    for number in 0..MAX_CHANNELS {
+        if is_input(net, number) && !numbers.contains(&(number as u8)) {
+            return Err(StreamFailure::Missing {
+                input: number as u8,
+            });
+        }
+    }
+    Ok(())
+}
+
+// So many channels without a source.
+fn no_ports<S: Drop>(alloc: Global) -> Result<Vec<Option<Port<S>>>, AllocError>
+    ensures { IfOk result (λ ports. ports.items ≡ replicate MAX_CHANNELS None) }
+{
+    let mut ports = Vec::with_capacity(alloc, MAX_CHANNELS)?;
+    for _ in 0..MAX_CHANNELS {
+        ports.push(None)?;
+    }
+    Ok(ports)
+}
+
+// A source at its beginning.
+fn open_port<H: Host>(
+    host: &mut H,
+    input: u8,
+    path: &String,
+) -> Result<Port<H::Source>, StreamFailure>
+    requires untaken { IsUntaken (H.asked host.old) input }
+    ensures prepares { IsPreparing (H.asked host.old) (H.asked host.new) }
+    ensures port { IfOk result (PortIsFor H.source_number (H.asked host.new) input) }
+{
+    match host.open_source(input, path) {
+        Ok(source) => Ok(Port {
+            source,
+            reader: ItemReader::new(),
+            has_ended: false,
+            is_lost: false,
+        }),
+        Err(HostFault::NoMemory) => Err(NO_MEMORY),
+        Err(_) => Err(StreamFailure::Port(PortFault::Unread { input })),
+    }
+}
+
+// The sources of the inputs, by their numbers.
+fn open_ports<H: Host>(
+    alloc: Global,
+    host: &mut H,
+    sources: &[InputSource],
+    numbers: &[u8],
+) -> Result<Vec<Option<Port<H::Source>>>, StreamFailure>
+    requires fresh { IsFresh (H.asked host.old) }
+    requires each { length numbers.now ≡ length sources.now }
+    ensures prepares { IsPreparing (H.asked host.old) (H.asked host.new) }
+    ensures stand { IfOk result (λ ports. PortsStand H.source_number (H.asked host.new) ports.items) }
+{
+    let Ok(mut ports) = no_ports(alloc) else {
+        return Err(NO_MEMORY);
+    };
+    for (place, number) in numbers.iter().enumerate() {
+        let port = open_port(host, *number, &sources[place].path)?;
+        ports[usize::from(*number)] = Some(port);
+    }
+    Ok(ports)
+}
+
+// What it comes to that a network can't be opened.
+fn opening_failure(error: Error) -> Failure
+    ensures { result ≡ opening_failure error }
+{
+    match error {
+        Error::NoMemory => Failure::NoMemory,
+        _ => Failure::Other {
+            number: error.number(),
+        },
+    }
+}
+
+// The network at work before its first step, with the room that is asked for.
+fn open_live(
+    alloc: Global,
+    network: &Network,
+    inputs: Inputs,
+    room: u64,
+) -> Result<Live<SplitCell<MemDisk>, ListOutlet>, StreamFailure>
+    requires fitting { Fits (network_of network.now.net.value.program) inputs }
+    ensures world { IfOk result (λ live. ((world_on live).net ≡ network_of network.now.net.value.program)
+        × ((world_on live).inputs ≡ inputs)) }
+    ensures fresh { IfOk result (λ live. (live.taken ≡ none_taken) × (closed_on live ≡ none_closed)) }
+{
+    let mut world: RunWorld<ListOutlet> = match network.open(alloc, inputs) {
+        Ok(world) => world,
+        Err(error) => return Err(StreamFailure::Text(opening_failure(error))),
+    };
+    // The command line has no number that is out of range.
+    let _ = world.set_room(room as usize);
+    Ok(Live::new(world))
+}
+
+// What a stopped run comes to.
+fn failure_of(stopped: Stopped<PortFault>) -> StreamFailure
+    ensures { result ≡ failure_of stopped }
+{
+    match stopped {
+        Stopped::NoMemory => NO_MEMORY,
+        Stopped::Full => StreamFailure::Full,
+        Stopped::Outside(fault) => StreamFailure::Port(fault),
+    }
+}
+
+/// A network that is about to run, and the sources of its inputs.
+struct Begun<S: Drop> {
+    live: Live<SplitCell<MemDisk>, ListOutlet>,
+    ports: Vec<Option<Port<S>>>,
+}
+
+// Opens a network and the sources of its inputs, once the texts are read and accepted.
+fn begin<H: Host>(
+    alloc: Global,
+    host: &mut H,
+    options: &StreamOptions,
+    network: &Network,
+) -> Result<Begun<H::Source>, StreamFailure>
+    requires fresh { IsFresh (H.asked host.old) }
+    ensures prepares { IsPreparing (H.asked host.old) (H.asked host.new) }
+    ensures net { IfOk result (λ begun. (world_on begun.live).net ≡ network_of network.now.net.value.program) }
+    ensures first { IfOk result (λ begun. AreInputsRead (option_map string_bytes options.now.inputs) network.now.net.value
+        (world_on begun.live).inputs (H.asked host.new)) }
+    ensures untouched { IfOk result (λ begun. (begun.live.taken ≡ none_taken) × (closed_on begun.live ≡ none_closed)) }
+    ensures stand { IfOk result (λ begun. PortsStand H.source_number (H.asked host.new) begun.ports.items) }
+{
+    if options.bare && output_count(&network.net) != 1 {
+        return Err(StreamFailure::NotOne);
+    }
+    let numbers = inputs_of_sources(alloc, network, &options.sources)?;
+    check_given(options, &network.net, &numbers)?;
+    let inputs = first_inputs(alloc, host, options, &network.net)?;
+    let live = open_live(alloc, network, inputs, options.room)?;
+    let ports = open_ports(alloc, host, &options.sources, &numbers)?;
+    Ok(Begun { live, ports })
+}
+
+// Tells why the streams ended early, and gives the exit status: 1 where it can't be told.
+fn tell<H: Host>(
+    alloc: Global,
+    host: &mut H,
+    failure: StreamFailure,
+    names: &[Name],
+    sources: &[InputSource],
+) -> u8
+    ensures prepares { IsPreparing (H.asked host.old) (H.asked host.new) }
+    ensures status { (1 ≤ result) × (result ≤ 2) }
+{
+    let Ok(line) = failure.line(alloc, names, sources) else {
+        return 1;
+    };
+    match host.tell(&line.into_bytes()) {
+        Ok(()) => failure.status(),
+        Err(_) => 1,
+    }
+}
+
+// Tells that all has come and left. That it can't be told is no failure of the run.
+fn tell_complete<H: Host>(alloc: Global, host: &mut H) -> u8
+    ensures prepares { IsPreparing (H.asked host.old) (H.asked host.new) }
+    ensures status { result ≡ 0 }
+{
+    if let Ok(line) = String::from_str(alloc, "complete\n") {
+        let _ = host.tell(&line.into_bytes());
+    }
+    0
+}
+
+// Runs a network between its sources and standard output.
+fn run<H: Host>(
+    alloc: Global,
+    host: H,
+    options: &StreamOptions,
+    network: &Network,
+    begun: Begun<H::Source>,
+) -> (Result<(), Stopped<PortFault>>, H)
+    requires fresh { IsFresh (H.asked host) }
+    requires silent { said_bytes (H.asked host) ≡ [] }
+    requires net_read { IsNetRead (string_bytes options.now.net) network.now.net.value (H.asked host) }
+    requires net { (world_on begun.live).net ≡ network_of network.now.net.value.program }
+    requires first { AreInputsRead (option_map string_bytes options.now.inputs) network.now.net.value (world_on begun.live).inputs (H.asked host) }
+    requires untouched { (begun.live.taken ≡ none_taken) × (closed_on begun.live ≡ none_closed) }
+    requires stand { PortsStand H.source_number (H.asked host) begun.ports.items }
+    ensures right { ∥ IsStreamed options.now (H.asked result.1) ∥₁ }
+    ensures ended { OnOk result.0 (∥ HasEnded options.now (H.asked result.1) ∥₁) }
+{
+    let Begun { live, ports } = begun;
+    let mut live = live;
+    let names = if options.bare {
+        None
+    } else {
+        Some(network.net.channel_names.as_slice())
+    };
+    let mut ports = Ports::new(alloc, host, ports, names);
+    let ended = stream(alloc, &mut live, &mut ports);
+    (ended, ports.into_host())
+}
+
+// The streaming program, once its network is read.
+fn main_of_network<H: Host>(
+    alloc: Global,
+    host: H,
+    options: &StreamOptions,
+    network: &Network,
+) -> (u8, H)
+    requires fresh { IsFresh (H.asked host) }
+    requires silent { said_bytes (H.asked host) ≡ [] }
+    requires net_read { IsNetRead (string_bytes options.now.net) network.now.net.value (H.asked host) }
+    ensures status { result.0 ≤ 2 }
+    ensures right { ∥ IsStreamed options.now (H.asked result.1) ∥₁ }
+    ensures ended { result.0 ≡ 0 → ∥ HasEnded options.now (H.asked result.1) ∥₁ }
+{
+    let mut host = host;
+    let names = network.net.channel_names.as_slice();
+    let sources = options.sources.as_slice();
+    match begin(alloc, &mut host, options, network) {
+        Ok(begun) => {
+            let (ended, host) = run(alloc, host, options, network, begun);
+            let mut host = host;
+            let status = match ended {
+                Ok(()) => tell_complete(alloc, &mut host),
+                Err(stopped) => tell(alloc, &mut host, failure_of(stopped), names, sources),
+            };
+            (status, host)
+        }
+        Err(failure) => {
+            let status = tell(alloc, &mut host, failure, names, sources);
+            (status, host)
+        }
+    }
+}
+
+/// The whole streaming program over its host, as the options say, and its exit status: 0 where each input came to its end and all that can
+/// leave has left, 2 where a text, an item or the command line is refused, 1 for any other failure. The host comes back.
+pub fn main_of<H: Host>(alloc: Global, host: H, options: &StreamOptions) -> (u8, H)
+    requires { H.asked host ≡ [] }
+    ensures status { result.0 ≤ 2 }
+    // What was said is right, wherever it ended: the lines of each output's items are a prefix of its channel's history in some approximation
+    // on what came so far.
+    ensures right { ∥ IsStreamed options.now (H.asked result.1) ∥₁ }
+    // Where the status is 0 all came to its end, and each output was said whole: its channel's stream in the least solution on all that came.
+    ensures ended { result.0 ≡ 0 → ∥ HasEnded options.now (H.asked result.1) ∥₁ }
+{
+    let mut host = host;
+    match read_network(alloc, &mut host, &options.net) {
+        Ok(network) => main_of_network(alloc, host, options, &network),
+        Err(failure) => {
+            let status = tell(alloc, &mut host, failure, &[], options.sources.as_slice());
+            (status, host)
+        }
+    }
+}

@@ -1,0 +1,21 @@
+-- Why streams end before their end.
+use Rattle.std.specs.Prelude.{◌≡◌, ◌<◌, ◌+◌, ℕ, ℤ, List, IsTrue, length}
+use Rattle.kahn_net.specs.declared.limits.TheConstants.{MAX_COUNT}
+use Rattle.protocol.specs.Node.Common.{history_of}
+use Rattle.protocol.specs.World.Common.{WorldView}
+use Rattle.world.specs.Feeding.{is_input}
+use Rattle.stream_run.specs.declared.stopped.Stopped.{Stopped}
+use Rattle.stream_run.specs.declared.stopped.Stopped.TheVariants.{NoMemory, Full, Outside}
+
+-- an input would have more items than a count goes, by these that came
+pub record IsOverfull (world : WorldView) : Type 0 where
+  pub input : ℕ
+  pub items : List ℤ
+  pub here : IsTrue (is_input world.net input)
+  pub many : MAX_COUNT < length (history_of world.inputs input) + length items
+
+-- Memory is missing; an input is full; or what lies outside failed, for this reason.
+abbrev pub IsStop : {F : Type 0} → (F → Type 0) → WorldView → Stopped F → Type 0
+IsStop failed world NoMemory = Unit {0}
+IsStop failed world Full = IsOverfull world
+IsStop failed world (Outside fault) = failed fault

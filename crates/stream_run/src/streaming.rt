@@ -1,0 +1,222 @@
+//! A network at work between the streams outside of it.
+
+ghost use Rattle.std.specs.Prelude.{◌≡◌, ◌≢◌, ◌<◌, ℕ, IsTrue, slice_get, length, false, true, IfErr, IfOk, OnErr, OnOk};
+ghost use Rattle.growing.specs.WhateverComes.{HasGoneOn};
+ghost use Rattle.kahn_net.specs.declared.limits.TheConstants.{MAX_CHANNELS};
+ghost use Rattle.protocol.specs.Node.Common.{network_of};
+ghost use Rattle.protocol.specs.World.Quiet.{AreWhole};
+ghost use Rattle.world.specs.Feeding.{is_input, none_closed};
+ghost use Rattle.live.specs.LiveViews.{closed_on, stations_on, taken_of, world_on};
+ghost use Rattle.outside.specs.Departures.{items_by};
+ghost use Rattle.stream_run.specs.Linked.{AreAllPut, AreEnded, AreFedAll, AreFedInPart, IsPutAsTaken, IsPutInPart, IsPutWhole, is_output};
+ghost use Rattle.stream_run.specs.Stops.{IsStop};
+
+use crate::stopped::Stopped;
+use kahn_net::{MAX_CHANNELS, Port};
+use live::{Live, Pause};
+use outlet::Outlet;
+use outside::{Departure, Outside};
+use slot_cell::SlotCell;
+use std::alloc::Global;
+use world::FeedFault;
+
+/// After so many steps of a network that goes on what has left is put out.
+const STEPS: u64 = 4_096;
+
+// Whether a channel of the network is an input.
+fn is_input<C: SlotCell, O: Outlet>(live: &Live<C, O>, number: usize) -> bool
+    ensures { result ≡ is_input (world_on live.now).net number }
+{
+    match live.world().net().program.channels.get(number) {
+        Some(channel) => match channel.producer {
+            Port::Outside => true,
+            Port::Process(_) => false,
+        },
+        None => false,
+    }
+}
+
+// Whether it is an output.
+fn is_output<C: SlotCell, O: Outlet>(live: &Live<C, O>, number: usize) -> bool
+    ensures { result ≡ is_output (world_on live.now).net number }
+{
+    match live.world().net().program.channels.get(number) {
+        Some(channel) => match channel.consumer {
+            Port::Outside => true,
+            Port::Process(_) => false,
+        },
+        None => false,
+    }
+}
+
+// Puts out what has left by an output and wasn't put out yet.
+fn put_items<C: SlotCell, O: Outlet, X: Outside>(
+    alloc: Global,
+    live: &mut Live<C, O>,
+    outside: &mut X,
+    output: u8,
+) -> Result<(), X::Fault>
+    requires { IsPutAsTaken (X.left outside.old) (taken_of live.old) (world_on live.old) }
+    ensures put { OnOk result (IsPutAsTaken (X.left outside.new) (taken_of live.new) (world_on live.new)) }
+    ensures whole { OnOk result (IsPutWhole (X.left outside.new) (world_on live.new) output) }
+    ensures part { IsPutInPart (X.left outside.new) (world_on live.new) }
+    ensures others { (other : ℕ) → other ≢ output
+        → items_by other (X.left outside.new) ≡ items_by other (X.left outside.old) }
+    ensures same { (live.new.world ≡ live.old.world) × ((input : ℕ)
+        → (X.came outside.new input ≡ X.came outside.old input)
+        × (X.has_ended outside.new input ≡ X.has_ended outside.old input)) }
+    ensures failed { IfErr result (X.has_failed outside.new) }
+{
+    'items: loop {
+        let Some(item) = live.next(output) else {
+            return Ok(());
+        };
+        outside.put(alloc, Departure { output, item })?;
+    }
+}
+
+// Puts out what has left by all outputs and wasn't put out yet.
+fn put_all<C: SlotCell, O: Outlet, X: Outside>(
+    alloc: Global,
+    live: &mut Live<C, O>,
+    outside: &mut X,
+) -> Result<(), X::Fault>
+    requires { IsPutAsTaken (X.left outside.old) (taken_of live.old) (world_on live.old) }
+    ensures put { OnOk result (IsPutAsTaken (X.left outside.new) (taken_of live.new) (world_on live.new)) }
+    ensures whole { OnOk result (AreAllPut (X.left outside.new) (world_on live.new)) }
+    ensures part { IsPutInPart (X.left outside.new) (world_on live.new) }
+    ensures same { (live.new.world ≡ live.old.world) × ((input : ℕ)
+        → (X.came outside.new input ≡ X.came outside.old input)
+        × (X.has_ended outside.new input ≡ X.has_ended outside.old input)) }
+    ensures failed { IfErr result (X.has_failed outside.new) }
+{
+    for number in 0..MAX_CHANNELS {
+        if is_output(live, number) {
+            put_items(alloc, live, outside, number as u8)?;
+        }
+    }
+    Ok(())
+}
+
+// The network goes on until nothing is left to do on what came so far, and all that has left is put out.
+fn work_off<C: SlotCell, O: Outlet, X: Outside>(
+    alloc: Global,
+    live: &mut Live<C, O>,
+    outside: &mut X,
+) -> Result<(), Stopped<X::Fault>>
+    requires { IsPutAsTaken (X.left outside.old) (taken_of live.old) (world_on live.old) }
+    ensures put { OnOk result (IsPutAsTaken (X.left outside.new) (taken_of live.new) (world_on live.new)) }
+    ensures closed { closed_on live.new ≡ closed_on live.old }
+    ensures all { OnOk result (AreAllPut (X.left outside.new) (world_on live.new)) }
+    ensures whole { OnOk result (AreWhole (world_on live.new)) }
+    ensures part { IsPutInPart (X.left outside.new) (world_on live.new) }
+    ensures gone_on { HasGoneOn (world_on live.old) (world_on live.new) }
+    ensures inputs { (world_on live.new).inputs ≡ (world_on live.old).inputs }
+    ensures same { (input : ℕ) → (X.came outside.new input ≡ X.came outside.old input)
+        × (X.has_ended outside.new input ≡ X.has_ended outside.old input) }
+    ensures failed { IfErr result (IsStop (X.has_failed outside.new) (world_on live.new)) }
+{
+    'steps: loop {
+        let pause = live.advance(alloc, STEPS)?;
+        if let Err(fault) = put_all(alloc, live, outside) {
+            return Err(Stopped::Outside(fault));
+        }
+        if let Pause::Rests = pause {
+            return match outside.flush() {
+                Ok(()) => Ok(()),
+                Err(fault) => Err(Stopped::Outside(fault)),
+            };
+        }
+    }
+}
+
+// Takes what comes next by an input, and feeds it. Whether more may come.
+fn feed_next<C: SlotCell, O: Outlet, X: Outside>(
+    alloc: Global,
+    live: &mut Live<C, O>,
+    outside: &mut X,
+    input: u8,
+    items: &mut Vec<i64>,
+) -> Result<bool, Stopped<X::Fault>>
+    requires here { IsTrue (is_input (world_on live.old).net input) }
+    requires open { closed_on live.old ≡ none_closed }
+    ensures fed { OnOk result (AreFedAll (X.came outside.old) (X.came outside.new) (world_on live.old) (world_on live.new)) }
+    ensures part { AreFedInPart (X.came outside.old) (X.came outside.new) (world_on live.old) (world_on live.new) }
+    ensures end { IfOk result (λ more. more ≡ false → X.has_ended outside.new input ≡ true) }
+    ensures others { (other : ℕ) → other ≢ input → X.has_ended outside.new other ≡ X.has_ended outside.old other }
+    ensures same { (X.left outside.new ≡ X.left outside.old) × (live.new.taken ≡ live.old.taken)
+        × (closed_on live.new ≡ closed_on live.old) × (stations_on live.new ≡ stations_on live.old) }
+    ensures gone_on { HasGoneOn (world_on live.old) (world_on live.new) }
+    ensures failed { IfErr result (IsStop (X.has_failed outside.new) (world_on live.new)) }
+{
+    let more = match outside.take(alloc, input, items) {
+        Ok(more) => more,
+        Err(fault) => return Err(Stopped::Outside(fault)),
+    };
+    match live.feed(alloc, input, items.as_slice()) {
+        Ok(()) => Ok(more),
+        Err(FeedFault::NoMemory) => Err(Stopped::NoMemory),
+        Err(_) => Err(Stopped::Full),
+    }
+}
+
+// Takes what comes next by each input, one after another. Whether more may come by any of them.
+fn feed_all<C: SlotCell, O: Outlet, X: Outside>(
+    alloc: Global,
+    live: &mut Live<C, O>,
+    outside: &mut X,
+    items: &mut Vec<i64>,
+) -> Result<bool, Stopped<X::Fault>>
+    requires open { closed_on live.old ≡ none_closed }
+    ensures fed { OnOk result (AreFedAll (X.came outside.old) (X.came outside.new) (world_on live.old) (world_on live.new)) }
+    ensures part { AreFedInPart (X.came outside.old) (X.came outside.new) (world_on live.old) (world_on live.new) }
+    ensures end { IfOk result (λ more. more ≡ false
+        → AreEnded (world_on live.new).net (X.has_ended outside.new)) }
+    ensures same { (X.left outside.new ≡ X.left outside.old) × (live.new.taken ≡ live.old.taken)
+        × (closed_on live.new ≡ closed_on live.old) × (stations_on live.new ≡ stations_on live.old) }
+    ensures gone_on { HasGoneOn (world_on live.old) (world_on live.new) }
+    ensures failed { IfErr result (IsStop (X.has_failed outside.new) (world_on live.new)) }
+{
+    let mut any = false;
+    for number in 0..MAX_CHANNELS {
+        if is_input(live, number) {
+            let more = feed_next(alloc, live, outside, number as u8, items)?;
+            any = any || more;
+        }
+    }
+    Ok(any)
+}
+
+/// Runs a network between what lies outside of it, until each of its inputs has come to its end and nothing is left to do.
+///
+/// It goes on until nothing is left to do on what came so far, puts out what has left, and then takes what comes next, by each input that may
+/// have more. Where it ends early, for want of memory, because an input is full, or because what lies outside failed, what was put out by then
+/// stands.
+pub fn stream<C: SlotCell, O: Outlet, X: Outside>(
+    alloc: Global,
+    live: &mut Live<C, O>,
+    outside: &mut X,
+) -> Result<(), Stopped<X::Fault>>
+    requires put { IsPutAsTaken (X.left outside.old) (taken_of live.old) (world_on live.old) }
+    requires open { closed_on live.old ≡ none_closed }
+    // Each input came to its end, all that came by it was fed, and nothing else.
+    ensures ended { OnOk result (AreEnded (world_on live.new).net (X.has_ended outside.new)) }
+    ensures fed { OnOk result (AreFedAll (X.came outside.old) (X.came outside.new) (world_on live.old) (world_on live.new)) }
+    // Each output put out all that has left, and that is its channel's whole stream in the least solution on these inputs.
+    ensures all { OnOk result (AreAllPut (X.left outside.new) (world_on live.new)) }
+    ensures whole { OnOk result (AreWhole (world_on live.new)) }
+    // Wherever it ends, what was put out by each output is a beginning of what has left there, and that is right on what was fed so far.
+    ensures part { IsPutInPart (X.left outside.new) (world_on live.new) }
+    ensures gone_on { HasGoneOn (world_on live.old) (world_on live.new) }
+    ensures came { AreFedInPart (X.came outside.old) (X.came outside.new) (world_on live.old) (world_on live.new) }
+    // It ends early for want of memory, because an input is full, or because what lies outside failed.
+    ensures failed { IfErr result (IsStop (X.has_failed outside.new) (world_on live.new)) }
+{
+    let mut items = Vec::new(alloc);
+    'pieces: loop {
+        work_off(alloc, live, outside)?;
+        if !feed_all(alloc, live, outside, &mut items)? {
+            return work_off(alloc, live, outside);
+        }
+    }
+}
