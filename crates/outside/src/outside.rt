@@ -26,6 +26,9 @@ pub trait Outside {
     /// All that was put out so far, the newest first.
     ghost left: { Self → List DepartureValue };
 
+    /// All that was put out is to be seen.
+    ghost is_shown: { Self → Type 0 };
+
     /// It failed for this reason.
     ghost has_failed: { Self → Self.Fault → Type 0 };
 
@@ -37,6 +40,7 @@ pub trait Outside {
         ensures others { (other : ℕ) → other ≢ input → (came self.new other ≡ came self.old other)
             × (has_ended self.new other ≡ has_ended self.old other) }
         ensures same { left self.new ≡ left self.old }
+        ensures shown { is_shown self.old → is_shown self.new }
         // What came and was lost since it failed stands behind what came before.
         ensures lost { OnErr result (IsPrefix (came self.old input) (came self.new input)) }
         ensures fixed { fixed self.new ≡ fixed self.old }
@@ -54,6 +58,7 @@ pub trait Outside {
     /// Nothing is left to do on what came so far: what was put out is to be seen.
     fn flush(&mut self) -> Result<(), Self::Fault>
         ensures left { left self.new ≡ left self.old }
+        ensures shown { OnOk result (is_shown self.new) }
         ensures same { (input : ℕ) → (came self.new input ≡ came self.old input)
             × (has_ended self.new input ≡ has_ended self.old input) }
         ensures fixed { fixed self.new ≡ fixed self.old }
