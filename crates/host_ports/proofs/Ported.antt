@@ -3,11 +3,10 @@ use Rattle.std.proofs.Common.{◌≡◌, ◌≢◌, ◌<◌, ◌∙◌, ◌⊎�
 use Rattle.std.proofs.lemmas.Option.{slice_get_read}
 use Rattle.std.specs.Prelude.{slice_get, slice_set, get_or, IfOk, IfSome, Result, Ok, Err}
 use Rattle.host.specs.Requests.{Request, Took}
-use Rattle.host.specs.Sources.{has_ended}
 use Rattle.host.specs.declared.fault.HostFault.{HostFault}
 use Rattle.item_text.specs.Items.{beginning, read_bytes, reading, Reading}
-use Rattle.host_ports.proofs.Taking.{other_bytes, other_end, other_items}
-use Rattle.host_ports.specs.Ports.{is_at_end, IsFaultOf, IsOpenOrNot, IsPortFault, items_from, PortIsFor, PortsStand, read_from}
+use Rattle.host_ports.proofs.Taking.{other_bytes, other_end, other_items, other_well, well}
+use Rattle.host_ports.specs.Ports.{ended_well, is_at_end, IsFaultOf, IsOpenOrNot, IsPortFault, items_from, PortIsFor, PortsStand, read_from}
 use Rattle.host_ports.specs.declared.fault.PortFault.{PortFault}
 use Rattle.host_ports.specs.declared.port.Port.{Port}
 
@@ -20,10 +19,11 @@ slot_is {S} ports number input count slot same all few is =
 -- an input whose source has no more, or that has none, is at its end
 pub at_end_by : {S : Type 0} (source_number : S → ℕ) (e : List Request) (ports : List (Option (Port S))) (input : ℕ)
     (slot : Option (Port S)) → slice_get ports input ≡ Some slot → PortsStand source_number e ports → IsOpenOrNot false slot
-    → is_at_end (slice_get ports input) (has_ended input e) ≡ true
+    → is_at_end (slice_get ports input) (ended_well input e) ≡ true
 at_end_by {S} source_number e ports input None here stand is = rw here refl
 at_end_by {S} source_number e ports input (Some port) here stand is =
-    rw here (sym (stand input port here).stands.ended ∙ is)
+    let stands = (stand input port here).stands in
+    rw here (well input e (sym stands.ended ∙ is.0) (sym (ap (λ (r : Reading). r.fault) (stands.read is.1)) ∙ is.2))
 
 -- why it can't be read on
 pub fault_by : {S : Type 0} (source_number : S → ℕ) (e : List Request) (ports : List (Option (Port S))) (input : ℕ)
@@ -109,9 +109,9 @@ end_on {S} slot port ended (Err fault) here is = tt
 pub others_on : {S : Type 0} (e : List Request) (ports : List (Option (Port S))) (input : ℕ) (new : Port S)
     (answer : Result (List ℕ) HostFault) (other : ℕ) → other ≢ input
     → (items_from other (Took input answer ∷ e) ≡ items_from other e)
-    × (is_at_end (slice_get (slice_set (slice_set ports input None) input (Some new)) other) (has_ended other (Took input answer ∷ e))
-    ≡ is_at_end (slice_get ports other) (has_ended other e))
+    × (is_at_end (slice_get (slice_set (slice_set ports input None) input (Some new)) other) (ended_well other (Took input answer ∷ e))
+    ≡ is_at_end (slice_get ports other) (ended_well other e))
 others_on {S} e ports input new answer other apart = (
   other_items input other e answer apart,
-  rw (refilled_apart ports input other None (Some new) apart, other_end input other e answer apart) refl,
+  rw (refilled_apart ports input other None (Some new) apart, other_well input other e answer apart) refl,
 )

@@ -1,7 +1,7 @@
 -- What came of a source last stands behind what came before.
 use Rattle.std.proofs.Common.{◌≡◌, ◌≢◌, ◌∙◌, ◌==◌, ℕ, suc, Bool, true, false, if◌then◌else◌, List, ℤ, [], ◌∷◌, ◌++◌, refl, subst, sym, ap, append-nil, arith}
 use Rattle.std.proofs.lemmas.Bool.Decides.{nat_tests}
-use Rattle.std.specs.Prelude.{◌<◌, length, Result, Ok, Err}
+use Rattle.std.specs.Prelude.{◌<◌, length, None, Option, Some, Result, Ok, Err, is_some}
 use Rattle.host.specs.Requests.{Request, Took}
 use Rattle.host.specs.Sources.{has_ended, taken_from}
 use Rattle.host.specs.declared.fault.HostFault.{HostFault}
@@ -9,7 +9,8 @@ use Rattle.item_text.specs.Items.{beginning, behind, read_bytes, reading, Readin
 use Rattle.item_text.proofs.Pieces.{read_bytes-append, read_bytes-behind}
 use Rattle.kahn_net.specs.Laws.Prefixes.{prefix_of, prefix_refl}
 use Rattle.kahn_net.specs.Streams.{IsPrefix}
-use Rattle.host_ports.specs.Ports.{bytes_from, IsPortFault, IsReadOn, items_from, PortStands, read_from}
+use Rattle.item_text.specs.declared.fault.ItemFault.{ItemFault}
+use Rattle.host_ports.specs.Ports.{bytes_from, ended_well, IsPortFault, IsReadOn, items_from, PortStands, read_from}
 use Rattle.host_ports.specs.declared.fault.PortFault.{PortFault}
 use Rattle.host_ports.specs.declared.fault.PortFault.TheVariants.{NoMemory}
 use Rattle.host_ports.specs.declared.port.Port.{Port}
@@ -95,11 +96,19 @@ ended_so : (input : ℕ) (e : List Request) (bytes : List ℕ) → has_ended inp
 ended_so input e [] opened = ended_by input e
 ended_so input e (byte ∷ bytes) opened = rw (same_number input, not_none (length bytes)) opened
 
+-- it came to its end, and all of it was read
+pub well : (input : ℕ) (e : List Request) → has_ended input e ≡ true → (read_from input e).fault ≡ None → ended_well input e ≡ true
+well input e ended none = rw none ended
+
+pub none_by : (fault told : Option ItemFault) → told ≡ fault → is_some told ≡ false → fault ≡ None
+none_by fault None same none = sym same
+none_by fault (Some one) same none = absurd cc
+
 -- a source that isn't lost is read on
 pub read_on : {S : Type 0} (e now : List Request) (input : ℕ) (bytes : List ℕ) (old new : Port S) (items : List ℤ) (more : Bool)
     → now ≡ Took input (Ok bytes) ∷ e → PortStands e input old → old.has_ended ≡ false → old.is_lost ≡ false
     → new.has_ended ≡ is_end bytes → reading new.reader items ≡ read_bytes (read_of bytes) (reading old.reader [])
-    → (more ≡ false → is_end bytes ≡ true) → IsReadOn e now input new items (Ok more)
+    → (more ≡ false → (is_end bytes ≡ true) × (new.reader.fault ≡ None)) → IsReadOn e now input new items (Ok more)
 read_on {S} e now input bytes old new items more asked stands opened kept ended read ends =
     let still : has_ended input e ≡ false = sym stands.ended ∙ opened in
     let on = reads_on input e bytes old.reader new.reader items still (stands.read kept) read in
@@ -111,7 +120,9 @@ read_on {S} e now input bytes old new items more asked stands opened kept ended 
       };
       came = came;
       lost = tt;
-      end = λ no. ended_so input e bytes still ∙ ends no;
+      kept = tt;
+      end = λ no. well input (Took input (Ok bytes) ∷ e) (ended_so input e bytes still ∙ (ends no).0)
+          (ap (λ (r : Reading). r.fault) on ∙ (ends no).1);
       failed = tt;
     })
 
@@ -128,6 +139,7 @@ read_lost {S} e now input bytes old new items fault asked stands opened ended lo
       };
       came = tt;
       lost = items_grow input e bytes still;
+      kept = λ other. absurd (other told);
       end = tt;
       failed = rw told tt;
     })
@@ -141,6 +153,7 @@ unread {S} e now input refusal port items fault asked stands told =
       stands = rw asked (record { ended = stands.ended; read = stands.read });
       came = tt;
       lost = rw asked (prefix_refl (items_from input e));
+      kept = rw asked (λ other. refl);
       end = tt;
       failed = told;
     }
@@ -158,6 +171,15 @@ pub other_end : (input other : ℕ) (e : List Request) (answer : Result (List �
     → has_ended other (Took input answer ∷ e) ≡ has_ended other e
 other_end input other e (Ok bytes) apart = rw (other_number input other apart) refl
 other_end input other e (Err fault) apart = refl
+
+abbrev by_parts : List ℕ → Bool → Bool
+by_parts bytes ended = if is_some (read_bytes bytes (reading beginning [])).fault then false else ended
+
+pub other_well : (input other : ℕ) (e : List Request) (answer : Result (List ℕ) HostFault) → other ≢ input
+    → ended_well other (Took input answer ∷ e) ≡ ended_well other e
+other_well input other e answer apart =
+    ap (λ (bytes : List ℕ). by_parts bytes (has_ended other (Took input answer ∷ e))) (other_bytes input other e answer apart)
+    ∙ ap (by_parts (bytes_from other e)) (other_end input other e answer apart)
 
 pub other_items : (input other : ℕ) (e : List Request) (answer : Result (List ℕ) HostFault) → other ≢ input
     → items_from other (Took input answer ∷ e) ≡ items_from other e

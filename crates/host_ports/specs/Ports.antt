@@ -1,11 +1,10 @@
 -- What came by the sources of a network's inputs, as a host's log has it.
-use Rattle.std.specs.Prelude.{◌≡◌, ◌++◌, ℕ, ℤ, Bool, true, false, if◌then◌else◌, List, [], ◌∷◌, Option, Some, None, IfErr, IfOk, OnErr, OnOk, Result, Ok, Err, slice_get}
+use Rattle.std.specs.Prelude.{◌≡◌, ◌++◌, ℕ, ℤ, Bool, true, false, if◌then◌else◌, List, [], ◌∷◌, Option, Some, None, IfErr, IfOk, OnErr, OnOk, Result, Err, is_some, slice_get}
 use Rattle.kahn_net.specs.Streams.{IsPrefix}
 use Rattle.host.specs.Requests.{Request, Has, Took, Said}
 use Rattle.host.specs.Sources.{has_ended, taken_from}
 use Rattle.host.specs.declared.fault.HostFault.{HostFault}
 use Rattle.item_text.specs.Items.{beginning, read_bytes, reading, Reading}
-use Rattle.item_text.specs.declared.fault.ItemFault.{ItemFault}
 use Rattle.host_ports.specs.declared.fault.PortFault.{PortFault}
 use Rattle.host_ports.specs.declared.port.Port.{Port}
 use Rattle.host_ports.specs.declared.fault.PortFault.TheVariants.{NoMemory, Unread, Item, Unsaid}
@@ -21,6 +20,10 @@ read_from input e = read_bytes (bytes_from input e) (reading beginning [])
 -- the items that came by an input so far
 abbrev pub items_from : ℕ → List Request → List ℤ
 items_from input e = (read_from input e).items
+
+-- an input's source came to its end, and nothing but items came by it
+abbrev pub ended_well : ℕ → List Request → Bool
+ended_well input e = if is_some (read_from input e).fault then false else has_ended input e
 
 -- why the streams can't go on, by what stands in the log
 abbrev pub IsPortFault : List Request → PortFault → Type 0
@@ -38,12 +41,12 @@ pub record PortStands {S : Type 0} (e : List Request) (input : ℕ) (port : Port
 abbrev pub IsFaultOf : {S : Type 0} → ℕ → Port S → PortFault → Type 0
 IsFaultOf {S} input port fault = (e : List Request) → PortStands e input port → IsPortFault e fault
 
--- An input's source may have more, or there is none or it came to its end.
+-- An input's source may have more, or there is none or all of it came and was read.
 abbrev pub IsOpenOrNot : {S : Type 0} → Bool → Option (Port S) → Type 0
 IsOpenOrNot {S} true None = ⊥
 IsOpenOrNot {S} true (Some port) = (port.has_ended ≡ false) × (port.is_lost ≡ false)
 IsOpenOrNot {S} false None = Unit {0}
-IsOpenOrNot {S} false (Some port) = port.has_ended ≡ true
+IsOpenOrNot {S} false (Some port) = (port.has_ended ≡ true) × (port.is_lost ≡ false) × (port.reader.fault ≡ None)
 
 -- A source was read on, from one log to the next: these items came of it, or it failed for this reason. False is the end of what comes.
 pub record IsReadOn {S : Type 0} (e now : List Request) (input : ℕ) (port : Port S) (items : List ℤ) (result : Result Bool PortFault)
@@ -51,7 +54,8 @@ pub record IsReadOn {S : Type 0} (e now : List Request) (input : ℕ) (port : Po
   pub stands : PortStands now input port
   pub came : OnOk result (items_from input now ≡ items_from input e ++ items)
   pub lost : OnErr result (IsPrefix (items_from input e) (items_from input now))
-  pub end : IfOk result (λ more. more ≡ false → has_ended input now ≡ true)
+  pub kept : IfErr result (λ fault. ¬ (fault ≡ NoMemory) → items_from input now ≡ items_from input e)
+  pub end : IfOk result (λ more. more ≡ false → ended_well input now ≡ true)
   pub failed : IfErr result (IsPortFault now)
 
 -- It has the number of its input.

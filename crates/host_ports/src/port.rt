@@ -45,7 +45,7 @@ fn read_piece<S: Drop>(
 // Why a source can't be read on, if it can't.
 fn fault_of<S: Drop>(input: u8, port: &Port<S>) -> Option<PortFault>
     ensures fault { IfSome result (IsFaultOf input port.now) }
-    ensures none { result ≡ None → port.now.is_lost ≡ false }
+    ensures none { result ≡ None → (port.now.is_lost ≡ false) × (port.now.reader.fault ≡ None) }
 {
     if port.is_lost {
         return Some(PortFault::NoMemory);

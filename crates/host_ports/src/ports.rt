@@ -1,10 +1,11 @@
 //! The streams of a network on its host.
 
-ghost use Rattle.std.specs.Prelude.{◌≡◌, ◌++◌, ◌∷◌, [], ℕ, List, IfErr, OnErr, OnOk, Option, Some, None, option_map, slice_get};
+ghost use Rattle.std.specs.Prelude.{◌≡◌, ◌++◌, [], Option, Some, option_map, slice_get};
 ghost use Rattle.host.specs.Requests.{Later};
-ghost use Rattle.host.specs.Sources.{has_ended, said_bytes};
+ghost use Rattle.host.specs.Sources.{said_bytes};
 ghost use Rattle.sector_disk.specs.Past.{states_of};
-ghost use Rattle.host_ports.specs.Ports.{IsPortFault, PortsStand, is_at_end, items_from};
+ghost use Rattle.host_ports.specs.Ports.{IsPortFault, PortsStand, ended_well, is_at_end, items_from};
+ghost use Rattle.host_ports.specs.declared.fault.PortFault.TheVariants.{NoMemory};
 ghost use Rattle.host_ports.specs.Speaking.{departures_text};
 
 use crate::fault::PortFault;
@@ -100,7 +101,7 @@ impl<'a, H: Host> Outside for Ports<'a, H> {
 
     ghost came = { λ ports input. items_from input (H.asked ports.host) };
 
-    ghost has_ended = { λ ports input. is_at_end (slice_get ports.ports.items input) (has_ended input (H.asked ports.host)) };
+    ghost has_ended = { λ ports input. is_at_end (slice_get ports.ports.items input) (ended_well input (H.asked ports.host)) };
 
     ghost left = { λ ports. states_of ports.put };
 
@@ -108,6 +109,8 @@ impl<'a, H: Host> Outside for Ports<'a, H> {
         ≡ said_bytes (H.asked ports.host) };
 
     ghost has_failed = { λ ports fault. IsPortFault (H.asked ports.host) fault };
+
+    ghost loses = { λ fault. fault ≡ NoMemory };
 
     fn take(&mut self, alloc: Global, input: u8, items: &mut Vec<i64>) -> Result<bool, PortFault> {
         items.clear();

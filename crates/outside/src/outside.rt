@@ -1,6 +1,6 @@
 //! What lies outside of a network.
 
-ghost use Rattle.std.specs.Prelude.{◌≡◌, ◌≢◌, ◌++◌, ◌∷◌, [], ℕ, ℤ, Bool, List, false, true, IfErr, IfOk, OnOk, OnErr};
+ghost use Rattle.std.specs.Prelude.{◌≡◌, ◌≢◌, ◌++◌, ◌∷◌, ℕ, ℤ, Bool, List, false, true, IfErr, IfOk, OnOk, OnErr};
 ghost use Rattle.kahn_net.specs.Streams.{IsPrefix};
 ghost use Rattle.outside.specs.declared.departure.Departure.{Departure as DepartureValue};
 
@@ -20,7 +20,7 @@ pub trait Outside {
     /// All that was taken of an input so far, by the channel's number.
     ghost came: { Self → ℕ → List ℤ };
 
-    /// An input came to its end: nothing comes by it any more.
+    /// An input came to its end: all of it came, and nothing comes by it any more.
     ghost has_ended: { Self → ℕ → Bool };
 
     /// All that was put out so far, the newest first.
@@ -32,6 +32,9 @@ pub trait Outside {
     /// It failed for this reason.
     ghost has_failed: { Self → Self.Fault → Type 0 };
 
+    /// Where it failed for this reason some of what came last may be lost.
+    ghost loses: { Self.Fault → Type 0 };
+
     /// What comes next by an input, in `items`, which is emptied first. It waits until there is something, and gives what is there then. False
     /// is answered where the input came to its end, behind these items.
     fn take(&mut self, alloc: Global, input: u8, items: &mut Vec<i64>) -> Result<bool, Self::Fault>
@@ -41,9 +44,10 @@ pub trait Outside {
             × (has_ended self.new other ≡ has_ended self.old other) }
         ensures same { left self.new ≡ left self.old }
         ensures shown { is_shown self.old → is_shown self.new }
-        // What came and was lost since it failed stands behind what came before.
+        // What came and was lost since it failed stands behind what came before; by most faults nothing is lost.
         ensures lost { OnErr result (IsPrefix (came self.old input) (came self.new input)) }
         ensures fixed { fixed self.new ≡ fixed self.old }
+        ensures kept { IfErr result (λ fault. ¬ (loses fault) → came self.new input ≡ came self.old input) }
         ensures failed { IfErr result (has_failed self.new) };
 
     /// An item has left by an output.

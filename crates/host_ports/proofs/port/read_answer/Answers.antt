@@ -1,7 +1,7 @@
-use Rattle.std.proofs.Common.{◌≡◌, ◌<◌, ◌∙◌, true, length, [], refl, arith}
+use Rattle.std.proofs.Common.{◌≡◌, ◌<◌, ◌∙◌, true, length, [], refl, sym, arith}
 use Rattle.std.proofs.lemmas.Grind.{elements}
 use Rattle.item_text.specs.Items.{read_bytes, reading}
-use Rattle.host_ports.proofs.Taking.{goes_on, is_end, read_lost, read_of, read_on, read_some}
+use Rattle.host_ports.proofs.Taking.{goes_on, is_end, none_by, read_lost, read_of, read_on, read_some}
 use Rattle.host_ports.proofs.port.read_answer.Goals as goal
 
 pub returns-in-Err-read_piece-clause-read : goal.returns-in-Err-read_piece-clause-read
@@ -19,7 +19,7 @@ returns-in-Ok-clause-read g c = λ e stands.
     c.in-Ok.ensures.read ∙ (rw (none, c.requires.empty) refl) in
     let is : is_end c.args.piece.now.items ≡ true = rw none refl in
     read_on e _ c.args.input c.args.piece.now.items c.args.port.now c.read_piece.new.port c.read_piece.new.items.items _
-    (rw (c.in_default.is) refl) stands c.requires.opened.0 c.requires.opened.1 ended read (λ no. is)
+    (rw (c.in_default.is) refl) stands c.requires.opened.0 c.requires.opened.1 ended read (λ no. (is, none_by _ _ c.fault.ensures (sym c.is_some.ensures ∙ no)))
 
 pub returns-in-Err-read_piece-2-clause-read : goal.returns-in-Err-read_piece-2-clause-read
 returns-in-Err-read_piece-2-clause-read g c = λ e stands.

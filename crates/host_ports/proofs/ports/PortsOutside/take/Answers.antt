@@ -4,7 +4,8 @@ use Rattle.host.specs.Answers.{answered}
 use Rattle.host.specs.Requests.{Request, Took}
 use Rattle.host_ports.proofs.Ported.{at_end_by, end_on, fault_by, others_on, refilled_at, slot_is, stand_on}
 use Rattle.host_ports.proofs.Saying.{one_later}
-use Rattle.host_ports.specs.Ports.{IsOpenOrNot, IsPortFault, IsReadOn, PortIsFor}
+use Rattle.host_ports.specs.Ports.{IsOpenOrNot, IsPortFault, IsReadOn, items_from, PortIsFor}
+use Rattle.host_ports.specs.declared.fault.PortFault.TheVariants.{NoMemory}
 use Rattle.host_ports.proofs.ports.PortsOutside.take.Goals as goal
 
 pub returns-in-Ok-false-clause-end : goal.returns-in-Ok-false-clause-end
@@ -84,6 +85,20 @@ returns-clause-failed g c =
     let read : IsReadOn (g.H.Host.asked c.args.self.now.host) (Took c.args.input (answered (λ done. c.take-answer.new.piece.items) c.take-answer.result) ∷ g.H.Host.asked c.args.self.now.host) c.args.input c.read_answer-taken.new.port c.read_answer-taken.new.items.items c.read_answer-taken.result =
     c.read_answer-taken.ensures.read (g.H.Host.asked c.args.self.now.host) (record { ended = one.stands.ended; read = one.stands.read }) in
     subst (λ (now : List Request). IfErr c.read_answer-taken.result (IsPortFault now)) (sym asked) read.failed
+
+pub returns-clause-kept : goal.returns-clause-kept
+returns-clause-kept g c =
+    let slot : c.index_mut.result.now ≡ Some c.in-Some.port = sym c.take.ensures.value ∙ c.in-Some.is in
+    let here : slice_get c.args.self.now.ports.items c.args.input ≡ Some (Some c.in-Some.port) =
+    slot_is c.args.self.now.ports.items c.from-number.result c.args.input c.args.self.now.ports.len c.index_mut.result.now c.from-number.ensures
+    c.args.self.now.ports.ok.0 (omega (arith, c.if-number-len.false, c.len.ensures)) c.index_mut.ensures.value ∙ ap Some slot in
+    let one = c.args.self.now.stand c.args.input c.in-Some.port here in
+    let asked : g.H.Host.asked c.take-answer.new.self ≡ Took c.args.input (answered (λ done. c.take-answer.new.piece.items) c.take-answer.result) ∷ g.H.Host.asked c.args.self.now.host =
+    c.take-answer.ensures.asked ∙ (rw one.number refl) in
+    let read : IsReadOn (g.H.Host.asked c.args.self.now.host) (Took c.args.input (answered (λ done. c.take-answer.new.piece.items) c.take-answer.result) ∷ g.H.Host.asked c.args.self.now.host) c.args.input c.read_answer-taken.new.port c.read_answer-taken.new.items.items c.read_answer-taken.result =
+    c.read_answer-taken.ensures.read (g.H.Host.asked c.args.self.now.host) (record { ended = one.stands.ended; read = one.stands.read }) in
+    subst (λ (now : List Request). IfErr c.read_answer-taken.result (λ fault. ¬ (fault ≡ NoMemory)
+    → items_from c.args.input now ≡ items_from c.args.input (g.H.Host.asked c.args.self.now.host))) (sym asked) read.kept
 
 pub returns-clause-end : goal.returns-clause-end
 returns-clause-end g c =
