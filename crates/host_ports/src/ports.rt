@@ -105,7 +105,7 @@ impl<'a, H: Host> Outside for Ports<'a, H> {
 
     ghost left = { λ ports. states_of ports.put };
 
-    ghost is_shown = { λ ports. departures_text (option_map (λ names. names.now) ports.names) (states_of ports.put)
+    ghost is_shown = { λ ports. departures_text (option_map (λ names. names.now) ports.fixed.names) (states_of ports.put)
         ≡ said_bytes (H.asked ports.host) };
 
     ghost has_failed = { λ ports fault. IsPortFault (H.asked ports.host) fault };

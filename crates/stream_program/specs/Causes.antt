@@ -1,5 +1,6 @@
 -- Why the streams end early.
-use Rattle.std.specs.Prelude.{◌≡◌, ◌⊎◌, ℕ, List, Err}
+use Rattle.std.specs.Prelude.{◌≡◌, ◌⊎◌, ℕ, Bool, List, Err, codes}
+use Rattle.std.specs.Str.{bytes_eq}
 use Rattle.host.specs.Requests.{Has, Read, Request}
 use Rattle.host.specs.declared.fault.HostFault.{HostFault}
 use Rattle.cobaltmidge.specs.Errors.{error_number}
@@ -19,6 +20,10 @@ abbrev pub IsTextUnread : TextSource → List ℕ → List Request → StreamFai
 IsTextUnread source path e failure =
     (fault : HostFault) × Has (Read path (Err fault)) e
     × ((failure ≡ Text text.NoMemory) ⊎ (failure ≡ Text (text.Unreadable source)))
+
+-- the name of standard input
+abbrev pub is_standard : List ℕ → Bool
+is_standard path = bytes_eq path (codes "-")
 
 -- what a stopped run comes to
 abbrev pub failure_of : Stopped PortFault → StreamFailure

@@ -6,6 +6,7 @@ use clap::error::ErrorKind;
 use host::StdHost;
 use kahn_program::{Failure, print_failure};
 use std::alloc::Global;
+use std::io::IsTerminal;
 use std::rt::Env;
 use std::sync::Wait;
 use std::thread::Threads;
@@ -30,22 +31,31 @@ fn print_refusal(rt: &HostRuntime, error: &Error) -> u8 {
     REFUSED
 }
 
-/// Runs what these words ask for, which ask for streams.
+/// Runs what these words ask for, which ask for streams. Who sits at a terminal is told all that there is to say.
 fn stream_by_words(rt: HostRuntime, alloc: Global, words: &[String]) -> u8 {
-    let options: StreamOptions = match stream_options(alloc, words) {
+    let mut options: StreamOptions = match stream_options(alloc, words) {
         Ok(options) => options,
         Err(error) => return print_refusal(&rt, &error),
     };
+    options.explain = options.explain || rt.stderr().is_terminal();
     let (status, _host) = main_of(alloc, StdHost::new(rt), &options);
     status
 }
 
-/// Runs what the words of the command line ask for, and gives the exit status: with `--stream` on items as they come, and else a batch.
+/// Runs what the words of the command line ask for, and gives the exit status: with `--stream` on items as they come, and else a batch. Words that
+/// are no text are left to the batch, which refuses them.
 pub fn run_on_host<R: Threads + Wait + Clock + Sync>(threads: &R, rt: HostRuntime) -> u8 {
     let alloc = rt.alloc();
-    if let Ok(words) = words(&rt) {
-        if asks_for_stream(words.as_slice()) {
-            return stream_by_words(rt, alloc, words.as_slice());
+    match words(&rt) {
+        Ok(words) => {
+            if asks_for_stream(words.as_slice()) {
+                return stream_by_words(rt, alloc, words.as_slice());
+            }
+        }
+        Err(error) => {
+            if let io::ErrorKind::OutOfMemory = error.kind() {
+                return print_failure(Failure::NoMemory, &mut rt.stderr());
+            }
         }
     }
     kahn_program::run_on_host(threads, rt)

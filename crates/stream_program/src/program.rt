@@ -1,6 +1,6 @@
 //! The whole streaming program over its host.
 
-ghost use Rattle.std.specs.Prelude.{◌≡◌, ◌≢◌, ◌≤◌, ◌++◌, [], ℕ, IfErr, IfOk, IsTrue, None, Ok, OnOk, Some, length, option_map, replicate, string_bytes};
+ghost use Rattle.std.specs.Prelude.{◌≡◌, ◌≤◌, ◌++◌, [], ℕ, IfErr, IfOk, IsTrue, None, Ok, OnErr, OnOk, length, option_map, replicate, string_bytes};
 ghost use Rattle.host.specs.Requests.{Has, Read};
 ghost use Rattle.host.specs.Sources.{said_bytes};
 ghost use Rattle.host_ports.specs.Ports.{PortIsFor, PortsStand};
@@ -9,9 +9,9 @@ ghost use Rattle.kahn_net.specs.declared.limits.TheConstants.{MAX_CHANNELS};
 ghost use Rattle.live.specs.LiveViews.{closed_on, none_taken, world_on};
 ghost use Rattle.world.specs.Feeding.{is_input, none_closed};
 ghost use Rattle.cobaltmidge.specs.Names.{IsInputNamed};
-ghost use Rattle.stream_program.specs.Causes.{IsTextUnread, failure_of, opening_failure};
-ghost use Rattle.stream_program.specs.Streamed.{AreInputsRead, HasEnded, IsFresh, IsNetRead, IsPreparing, IsStreamed, IsUntaken, line_if_input, no_items};
-ghost use Rattle.stream_program.specs.declared.failure.StreamFailure.TheVariants.{Missing, Refused};
+ghost use Rattle.stream_program.specs.Causes.{IsTextUnread, failure_of, is_standard, opening_failure};
+ghost use Rattle.stream_program.specs.Streamed.{AreInputsRead, HasEnded, IsFresh, IsInputsText, IsNetRead, IsPreparing, IsStreamed, IsUntaken, line_if_input, no_items};
+ghost use Rattle.stream_program.specs.declared.failure.StreamFailure.TheVariants.{Missing, Refused, Text};
 
 use crate::failure::StreamFailure;
 use cobaltmidge::{Error, MemDisk, Network, RunWorld, SplitCell};
@@ -19,7 +19,7 @@ use host::{Host, HostFault};
 use host_ports::{Port, PortFault, Ports};
 use item_text::ItemReader;
 use kahn_net::{Channel, MAX_CHANNELS, Port as End};
-use kahn_program::{Failure, Source, read_inputs, read_net};
+use kahn_program::{Failure, Options, Source, explanation, read_inputs, read_net};
 use live::Live;
 use net_check::{Inputs, Net};
 use net_text::Name;
@@ -31,6 +31,62 @@ use stream_words::{InputSource, StreamOptions};
 
 // There is no memory.
 const NO_MEMORY: StreamFailure = StreamFailure::Text(Failure::NoMemory);
+
+/// Why the streams end early, and what there is to say of it besides.
+#[derive(Drop)]
+struct Stop {
+    failure: StreamFailure,
+    words: Option<String>,
+}
+
+impl From<StreamFailure> for Stop {
+    ghost use Rattle.std.specs.Prelude.{◌≡◌};
+
+    ghost from_gives = { λ failure stop. stop.failure ≡ failure };
+
+    fn from(failure: StreamFailure) -> Self {
+        Stop {
+            failure,
+            words: None,
+        }
+    }
+}
+
+// What there is to say of a text that is refused.
+fn words_of(
+    alloc: Global,
+    options: &StreamOptions,
+    net: &[u8],
+    inputs: Option<&[u8]>,
+) -> Result<Option<String>, AllocError> {
+    let inputs_name = match &options.inputs {
+        Some(name) => name.clone()?,
+        None => String::new(alloc),
+    };
+    let asked = Options::new(options.net.clone()?, inputs_name);
+    explanation(alloc, &asked, Some(net), inputs, None)
+}
+
+// A text that is refused, and what there is to say of it where that is asked for.
+fn refused_text(
+    alloc: Global,
+    options: &StreamOptions,
+    failure: Failure,
+    net: &[u8],
+    inputs: Option<&[u8]>,
+) -> Stop
+    ensures { result.failure ≡ Text failure }
+{
+    let words = if options.explain {
+        words_of(alloc, options, net, inputs).unwrap_or(None)
+    } else {
+        None
+    };
+    Stop {
+        failure: StreamFailure::Text(failure),
+        words,
+    }
+}
 
 // The bytes of a text.
 fn read_text<H: Host>(host: &mut H, source: Source, path: &String) -> Result<Vec<u8>, StreamFailure>
@@ -45,23 +101,31 @@ fn read_text<H: Host>(host: &mut H, source: Source, path: &String) -> Result<Vec
     }
 }
 
+/// A network, and its text.
+struct Read {
+    network: Network,
+    text: Vec<u8>,
+}
+
 // The network of a text.
-fn read_network<H: Host>(
-    alloc: Global,
-    host: &mut H,
-    path: &String,
-) -> Result<Network, StreamFailure>
+fn read_network<H: Host>(alloc: Global, host: &mut H, options: &StreamOptions) -> Result<Read, Stop>
     ensures prepares { IsPreparing (H.asked host.old) (H.asked host.new) }
-    ensures net { IfOk result (λ network. IsNetRead (string_bytes path.now) network.net.value (H.asked host.new)) }
+    ensures net { IfOk result (λ read. IsNetRead (string_bytes options.now.net) read.network.net.value (H.asked host.new)) }
 {
-    let text = read_text(host, Source::Net, path)?;
+    let text = match read_text(host, Source::Net, &options.net) {
+        Ok(text) => text,
+        Err(failure) => return Err(Stop::from(failure)),
+    };
     let net = match read_net(alloc, text.as_slice()) {
         Ok(net) => net,
-        Err(failure) => return Err(StreamFailure::Text(failure)),
+        Err(failure) => return Err(refused_text(alloc, options, failure, text.as_slice(), None)),
     };
     match Arc::new(alloc, net) {
-        Ok(net) => Ok(Network { net }),
-        Err(_) => Err(NO_MEMORY),
+        Ok(net) => Ok(Read {
+            network: Network { net },
+            text,
+        }),
+        Err(_) => Err(Stop::from(NO_MEMORY)),
     }
 }
 
@@ -112,27 +176,49 @@ fn no_items(alloc: Global, channels: &[Channel], names: &[Name]) -> Result<Vec<u
     Ok(text.into_bytes())
 }
 
-// The items with which the inputs begin: those of their text, and else none.
-fn first_inputs<H: Host>(
+// The text of the inputs: that of its file, and else one without items.
+fn inputs_text<H: Host>(
     alloc: Global,
     host: &mut H,
     options: &StreamOptions,
     net: &Net,
-) -> Result<Inputs, StreamFailure>
+) -> Result<Vec<u8>, StreamFailure>
     ensures prepares { IsPreparing (H.asked host.old) (H.asked host.new) }
-    ensures first { IfOk result (λ inputs. AreInputsRead (option_map string_bytes options.now.inputs) net.now inputs (H.asked host.new)) }
-    ensures fitting { IfOk result (Fits (network_of net.now.program)) }
+    ensures text { IfOk result (λ text. IsInputsText (option_map string_bytes options.now.inputs) net.now text.items (H.asked host.new)) }
 {
-    let text = match &options.inputs {
-        Some(path) => read_text(host, Source::Inputs, path)?,
+    match &options.inputs {
+        Some(path) => read_text(host, Source::Inputs, path),
         None => match no_items(alloc, &net.program.channels, &net.channel_names) {
-            Ok(text) => text,
-            Err(_) => return Err(NO_MEMORY),
+            Ok(text) => Ok(text),
+            Err(_) => Err(NO_MEMORY),
         },
+    }
+}
+
+// The items with which the inputs begin: those of their text.
+fn first_inputs<H: Host>(
+    alloc: Global,
+    host: &mut H,
+    options: &StreamOptions,
+    read: &Read,
+) -> Result<Inputs, Stop>
+    ensures prepares { IsPreparing (H.asked host.old) (H.asked host.new) }
+    ensures first { IfOk result (λ inputs. AreInputsRead (option_map string_bytes options.now.inputs) read.now.network.net.value inputs (H.asked host.new)) }
+    ensures fitting { IfOk result (Fits (network_of read.now.network.net.value.program)) }
+{
+    let text = match inputs_text(alloc, host, options, &read.network.net) {
+        Ok(text) => text,
+        Err(failure) => return Err(Stop::from(failure)),
     };
-    match read_inputs(alloc, text.as_slice(), net) {
+    match read_inputs(alloc, text.as_slice(), &read.network.net) {
         Ok(inputs) => Ok(inputs),
-        Err(failure) => Err(StreamFailure::Text(failure)),
+        Err(failure) => Err(refused_text(
+            alloc,
+            options,
+            failure,
+            read.text.as_slice(),
+            Some(text.as_slice()),
+        )),
     }
 }
 
@@ -152,7 +238,14 @@ fn input_of_source(
     }
 }
 
-// The inputs of the sources, in order.
+// Whether a source is standard input.
+fn is_standard(source: &InputSource) -> bool
+    ensures { result ≡ is_standard (string_bytes source.now.path) }
+{
+    source.path.as_str() == "-"
+}
+
+// The inputs of the sources, in order. Two of one input, or two that are standard input, are refused.
 fn inputs_of_sources(
     alloc: Global,
     network: &Network,
@@ -161,11 +254,13 @@ fn inputs_of_sources(
     ensures each { IfOk result (λ numbers. length numbers.items ≡ length sources.now) }
 {
     let mut numbers: Vec<u8> = Vec::new(alloc);
+    let mut standard = false;
     for (place, source) in sources.iter().enumerate() {
         let number = input_of_source(network, place, source)?;
-        if numbers.contains(&number) {
+        if numbers.contains(&number) || standard && is_standard(source) {
             return Err(StreamFailure::Refused { place, number: 10 });
         }
+        standard = standard || is_standard(source);
         if numbers.push(number).is_err() {
             return Err(NO_MEMORY);
         }
@@ -290,6 +385,22 @@ fn failure_of(stopped: Stopped<PortFault>) -> StreamFailure
     }
 }
 
+// The inputs of the sources, where the command line fits the network.
+fn inputs_to_feed(
+    alloc: Global,
+    options: &StreamOptions,
+    network: &Network,
+) -> Result<Vec<u8>, StreamFailure>
+    ensures each { IfOk result (λ numbers. length numbers.items ≡ length options.now.sources.items) }
+{
+    if options.bare && output_count(&network.net) != 1 {
+        return Err(StreamFailure::NotOne);
+    }
+    let numbers = inputs_of_sources(alloc, network, &options.sources)?;
+    check_given(options, &network.net, &numbers)?;
+    Ok(numbers)
+}
+
 /// A network that is about to run, and the sources of its inputs.
 struct Begun<S: Drop> {
     live: Live<SplitCell<MemDisk>, ListOutlet>,
@@ -301,45 +412,64 @@ fn begin<H: Host>(
     alloc: Global,
     host: &mut H,
     options: &StreamOptions,
-    network: &Network,
-) -> Result<Begun<H::Source>, StreamFailure>
+    read: &Read,
+) -> Result<Begun<H::Source>, Stop>
     requires fresh { IsFresh (H.asked host.old) }
     ensures prepares { IsPreparing (H.asked host.old) (H.asked host.new) }
-    ensures net { IfOk result (λ begun. (world_on begun.live).net ≡ network_of network.now.net.value.program) }
-    ensures first { IfOk result (λ begun. AreInputsRead (option_map string_bytes options.now.inputs) network.now.net.value
+    ensures net { IfOk result (λ begun. (world_on begun.live).net ≡ network_of read.now.network.net.value.program) }
+    ensures first { IfOk result (λ begun. AreInputsRead (option_map string_bytes options.now.inputs) read.now.network.net.value
         (world_on begun.live).inputs (H.asked host.new)) }
     ensures untouched { IfOk result (λ begun. (begun.live.taken ≡ none_taken) × (closed_on begun.live ≡ none_closed)) }
     ensures stand { IfOk result (λ begun. PortsStand H.source_number (H.asked host.new) begun.ports.items) }
 {
-    if options.bare && output_count(&network.net) != 1 {
-        return Err(StreamFailure::NotOne);
+    let network = &read.network;
+    let numbers = match inputs_to_feed(alloc, options, network) {
+        Ok(numbers) => numbers,
+        Err(failure) => return Err(Stop::from(failure)),
+    };
+    let inputs = match first_inputs(alloc, host, options, read) {
+        Ok(inputs) => inputs,
+        Err(stop) => return Err(stop),
+    };
+    let live = match open_live(alloc, network, inputs, options.room) {
+        Ok(live) => live,
+        Err(failure) => return Err(Stop::from(failure)),
+    };
+    match open_ports(alloc, host, &options.sources, &numbers) {
+        Ok(ports) => Ok(Begun { live, ports }),
+        Err(failure) => Err(Stop::from(failure)),
     }
-    let numbers = inputs_of_sources(alloc, network, &options.sources)?;
-    check_given(options, &network.net, &numbers)?;
-    let inputs = first_inputs(alloc, host, options, &network.net)?;
-    let live = open_live(alloc, network, inputs, options.room)?;
-    let ports = open_ports(alloc, host, &options.sources, &numbers)?;
-    Ok(Begun { live, ports })
+}
+
+// Tells these words, if there are some. That they can't be told is no failure.
+fn tell_words<H: Host>(host: &mut H, words: Option<String>)
+    ensures { IsPreparing (H.asked host.old) (H.asked host.new) }
+{
+    if let Some(words) = words {
+        let _ = host.tell(&words.into_bytes());
+    }
 }
 
 // Tells why the streams ended early, and gives the exit status: 1 where it can't be told.
 fn tell<H: Host>(
     alloc: Global,
     host: &mut H,
-    failure: StreamFailure,
+    stop: Stop,
     names: &[Name],
     sources: &[InputSource],
 ) -> u8
     ensures prepares { IsPreparing (H.asked host.old) (H.asked host.new) }
     ensures status { (1 ≤ result) × (result ≤ 2) }
 {
+    let Stop { failure, words } = stop;
     let Ok(line) = failure.line(alloc, names, sources) else {
         return 1;
     };
-    match host.tell(&line.into_bytes()) {
-        Ok(()) => failure.status(),
-        Err(_) => 1,
+    if host.tell(&line.into_bytes()).is_err() {
+        return 1;
     }
+    tell_words(host, words);
+    failure.status()
 }
 
 // Tells that all has come and left. That it can't be told is no failure of the run.
@@ -351,6 +481,30 @@ fn tell_complete<H: Host>(alloc: Global, host: &mut H) -> u8
         let _ = host.tell(&line.into_bytes());
     }
     0
+}
+
+// Tells how a run ended, and gives the exit status.
+fn tell_end<H: Host>(
+    alloc: Global,
+    host: &mut H,
+    options: &StreamOptions,
+    network: &Network,
+    ended: Result<(), Stopped<PortFault>>,
+) -> u8
+    ensures prepares { IsPreparing (H.asked host.old) (H.asked host.new) }
+    ensures status { result ≤ 2 }
+    ensures ended { result ≡ 0 → OnErr ended.entry ⊥ }
+{
+    match ended {
+        Ok(()) => tell_complete(alloc, host),
+        Err(stopped) => tell(
+            alloc,
+            host,
+            Stop::from(failure_of(stopped)),
+            &network.net.channel_names,
+            &options.sources,
+        ),
+    }
 }
 
 // Runs a network between its sources and standard output.
@@ -384,34 +538,30 @@ fn run<H: Host>(
 }
 
 // The streaming program, once its network is read.
-fn main_of_network<H: Host>(
-    alloc: Global,
-    host: H,
-    options: &StreamOptions,
-    network: &Network,
-) -> (u8, H)
+fn main_of_network<H: Host>(alloc: Global, host: H, options: &StreamOptions, read: &Read) -> (u8, H)
     requires fresh { IsFresh (H.asked host) }
     requires silent { said_bytes (H.asked host) ≡ [] }
-    requires net_read { IsNetRead (string_bytes options.now.net) network.now.net.value (H.asked host) }
+    requires net_read { IsNetRead (string_bytes options.now.net) read.now.network.net.value (H.asked host) }
     ensures status { result.0 ≤ 2 }
     ensures right { ∥ IsStreamed options.now (H.asked result.1) ∥₁ }
     ensures ended { result.0 ≡ 0 → ∥ HasEnded options.now (H.asked result.1) ∥₁ }
 {
     let mut host = host;
-    let names = network.net.channel_names.as_slice();
-    let sources = options.sources.as_slice();
-    match begin(alloc, &mut host, options, network) {
+    match begin(alloc, &mut host, options, read) {
         Ok(begun) => {
-            let (ended, host) = run(alloc, host, options, network, begun);
+            let (ended, host) = run(alloc, host, options, &read.network, begun);
             let mut host = host;
-            let status = match ended {
-                Ok(()) => tell_complete(alloc, &mut host),
-                Err(stopped) => tell(alloc, &mut host, failure_of(stopped), names, sources),
-            };
+            let status = tell_end(alloc, &mut host, options, &read.network, ended);
             (status, host)
         }
-        Err(failure) => {
-            let status = tell(alloc, &mut host, failure, names, sources);
+        Err(stop) => {
+            let status = tell(
+                alloc,
+                &mut host,
+                stop,
+                &read.network.net.channel_names,
+                &options.sources,
+            );
             (status, host)
         }
     }
@@ -429,10 +579,10 @@ pub fn main_of<H: Host>(alloc: Global, host: H, options: &StreamOptions) -> (u8,
     ensures ended { result.0 ≡ 0 → ∥ HasEnded options.now (H.asked result.1) ∥₁ }
 {
     let mut host = host;
-    match read_network(alloc, &mut host, &options.net) {
-        Ok(network) => main_of_network(alloc, host, options, &network),
-        Err(failure) => {
-            let status = tell(alloc, &mut host, failure, &[], options.sources.as_slice());
+    match read_network(alloc, &mut host, options) {
+        Ok(read) => main_of_network(alloc, host, options, &read),
+        Err(stop) => {
+            let status = tell(alloc, &mut host, stop, &[], options.sources.as_slice());
             (status, host)
         }
     }
