@@ -17,7 +17,7 @@ pub struct Port<S: Drop> {
     pub source: S,
     pub reader: ItemReader,
     pub has_ended: bool,
-    /// There was no memory for what came, so that the source can't be read on.
+    /// There was no memory for something that came, so that the source can't be read on.
     pub is_lost: bool,
 }
 
@@ -56,7 +56,8 @@ fn fault_of<S: Drop>(input: u8, port: &Port<S>) -> Option<PortFault>
     }
 }
 
-/// Whether more may come of an input's source, if it has one. A fault of what came is told here, once all before it has been given.
+/// Whether more may come of an input's source, if it has one. A fault of what came is told here, by the call behind the one that gave the items
+/// before it.
 pub(crate) fn goes_on<S: Drop>(input: u8, port: &Option<Port<S>>) -> Result<bool, PortFault>
     ensures on { IfOk result (λ more. IsOpenOrNot more port.now) }
     ensures fault { IfErr result (λ fault. IfSome port.now (λ one. IsFaultOf input one fault)) }

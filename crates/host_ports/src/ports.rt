@@ -27,10 +27,10 @@ pub struct Fixed<'a, H> {
     pub begun: Snapshot<H>,
 }
 
-/// The sources of a network's inputs, and the one output of the host to which all leaves.
+/// The sources of a network's inputs, and the standard output of the host, on which each item that leaves is a line.
 pub struct Ports<'a, H: Host> {
     host: H,
-    // By the number of the input; nothing where it has no source.
+    // By the number of the input; none where it has no source.
     ports: Vec<Option<Port<H::Source>>>,
     fixed: Fixed<'a, H>,
     // What was put out, and wasn't said yet.
@@ -75,7 +75,7 @@ impl<'a, H: Host> Ports<'a, H> {
         }
     }
 
-    /// Its host.
+    /// Its host. Lines that wait are never said: after a `flush` that succeeded none waits.
     pub fn into_host(self) -> H
         ensures { result ≡ self.entry.host }
     {

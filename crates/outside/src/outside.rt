@@ -44,13 +44,13 @@ pub trait Outside {
             × (has_ended self.new other ≡ has_ended self.old other) }
         ensures same { left self.new ≡ left self.old }
         ensures shown { is_shown self.old → is_shown self.new }
-        // What came and was lost since it failed stands behind what came before; by most faults nothing is lost.
+        // What came and was lost since it failed stands behind what came before.
         ensures lost { OnErr result (IsPrefix (came self.old input) (came self.new input)) }
-        ensures fixed { fixed self.new ≡ fixed self.old }
+        // Of most faults nothing that came is lost.
         ensures kept { IfErr result (λ fault. ¬ (loses fault) → came self.new input ≡ came self.old input) }
         ensures failed { IfErr result (has_failed self.new) };
 
-    /// An item has left by an output.
+    /// Puts out an item, which has left by an output.
     fn put(&mut self, alloc: Global, departure: Departure) -> Result<(), Self::Fault>
         ensures left { OnOk result (left self.new ≡ departure ∷ left self.old) }
         ensures nothing { OnErr result (left self.new ≡ left self.old) }
@@ -59,7 +59,7 @@ pub trait Outside {
         ensures fixed { fixed self.new ≡ fixed self.old }
         ensures failed { IfErr result (has_failed self.new) };
 
-    /// Nothing is left to do on what came so far: what was put out is to be seen.
+    /// What was put out is to be seen from now on. It is called where nothing is left to do on what came so far.
     fn flush(&mut self) -> Result<(), Self::Fault>
         ensures left { left self.new ≡ left self.old }
         ensures shown { OnOk result (is_shown self.new) }
