@@ -1,10 +1,12 @@
 -- One source was read on, and the others stand as they did.
 use Rattle.std.proofs.Common.{◌≡◌, ◌≢◌, ◌<◌, ◌∙◌, ◌⊎◌, inl, inr, ⊎_elim, ℕ, zero, suc, Bool, true, false, List, [], ◌∷◌, Option, Some, None, length, refl, sym, ap, arith}
 use Rattle.std.proofs.lemmas.Option.{slice_get_read}
-use Rattle.std.specs.Prelude.{slice_get, slice_set, get_or, IfOk, IfSome, Result, Ok, Err}
+use Rattle.std.specs.Prelude.{slice_get, slice_set, get_or, if◌then◌else◌, is_some, IfOk, IfSome, Result, Ok, Err}
 use Rattle.host.specs.Requests.{Request, Took}
+use Rattle.host.specs.Sources.{has_ended}
 use Rattle.host.specs.declared.fault.HostFault.{HostFault}
 use Rattle.item_text.specs.Items.{beginning, read_bytes, reading, Reading}
+use Rattle.item_text.specs.declared.fault.ItemFault.{ItemFault}
 use Rattle.host_ports.proofs.Taking.{other_bytes, other_end, other_items, other_well, well}
 use Rattle.host_ports.specs.Ports.{ended_well, is_at_end, IsFaultOf, IsOpenOrNot, IsPortFault, items_from, PortIsFor, PortsStand, read_from}
 use Rattle.host_ports.specs.declared.fault.PortFault.{PortFault}
@@ -24,6 +26,20 @@ at_end_by {S} source_number e ports input None here stand is = rw here refl
 at_end_by {S} source_number e ports input (Some port) here stand is =
     let stands = (stand input port here).stands in
     rw here (well input e (sym stands.ended ∙ is.0) (sym (ap (λ (r : Reading). r.fault) (stands.read is.1)) ∙ is.2))
+
+-- one that may have more isn't
+closed_or : (fault : Option ItemFault) (ended : Bool) → ended ≡ false → (if is_some fault then false else ended) ≡ false
+closed_or None ended opened = opened
+closed_or (Some fault) ended opened = refl
+
+open_by : (input : ℕ) (e : List Request) → has_ended input e ≡ false → ended_well input e ≡ false
+open_by input e opened = closed_or (read_from input e).fault (has_ended input e) opened
+
+pub not_at_end : {S : Type 0} (source_number : S → ℕ) (e : List Request) (ports : List (Option (Port S))) (input : ℕ) (port : Port S)
+    → slice_get ports input ≡ Some (Some port) → PortsStand source_number e ports → port.has_ended ≡ false
+    → is_at_end (slice_get ports input) (ended_well input e) ≡ false
+not_at_end {S} source_number e ports input port here stand opened =
+    rw here (open_by input e (sym (stand input port here).stands.ended ∙ opened))
 
 -- why it can't be read on
 pub fault_by : {S : Type 0} (source_number : S → ℕ) (e : List Request) (ports : List (Option (Port S))) (input : ℕ)

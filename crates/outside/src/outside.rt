@@ -42,12 +42,16 @@ pub trait Outside {
         ensures end { IfOk result (λ more. more ≡ false → has_ended self.new input ≡ true) }
         ensures others { (other : ℕ) → other ≢ input → (came self.new other ≡ came self.old other)
             × (has_ended self.new other ≡ has_ended self.old other) }
+        // Behind its end nothing comes.
+        ensures stays { has_ended self.old input ≡ true
+            → (has_ended self.new input ≡ true) × (came self.new input ≡ came self.old input) }
         ensures same { left self.new ≡ left self.old }
         ensures shown { is_shown self.old → is_shown self.new }
         // What came and was lost since it failed stands behind what came before.
         ensures lost { OnErr result (IsPrefix (came self.old input) (came self.new input)) }
         // Of most faults nothing that came is lost.
         ensures kept { IfErr result (λ fault. ¬ (loses fault) → came self.new input ≡ came self.old input) }
+        ensures fixed { fixed self.new ≡ fixed self.old }
         ensures failed { IfErr result (has_failed self.new) };
 
     /// Puts out an item, which has left by an output.

@@ -1,9 +1,10 @@
-use Rattle.std.proofs.Common.{◌≡◌, ◌∙◌, ◌∷◌, false, List, Some, None, refl, subst, sym, ap, arith}
+use Rattle.std.proofs.Common.{◌≡◌, ◌∙◌, ◌∷◌, false, true, List, Some, None, refl, subst, sym, ap, arith}
 use Rattle.std.specs.Prelude.{slice_get, slice_set, IfErr}
 use Rattle.host.specs.Answers.{answered}
 use Rattle.host.specs.Requests.{Request, Took}
 use Rattle.host_ports.proofs.Ported.{at_end_by, end_on, fault_by, others_on, refilled_at, slot_is, stand_on}
 use Rattle.host_ports.proofs.Saying.{one_later}
+use Rattle.host_ports.proofs.Ported.{at_end_by, end_on, fault_by, not_at_end, others_on, refilled_at, slot_is, stand_on}
 use Rattle.host_ports.specs.Ports.{IsOpenOrNot, IsPortFault, IsReadOn, items_from, PortIsFor}
 use Rattle.host_ports.specs.declared.fault.PortFault.TheVariants.{NoMemory}
 use Rattle.host_ports.proofs.ports.PortsOutside.take.Goals as goal
@@ -59,6 +60,22 @@ returns-clause-came g c =
     let read : IsReadOn (g.H.Host.asked c.args.self.now.host) (Took c.args.input (answered (λ done. c.take-answer.new.piece.items) c.take-answer.result) ∷ g.H.Host.asked c.args.self.now.host) c.args.input c.read_answer-taken.new.port c.read_answer-taken.new.items.items c.read_answer-taken.result =
     c.read_answer-taken.ensures.read (g.H.Host.asked c.args.self.now.host) (record { ended = one.stands.ended; read = one.stands.read }) in
     rw asked read.came
+
+pub returns-clause-stays : goal.returns-clause-stays
+returns-clause-stays g c = λ ended.
+    let slot : c.index_mut.result.now ≡ Some c.in-Some.port = sym c.take.ensures.value ∙ c.in-Some.is in
+    let here : slice_get c.args.self.now.ports.items c.args.input ≡ Some (Some c.in-Some.port) =
+    slot_is c.args.self.now.ports.items c.from-number.result c.args.input c.args.self.now.ports.len c.index_mut.result.now c.from-number.ensures
+    c.args.self.now.ports.ok.0 (omega (arith, c.if-number-len.false, c.len.ensures)) c.index_mut.ensures.value ∙ ap Some slot in
+    let there : slice_get c.args.self.now.ports.items c.args.input ≡ Some c.index.result.now =
+    slot_is c.args.self.now.ports.items c.from-number.result c.args.input c.args.self.now.ports.len c.index.result.now c.from-number.ensures
+    c.args.self.now.ports.ok.0 (omega (arith, c.if-number-len.false, c.len.ensures)) c.index.ensures in
+    let one : c.index.result.now ≡ Some c.in-Some.port = cc in
+    let is : IsOpenOrNot true c.index.result.now = rw (← c.in-Ok-true.field-0-test) c.in-Ok-true.ensures.on in
+    let open_so : IsOpenOrNot true (Some c.in-Some.port) = subst (λ slot. IsOpenOrNot true slot) one is in
+    let opened = not_at_end g.H.Host.source_number (g.H.Host.asked c.args.self.now.host) c.args.self.now.ports.items c.args.input c.in-Some.port
+    here c.args.self.now.stand open_so.0 in
+    absurd cc
 
 pub returns-clause-lost : goal.returns-clause-lost
 returns-clause-lost g c =
