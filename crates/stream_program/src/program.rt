@@ -102,6 +102,7 @@ fn read_text<H: Host>(host: &mut H, source: Source, path: &String) -> Result<Vec
 }
 
 /// A network, and its text.
+#[derive(Drop)]
 struct Read {
     network: Network,
     text: Vec<u8>,
