@@ -103,13 +103,17 @@ fn read_text<H: Host>(host: &mut H, source: Source, path: &String) -> Result<Vec
 
 /// A network, and its text.
 #[derive(Drop)]
-struct Read {
+struct NetworkRead {
     network: Network,
     text: Vec<u8>,
 }
 
 // The network of a text.
-fn read_network<H: Host>(alloc: Global, host: &mut H, options: &StreamOptions) -> Result<Read, Stop>
+fn read_network<H: Host>(
+    alloc: Global,
+    host: &mut H,
+    options: &StreamOptions,
+) -> Result<NetworkRead, Stop>
     ensures prepares { IsPreparing (H.asked host.old) (H.asked host.new) }
     ensures net { IfOk result (λ read. IsNetRead (string_bytes options.now.net) read.network.net.value (H.asked host.new)) }
 {
@@ -122,7 +126,7 @@ fn read_network<H: Host>(alloc: Global, host: &mut H, options: &StreamOptions) -
         Err(failure) => return Err(refused_text(alloc, options, failure, text.as_slice(), None)),
     };
     match Arc::new(alloc, net) {
-        Ok(net) => Ok(Read {
+        Ok(net) => Ok(NetworkRead {
             network: Network { net },
             text,
         }),
@@ -201,7 +205,7 @@ fn first_inputs<H: Host>(
     alloc: Global,
     host: &mut H,
     options: &StreamOptions,
-    read: &Read,
+    read: &NetworkRead,
 ) -> Result<Inputs, Stop>
     ensures prepares { IsPreparing (H.asked host.old) (H.asked host.new) }
     ensures first { IfOk result (λ inputs. AreInputsRead (option_map string_bytes options.now.inputs) read.now.network.net.value inputs (H.asked host.new)) }
@@ -413,7 +417,7 @@ fn begin<H: Host>(
     alloc: Global,
     host: &mut H,
     options: &StreamOptions,
-    read: &Read,
+    read: &NetworkRead,
 ) -> Result<Begun<H::Source>, Stop>
     requires fresh { IsFresh (H.asked host.old) }
     ensures prepares { IsPreparing (H.asked host.old) (H.asked host.new) }
@@ -494,7 +498,7 @@ fn tell_end<H: Host>(
 ) -> u8
     ensures prepares { IsPreparing (H.asked host.old) (H.asked host.new) }
     ensures status { result ≤ 2 }
-    ensures ended { result ≡ 0 → OnErr ended.entry ⊥ }
+    ensures ended { result ≡ 0 → OnErr ended ⊥ }
 {
     match ended {
         Ok(()) => tell_complete(alloc, host),
@@ -539,7 +543,12 @@ fn run<H: Host>(
 }
 
 // The streaming program, once its network is read.
-fn main_of_network<H: Host>(alloc: Global, host: H, options: &StreamOptions, read: &Read) -> (u8, H)
+fn main_of_network<H: Host>(
+    alloc: Global,
+    host: H,
+    options: &StreamOptions,
+    read: &NetworkRead,
+) -> (u8, H)
     requires fresh { IsFresh (H.asked host) }
     requires silent { said_bytes (H.asked host) ≡ [] }
     requires net_read { IsNetRead (string_bytes options.now.net) read.now.network.net.value (H.asked host) }
