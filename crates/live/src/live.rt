@@ -238,6 +238,7 @@ impl<C: SlotCell, O: Outlet> Live<C, O> {
         ensures item { result ≡ slice_get (released_of output (world_on self.old).stations) (taken_of self.old output) }
         ensures taken { self.new.taken ≡ slice_set self.old.taken output
             (taken_of self.old output + (if is_some result then 1 else 0)) }
+        ensures counted { taken_of self.new output ≡ taken_of self.old output + (if is_some result then 1 else 0) }
         ensures same { (self.new.world ≡ self.old.world) × (self.new.node ≡ self.old.node) × (self.new.out ≡ self.old.out) }
     {
         let number = usize::from(output);

@@ -1,1 +1,3 @@
 mod Putting
+mod Feeding
+mod Streams

@@ -60,6 +60,10 @@ abbrev pub AreFedInPart : (ℕ → List ℤ) → (ℕ → List ℤ) → WorldVie
 AreFedInPart had has old new =
     (input : ℕ) → IsFedBy (had input) (has input) (history_of old.inputs input) (history_of new.inputs input)
 
+-- Nothing came meanwhile, by any input, and none came to its end.
+abbrev pub AreTheSame : (had has : ℕ → List ℤ) (had_ended has_ended : ℕ → Bool) → Type 0
+AreTheSame had has had_ended has_ended = (input : ℕ) → (has input ≡ had input) × (has_ended input ≡ had_ended input)
+
 -- Each input came to its end.
 abbrev pub AreEnded : Network → (ℕ → Bool) → Type 0
 AreEnded net has_ended = (input : ℕ) → IsTrue (is_input net input) → has_ended input ≡ true

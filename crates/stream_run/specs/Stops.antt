@@ -1,9 +1,11 @@
 -- Why streams end before their end.
-use Rattle.std.specs.Prelude.{◌≡◌, ◌<◌, ◌+◌, ℕ, ℤ, List, IsTrue, length}
+use Rattle.std.specs.Prelude.{◌<◌, ◌+◌, ℕ, ℤ, List, IsTrue, length}
 use Rattle.kahn_net.specs.declared.limits.TheConstants.{MAX_COUNT}
 use Rattle.protocol.specs.Node.Common.{history_of}
 use Rattle.protocol.specs.World.Common.{WorldView}
 use Rattle.world.specs.Feeding.{is_input}
+use Rattle.world.specs.declared.feeding.FeedFault.{FeedFault}
+use Rattle.world.specs.declared.feeding.FeedFault.TheVariants as fault
 use Rattle.stream_run.specs.declared.stopped.Stopped.{Stopped}
 use Rattle.stream_run.specs.declared.stopped.Stopped.TheVariants.{NoMemory, Full, Outside}
 
@@ -19,3 +21,10 @@ abbrev pub IsStop : {F : Type 0} → (F → Type 0) → WorldView → Stopped F 
 IsStop failed world NoMemory = Unit {0}
 IsStop failed world Full = IsOverfull world
 IsStop failed world (Outside fault) = failed fault
+
+-- Why the streams end where an input that is open refuses what came: memory is missing, or it is full.
+abbrev pub stop_by : {F : Type 0} → FeedFault → Stopped F
+stop_by {F} fault.NoMemory = NoMemory
+stop_by {F} fault.NoInput = Full
+stop_by {F} fault.Full = Full
+stop_by {F} fault.Closed = Full

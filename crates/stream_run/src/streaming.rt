@@ -1,6 +1,6 @@
 //! A network at work between the streams outside of it.
 
-ghost use Rattle.std.specs.Prelude.{◌≡◌, ◌≢◌, ◌<◌, ℕ, IsTrue, slice_get, length, false, true, IfErr, IfOk, OnErr, OnOk};
+ghost use Rattle.std.specs.Prelude.{◌≡◌, ◌||◌, ◌≢◌, ◌<◌, ℕ, IsTrue, slice_get, length, false, true, IfErr, IfOk, OnErr, OnOk};
 ghost use Rattle.growing.specs.WhateverComes.{HasGoneOn};
 ghost use Rattle.kahn_net.specs.declared.limits.TheConstants.{MAX_CHANNELS};
 ghost use Rattle.protocol.specs.Node.Common.{network_of};
@@ -8,8 +8,8 @@ ghost use Rattle.protocol.specs.World.Quiet.{AreWhole};
 ghost use Rattle.world.specs.Feeding.{is_input, none_closed};
 ghost use Rattle.live.specs.LiveViews.{closed_on, stations_on, taken_of, world_on};
 ghost use Rattle.outside.specs.Departures.{items_by};
-ghost use Rattle.stream_run.specs.Linked.{AreAllPut, AreEnded, AreFedAll, AreFedInPart, IsPutAsTaken, IsPutInPart, IsPutWhole, is_output};
-ghost use Rattle.stream_run.specs.Stops.{IsStop};
+ghost use Rattle.stream_run.specs.Linked.{AreAllPut, AreEnded, AreFedAll, AreFedInPart, AreTheSame, IsPutAsTaken, IsPutInPart, IsPutWhole, is_output};
+ghost use Rattle.stream_run.specs.Stops.{IsStop, stop_by};
 
 use crate::stopped::Stopped;
 use kahn_net::{MAX_CHANNELS, Port};
@@ -22,6 +22,9 @@ use world::FeedFault;
 
 /// After so many steps of a network that goes on what has left is put out.
 const STEPS: u64 = 4_096;
+
+/// No run makes so many rounds. What would is told as if it had no memory for more.
+const ROUNDS: u64 = u64::MAX;
 
 // Whether a channel of the network is an input.
 fn is_input<C: SlotCell, O: Outlet>(live: &Live<C, O>, number: usize) -> bool
@@ -62,16 +65,19 @@ fn put_items<C: SlotCell, O: Outlet, X: Outside>(
     ensures part { IsPutInPart (X.left outside.new) (world_on live.new) }
     ensures others { (other : ℕ) → other ≢ output
         → items_by other (X.left outside.new) ≡ items_by other (X.left outside.old) }
-    ensures same { (live.new.world ≡ live.old.world) × ((input : ℕ)
-        → (X.came outside.new input ≡ X.came outside.old input)
-        × (X.has_ended outside.new input ≡ X.has_ended outside.old input)) }
+    ensures world { live.new.world ≡ live.old.world }
+    ensures same { AreTheSame (X.came outside.old) (X.came outside.new) (X.has_ended outside.old) (X.has_ended outside.new) }
+    ensures fixed { X.fixed outside.new ≡ X.fixed outside.old }
     ensures failed { IfErr result (X.has_failed outside.new) }
 {
     'items: loop {
-        let Some(item) = live.next(output) else {
-            return Ok(());
-        };
-        outside.put(alloc, Departure { output, item })?;
+        match live.next(output) {
+            None => return Ok(()),
+            Some(item) => match outside.put(alloc, Departure { output, item }) {
+                Ok(()) => {}
+                Err(fault) => return Err(fault),
+            },
+        }
     }
 }
 
@@ -85,14 +91,17 @@ fn put_all<C: SlotCell, O: Outlet, X: Outside>(
     ensures put { OnOk result (IsPutAsTaken (X.left outside.new) (taken_of live.new) (world_on live.new)) }
     ensures whole { OnOk result (AreAllPut (X.left outside.new) (world_on live.new)) }
     ensures part { IsPutInPart (X.left outside.new) (world_on live.new) }
-    ensures same { (live.new.world ≡ live.old.world) × ((input : ℕ)
-        → (X.came outside.new input ≡ X.came outside.old input)
-        × (X.has_ended outside.new input ≡ X.has_ended outside.old input)) }
+    ensures world { live.new.world ≡ live.old.world }
+    ensures same { AreTheSame (X.came outside.old) (X.came outside.new) (X.has_ended outside.old) (X.has_ended outside.new) }
+    ensures fixed { X.fixed outside.new ≡ X.fixed outside.old }
     ensures failed { IfErr result (X.has_failed outside.new) }
 {
     for number in 0..MAX_CHANNELS {
         if is_output(live, number) {
-            put_items(alloc, live, outside, number as u8)?;
+            match put_items(alloc, live, outside, number as u8) {
+                Ok(()) => {}
+                Err(fault) => return Err(fault),
+            }
         }
     }
     Ok(())
@@ -109,24 +118,41 @@ fn work_off<C: SlotCell, O: Outlet, X: Outside>(
     ensures closed { closed_on live.new ≡ closed_on live.old }
     ensures all { OnOk result (AreAllPut (X.left outside.new) (world_on live.new)) }
     ensures whole { OnOk result (AreWhole (world_on live.new)) }
+    ensures shown { OnOk result (X.is_shown outside.new) }
     ensures part { IsPutInPart (X.left outside.new) (world_on live.new) }
     ensures gone_on { HasGoneOn (world_on live.old) (world_on live.new) }
     ensures inputs { (world_on live.new).inputs ≡ (world_on live.old).inputs }
-    ensures same { (input : ℕ) → (X.came outside.new input ≡ X.came outside.old input)
-        × (X.has_ended outside.new input ≡ X.has_ended outside.old input) }
+    ensures same { AreTheSame (X.came outside.old) (X.came outside.new) (X.has_ended outside.old) (X.has_ended outside.new) }
+    ensures fixed { X.fixed outside.new ≡ X.fixed outside.old }
     ensures failed { IfErr result (IsStop (X.has_failed outside.new) (world_on live.new)) }
 {
-    'steps: loop {
-        let pause = live.advance(alloc, STEPS)?;
-        if let Err(fault) = put_all(alloc, live, outside) {
-            return Err(Stopped::Outside(fault));
+    'steps: for _ in 0..ROUNDS {
+        let pause = match live.advance(alloc, STEPS) {
+            Ok(pause) => pause,
+            Err(_) => return Err(Stopped::NoMemory),
+        };
+        match put_all(alloc, live, outside) {
+            Ok(()) => {}
+            Err(fault) => return Err(Stopped::Outside(fault)),
+        }
+        match outside.flush() {
+            Ok(()) => {}
+            Err(fault) => return Err(Stopped::Outside(fault)),
         }
         if let Pause::Rests = pause {
-            return match outside.flush() {
-                Ok(()) => Ok(()),
-                Err(fault) => Err(Stopped::Outside(fault)),
-            };
+            return Ok(());
         }
+    }
+    Err(Stopped::NoMemory)
+}
+
+// Why the streams end where an input refuses what came.
+fn stop_by<F>(fault: FeedFault) -> Stopped<F>
+    ensures { result ≡ stop_by fault }
+{
+    match fault {
+        FeedFault::NoMemory => Stopped::NoMemory,
+        FeedFault::NoInput | FeedFault::Full | FeedFault::Closed => Stopped::Full,
     }
 }
 
@@ -147,6 +173,7 @@ fn feed_next<C: SlotCell, O: Outlet, X: Outside>(
     ensures same { (X.left outside.new ≡ X.left outside.old) × (live.new.taken ≡ live.old.taken)
         × (closed_on live.new ≡ closed_on live.old) × (stations_on live.new ≡ stations_on live.old) }
     ensures gone_on { HasGoneOn (world_on live.old) (world_on live.new) }
+    ensures fixed { X.fixed outside.new ≡ X.fixed outside.old }
     ensures failed { IfErr result (IsStop (X.has_failed outside.new) (world_on live.new)) }
 {
     let more = match outside.take(alloc, input, items) {
@@ -155,9 +182,42 @@ fn feed_next<C: SlotCell, O: Outlet, X: Outside>(
     };
     match live.feed(alloc, input, items.as_slice()) {
         Ok(()) => Ok(more),
-        Err(FeedFault::NoMemory) => Err(Stopped::NoMemory),
-        Err(_) => Err(Stopped::Full),
+        Err(fault) => Err(stop_by(fault)),
     }
+}
+
+// Takes what comes next by a channel, where that is an input. Whether more may come.
+fn feed_in_turn<C: SlotCell, O: Outlet, X: Outside>(
+    alloc: Global,
+    live: &mut Live<C, O>,
+    outside: &mut X,
+    number: u8,
+    items: &mut Vec<i64>,
+) -> Result<bool, Stopped<X::Fault>>
+    requires open { closed_on live.old ≡ none_closed }
+    ensures fed { OnOk result (AreFedAll (X.came outside.old) (X.came outside.new) (world_on live.old) (world_on live.new)) }
+    ensures part { AreFedInPart (X.came outside.old) (X.came outside.new) (world_on live.old) (world_on live.new) }
+    ensures end { IfOk result (λ more. more ≡ false → IsTrue (is_input (world_on live.old).net number)
+        → X.has_ended outside.new number ≡ true) }
+    ensures others { (other : ℕ) → other ≢ number → X.has_ended outside.new other ≡ X.has_ended outside.old other }
+    ensures same { (X.left outside.new ≡ X.left outside.old) × (live.new.taken ≡ live.old.taken)
+        × (closed_on live.new ≡ closed_on live.old) × (stations_on live.new ≡ stations_on live.old) }
+    ensures gone_on { HasGoneOn (world_on live.old) (world_on live.new) }
+    ensures fixed { X.fixed outside.new ≡ X.fixed outside.old }
+    ensures failed { IfErr result (IsStop (X.has_failed outside.new) (world_on live.new)) }
+{
+    if is_input(live, usize::from(number)) {
+        feed_next(alloc, live, outside, number, items)
+    } else {
+        Ok(false)
+    }
+}
+
+// Whether one of the two is so.
+fn either(one: bool, other: bool) -> bool
+    ensures { result ≡ (one || other) }
+{
+    one || other
 }
 
 // Takes what comes next by each input, one after another. Whether more may come by any of them.
@@ -175,13 +235,14 @@ fn feed_all<C: SlotCell, O: Outlet, X: Outside>(
     ensures same { (X.left outside.new ≡ X.left outside.old) × (live.new.taken ≡ live.old.taken)
         × (closed_on live.new ≡ closed_on live.old) × (stations_on live.new ≡ stations_on live.old) }
     ensures gone_on { HasGoneOn (world_on live.old) (world_on live.new) }
+    ensures fixed { X.fixed outside.new ≡ X.fixed outside.old }
     ensures failed { IfErr result (IsStop (X.has_failed outside.new) (world_on live.new)) }
 {
     let mut any = false;
     for number in 0..MAX_CHANNELS {
-        if is_input(live, number) {
-            let more = feed_next(alloc, live, outside, number as u8, items)?;
-            any = any || more;
+        match feed_in_turn(alloc, live, outside, number as u8, items) {
+            Ok(more) => any = either(any, more),
+            Err(stopped) => return Err(stopped),
         }
     }
     Ok(any)
@@ -202,21 +263,29 @@ pub fn stream<C: SlotCell, O: Outlet, X: Outside>(
     // Each input came to its end, all that came by it was fed, and nothing else.
     ensures ended { OnOk result (AreEnded (world_on live.new).net (X.has_ended outside.new)) }
     ensures fed { OnOk result (AreFedAll (X.came outside.old) (X.came outside.new) (world_on live.old) (world_on live.new)) }
-    // Each output put out all that has left, and that is its channel's whole stream in the least solution on these inputs.
+    // Each output put out all that has left, it is to be seen, and that is its channel's whole stream in the least solution on these inputs.
     ensures all { OnOk result (AreAllPut (X.left outside.new) (world_on live.new)) }
+    ensures shown { OnOk result (X.is_shown outside.new) }
     ensures whole { OnOk result (AreWhole (world_on live.new)) }
     // Wherever it ends, what was put out by each output is a beginning of what has left there, and that is right on what was fed so far.
     ensures part { IsPutInPart (X.left outside.new) (world_on live.new) }
     ensures gone_on { HasGoneOn (world_on live.old) (world_on live.new) }
     ensures came { AreFedInPart (X.came outside.old) (X.came outside.new) (world_on live.old) (world_on live.new) }
+    ensures fixed { X.fixed outside.new ≡ X.fixed outside.old }
     // It ends early for want of memory, because an input is full, or because what lies outside failed.
     ensures failed { IfErr result (IsStop (X.has_failed outside.new) (world_on live.new)) }
 {
     let mut items = Vec::new(alloc);
-    'pieces: loop {
-        work_off(alloc, live, outside)?;
-        if !feed_all(alloc, live, outside, &mut items)? {
-            return work_off(alloc, live, outside);
+    'pieces: for _ in 0..ROUNDS {
+        match work_off(alloc, live, outside) {
+            Ok(()) => {}
+            Err(stopped) => return Err(stopped),
+        }
+        match feed_all(alloc, live, outside, &mut items) {
+            Ok(true) => {}
+            Ok(false) => return work_off(alloc, live, outside),
+            Err(stopped) => return Err(stopped),
         }
     }
+    Err(Stopped::NoMemory)
 }
