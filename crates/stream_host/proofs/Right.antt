@@ -1,0 +1,80 @@
+-- What streams leave on a host is right.
+use Rattle.std.proofs.Common.{◌≡◌, ◌∙◌, ℕ, zero, suc, ℤ, Bool, List, [], ◌∷◌, ◌++◌, Option, refl, subst, sym, ap, append-nil}
+use Rattle.std.specs.Prelude.{length, replicate, slice_index_or}
+use Rattle.growing.specs.WhateverComes.{HasGoneOn}
+use Rattle.host.specs.Requests.{Request}
+use Rattle.host.specs.Sources.{said_bytes}
+use Rattle.host_ports.specs.Ports.{bytes_from, items_from, read_from}
+use Rattle.host_ports.specs.Speaking.{departures_text}
+use Rattle.item_text.specs.Items.{beginning, read_bytes, reading, Reading}
+use Rattle.kahn_net.specs.Laws.Prefixes.{prefix_nil}
+use Rattle.kahn_net.specs.Streams.{history_of, IsPrefix}
+use Rattle.net_text.specs.Names.{NameTree}
+use Rattle.outside.specs.Departures.{items_by}
+use Rattle.outside.specs.declared.departure.Departure.{Departure}
+use Rattle.protocol.specs.World.Common.{released_of, WorldView}
+use Rattle.protocol.specs.World.Quiet.{AreWhole}
+use Rattle.stream_run.specs.Linked.{AreAllPut, AreFedAll, AreFedInPart, IsPutAsTaken, IsPutInPart}
+use Rattle.stream_host.specs.Streams.{HasSaid, HasSaidAll, IsComeBy, IsFresh, IsRight, IsUntaken, IsWhole}
+
+-- of a source of which nothing was taken no item came
+none_came : (e : List Request) (input : ℕ) → IsUntaken e input → items_from input e ≡ []
+none_came e input untaken =
+    let none : bytes_from input e ≡ [] = rw (untaken.0, untaken.1) refl in
+    ap (λ (bytes : List ℕ). (read_bytes bytes (reading beginning [])).items) none
+
+come_by : (e now : List Request) (first world : WorldView) → IsFresh e
+    → AreFedInPart (λ input. items_from input e) (λ input. items_from input now) first world → (input : ℕ)
+    → IsComeBy (history_of first.inputs input) (history_of world.inputs input) (items_from input now)
+come_by e now first world fresh fed input =
+    let is = fed input in
+    let none = none_came e input (fresh input) in
+    record {
+      items = is.items;
+      rest = is.rest;
+      came_so = is.came ∙ ap (λ (had : List ℤ). had ++ is.items ++ is.rest) none;
+      now_so = is.fed_since;
+    }
+
+pub is_right : (names : Option (List NameTree)) (first world : WorldView) (left : List Departure) (waiting : List ℕ)
+    (e now : List Request) → IsFresh e → HasGoneOn first world
+    → AreFedInPart (λ input. items_from input e) (λ input. items_from input now) first world → IsPutInPart left world
+    → departures_text names left ≡ said_bytes now ++ waiting → IsRight names first world left waiting now
+is_right names first world left waiting e now fresh gone fed put said =
+    record { inputs = come_by e now first world fresh fed; gone_on = gone; put = put; said = said }
+
+all_came : (e now : List Request) (first world : WorldView) → IsFresh e
+    → AreFedAll (λ input. items_from input e) (λ input. items_from input now) first world → (input : ℕ)
+    → history_of world.inputs input ≡ history_of first.inputs input ++ items_from input now
+all_came e now first world fresh fed input =
+    let is = fed input in
+    let none = none_came e input (fresh input) in
+    is.fed_since ∙ ap (λ (items : List ℤ). history_of first.inputs input ++ items)
+    (sym (is.came ∙ ap (λ (had : List ℤ). had ++ is.items) none))
+
+pub is_all : (names : Option (List NameTree)) (first world : WorldView) (left : List Departure) (e now : List Request) → IsFresh e
+    → HasGoneOn first world → AreFedAll (λ input. items_from input e) (λ input. items_from input now) first world
+    → AreFedInPart (λ input. items_from input e) (λ input. items_from input now) first world → IsPutInPart left world
+    → AreAllPut left world → AreWhole world → departures_text names left ≡ said_bytes now → HasSaidAll names first world now
+is_all names first world left e now fresh gone fed part put all whole said =
+    record {
+      left = left;
+      right = is_right names first world left [] e now fresh gone part put (said ∙ sym (append-nil (said_bytes now)));
+      whole = record { inputs = all_came e now first world fresh fed; said = said; all = all; whole = whole };
+    }
+
+-- ---- at the beginning
+
+none_at : (count output : ℕ) → slice_index_or (replicate count 0) output 0 ≡ 0
+none_at zero output = refl
+none_at (suc count) zero = refl
+none_at (suc count) (suc output) = none_at count output
+
+-- nothing was put out, and nothing was taken
+pub none_put : (taken : List ℕ) (count : ℕ) (world : WorldView) → taken ≡ replicate count 0
+    → IsPutAsTaken [] (λ output. slice_index_or taken output 0) world
+none_put taken count world none output =
+    record {
+      part = prefix_nil [] (released_of output world.stations) refl;
+      count = ap (λ (all : List ℕ). slice_index_or all output 0) none ∙ none_at count output;
+    }
