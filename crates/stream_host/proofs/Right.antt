@@ -1,21 +1,20 @@
 -- What streams leave on a host is right.
-use Rattle.std.proofs.Common.{◌≡◌, ◌∙◌, ℕ, zero, suc, ℤ, Bool, List, [], ◌∷◌, ◌++◌, Option, refl, subst, sym, ap, append-nil}
-use Rattle.std.specs.Prelude.{length, replicate, slice_index_or}
+use Rattle.std.proofs.Common.{◌≡◌, ◌∙◌, ℕ, zero, suc, ℤ, List, [], ◌++◌, Option, refl, sym, ap, append-nil}
+use Rattle.std.specs.Prelude.{replicate, slice_index_or, OnOk, Result, Ok, Err}
 use Rattle.growing.specs.WhateverComes.{HasGoneOn}
 use Rattle.host.specs.Requests.{Request}
 use Rattle.host.specs.Sources.{said_bytes}
-use Rattle.host_ports.specs.Ports.{bytes_from, items_from, read_from}
+use Rattle.host_ports.specs.Ports.{bytes_from, items_from}
 use Rattle.host_ports.specs.Speaking.{departures_text}
-use Rattle.item_text.specs.Items.{beginning, read_bytes, reading, Reading}
+use Rattle.item_text.specs.Items.{beginning, read_bytes, reading}
 use Rattle.kahn_net.specs.Laws.Prefixes.{prefix_nil}
-use Rattle.kahn_net.specs.Streams.{history_of, IsPrefix}
+use Rattle.kahn_net.specs.Streams.{history_of}
 use Rattle.net_text.specs.Names.{NameTree}
-use Rattle.outside.specs.Departures.{items_by}
 use Rattle.outside.specs.declared.departure.Departure.{Departure}
 use Rattle.protocol.specs.World.Common.{released_of, WorldView}
 use Rattle.protocol.specs.World.Quiet.{AreWhole}
 use Rattle.stream_run.specs.Linked.{AreAllPut, AreFedAll, AreFedInPart, IsPutAsTaken, IsPutInPart}
-use Rattle.stream_host.specs.Streams.{HasSaid, HasSaidAll, IsComeBy, IsFresh, IsRight, IsUntaken, IsWhole}
+use Rattle.stream_host.specs.Streams.{HasSaidAll, IsComeBy, IsFresh, IsRight, IsUntaken}
 
 -- of a source of which nothing was taken no item came
 none_came : (e : List Request) (input : ℕ) → IsUntaken e input → items_from input e ≡ []
@@ -65,10 +64,10 @@ is_all names first world left e now fresh gone fed part put all whole said =
 
 -- ---- at the beginning
 
-none_at : (count output : ℕ) → slice_index_or (replicate count 0) output 0 ≡ 0
-none_at zero output = refl
-none_at (suc count) zero = refl
-none_at (suc count) (suc output) = none_at count output
+same_at : (count output item : ℕ) → slice_index_or (replicate count item) output item ≡ item
+same_at zero output item = refl
+same_at (suc count) zero item = refl
+same_at (suc count) (suc output) item = same_at count output item
 
 -- nothing was put out, and nothing was taken
 pub none_put : (taken : List ℕ) (count : ℕ) (world : WorldView) → taken ≡ replicate count 0
@@ -76,5 +75,11 @@ pub none_put : (taken : List ℕ) (count : ℕ) (world : WorldView) → taken �
 none_put taken count world none output =
     record {
       part = prefix_nil [] (released_of output world.stations) refl;
-      count = ap (λ (all : List ℕ). slice_index_or all output 0) none ∙ none_at count output;
+      count = ap (λ (all : List ℕ). slice_index_or all output 0) none ∙ same_at count output 0;
     }
+
+-- what follows from four things that hold where a run ends well holds there
+pub so_where_well : {T E A B C D P : Type 0} (result : Result T E) → OnOk result A → OnOk result B → OnOk result C → OnOk result D
+    → (A → B → C → D → P) → OnOk result P
+so_where_well {T} {E} {A} {B} {C} {D} {P} (Ok value) a b c d so = so a b c d
+so_where_well {T} {E} {A} {B} {C} {D} {P} (Err fault) a b c d so = tt

@@ -1,5 +1,5 @@
 -- What a network at work has said on its host, and from which items.
-use Rattle.std.specs.Prelude.{◌≡◌, ◌++◌, ℕ, ℤ, Bool, false, List, [], Option}
+use Rattle.std.specs.Prelude.{◌≡◌, ◌++◌, ℕ, ℤ, false, List, [], Option}
 use Rattle.growing.specs.WhateverComes.{HasGoneOn}
 use Rattle.host.specs.Requests.{Request}
 use Rattle.host.specs.Sources.{has_ended, said_bytes, taken_from}

@@ -1,2 +1,1 @@
 mod Preparing
-mod Right

@@ -10,7 +10,8 @@ use Rattle.host_ports.specs.Ports.{items_from, PortIsFor, PortsStand, read_from}
 use Rattle.host_ports.specs.declared.port.Port.{Port}
 use Rattle.net_text.specs.Names.{NameTree}
 use Rattle.protocol.specs.Node.Common.{Net}
-use Rattle.stream_program.specs.Streamed.{AreInputsRead, IsFresh, IsInputsText, IsNetRead, IsPreparing, IsUntaken}
+use Rattle.stream_host.specs.Streams.{IsFresh, IsUntaken}
+use Rattle.stream_program.specs.Streamed.{AreInputsRead, HasEnded, IsInputsText, IsNetRead, IsOf, IsPreparing, IsStreamed, nothing, something}
 
 pub prepares_nothing : (e : List Request) → IsPreparing e e
 prepares_nothing e = record { later = λ r had. had; said = refl; taken = λ input. refl; ended = λ input. refl }
@@ -72,3 +73,17 @@ port_opened {S} source_number e input port number reader ended untaken =
         read = λ kept. rw reader (rw none refl);
       };
     }
+
+-- ---- what was said was said still
+
+of_still : (options : StreamOptions) (net : Net) (first : WorldView) (old new : List Request) → Later old new → IsOf options net first old
+    → IsOf options net first new
+of_still options net first old new later is =
+    record {
+      net_read = net_read_still (string_bytes options.net) net old new later is.net_read;
+      inputs_read = inputs_read_still (option_map string_bytes options.inputs) net first.inputs old new later is.inputs_read;
+      same_net = is.same_net;
+    }
+
+items_still : (old new : List Request) (input : ℕ) → IsPreparing old new → items_from input new ≡ items_from input old
+items_still old new input prepares = rw (items_from, read_from, bytes_from, prepares.taken input, prepares.ended input) refl

@@ -1,20 +1,11 @@
 -- What the streaming program does on its host, as the host's log has it.
-use Rattle.std.specs.Prelude.{◌≡◌, ◌⊎◌, ◌++◌, ℕ, ℤ, Bool, true, false, IsTrue, List, [], ◌∷◌, Option, Some, None, Ok, Err, Vec, length, option_map, slice_get, string_bytes}
-use Rattle.std.specs.declared.alloc.Global.{Global}
-use Rattle.std.specs.declared.string.String.{String}
-use Rattle.host.specs.Requests.{Has, IsFree, Later, Read, Request}
+use Rattle.std.specs.Prelude.{◌≡◌, ℕ, ℤ, Bool, true, false, List, [], ◌∷◌, ◌++◌, Option, Some, None, Ok, option_map, string_bytes}
+use Rattle.host.specs.Requests.{Has, Later, Read, Request}
 use Rattle.host.specs.Sources.{has_ended, said_bytes, taken_from}
-use Rattle.kahn_net.specs.Streams.{history_of, IsPrefix}
 use Rattle.protocol.specs.Node.Common.{Channel, Net, network_of, Outside, Port, Process}
-use Rattle.protocol.specs.World.Common.{released_of, WorldView}
-use Rattle.protocol.specs.World.Quiet.{AreWhole}
-use Rattle.protocol.specs.World.Released.{IsStreamOf}
+use Rattle.protocol.specs.World.Common.{WorldView}
 use Rattle.net_text.specs.Names.{NameTree}
-use Rattle.outside.specs.Departures.{items_by}
-use Rattle.outside.specs.declared.departure.Departure.{Departure}
-use Rattle.host_ports.specs.Ports.{items_from}
-use Rattle.host_ports.specs.Speaking.{departures_text}
-use Rattle.stream_run.specs.Linked.{AreAllPut}
+use Rattle.stream_host.specs.Streams.{HasSaid, HasSaidAll}
 use Rattle.cobaltmidge.specs.Texts.{AreInputsOf, IsNetOf}
 use Rattle.stream_words.specs.declared.options.StreamOptions.{StreamOptions}
 
@@ -24,14 +15,6 @@ pub record IsPreparing (old new : List Request) : Type 0 where
   pub said : said_bytes new ≡ said_bytes old
   pub taken : (input : ℕ) → taken_from input new ≡ taken_from input old
   pub ended : (input : ℕ) → has_ended input new ≡ has_ended input old
-
--- Nothing came by an input's source.
-abbrev pub IsUntaken : List Request → ℕ → Type 0
-IsUntaken e input = (taken_from input e ≡ []) × (has_ended input e ≡ false)
-
--- Nothing came by any.
-abbrev pub IsFresh : List Request → Type 0
-IsFresh e = (input : ℕ) → IsUntaken e input
 
 -- The text of this file was read, and describes this network.
 pub record IsNetRead (path : List ℕ) (net : Net) (e : List Request) : Type 0 where
@@ -61,50 +44,27 @@ pub record AreInputsRead (path : Option (List ℕ)) (net : Net) (first : List (L
   pub read : IsInputsText path net text e
   pub are : AreInputsOf text net first
 
--- Of the items that came by an input's source these are behind its first ones, and these aren't yet.
-pub record IsComeBy (first now came : List ℤ) : Type 0 where
-  pub items : List ℤ
-  pub rest : List ℤ
-  pub came_so : came ≡ items ++ rest
-  pub now_so : now ≡ first ++ items
-
 -- the names before the items, where these aren't printed bare
 abbrev pub spoken_names : Bool → List NameTree → Option (List NameTree)
 spoken_names true names = None
 spoken_names false names = Some names
 
--- What was said is right: it is the lines of items, some of which may wait to be said still; those of each output are a prefix of its channel's
--- history in some approximation on the inputs so far, which are the first items of each input and, behind them, what came by its source.
-pub record IsRight (options : StreamOptions) (net : Net) (first : List (List ℤ)) (now : WorldView) (left : List Departure)
-    (waiting : List ℕ) (e : List Request) : Type 0 where
+-- A network that was read, its world on the inputs that were read, and the world to which it came.
+pub record IsOf (options : StreamOptions) (net : Net) (first : WorldView) (e : List Request) : Type 0 where
   pub net_read : IsNetRead (string_bytes options.net) net e
-  pub inputs_read : AreInputsRead (option_map string_bytes options.inputs) net first e
-  pub same_net : now.net ≡ network_of net.program
-  pub inputs : (input : ℕ) → IsComeBy (history_of first input) (history_of now.inputs input) (items_from input e)
-  pub said : departures_text (spoken_names options.bare net.channel_names.items) left ≡ said_bytes e ++ waiting
-  pub put : (output : ℕ) → IsPrefix (items_by output left) (released_of output now.stations)
-  pub streams : (channel : ℕ) → IsStreamOf now.net now.inputs channel (released_of channel now.stations)
+  pub inputs_read : AreInputsRead (option_map string_bytes options.inputs) net first.inputs e
+  pub same_net : first.net ≡ network_of net.program
 
--- And where all came to its end, it is all: nothing waits, what came is taken in, and what was said of each output is its channel's whole stream
--- in the least solution.
-pub record IsWhole (first : List (List ℤ)) (now : WorldView) (left : List Departure) (waiting : List ℕ) (e : List Request) : Type 0 where
-  pub none_waits : waiting ≡ []
-  pub inputs : (input : ℕ) → history_of now.inputs input ≡ history_of first input ++ items_from input e
-  pub all : AreAllPut left now
-  pub whole : AreWhole now
-
--- A run of streams on a host: nothing was said; or what was said is right.
+-- Nothing was said; or what was said is right on what came so far, by the network and the inputs that were read.
 pub data IsStreamed (options : StreamOptions) (e : List Request) : Type 0 where
   nothing : said_bytes e ≡ [] → IsStreamed options e
-  right : (net : Net) (first : List (List ℤ)) (now : WorldView) (left : List Departure) (waiting : List ℕ)
-      → IsRight options net first now left waiting e → IsStreamed options e
+  something : (net : Net) (first now : WorldView) → IsOf options net first e
+      → HasSaid (spoken_names options.bare net.channel_names.items) first now e → IsStreamed options e
 
--- One that came to its end.
+-- All came to its end, and what was said is all that can leave.
 pub record HasEnded (options : StreamOptions) (e : List Request) : Type 0 where
   pub net : Net
-  pub first : List (List ℤ)
+  pub first : WorldView
   pub now : WorldView
-  pub left : List Departure
-  pub waiting : List ℕ
-  pub right : IsRight options net first now left waiting e
-  pub whole : IsWhole first now left waiting e
+  pub of_net : IsOf options net first e
+  pub said : HasSaidAll (spoken_names options.bare net.channel_names.items) first now e

@@ -10,13 +10,14 @@ ghost use Rattle.live.specs.LiveViews.{closed_on, none_taken, world_on};
 ghost use Rattle.world.specs.Feeding.{is_input, none_closed};
 ghost use Rattle.cobaltmidge.specs.Names.{IsInputNamed};
 ghost use Rattle.stream_program.specs.Causes.{IsTextUnread, failure_of, is_standard, opening_failure};
-ghost use Rattle.stream_program.specs.Streamed.{AreInputsRead, HasEnded, IsFresh, IsInputsText, IsNetRead, IsPreparing, IsStreamed, IsUntaken, line_if_input, no_items};
+ghost use Rattle.stream_program.specs.Streamed.{AreInputsRead, HasEnded, IsInputsText, IsNetRead, IsPreparing, IsStreamed, line_if_input, no_items, spoken_names};
+ghost use Rattle.stream_host.specs.Streams.{IsFresh, IsUntaken};
 ghost use Rattle.stream_program.specs.declared.failure.StreamFailure.TheVariants.{Missing, Refused, Text};
 
 use crate::failure::StreamFailure;
 use cobaltmidge::{Error, MemDisk, Network, RunWorld, SplitCell};
 use host::{Host, HostFault};
-use host_ports::{Port, PortFault, Ports};
+use host_ports::{Port, PortFault};
 use item_text::ItemReader;
 use kahn_net::{Channel, MAX_CHANNELS, Port as End};
 use kahn_program::{Failure, Options, Source, explanation, read_inputs, read_net};
@@ -26,7 +27,8 @@ use net_text::Name;
 use outlet::ListOutlet;
 use std::alloc::{AllocError, Global};
 use std::sync::Arc;
-use stream_run::{Stopped, stream};
+use stream_host::run_streams;
+use stream_run::Stopped;
 use stream_words::{InputSource, StreamOptions};
 
 // There is no memory.
@@ -512,6 +514,17 @@ fn tell_end<H: Host>(
     }
 }
 
+// The names of the channels, where a line tells by which output its item left.
+fn spoken_names<'a>(options: &StreamOptions, net: &'a Net) -> Option<&'a [Name]>
+    ensures { option_map (λ names. names.now) result ≡ spoken_names options.now.bare net.now.channel_names.items }
+{
+    if options.bare {
+        None
+    } else {
+        Some(net.channel_names.as_slice())
+    }
+}
+
 // Runs a network between its sources and standard output.
 fn run<H: Host>(
     alloc: Global,
@@ -532,14 +545,13 @@ fn run<H: Host>(
 {
     let Begun { live, ports } = begun;
     let mut live = live;
-    let names = if options.bare {
-        None
-    } else {
-        Some(network.net.channel_names.as_slice())
-    };
-    let mut ports = Ports::new(alloc, host, ports, names);
-    let ended = stream(alloc, &mut live, &mut ports);
-    (ended, ports.into_host())
+    run_streams(
+        alloc,
+        &mut live,
+        host,
+        ports,
+        spoken_names(options, &network.net),
+    )
 }
 
 // The streaming program, once its network is read.
