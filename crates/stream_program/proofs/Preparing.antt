@@ -1,17 +1,21 @@
 -- What is asked before streams begin changes nothing of what came and was said.
 use Rattle.std.proofs.Common.{◌≡◌, ◌∙◌, inr, ℕ, ℤ, false, List, [], ◌∷◌, ◌++◌, Option, Some, None, refl, subst, sym, ap}
-use Rattle.std.specs.Prelude.{Result, Ok, Err}
+use Rattle.std.proofs.Math.Logic.{∥∥₁_map}
+use Rattle.std.specs.Prelude.{option_map, string_bytes, OnErr, OnOk, Result, Ok, Err}
 use Rattle.host.specs.Answers.{Answer}
 use Rattle.host.specs.Requests.{Has, Later, OpenedSource, Read, Request, Told}
 use Rattle.host.specs.Sources.{has_ended, said_bytes, taken_from}
 use Rattle.host.specs.declared.fault.HostFault.{HostFault}
 use Rattle.item_text.specs.Items.{beginning, reading}
-use Rattle.host_ports.specs.Ports.{items_from, PortIsFor, PortsStand, read_from}
-use Rattle.host_ports.specs.declared.port.Port.{Port}
+use Rattle.host_ports.specs.Ports.{bytes_from, items_from, read_from}
+use Rattle.kahn_net.specs.Streams.{history_of}
+use Rattle.outside.specs.declared.departure.Departure.{Departure}
 use Rattle.net_text.specs.Names.{NameTree}
-use Rattle.protocol.specs.Node.Common.{Net}
-use Rattle.stream_host.specs.Streams.{IsFresh, IsUntaken}
-use Rattle.stream_program.specs.Streamed.{AreInputsRead, HasEnded, IsInputsText, IsNetRead, IsOf, IsPreparing, IsStreamed, nothing, something}
+use Rattle.protocol.specs.Node.Common.{Net, network_of}
+use Rattle.protocol.specs.World.Common.{WorldView}
+use Rattle.stream_words.specs.declared.options.StreamOptions.{StreamOptions}
+use Rattle.stream_host.specs.Streams.{HasSaid, HasSaidAll, IsFresh, IsRight, IsUntaken}
+use Rattle.stream_program.specs.Streamed.{AreInputsRead, HasEnded, IsInputsText, IsNetRead, IsOf, IsPreparing, IsStreamed, nothing, something, spoken_names}
 
 pub prepares_nothing : (e : List Request) → IsPreparing e e
 prepares_nothing e = record { later = λ r had. had; said = refl; taken = λ input. refl; ended = λ input. refl }
@@ -56,24 +60,6 @@ pub inputs_read_still : (path : Option (List ℕ)) (net : Net) (first : List (Li
 inputs_read_still path net first old new later are =
     record { text = are.text; read = text_still path net are.text old new later are.read; are = are.are }
 
--- ---- sources at their beginning
-
-pub nothing_read : (e : List Request) (input : ℕ) → IsUntaken e input → read_from input e ≡ reading beginning []
-nothing_read e input untaken = rw (read_from, untaken.0, untaken.1) refl
-
--- a source of which nothing was taken stands to the log
-pub port_opened : {S : Type 0} (source_number : S → ℕ) (e : List Request) (input : ℕ) (port : Port S) → source_number port.source ≡ input
-    → port.reader ≡ beginning → port.has_ended ≡ false → IsUntaken e input → PortIsFor source_number e input port
-port_opened {S} source_number e input port number reader ended untaken =
-    let none = nothing_read e input untaken in
-    record {
-      number = number;
-      stands = record {
-        ended = ended ∙ sym untaken.1;
-        read = λ kept. rw reader (rw none refl);
-      };
-    }
-
 -- ---- what was said was said still
 
 of_still : (options : StreamOptions) (net : Net) (first : WorldView) (old new : List Request) → Later old new → IsOf options net first old
@@ -85,5 +71,95 @@ of_still options net first old new later is =
       same_net = is.same_net;
     }
 
+of_begun : (options : StreamOptions) (net : Net) (first : WorldView) (old new : List Request) → Later old new
+    → IsNetRead (string_bytes options.net) net old → AreInputsRead (option_map string_bytes options.inputs) net first.inputs old
+    → first.net ≡ network_of net.program → IsOf options net first new
+of_begun options net first old new later net_read inputs_read same =
+    of_still options net first old new later (record { net_read = net_read; inputs_read = inputs_read; same_net = same })
+
+-- what was said is by the network and the inputs that were read
+pub said_by : (options : StreamOptions) (net : Net) (first now : WorldView) (names : Option (List NameTree)) (old new : List Request)
+    → Later old new → IsNetRead (string_bytes options.net) net old
+    → AreInputsRead (option_map string_bytes options.inputs) net first.inputs old → first.net ≡ network_of net.program
+    → names ≡ spoken_names options.bare net.channel_names.items → HasSaid names first now new → IsStreamed options new
+said_by options net first now names old new later net_read inputs_read same spoken said =
+    something net first now (of_begun options net first old new later net_read inputs_read same)
+    (subst (λ (names : Option (List NameTree)). HasSaid names first now new) spoken said)
+
+-- and where the streams end well it is all
+pub ended_by : {T E : Type 0} (options : StreamOptions) (net : Net) (first now : WorldView) (names : Option (List NameTree))
+    (old new : List Request) (result : Result T E) → ∥ Later old new ∥₁ → IsNetRead (string_bytes options.net) net old
+    → AreInputsRead (option_map string_bytes options.inputs) net first.inputs old → first.net ≡ network_of net.program
+    → names ≡ spoken_names options.bare net.channel_names.items → OnOk result (HasSaidAll names first now new)
+    → OnOk result (∥ HasEnded options new ∥₁)
+ended_by {T} {E} options net first now names old new (Ok value) later net_read inputs_read same spoken said =
+    ∥∥₁_map later (λ were. record {
+      net = net;
+      first = first;
+      now = now;
+      of_net = of_begun options net first old new were net_read inputs_read same;
+      said = subst (λ (names : Option (List NameTree)). HasSaidAll names first now new) spoken said;
+    })
+ended_by {T} {E} options net first now names old new (Err fault) later net_read inputs_read same spoken said = tt
+
+-- ---- what was said is right still, behind what is asked that says nothing and by which nothing comes
+
 items_still : (old new : List Request) (input : ℕ) → IsPreparing old new → items_from input new ≡ items_from input old
 items_still old new input prepares = rw (items_from, read_from, bytes_from, prepares.taken input, prepares.ended input) refl
+
+right_still : (names : Option (List NameTree)) (first now : WorldView) (left : List Departure) (waiting : List ℕ) (old new : List Request)
+    → IsPreparing old new → IsRight names first now left waiting old → IsRight names first now left waiting new
+right_still names first now left waiting old new prepares is =
+    record {
+      inputs = λ input. let come = is.inputs input in record {
+        items = come.items;
+        rest = come.rest;
+        came_so = items_still old new input prepares ∙ come.came_so;
+        now_so = come.now_so;
+      };
+      gone_on = is.gone_on;
+      put = is.put;
+      said = is.said ∙ ap (λ (said : List ℕ). said ++ waiting) (sym prepares.said);
+    }
+
+streamed_so : (options : StreamOptions) (old new : List Request) → IsPreparing old new → IsStreamed options old → IsStreamed options new
+streamed_so options old new prepares (nothing none) = nothing (prepares.said ∙ none)
+streamed_so options old new prepares (something net first now of_net said) =
+    something net first now (of_still options net first old new prepares.later of_net) (record {
+      left = said.left;
+      waiting = said.waiting;
+      right = right_still _ first now said.left said.waiting old new prepares said.right;
+    })
+
+pub streamed_still : (options : StreamOptions) (old new : List Request) → IsPreparing old new → ∥ IsStreamed options old ∥₁
+    → ∥ IsStreamed options new ∥₁
+streamed_still options old new prepares is = ∥∥₁_map is (streamed_so options old new prepares)
+
+ended_so : (options : StreamOptions) (old new : List Request) → IsPreparing old new → HasEnded options old → HasEnded options new
+ended_so options old new prepares is =
+    record {
+      net = is.net;
+      first = is.first;
+      now = is.now;
+      of_net = of_still options is.net is.first old new prepares.later is.of_net;
+      said = record {
+        left = is.said.left;
+        right = right_still _ is.first is.now is.said.left [] old new prepares is.said.right;
+        whole = record {
+          inputs = λ input. is.said.whole.inputs input
+              ∙ ap (λ (items : List ℤ). history_of is.first.inputs input ++ items) (sym (items_still old new input prepares));
+          said = is.said.whole.said ∙ sym prepares.said;
+          all = is.said.whole.all;
+          whole = is.said.whole.whole;
+        };
+      };
+    }
+
+pub ended_still : (options : StreamOptions) (old new : List Request) → IsPreparing old new → ∥ HasEnded options old ∥₁
+    → ∥ HasEnded options new ∥₁
+ended_still options old new prepares is = ∥∥₁_map is (ended_so options old new prepares)
+
+-- what holds where a run ends well holds of one that didn't end badly
+pub ended_where_well : {T E P : Type 0} (result : Result T E) → OnOk result P → OnErr result ⊥ → P
+ended_where_well {T} {E} {P} (Ok value) is well = is
+ended_where_well {T} {E} {P} (Err fault) is well = absurd well

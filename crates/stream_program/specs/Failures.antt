@@ -27,22 +27,32 @@ input_in (Some source) = string_bytes source.input
 abbrev pub input_of : List InputSource → ℕ → List ℕ
 input_of sources place = input_in (slice_get sources place)
 
+-- the word `input` and its name
+abbrev pub of_input : List ℕ → List ℕ
+of_input name = codes "input " ++ name
+
+-- the number of a line
+abbrev pub line_words : ℕ → List ℕ
+line_words number = codes " line " ++ decimal number
+
+-- the number of a refusal, and a line feed
+abbrev pub refusal_end : ℕ → List ℕ
+refusal_end number = codes ": refusal " ++ decimal number ++ codes "\n"
+
 abbrev pub item_fault_line : List ℕ → ItemFault → List ℕ
-item_fault_line name fault =
-    codes "input " ++ name ++ codes " line " ++ decimal (line_of fault) ++ codes ": refusal " ++ decimal (number_of fault) ++ 10 ∷ []
+item_fault_line name fault = (of_input name ++ line_words (line_of fault)) ++ refusal_end (number_of fault)
 
 abbrev pub port_fault_line : List NameTree → PortFault → List ℕ
 port_fault_line names NoMemory = codes "no memory\n"
-port_fault_line names (Unread input) = codes "input " ++ name_of names input ++ codes ": cannot be read\n"
+port_fault_line names (Unread input) = of_input (name_of names input) ++ codes ": cannot be read\n"
 port_fault_line names (Item input fault) = item_fault_line (name_of names input) fault
 port_fault_line names Unsaid = codes "output: cannot be written\n"
 
 -- the line of a failure, with its line feed
 abbrev pub failure_line : List NameTree → List InputSource → StreamFailure → List ℕ
 failure_line names sources (Text failure) = text.failure_line failure
-failure_line names sources (Refused place number) =
-    codes "input " ++ input_of sources place ++ codes ": refusal " ++ decimal number ++ 10 ∷ []
-failure_line names sources (Missing input) = codes "input " ++ name_of names input ++ codes ": refusal 18\n"
+failure_line names sources (Refused place number) = of_input (input_of sources place) ++ refusal_end number
+failure_line names sources (Missing input) = of_input (name_of names input) ++ refusal_end 18
 failure_line names sources NotOne = codes "--stream=bare: not exactly one output\n"
 failure_line names sources (Port fault) = port_fault_line names fault
 failure_line names sources Full = codes "refusal 50\n"

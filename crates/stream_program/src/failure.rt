@@ -1,7 +1,7 @@
 //! Why the streams end early, and what is then printed.
 
-ghost use Rattle.std.specs.Prelude.{◌≡◌, IfOk, string_bytes};
-ghost use Rattle.stream_program.specs.Failures.{failure_line, input_of, item_fault_line, name_of, port_fault_line, status_of};
+ghost use Rattle.std.specs.Prelude.{◌≡◌, ◌++◌, IfOk, OnOk, codes, string_bytes};
+ghost use Rattle.stream_program.specs.Failures.{failure_line, input_of, item_fault_line, line_words, name_of, of_input, port_fault_line, refusal_end, status_of};
 
 use host_ports::PortFault;
 use item_text::ItemFault;
@@ -47,12 +47,55 @@ fn input_of(sources: &[InputSource], place: usize) -> &str
     }
 }
 
+// The word `input` and its name.
+fn of_input(alloc: Global, name: &str) -> Result<String, AllocError>
+    ensures { IfOk result (λ line. string_bytes line ≡ of_input name.now) }
+{
+    let mut line = String::from_str(alloc, "input ")?;
+    line.push_str(name)?;
+    Ok(line)
+}
+
+// Adds the number of a refusal, and a line feed.
+fn add_refusal(line: &mut String, number: u8) -> Result<(), AllocError>
+    ensures { OnOk result (string_bytes line.new ≡ string_bytes line.old ++ refusal_end number) }
+{
+    write!(line, ": refusal {number}\n")
+}
+
+// Adds the number of a line.
+fn add_line(line: &mut String, number: u64) -> Result<(), AllocError>
+    ensures { OnOk result (string_bytes line.new ≡ string_bytes line.old ++ line_words number) }
+{
+    write!(line, " line {number}")
+}
+
+// The line of an input that is refused.
+fn refused_input(alloc: Global, name: &str, number: u8) -> Result<String, AllocError>
+    ensures { IfOk result (λ line. string_bytes line ≡ of_input name.now ++ refusal_end number) }
+{
+    let mut line = of_input(alloc, name)?;
+    add_refusal(&mut line, number)?;
+    Ok(line)
+}
+
 // The line of an item that is refused.
 fn item_line(alloc: Global, name: &str, fault: ItemFault) -> Result<String, AllocError>
     ensures { IfOk result (λ line. string_bytes line ≡ item_fault_line name.now fault) }
 {
-    let (line, number) = (fault.line(), fault.number());
-    format!(in alloc; "input {name} line {line}: refusal {number}\n")
+    let mut line = of_input(alloc, name)?;
+    add_line(&mut line, fault.line())?;
+    add_refusal(&mut line, fault.number())?;
+    Ok(line)
+}
+
+// The line of an input whose source can't be read.
+fn unread_line(alloc: Global, name: &str) -> Result<String, AllocError>
+    ensures { IfOk result (λ line. string_bytes line ≡ of_input name.now ++ codes ": cannot be read\n") }
+{
+    let mut line = of_input(alloc, name)?;
+    line.push_str(": cannot be read\n")?;
+    Ok(line)
 }
 
 // The line of what failed outside.
@@ -61,10 +104,7 @@ fn port_line(alloc: Global, names: &[Name], fault: PortFault) -> Result<String, 
 {
     match fault {
         PortFault::NoMemory => String::from_str(alloc, "no memory\n"),
-        PortFault::Unread { input } => {
-            let name = name_of(names, input);
-            format!(in alloc; "input {name}: cannot be read\n")
-        }
+        PortFault::Unread { input } => unread_line(alloc, name_of(names, input)),
         PortFault::Item { input, fault } => item_line(alloc, name_of(names, input), fault),
         PortFault::Unsaid => String::from_str(alloc, "output: cannot be written\n"),
     }
@@ -83,13 +123,9 @@ impl StreamFailure {
         match self {
             StreamFailure::Text(failure) => format!(in alloc; "{failure}\n"),
             StreamFailure::Refused { place, number } => {
-                let name = input_of(sources, place);
-                format!(in alloc; "input {name}: refusal {number}\n")
+                refused_input(alloc, input_of(sources, place), number)
             }
-            StreamFailure::Missing { input } => {
-                let name = name_of(names, input);
-                format!(in alloc; "input {name}: refusal 18\n")
-            }
+            StreamFailure::Missing { input } => refused_input(alloc, name_of(names, input), 18),
             StreamFailure::NotOne => String::from_str(
                 alloc,
                 "--stream=bare: not exactly one output\n",

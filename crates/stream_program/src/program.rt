@@ -149,15 +149,18 @@ fn is_input(net: &Net, number: usize) -> bool
     }
 }
 
-// How many outputs a network has.
-fn output_count(net: &Net) -> usize {
-    let mut count = 0;
-    for channel in &net.program.channels {
+// Whether a network has exactly one output.
+fn has_one_output(channels: &[Channel]) -> bool {
+    let mut one = false;
+    for channel in channels {
         if let End::Outside = channel.consumer {
-            count += 1;
+            if one {
+                return false;
+            }
+            one = true;
         }
     }
-    count
+    one
 }
 
 // Adds a line without items, where the channel is an input.
@@ -400,7 +403,7 @@ fn inputs_to_feed(
 ) -> Result<Vec<u8>, StreamFailure>
     ensures each { IfOk result (λ numbers. length numbers.items ≡ length options.now.sources.items) }
 {
-    if options.bare && output_count(&network.net) != 1 {
+    if options.bare && !has_one_output(&network.net.program.channels) {
         return Err(StreamFailure::NotOne);
     }
     let numbers = inputs_of_sources(alloc, network, &options.sources)?;
