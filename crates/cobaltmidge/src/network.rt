@@ -5,12 +5,13 @@ ghost use Rattle.std.specs.List.{AllByRecursion};
 ghost use Rattle.protocol.specs.Node.Common.{Fits, MAX_NODES, network_of, node_count};
 ghost use Rattle.protocol.specs.World.Common.{output_channels};
 ghost use Rattle.protocol.specs.declared.limits.TheConstants.{DEFAULT_ROOM};
-ghost use Rattle.live.specs.LiveViews.{world_on};
+ghost use Rattle.live.specs.LiveViews.{closed_on, none_taken, world_on};
 ghost use Rattle.fail_script.specs.Lines.{IsScript};
 ghost use Rattle.fail_script.specs.declared.act.ScriptLine.{ScriptLine as LineValue};
 ghost use Rattle.net_check.specs.Resolution.{Reads};
 ghost use Rattle.world.specs.OpeningWorld.{IsUnused};
-ghost use Rattle.world.specs.WholeView.{world_of};
+ghost use Rattle.world.specs.Feeding.{none_closed};
+ghost use Rattle.world.specs.WholeView.{closed_in, world_of};
 ghost use Rattle.cobaltmidge.specs.Errors.{IsRunError};
 ghost use Rattle.cobaltmidge.specs.Names.{IsInputNamed, IsOutputNamed, comes_in, goes_out, is_outside};
 ghost use Rattle.cobaltmidge.specs.Texts.{AreInputsOf, IsInputsError, IsNetError, IsNetOf, IsScriptError, IsScriptOf, IsTextOfInputs, IsTextOfNet};
@@ -261,6 +262,7 @@ impl Network {
         requires fitting { Fits (network_of self.now.net.value.program) inputs }
         ensures first { IfOk result (λ world. world_of world
             ≡ first_world (network_of self.now.net.value.program) inputs DEFAULT_ROOM) }
+        ensures unclosed { IfOk result (λ world. closed_in world ≡ none_closed) }
         // A device failed (20), or memory is missing (1).
         ensures err { IfErr result (IsRunError false) }
     {
@@ -291,6 +293,8 @@ impl Network {
         requires fitting { Fits (network_of self.now.net.value.program) inputs }
         ensures first { IfOk result (λ live. world_on live
             ≡ first_world (network_of self.now.net.value.program) inputs DEFAULT_ROOM) }
+        ensures unclosed { IfOk result (λ live. closed_on live ≡ none_closed) }
+        ensures untaken { IfOk result (λ live. live.taken ≡ none_taken) }
         // A device failed (20), or memory is missing (1).
         ensures err { IfErr result (IsRunError false) }
     {

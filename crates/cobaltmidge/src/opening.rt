@@ -4,7 +4,8 @@ ghost use Rattle.std.specs.Prelude.{◌≡◌, Bool, map, IfErr, IfOk};
 ghost use Rattle.std.specs.List.{AllByRecursion};
 ghost use Rattle.protocol.specs.Node.Common.{Fits, node_count, network_of};
 ghost use Rattle.protocol.specs.World.Common.{output_channels};
-ghost use Rattle.world.specs.WholeView.{capacities_in, world_of};
+ghost use Rattle.world.specs.WholeView.{capacities_in, closed_in, world_of};
+ghost use Rattle.world.specs.Feeding.{none_closed};
 ghost use Rattle.world.specs.OpeningWorld.{IsUnused};
 ghost use Rattle.cobaltmidge.specs.Failing.{IsRunFault};
 ghost use Rattle.cobaltmidge.specs.Remaining.{HasOutputs};
@@ -58,6 +59,8 @@ pub(crate) fn open_world<O: Outlet>(
         ≡ first_world (network_of net.now.value.program) inputs room) }
     ensures room { IfOk result
         (λ world. AllByRecursion IsRunRoom (capacities_in world)) }
+    // No input is closed.
+    ensures unclosed { IfOk result (λ world. closed_in world ≡ none_closed) }
     // A device failed (20), or memory is missing (1).
     ensures err { (threads : Bool) → IfErr result (λ unfinished. IsRunFault threads unfinished.fault) }
     ensures handed_back { IfErr result (λ unfinished. HasOutputs outputs.items unfinished.left) }

@@ -8,7 +8,7 @@ use Rattle.host.specs.declared.fault.HostFault.{HostFault}
 use Rattle.item_text.specs.Items.{beginning, read_bytes, reading, Reading}
 use Rattle.item_text.specs.declared.fault.ItemFault.{ItemFault}
 use Rattle.host_ports.proofs.Taking.{other_bytes, other_end, other_items, other_well, well}
-use Rattle.host_ports.specs.Ports.{ended_well, is_at_end, IsFaultOf, IsOpenOrNot, IsPortFault, items_from, PortIsFor, PortsStand, read_from}
+use Rattle.host_ports.specs.Ports.{ended_well, has_source, HaveTheSame, is_at_end, IsFaultOf, IsOpenOrNot, IsPortFault, items_from, PortIsFor, PortsStand, read_from}
 use Rattle.host_ports.specs.declared.fault.PortFault.{PortFault}
 use Rattle.host_ports.specs.declared.port.Port.{Port}
 
@@ -55,7 +55,7 @@ set_at {A} [] place old new here = absurd cc
 set_at {A} (x ∷ xs) zero old new here = refl
 set_at {A} (x ∷ xs) (suc place) old new here = set_at xs place old new here
 
-set_apart : {A : Type 0} (xs : List A) (place k : ℕ) (new : A) → k ≢ place → slice_get (slice_set xs place new) k ≡ slice_get xs k
+pub set_apart : {A : Type 0} (xs : List A) (place k : ℕ) (new : A) → k ≢ place → slice_get (slice_set xs place new) k ≡ slice_get xs k
 set_apart {A} [] place k new apart = refl
 set_apart {A} (x ∷ xs) zero zero new apart = absurd (apart refl)
 set_apart {A} (x ∷ xs) zero (suc k) new apart = refl
@@ -87,7 +87,7 @@ other_stands {S} source_number e input other answer port apart is =
 less : {m n : ℕ} → suc m ≡ suc n → m ≡ n
 less {m} {n} same = omega (arith, same)
 
-same_or : (m n : ℕ) → (m ≡ n) ⊎ (m ≢ n)
+pub same_or : (m n : ℕ) → (m ≡ n) ⊎ (m ≢ n)
 same_or zero zero = inl refl
 same_or zero (suc n) = inr (λ same. absurd (omega (arith, same)))
 same_or (suc m) zero = inr (λ same. absurd (omega (arith, same)))
@@ -113,6 +113,20 @@ pub stand_on : {S : Type 0} (source_number : S → ℕ) (e : List Request) (port
     → PortsStand source_number (Took input answer ∷ e) (slice_set (slice_set ports input None) input (Some new))
 stand_on {S} source_number e ports input old new answer here stand is = λ k port there.
     by_place source_number e ports input old new answer here stand is k port there (same_or k input)
+
+-- the input has its source still, and so have the others
+given_at : {S : Type 0} (given ports : List (Option (Port S))) (input : ℕ) (old new : Port S) → slice_get ports input ≡ Some (Some old)
+    → HaveTheSame given ports → (k : ℕ) → (k ≡ input) ⊎ (k ≢ input)
+    → has_source (slice_get (slice_set (slice_set ports input None) input (Some new)) k) ≡ has_source (slice_get given k)
+given_at {S} given ports input old new here same k (inl is) =
+    let filled = refilled_at ports input (Some old) None (Some new) here in
+    rw (is, filled) (sym (ap has_source here) ∙ same input)
+given_at {S} given ports input old new here same k (inr apart) =
+    rw (refilled_apart ports input k None (Some new) apart) (same k)
+
+pub given_on : {S : Type 0} (given ports : List (Option (Port S))) (input : ℕ) (old new : Port S) → slice_get ports input ≡ Some (Some old)
+    → HaveTheSame given ports → HaveTheSame given (slice_set (slice_set ports input None) input (Some new))
+given_on {S} given ports input old new here same = λ k. given_at given ports input old new here same k (same_or k input)
 
 -- ---- what is told of the input, and of the others
 

@@ -1,12 +1,12 @@
 -- What was said stands in the log, and changes nothing of what came.
-use Rattle.std.proofs.Common.{◌≡◌, ◌∙◌, inr, List, ℕ, [], ◌∷◌, ◌++◌, Option, sym, append-nil}
+use Rattle.std.proofs.Common.{◌≡◌, ◌∙◌, ◌⊎◌, inl, inr, subst, List, ℕ, [], ◌∷◌, ◌++◌, Option, sym, append-nil}
 use Rattle.std.proofs.Math.Logic.{∥∥₁_map}
 use Rattle.std.specs.Prelude.{Ok, Err}
 use Rattle.host.specs.Answers.{Answer}
-use Rattle.host.specs.Requests.{Later, Request, Said}
+use Rattle.host.specs.Requests.{Has, Request, Said}
 use Rattle.host.specs.Sources.{said_bytes}
 use Rattle.host.specs.declared.fault.HostFault.{HostFault}
-use Rattle.host_ports.specs.Ports.{PortsStand}
+use Rattle.host_ports.specs.Ports.{IsAskedOn, IsOfStreams, PortsStand}
 use Rattle.host_ports.specs.declared.port.Port.{Port}
 
 -- all that waited was said, and nothing waits
@@ -26,6 +26,14 @@ stand_said {S} source_number ports text answer e now asked stand =
     rw asked (λ input port here. let is = stand input port here in
     record { number = is.number; stands = record { ended = is.stands.ended; read = is.stands.read } })
 
--- what was asked before was asked still, behind one request more
-pub one_later : (first e now : List Request) (r : Request) → now ≡ r ∷ e → ∥ Later first e ∥₁ → ∥ Later first now ∥₁
-one_later first e now r asked later = rw asked (∥∥₁_map later (λ were one had. inr (were one had)))
+-- one request more of streams was asked
+pub asked_more : (first e now : List Request) (r : Request) → now ≡ r ∷ e → IsOfStreams r → ∥ IsAskedOn first e ∥₁ → ∥ IsAskedOn first now ∥₁
+asked_more first e now r asked of_streams before =
+    rw asked (∥∥₁_map before (λ were. record {
+      later = λ one had. inr (were.later one had);
+      only = λ one had. either one had were;
+    }))
+  where
+    either : (one : Request) → (one ≡ r) ⊎ Has one e → IsAskedOn first e → Has one first ⊎ IsOfStreams one
+    either one (inl is) were = inr (subst IsOfStreams (sym is) of_streams)
+    either one (inr had) were = were.only one had

@@ -1,7 +1,8 @@
 -- What came by the sources of a network's inputs, as a host's log has it.
-use Rattle.std.specs.Prelude.{◌≡◌, ◌++◌, ℕ, ℤ, Bool, true, false, if◌then◌else◌, List, [], ◌∷◌, Option, Some, None, IfErr, IfOk, OnErr, OnOk, Result, Err, is_some, slice_get}
+use Rattle.std.specs.Prelude.{◌≡◌, ◌⊎◌, ◌++◌, ℕ, ℤ, Bool, true, false, if◌then◌else◌, List, [], ◌∷◌, Option, Some, None, IfErr, IfOk, OnErr, OnOk, Result, Err, is_some, slice_get}
 use Rattle.kahn_net.specs.Streams.{IsPrefix}
-use Rattle.host.specs.Requests.{Request, Has, Took, Said}
+use Rattle.host.specs.Answers.{Answer}
+use Rattle.host.specs.Requests.{Request, Has, Later, Took, Said}
 use Rattle.host.specs.Sources.{has_ended, taken_from}
 use Rattle.host.specs.declared.fault.HostFault.{HostFault}
 use Rattle.item_text.specs.Items.{beginning, read_bytes, reading, Reading}
@@ -67,6 +68,26 @@ pub record PortIsFor {S : Type 0} (source_number : S → ℕ) (e : List Request)
 abbrev pub PortsStand : {S : Type 0} → (S → ℕ) → List Request → List (Option (Port S)) → Type 0
 PortsStand {S} source_number e ports =
     (input : ℕ) (port : Port S) → slice_get ports input ≡ Some (Some port) → PortIsFor source_number e input port
+
+-- an input has a source
+abbrev pub has_source : {S : Type 0} → Option (Option (Port S)) → Bool
+has_source None = false
+has_source (Some None) = false
+has_source (Some (Some port)) = true
+
+-- the inputs with a source are the same
+abbrev pub HaveTheSame : {S : Type 0} → List (Option (Port S)) → List (Option (Port S)) → Type 0
+HaveTheSame {S} given ports = (input : ℕ) → has_source (slice_get ports input) ≡ has_source (slice_get given input)
+
+-- it is asked of a source, or to write on standard output
+pub data IsOfStreams (r : Request) : Type 0 where
+  took : (number : ℕ) (answer : Result (List ℕ) HostFault) → r ≡ Took number answer → IsOfStreams r
+  said : (bytes : List ℕ) (answer : Answer) → r ≡ Said bytes answer → IsOfStreams r
+
+-- A host was asked on: what it was asked before it was asked still, and all else was asked of sources and of standard output.
+pub record IsAskedOn (old new : List Request) : Type 0 where
+  pub later : Later old new
+  pub only : (r : Request) → Has r new → Has r old ⊎ IsOfStreams r
 
 -- an input came to its end, or has no source
 abbrev pub is_at_end : {S : Type 0} → Option (Option (Port S)) → Bool → Bool

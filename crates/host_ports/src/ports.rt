@@ -1,10 +1,9 @@
 //! The streams of a network on its host.
 
 ghost use Rattle.std.specs.Prelude.{◌≡◌, ◌++◌, [], Option, Some, option_map, slice_get};
-ghost use Rattle.host.specs.Requests.{Later};
 ghost use Rattle.host.specs.Sources.{said_bytes};
 ghost use Rattle.sector_disk.specs.Past.{states_of};
-ghost use Rattle.host_ports.specs.Ports.{IsPortFault, PortsStand, ended_well, is_at_end, items_from};
+ghost use Rattle.host_ports.specs.Ports.{HaveTheSame, IsAskedOn, IsPortFault, PortsStand, ended_well, is_at_end, items_from};
 ghost use Rattle.host_ports.specs.declared.fault.PortFault.TheVariants.{NoMemory};
 ghost use Rattle.host_ports.specs.Speaking.{departures_text};
 
@@ -20,11 +19,13 @@ use std::snapshot::Snapshot;
 
 /// What stays as it is while streams go on.
 #[derive(Drop)]
-pub struct Fixed<'a, H> {
+pub struct Fixed<'a, H, S: Drop> {
     /// The names of the channels, where a line says by which output an item left.
     pub names: Option<&'a [Name]>,
     /// The host when they began. At run time there is nothing of it.
     pub begun: Snapshot<H>,
+    /// The sources when they began. At run time there is nothing of them.
+    pub given: Snapshot<Vec<Option<Port<S>>>>,
 }
 
 /// The sources of a network's inputs, and the standard output of the host, on which each item that leaves is a line.
@@ -32,7 +33,7 @@ pub struct Ports<'a, H: Host> {
     host: H,
     // By the number of the input; none where it has no source.
     ports: Vec<Option<Port<H::Source>>>,
-    fixed: Fixed<'a, H>,
+    fixed: Fixed<'a, H, H::Source>,
     // What was put out, and wasn't said yet.
     text: Vec<u8>,
     // Room for one more line.
@@ -42,8 +43,10 @@ pub struct Ports<'a, H: Host> {
     put: Past<Departure>,
     pub ghost spoken: { departures_text (option_map (λ names. names.now) fixed.names) (states_of put)
         ≡ said_bytes (H.asked host) ++ text.items },
-    // What was asked before was asked still.
-    pub ghost later: { ∥ Later (H.asked fixed.begun.value) (H.asked host) ∥₁ },
+    // What was asked since is of sources and of standard output alone.
+    pub ghost asked_on: { ∥ IsAskedOn (H.asked fixed.begun.value) (H.asked host) ∥₁ },
+    // No source is let go of.
+    pub ghost given: { HaveTheSame fixed.given.value.items ports.items },
     pub ghost stand: { PortsStand H.source_number (H.asked host) ports.items },
 }
 
@@ -61,13 +64,19 @@ impl<'a, H: Host> Ports<'a, H> {
         ensures ports { result.ports.items ≡ ports.items }
         ensures none { states_of result.put ≡ [] }
         ensures fixed { (result.fixed.begun.value ≡ host)
-            × (option_map (λ names. names.now) result.fixed.names ≡ option_map (λ names. names.now) names.entry) }
+            × (option_map (λ names. names.now) result.fixed.names ≡ option_map (λ names. names.now) names.entry)
+            × (result.fixed.given.value.items ≡ ports.items) }
     {
         let begun = Snapshot::of(&host);
+        let given = Snapshot::of(&ports);
         Ports {
             host,
             ports,
-            fixed: Fixed { names, begun },
+            fixed: Fixed {
+                names,
+                begun,
+                given,
+            },
             text: Vec::new(alloc),
             line: String::new(alloc),
             piece: Vec::new(alloc),
@@ -95,7 +104,7 @@ impl<'a, H: Host> Ports<'a, H> {
 impl<'a, H: Host> Outside for Ports<'a, H> {
     type Fault = PortFault;
 
-    type Fixed = Fixed<'a, H>;
+    type Fixed = Fixed<'a, H, H::Source>;
 
     ghost fixed = { λ ports. ports.fixed };
 

@@ -15,14 +15,12 @@ use clap::{Arg, ArgAction, ArgMatches, Command, Error};
 use cobaltmidge::MIN_ROOM;
 use std::alloc::{AllocError, Global};
 use std::convert::AsStr;
+use stream_words::VERSION;
 
 // The bounds of a channel's room, as numbers of the command line.
 const LEAST_ROOM: u64 = MIN_ROOM as u64;
 
 const MOST_ROOM: u64 = MAX_RETAINED_ITEMS as u64;
-
-// The number of this version, which the file VERSION at the top has too, and the logic of the kit for which the sources are.
-const VERSION: &str = "0.9.0, for rattle-kit logic dac8208d650f15bf";
 
 const ABOUT: &str =
     "Runs a Kahn process network on its inputs, and prints what each output released: right whatever the script breaks.";
@@ -61,6 +59,8 @@ docs/FORMATS.md says more of texts, options, refusals and statuses.
 
 To run a network:
   kahnrun examples/running_sum.net examples/running_sum.inputs
+To run it on items as they come (kahnrun --stream --help says more):
+  seq 10 | kahnrun --stream=bare --input i=- examples/running_sum.net
 To break packets, nodes and disks meanwhile:
   kahnrun --script examples/two_nodes.script examples/two_nodes.net examples/two_nodes.inputs
 To keep what left, and add what is missing after a kill:

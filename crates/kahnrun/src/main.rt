@@ -13,8 +13,8 @@
 //! refused (or help is asked for), and 1 for any other failure, as where a line can't be written.
 #![tactic(auto)]
 
-use kahn_program::run_on_host;
 use std::process::ExitCode;
+use stream_program::run_on_host;
 
 fn main(rt: HostRuntime) -> ExitCode {
     ExitCode::from(run_on_host(&rt, rt))

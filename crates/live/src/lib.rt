@@ -5,5 +5,6 @@
 #![tactic(auto)]
 
 mod live;
+mod waiting;
 
 pub use live::{Live, Pause};

@@ -2,7 +2,8 @@
 use Rattle.std.proofs.Common.{◌≡◌, ◌≢◌, ◌<◌, ◌+◌, ◌∙◌, ℕ, zero, suc, Bool, true, false, List, ℤ, [], ◌++◌, length, Option, Some, None, refl, sym, ap, append-nil, append_assoc, ◌⊎◌, inl, inr, arith}
 use Rattle.std.proofs.lemmas.Bool.{cases_eq}
 use Rattle.std.proofs.lemmas.Bool.Decides.{nat_tests}
-use Rattle.std.specs.Prelude.{IsTrue, nat_le, replicate, slice_get, slice_index_or}
+use Rattle.std.specs.Prelude.{IfErr, OnOk, IsTrue, nat_le, replicate, slice_get, slice_index_or, Result, Ok, Err}
+use Rattle.std.proofs.lemmas.List.{length-append}
 use Rattle.std.proofs.lemmas.Option.{slice_get_within}
 use Rattle.growing.proofs.Adding.{fed_has_items, others_stay}
 use Rattle.growing.specs.LaterInputs.{fed, with_inputs}
@@ -16,6 +17,7 @@ use Rattle.world.specs.declared.feeding.FeedFault.TheVariants.{NoMemory, NoInput
 use Rattle.stream_run.specs.Linked.{AreFedAll, AreFedInPart, IsFedAll, IsFedBy}
 use Rattle.stream_run.specs.Stops.{IsOverfull, IsStop, stop_by}
 use Rattle.stream_run.specs.declared.stopped.Stopped.{Stopped}
+use Rattle.stream_run.specs.declared.stopped.Stopped.TheVariants as stop
 
 -- ---- one input
 
@@ -55,6 +57,11 @@ fed_then first next last old between new one other = λ input. fed_twice _ _ _ _
 pub part_then : (first next last : ℕ → List ℤ) (old between new : WorldView) → AreFedAll first next old between
     → AreFedInPart next last between new → AreFedInPart first last old new
 part_then first next last old between new one other = λ input. fed_part_then _ _ _ _ _ _ (one input) (other input)
+
+pub fed_since : {T E : Type 0} (first next last : ℕ → List ℤ) (old between new : WorldView) (result : Result T E)
+    → AreFedAll first next old between → OnOk result (AreFedAll next last between new) → OnOk result (AreFedAll first last old new)
+fed_since {T} {E} first next last old between new (Ok value) one other = fed_then first next last old between new one other
+fed_since {T} {E} first next last old between new (Err fault) one other = tt
 
 -- what is fed wholly is fed in part
 pub fed_in_part : (had has : ℕ → List ℤ) (old new : WorldView) → AreFedAll had has old new → AreFedInPart had has old new
@@ -135,26 +142,53 @@ full_by true NoInput some is = absurd cc
 full_by true Full some is = absurd cc
 full_by true Closed some is = absurd cc
 
--- an open input refuses items only where it would have too many, unless memory is missing
-pub overfull : (world : WorldView) (closed : List Bool) (input : ℕ) (items : List ℤ) (fault : FeedFault)
-    → IsTrue (is_input world.net input) → closed ≡ none_closed
-    → feed_refusal world.net closed world.inputs input (length items) ≡ told_by fault → fault ≢ NoMemory → IsOverfull world
-overfull world closed input items fault here none refused some =
+-- an open input refuses items that came only where it would have too many, unless memory is missing
+overfull : (had has : ℕ → List ℤ) (world : WorldView) (closed : List Bool) (input : ℕ) (items given : List ℤ) (fault : FeedFault)
+    → given ≡ items → has input ≡ had input ++ items → IsTrue (is_input world.net input) → closed ≡ none_closed
+    → feed_refusal world.net closed world.inputs input (length given) ≡ told_by fault → fault ≢ NoMemory → IsOverfull had has world
+overfull had has world closed input items given fault same came here none refused some =
     let is : is_input world.net input ≡ true = cc in
     let still : slice_index_or none_closed input false ≡ false = none_is_closed MAX_CHANNELS input in
-    let many : nat_le (length (history_of world.inputs input) + length items) MAX_COUNT ≡ false =
+    let many : nat_le (length (history_of world.inputs input) + length given) MAX_COUNT ≡ false =
     full_by _ fault some (rw (is, none, still) at refused) in
-    record { input = input; items = items; here = here; many = grind (arith, nat_tests) }
+    let more : length (has input) ≡ length (had input) + length items = ap length came ∙ length-append (had input) items in
+    let counted : length given ≡ length items = ap length same in
+    record { input = input; here = here; many = grind (arith, nat_tests) }
 
 -- a fault of a feed is why the streams end
-pub stops : {F : Type 0} (failed : F → Type 0) (world world_now : WorldView) (closed : List Bool) (input : ℕ) (items : List ℤ)
-    (fault : FeedFault) (stopped : Stopped F) → world_now ≡ world → IsTrue (is_input world.net input) → closed ≡ none_closed
-    → feed_refusal world.net closed world.inputs input (length items) ≡ told_by fault → stopped ≡ stop_by fault
-    → IsStop failed world_now stopped
-stops {F} failed world world_now closed input items NoMemory stopped same here none refused is = rw is tt
-stops {F} failed world world_now closed input items NoInput stopped same here none refused is =
-    rw (is, same) (overfull world closed input items NoInput here none refused (λ e. absurd cc))
-stops {F} failed world world_now closed input items Full stopped same here none refused is =
-    rw (is, same) (overfull world closed input items Full here none refused (λ e. absurd cc))
-stops {F} failed world world_now closed input items Closed stopped same here none refused is =
-    rw (is, same) (overfull world closed input items Closed here none refused (λ e. absurd cc))
+pub stops : {F : Type 0} (failed : F → Type 0) (had has : ℕ → List ℤ) (world : WorldView) (closed : List Bool) (input : ℕ)
+    (items given : List ℤ) (fault : FeedFault) (stopped : Stopped F) → given ≡ items → has input ≡ had input ++ items
+    → IsTrue (is_input world.net input) → closed ≡ none_closed
+    → feed_refusal world.net closed world.inputs input (length given) ≡ told_by fault → stopped ≡ stop_by fault
+    → IsStop failed had has world stopped
+stops {F} failed had has world closed input items given NoMemory stopped same came here none refused is = rw is tt
+stops {F} failed had has world closed input items given NoInput stopped same came here none refused is =
+    rw is (overfull had has world closed input items given NoInput same came here none refused (λ e. absurd cc))
+stops {F} failed had has world closed input items given Full stopped same came here none refused is =
+    rw is (overfull had has world closed input items given Full same came here none refused (λ e. absurd cc))
+stops {F} failed had has world closed input items given Closed stopped same came here none refused is =
+    rw is (overfull had has world closed input items given Closed same came here none refused (λ e. absurd cc))
+
+-- what is too much for what came since a later world is too much since an earlier one too
+overfull_since : (first next last : ℕ → List ℤ) (old between : WorldView) → AreFedAll first next old between → between.net ≡ old.net
+    → IsOverfull next last between → IsOverfull first last old
+overfull_since first next last old between fed same over =
+    let f = fed over.input in
+    let came : length (next over.input) ≡ length (first over.input) + length f.items =
+    ap length f.came ∙ length-append (first over.input) f.items in
+    let had : length (history_of between.inputs over.input) ≡ length (history_of old.inputs over.input) + length f.items =
+    ap length f.fed_since ∙ length-append (history_of old.inputs over.input) f.items in
+    let many = over.many in
+    record { input = over.input; here = rw same at (over.here); many = omega (arith, came, had, many) }
+
+pub stops_since : {F : Type 0} (failed : F → Type 0) (first next last : ℕ → List ℤ) (old between : WorldView) (stopped : Stopped F)
+    → AreFedAll first next old between → between.net ≡ old.net → IsStop failed next last between stopped → IsStop failed first last old stopped
+stops_since {F} failed first next last old between stop.NoMemory fed same is = tt
+stops_since {F} failed first next last old between stop.Full fed same is = overfull_since first next last old between fed same is
+stops_since {F} failed first next last old between (stop.Outside fault) fed same is = is
+
+pub ends_since : {F T : Type 0} (failed : F → Type 0) (first next last : ℕ → List ℤ) (old between : WorldView) (result : Result T (Stopped F))
+    → AreFedAll first next old between → between.net ≡ old.net → IfErr result (IsStop failed next last between)
+    → IfErr result (IsStop failed first last old)
+ends_since {F} {T} failed first next last old between (Ok done) fed same is = tt
+ends_since {F} {T} failed first next last old between (Err stopped) fed same is = stops_since failed first next last old between stopped fed same is

@@ -9,18 +9,17 @@ use Rattle.world.specs.declared.feeding.FeedFault.TheVariants as fault
 use Rattle.stream_run.specs.declared.stopped.Stopped.{Stopped}
 use Rattle.stream_run.specs.declared.stopped.Stopped.TheVariants.{NoMemory, Full, Outside}
 
--- an input would have more items than a count goes, by these that came
-pub record IsOverfull (world : WorldView) : Type 0 where
+-- An input has more items than a count goes: those with which it began, and those that came since.
+pub record IsOverfull (had has : ℕ → List ℤ) (first : WorldView) : Type 0 where
   pub input : ℕ
-  pub items : List ℤ
-  pub here : IsTrue (is_input world.net input)
-  pub many : MAX_COUNT < length (history_of world.inputs input) + length items
+  pub here : IsTrue (is_input first.net input)
+  pub many : length (had input) + MAX_COUNT < length (history_of first.inputs input) + length (has input)
 
 -- Memory is missing; an input is full; or what lies outside failed, for this reason.
-abbrev pub IsStop : {F : Type 0} → (F → Type 0) → WorldView → Stopped F → Type 0
-IsStop failed world NoMemory = Unit {0}
-IsStop failed world Full = IsOverfull world
-IsStop failed world (Outside fault) = failed fault
+abbrev pub IsStop : {F : Type 0} → (F → Type 0) → (ℕ → List ℤ) → (ℕ → List ℤ) → WorldView → Stopped F → Type 0
+IsStop failed had has first NoMemory = Unit {0}
+IsStop failed had has first Full = IsOverfull had has first
+IsStop failed had has first (Outside fault) = failed fault
 
 -- Why the streams end where an input that is open refuses what came: memory is missing, or it is full.
 abbrev pub stop_by : {F : Type 0} → FeedFault → Stopped F

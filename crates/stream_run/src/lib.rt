@@ -4,6 +4,7 @@
 //! to its end and nothing is left to do.
 #![tactic(auto)]
 
+mod asked;
 mod stopped;
 mod streaming;
 

@@ -10,7 +10,9 @@ ghost use Rattle.live.specs.LiveViews.{closed_on, stations_on, taken_of, world_o
 ghost use Rattle.outside.specs.Departures.{items_by};
 ghost use Rattle.stream_run.specs.Linked.{AreAllPut, AreEnded, AreFedAll, AreFedInPart, AreTheSame, IsPutAsTaken, IsPutInPart, IsPutWhole, is_output};
 ghost use Rattle.stream_run.specs.Stops.{IsStop, stop_by};
+ghost use Rattle.stream_run.specs.declared.asked.Asked.TheVariants.{All};
 
+use crate::asked::Asked;
 use crate::stopped::Stopped;
 use kahn_net::{MAX_CHANNELS, Port};
 use live::{Live, Pause};
@@ -124,7 +126,7 @@ fn work_off<C: SlotCell, O: Outlet, X: Outside>(
     ensures inputs { (world_on live.new).inputs ≡ (world_on live.old).inputs }
     ensures same { AreTheSame (X.came outside.old) (X.came outside.new) (X.has_ended outside.old) (X.has_ended outside.new) }
     ensures fixed { X.fixed outside.new ≡ X.fixed outside.old }
-    ensures failed { IfErr result (IsStop (X.has_failed outside.new) (world_on live.new)) }
+    ensures failed { IfErr result (IsStop (X.has_failed outside.new) (X.came outside.old) (X.came outside.new) (world_on live.old)) }
 {
     'steps: for _ in 0..ROUNDS {
         let pause = match live.advance(alloc, STEPS) {
@@ -156,7 +158,25 @@ fn stop_by<F>(fault: FeedFault) -> Stopped<F>
     }
 }
 
-// Takes what comes next by an input, and feeds it. Whether more may come.
+// Whether one of the two is so.
+fn either(one: bool, other: bool) -> bool
+    ensures { result ≡ (one || other) }
+{
+    one || other
+}
+
+// Whether this channel is an input that is read next.
+fn is_asked<C: SlotCell, O: Outlet>(live: &Live<C, O>, asked: Asked, number: u8) -> bool
+    ensures input { IsTrue result → IsTrue (is_input (world_on live.now).net number) }
+    ensures all { asked ≡ All → result ≡ is_input (world_on live.now).net number }
+{
+    match asked {
+        Asked::Awaited => is_input(live, usize::from(number)) && live.waits_for(number),
+        Asked::All => is_input(live, usize::from(number)),
+    }
+}
+
+// Takes what comes next by an input, and feeds it. False is answered where it is at its end, and nothing came.
 fn feed_next<C: SlotCell, O: Outlet, X: Outside>(
     alloc: Global,
     live: &mut Live<C, O>,
@@ -174,54 +194,78 @@ fn feed_next<C: SlotCell, O: Outlet, X: Outside>(
         × (closed_on live.new ≡ closed_on live.old) × (stations_on live.new ≡ stations_on live.old) }
     ensures gone_on { HasGoneOn (world_on live.old) (world_on live.new) }
     ensures fixed { X.fixed outside.new ≡ X.fixed outside.old }
-    ensures failed { IfErr result (IsStop (X.has_failed outside.new) (world_on live.new)) }
+    ensures failed { IfErr result (IsStop (X.has_failed outside.new) (X.came outside.old) (X.came outside.new) (world_on live.old)) }
 {
     let more = match outside.take(alloc, input, items) {
         Ok(more) => more,
         Err(fault) => return Err(Stopped::Outside(fault)),
     };
     match live.feed(alloc, input, items.as_slice()) {
-        Ok(()) => Ok(more),
+        Ok(()) => Ok(either(more, !items.is_empty())),
         Err(fault) => Err(stop_by(fault)),
     }
 }
 
-// Takes what comes next by a channel, where that is an input. Whether more may come.
+// Takes what comes next by a channel, where that is an input which is read next. False is answered where it isn't, or is at its end and nothing came.
 fn feed_in_turn<C: SlotCell, O: Outlet, X: Outside>(
     alloc: Global,
     live: &mut Live<C, O>,
     outside: &mut X,
-    number: u8,
     items: &mut Vec<i64>,
+    asked: Asked,
+    number: u8,
 ) -> Result<bool, Stopped<X::Fault>>
     requires open { closed_on live.old ≡ none_closed }
     ensures fed { OnOk result (AreFedAll (X.came outside.old) (X.came outside.new) (world_on live.old) (world_on live.new)) }
     ensures part { AreFedInPart (X.came outside.old) (X.came outside.new) (world_on live.old) (world_on live.new) }
-    ensures end { IfOk result (λ more. more ≡ false → IsTrue (is_input (world_on live.old).net number)
+    ensures end { asked ≡ All → IfOk result (λ more. more ≡ false → IsTrue (is_input (world_on live.old).net number)
         → X.has_ended outside.new number ≡ true) }
     ensures others { (other : ℕ) → other ≢ number → X.has_ended outside.new other ≡ X.has_ended outside.old other }
     ensures same { (X.left outside.new ≡ X.left outside.old) × (live.new.taken ≡ live.old.taken)
         × (closed_on live.new ≡ closed_on live.old) × (stations_on live.new ≡ stations_on live.old) }
     ensures gone_on { HasGoneOn (world_on live.old) (world_on live.new) }
     ensures fixed { X.fixed outside.new ≡ X.fixed outside.old }
-    ensures failed { IfErr result (IsStop (X.has_failed outside.new) (world_on live.new)) }
+    ensures failed { IfErr result (IsStop (X.has_failed outside.new) (X.came outside.old) (X.came outside.new) (world_on live.old)) }
 {
-    if is_input(live, usize::from(number)) {
+    if is_asked(live, asked, number) {
         feed_next(alloc, live, outside, number, items)
     } else {
         Ok(false)
     }
 }
 
-// Whether one of the two is so.
-fn either(one: bool, other: bool) -> bool
-    ensures { result ≡ (one || other) }
+// Takes what comes next by each input that is read next, one after another. False is answered where each of these is at its end, and nothing came.
+fn feed_all<C: SlotCell, O: Outlet, X: Outside>(
+    alloc: Global,
+    live: &mut Live<C, O>,
+    outside: &mut X,
+    items: &mut Vec<i64>,
+    asked: Asked,
+) -> Result<bool, Stopped<X::Fault>>
+    requires open { closed_on live.old ≡ none_closed }
+    ensures fed { OnOk result (AreFedAll (X.came outside.old) (X.came outside.new) (world_on live.old) (world_on live.new)) }
+    ensures part { AreFedInPart (X.came outside.old) (X.came outside.new) (world_on live.old) (world_on live.new) }
+    ensures end { asked ≡ All → IfOk result (λ more. more ≡ false
+        → AreEnded (world_on live.new).net (X.has_ended outside.new)) }
+    ensures same { (X.left outside.new ≡ X.left outside.old) × (live.new.taken ≡ live.old.taken)
+        × (closed_on live.new ≡ closed_on live.old) × (stations_on live.new ≡ stations_on live.old) }
+    ensures gone_on { HasGoneOn (world_on live.old) (world_on live.new) }
+    ensures fixed { X.fixed outside.new ≡ X.fixed outside.old }
+    ensures failed { IfErr result (IsStop (X.has_failed outside.new) (X.came outside.old) (X.came outside.new) (world_on live.old)) }
 {
-    one || other
+    let mut any = false;
+    for number in 0..MAX_CHANNELS {
+        match feed_in_turn(alloc, live, outside, items, asked, number as u8) {
+            Ok(more) => any = either(any, more),
+            Err(stopped) => return Err(stopped),
+        }
+    }
+    Ok(any)
 }
 
-// Takes what comes next by each input, one after another. Whether more may come by any of them.
-fn feed_all<C: SlotCell, O: Outlet, X: Outside>(
+// Takes what comes next by each input for which a process waits. Where all of these are at their ends, it takes what comes next by each other input too:
+// nobody waits for it, but each input is read to its end. False is answered where each input is at its end, and nothing came.
+fn feed_inputs<C: SlotCell, O: Outlet, X: Outside>(
     alloc: Global,
     live: &mut Live<C, O>,
     outside: &mut X,
@@ -236,22 +280,19 @@ fn feed_all<C: SlotCell, O: Outlet, X: Outside>(
         × (closed_on live.new ≡ closed_on live.old) × (stations_on live.new ≡ stations_on live.old) }
     ensures gone_on { HasGoneOn (world_on live.old) (world_on live.new) }
     ensures fixed { X.fixed outside.new ≡ X.fixed outside.old }
-    ensures failed { IfErr result (IsStop (X.has_failed outside.new) (world_on live.new)) }
+    ensures failed { IfErr result (IsStop (X.has_failed outside.new) (X.came outside.old) (X.came outside.new) (world_on live.old)) }
 {
-    let mut any = false;
-    for number in 0..MAX_CHANNELS {
-        match feed_in_turn(alloc, live, outside, number as u8, items) {
-            Ok(more) => any = either(any, more),
-            Err(stopped) => return Err(stopped),
-        }
+    match feed_all(alloc, live, outside, items, Asked::Awaited) {
+        Ok(true) => Ok(true),
+        Ok(false) => feed_all(alloc, live, outside, items, Asked::All),
+        Err(stopped) => Err(stopped),
     }
-    Ok(any)
 }
 
 /// Runs a network between what lies outside of it, until each of its inputs has come to its end and nothing is left to do.
 ///
-/// It goes on until nothing is left to do on what came so far, puts out what has left, and then takes what comes next, by each input that may
-/// have more. Where it ends early, for want of memory, because an input is full, or because what lies outside failed, what was put out by then
+/// It goes on until nothing is left to do on what came so far, puts out what has left, and then takes what comes next by each input for which a
+/// process waits. Where none of these has more, it reads the other inputs to their ends. Where it ends early, for want of memory, because an input is full, or because what lies outside failed, what was put out by then
 /// stands.
 pub fn stream<C: SlotCell, O: Outlet, X: Outside>(
     alloc: Global,
@@ -272,8 +313,8 @@ pub fn stream<C: SlotCell, O: Outlet, X: Outside>(
     ensures gone_on { HasGoneOn (world_on live.old) (world_on live.new) }
     ensures came { AreFedInPart (X.came outside.old) (X.came outside.new) (world_on live.old) (world_on live.new) }
     ensures fixed { X.fixed outside.new ≡ X.fixed outside.old }
-    // It ends early for want of memory, because an input is full, or because what lies outside failed.
-    ensures failed { IfErr result (IsStop (X.has_failed outside.new) (world_on live.new)) }
+    // It ends early for want of memory, because more came by an input than a count goes, or because what lies outside failed.
+    ensures failed { IfErr result (IsStop (X.has_failed outside.new) (X.came outside.old) (X.came outside.new) (world_on live.old)) }
 {
     let mut items = Vec::new(alloc);
     'pieces: for _ in 0..ROUNDS {
@@ -281,7 +322,7 @@ pub fn stream<C: SlotCell, O: Outlet, X: Outside>(
             Ok(()) => {}
             Err(stopped) => return Err(stopped),
         }
-        match feed_all(alloc, live, outside, &mut items) {
+        match feed_inputs(alloc, live, outside, &mut items) {
             Ok(true) => {}
             Ok(false) => return work_off(alloc, live, outside),
             Err(stopped) => return Err(stopped),

@@ -50,7 +50,7 @@ fn inputs<'a>(alloc: Global) -> Arg<'a>
     ensures here { result.global ≡ false }
 {
     Arg::new(alloc, "INPUTS").help(
-        "The items of each input that no --input names, a line for each: i: 1 2 3",
+        "The items with which each input begins, a line for each: i: 1 2 3; left out where each input has an --input",
     )
 }
 

@@ -34,6 +34,6 @@ returns-in-Err-feed-clause-part g c =
 
 pub returns-in-Err-feed-clause-failed : goal.returns-in-Err-feed-clause-failed
 returns-in-Err-feed-clause-failed g c =
-    stops (g.X.Outside.has_failed c.take.new.self) (world_on c.args.live.now) (world_on c.feed.new.self) (closed_on c.args.live.now)
-    c.args.input c.as_slice.result.now c.in-Err-feed.fault _ c.in-Err-feed.ensures.unchanged c.requires.here c.requires.open
-    c.in-Err-feed.ensures.refused c.stop_by.ensures
+    stops (g.X.Outside.has_failed c.take.new.self) (g.X.Outside.came c.args.outside.now) (g.X.Outside.came c.take.new.self)
+    (world_on c.args.live.now) (closed_on c.args.live.now) c.args.input c.take.new.items.items c.as_slice.result.now c.in-Err-feed.fault _
+    c.as_slice.ensures.value c.in-Ok.ensures.came c.requires.here c.requires.open c.in-Err-feed.ensures.refused c.stop_by.ensures

@@ -1,7 +1,8 @@
 use Rattle.std.proofs.Common.{◌≡◌, ◌∙◌, ◌∷◌, refl}
 use Rattle.std.specs.Prelude.{Ok, Err}
 use Rattle.host.specs.Requests.{Said}
-use Rattle.host_ports.proofs.Saying.{one_later, said_all, said_nothing, stand_said}
+use Rattle.host_ports.specs.Ports.{said}
+use Rattle.host_ports.proofs.Saying.{asked_more, said_all, said_nothing, stand_said}
 use Rattle.host_ports.proofs.ports.PortsOutside.flush.Goals as goal
 
 pub invariant_of-self-in-Ok : goal.invariant_of-self-in-Ok
@@ -10,7 +11,8 @@ invariant_of-self-in-Ok g c =
     c.say.ensures ∙ (rw (c.in-Ok.is) refl) in
     record {
       spoken = said_all _ _ _ _ _ asked c.clear.ensures.items c.args.self.now.spoken;
-      later = one_later _ _ _ _ asked c.args.self.now.later;
+      asked_on = asked_more _ _ _ _ asked (said _ _ refl) c.args.self.now.asked_on;
+      given = c.args.self.now.given;
       stand = stand_said _ _ _ _ _ _ asked c.args.self.now.stand;
     }
 
@@ -20,6 +22,7 @@ invariant_of-self-in-Err g c =
     c.say.ensures ∙ (rw (c.in-Err.is) refl) in
     record {
       spoken = said_nothing _ _ _ _ _ _ asked c.args.self.now.spoken;
-      later = one_later _ _ _ _ asked c.args.self.now.later;
+      asked_on = asked_more _ _ _ _ asked (said _ _ refl) c.args.self.now.asked_on;
+      given = c.args.self.now.given;
       stand = stand_said _ _ _ _ _ _ asked c.args.self.now.stand;
     }

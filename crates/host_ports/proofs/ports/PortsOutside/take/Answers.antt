@@ -2,10 +2,9 @@ use Rattle.std.proofs.Common.{◌≡◌, ◌∙◌, ◌∷◌, false, true, List
 use Rattle.std.specs.Prelude.{slice_get, slice_set, IfErr}
 use Rattle.host.specs.Answers.{answered}
 use Rattle.host.specs.Requests.{Request, Took}
-use Rattle.host_ports.proofs.Ported.{at_end_by, end_on, fault_by, others_on, refilled_at, slot_is, stand_on}
-use Rattle.host_ports.proofs.Saying.{one_later}
-use Rattle.host_ports.proofs.Ported.{at_end_by, end_on, fault_by, not_at_end, others_on, refilled_at, slot_is, stand_on}
-use Rattle.host_ports.specs.Ports.{IsOpenOrNot, IsPortFault, IsReadOn, items_from, PortIsFor}
+use Rattle.host_ports.proofs.Saying.{asked_more}
+use Rattle.host_ports.proofs.Ported.{at_end_by, end_on, fault_by, given_on, not_at_end, others_on, refilled_at, slot_is, stand_on}
+use Rattle.host_ports.specs.Ports.{IsOpenOrNot, IsPortFault, IsReadOn, items_from, PortIsFor, took}
 use Rattle.host_ports.specs.declared.fault.PortFault.TheVariants.{NoMemory}
 use Rattle.host_ports.proofs.ports.PortsOutside.take.Goals as goal
 
@@ -43,7 +42,9 @@ invariant_of-self-2 g c =
     } in
     record {
       spoken = rw asked c.args.self.now.spoken;
-      later = one_later _ _ _ _ asked c.args.self.now.later;
+      asked_on = asked_more _ _ _ _ asked (took _ _ refl) c.args.self.now.asked_on;
+      given = rw (c.take.ensures.after, c.from-number.ensures) (given_on c.args.self.now.fixed.given.value.items c.args.self.now.ports.items c.args.input
+          c.in-Some.port c.read_answer-taken.new.port here c.args.self.now.given);
       stand = rw (asked, c.take.ensures.after, c.from-number.ensures) (stand_on g.H.Host.source_number (g.H.Host.asked c.args.self.now.host) c.args.self.now.ports.items c.args.input c.in-Some.port
           c.read_answer-taken.new.port (answered (λ done. c.take-answer.new.piece.items) c.take-answer.result) here c.args.self.now.stand is);
     }

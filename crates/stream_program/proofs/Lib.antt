@@ -1,0 +1,4 @@
+mod Causing
+mod Naming
+mod Opening
+mod Preparing
