@@ -1,0 +1,15 @@
+pub mod Turning
+pub mod Counts
+pub mod Beginning
+pub mod Stages
+pub mod Handed
+pub mod Own
+pub mod Turned
+pub mod Places
+pub mod Taken
+pub mod After
+pub mod Meant
+pub mod Kept
+pub mod LastSweep
+pub mod Moves
+pub mod Rests
