@@ -12,6 +12,7 @@ use Rattle.recovery_line.specs.Packets.{Packet, Ask, Took}
 use Rattle.recovery_line.specs.Worlds.{World, InFlight, opening, MaySend, OnlyAt, Step, Acts, Comes, Send}
 use Rattle.recovery_line.specs.Laws.{ReachesADecision}
 use Rattle.recovery_line.proofs.Basics.{false_true, some_not_none, one_inside}
+use Rattle.recovery_line.proofs.Starting.{may_begin}
 
 -- one channel, from node 1 to node 0
 abbrev producer_of : ℕ → Option ℕ
@@ -376,11 +377,12 @@ reaches_a_decision = (
   0,
   1,
   1,
-  (
-    w1 ∷ w2 ∷ w3 ∷ w4 ∷ w5 ∷ w6 ∷ w7 ∷ w8
-        ∷ [],
-    (rw opens puts, (gets, (starts, (asks, (takes_part, (answers, (hears, (concludes, refl)))))))),
-  ),
+  record {
+    start = opening;
+    may = may_begin net;
+    worlds = w1 ∷ w2 ∷ w3 ∷ w4 ∷ w5 ∷ w6 ∷ w7 ∷ w8 ∷ [];
+    run = (rw opens puts, (gets, (starts, (asks, (takes_part, (answers, (hears, (concludes, refl))))))));
+  },
   refl,
   refl,
   channel.apart,

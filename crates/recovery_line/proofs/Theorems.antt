@@ -2,55 +2,24 @@
 use Rattle.std.proofs.Common.{◌≡◌, ◌⊎◌, inl, inr, ℕ, zero, suc, ◌<◌, ◌≤◌, Bool, true, false, Option, Some, None, List}
 use Rattle.std.proofs.Common.{[], ◌∷◌, refl, sym, ap, ◌∙◌, subst, arith}
 use Rattle.std.specs.Prelude.{◌≢◌}
-use Rattle.recovery_line.specs.Images.{Image, blank, Net}
+use Rattle.recovery_line.specs.Images.{Image, Net}
 use Rattle.recovery_line.specs.Records.{Tentative, Record, Holds, effective}
 use Rattle.recovery_line.specs.Nodes.{Awaited, Live}
 use Rattle.recovery_line.specs.Packets.{Packet, Ask, Ended}
-use Rattle.recovery_line.specs.Worlds.{World, node_of, IsLive, InFlight, opening, MaySend, Step, Acts, Comes, Send, Run}
-use Rattle.recovery_line.specs.Worlds.{Reachable}
+use Rattle.recovery_line.specs.Worlds.{World, node_of, IsLive, InFlight, MaySend, Step, Acts, Comes, Send, Run}
+use Rattle.recovery_line.specs.Starts.{Reachable}
 use Rattle.recovery_line.specs.Line.{Sound, Covers, NotBehind, Over, AtMoment, line_with, NoOrphan}
-use Rattle.recovery_line.specs.Invariant.{IsImageOf, Permanent, Held, Current, NeedOf, LiveOk, Says, Consistent}
+use Rattle.recovery_line.specs.Invariant.{IsImageOf, Permanent, Held, NeedOf, LiveOk, Says, Consistent}
 use Rattle.recovery_line.specs.Laws.{AtMostOneMove, IsReceived, NamesTheNeeded, Needed, Wanted, WantedBefore}
-use Rattle.recovery_line.proofs.Basics.{not_in_doubt, false_true, either, same_or_other, at_most_itself, at_most_next}
-use Rattle.recovery_line.proofs.Basics.{some_not_none, one_inside, effective_free, effective_committed, effective_open}
+use Rattle.recovery_line.proofs.Basics.{false_true, either, same_or_other, at_most_itself, at_most_next}
+use Rattle.recovery_line.proofs.Basics.{some_not_none, effective_free, effective_committed, effective_open}
 use Rattle.recovery_line.proofs.OneNode.{node_step_grows}
 use Rattle.recovery_line.proofs.Grows.{Grows, Fate, Stays, Settles, Goes, over_stays, stays_true}
 use Rattle.recovery_line.proofs.Deciding.{after_permanent}
+use Rattle.recovery_line.proofs.Starting.{starts}
 use Rattle.recovery_line.proofs.Stepping.{advances, hears_outlets, step_consistent}
 use Rattle.recovery_line.proofs.Sending.{is_true_when_sent}
 use Rattle.recovery_line.proofs.Moving.{moves_at_most_once}
-
--- every image of the opening world is blank
-opening_image : (k : ℕ) (i : Image) → IsImageOf (node_of opening k) i → blank ≡ i
-opening_image k i (Permanent same) = same
-opening_image k i (Held x n held) = absurd (some_not_none refl held)
-opening_image k i (Current now) = one_inside refl now
-
-pub opens : (net : Net) → Consistent net opening
-opens net = record {
-  nodes = λ k. record {
-    tentative = λ x n i held. absurd (some_not_none refl held);
-    current = λ i now c. (omega arith, omega arith, omega arith);
-    latest = λ x n i j held now. absurd (some_not_none refl held);
-    used = λ n now. absurd (false_true now);
-    older = λ m n i held now. absurd (false_true now);
-    own = λ live now. absurd (some_not_none refl now);
-    local = λ c i is image. rw (← opening_image k i image) (omega arith, omega arith);
-    output = λ c i is image. rw (← opening_image k i image) (omega arith);
-    covered = λ c is. omega arith;
-    log = λ c i image. rw (← opening_image k i image) (omega arith);
-    doubt = λ now. absurd (not_in_doubt (opening.modes k) blank None refl now);
-  };
-  agreed = record {
-    highest = λ p x. omega arith;
-    named = λ x n p now named. absurd (false_true now);
-    holders = λ x n p i other held now. absurd (false_true now);
-    no_orphan = λ c p q cross. omega arith;
-    live = λ x live now. absurd (some_not_none refl now);
-  };
-  logs = λ c p q i cross image. rw (← opening_image p i image) (omega arith);
-  packets = λ packet flight. absurd (some_not_none refl flight.1);
-}
 
 pub run_consistent : (net : Net) (w v : World) (worlds : List World) → Consistent net w → Run net w worlds v
     → Consistent net v
@@ -58,7 +27,8 @@ run_consistent net w v [] ok run = rw (← run) ok
 run_consistent net w v (u ∷ worlds) ok run = run_consistent net u v worlds (step_consistent net w u ok run.0) run.1
 
 pub is_consistent : (net : Net) (w : World) → Reachable net w → Consistent net w
-is_consistent net w reachable = run_consistent net opening w reachable.0 (opens net) reachable.1
+is_consistent net w reachable =
+    run_consistent net reachable.start w reachable.worlds (starts net reachable.start reachable.may) reachable.run
 
 pub run_stays_true : (net : Net) (w v : World) (worlds : List World) (packet : Packet) → Consistent net w
     → Run net w worlds v → Says net w packet → Says net v packet
@@ -386,8 +356,12 @@ run_one_more net start w u [] run step = (rw run step, refl)
 run_one_more net start w u (first ∷ worlds) run step = (run.0, run_one_more net first w u worlds run.1 step)
 
 reachable_next : (net : Net) (w u : World) → Reachable net w → Step net w u → Reachable net u
-reachable_next net w u reachable step =
-    (one_more reachable.0 u, run_one_more net opening w u reachable.0 reachable.1 step)
+reachable_next net w u reachable step = record {
+  start = reachable.start;
+  may = reachable.may;
+  worlds = one_more reachable.worlds u;
+  run = run_one_more net reachable.start w u reachable.worlds reachable.run step;
+}
 
 pub runs_on : (net : Net) (w v : World) (worlds : List World) → Reachable net w → Run net w worlds v → Reachable net v
 runs_on net w v [] reachable run = rw (← run) reachable
@@ -417,10 +391,13 @@ asked_on_the_way net w v (u ∷ worlds) x n c m reachable run flight =
 pub asks_for_needs : (net : Net) (w : World) (x n c m : ℕ) → Reachable net w → InFlight w (Ask x n c m)
     → WantedBefore net w x n c m
 asks_for_needs net w x n c m reachable flight =
-    elim (asked_on_the_way net opening w reachable.0 x n c m ([], refl) reachable.1 flight) [
-      | inl never ↦ absurd (some_not_none refl never.1)
+    elim (asked_on_the_way net reachable.start w reachable.worlds x n c m at_first reachable.run flight) [
+      | inl never ↦ absurd (some_not_none (ap (λ (v : World). v.flight never.0) reachable.may.is) never.1)
       | inr before ↦ before
     ]
+  where
+    at_first : Reachable net reachable.start
+    at_first = record { start = reachable.start; may = reachable.may; worlds = []; run = refl }
 
 pub takes_where_needed : (net : Net) (w v : World) (p x n : ℕ) (i : Image) → Reachable net w → Step net w v → p ≢ x
     → Holds (v.records p) x n i → Holds (w.records p) x n i ⊎ Needed net w v p x n i

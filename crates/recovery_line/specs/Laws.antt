@@ -1,11 +1,12 @@
--- The theorems: of one node by itself, of each step, and of every run of steps from the opening world.
+-- The theorems: of one node by itself, of each step, and of every run of steps from a world with which one may begin.
 use Rattle.std.specs.Prelude.{◌≡◌, ◌≢◌, ◌⊎◌, ℕ, ◌≤◌, ◌<◌, Bool, true, false, Some, None, List}
 use Rattle.recovery_line.specs.Images.{Image, AtMost, Net, IsCross, IsLocal, IsOutput}
 use Rattle.recovery_line.specs.Records.{Record, Holds, effective}
 use Rattle.recovery_line.specs.Moves.{Move}
 use Rattle.recovery_line.specs.Nodes.{Live, current_of, Node}
 use Rattle.recovery_line.specs.Packets.{Packet, Ask, Ended, Hears, IsByOther}
-use Rattle.recovery_line.specs.Worlds.{World, node_of, IsLive, InFlight, opening, MaySend, Step, Run, Reachable, Alone}
+use Rattle.recovery_line.specs.Worlds.{World, node_of, IsLive, InFlight, opening, MaySend, Step, Run, Alone}
+use Rattle.recovery_line.specs.Starts.{IsStart, Reachable}
 use Rattle.recovery_line.specs.Line.{Sound, Covers, NotBehind, Over, AtMoment, line_with, NoOrphan}
 use Rattle.recovery_line.specs.Invariant.{NodeOk, NeedOf, Says, Consistent}
 
@@ -50,8 +51,13 @@ NodeNeverFallsBack = (net : Net) (k : ℕ) (a b : Node) (nodes : List Node) → 
 
 -- steps
 
+-- a run may begin with the opening world
 abbrev pub Opens : Type 0
-Opens = (net : Net) → Consistent net opening
+Opens = (net : Net) → IsStart net opening
+
+-- each world with which a run may begin is consistent
+abbrev pub StartsConsistently : Type 0
+StartsConsistently = (net : Net) (w : World) → IsStart net w → Consistent net w
 
 abbrev pub StaysConsistent : Type 0
 StaysConsistent = (net : Net) (w v : World) → Consistent net w → Step net w v → Consistent net v

@@ -7,5 +7,6 @@ pub mod Nodes
 pub mod Packets
 pub mod Worlds
 pub mod Line
+pub mod Starts
 pub mod Invariant
 pub mod Laws

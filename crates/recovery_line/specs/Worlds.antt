@@ -118,10 +118,6 @@ abbrev pub Run : Net → World → List World → World → Type 0
 Run net w [] v = w ≡ v
 Run net w (u ∷ worlds) v = Step net w u × Run net u worlds v
 
--- some run of steps leads there from the opening world
-abbrev pub Reachable : Net → World → Type 0
-Reachable net w = (worlds : List World) × Run net opening worlds w
-
 -- the steps that a node makes by itself, one after the other
 abbrev pub Alone : Net → ℕ → Node → List Node → Node → Type 0
 Alone net k a [] b = a ≡ b

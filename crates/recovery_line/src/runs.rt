@@ -1,4 +1,4 @@
-//! Laws of every run of steps from the opening world.
+//! Laws of every run of steps from a world with which one may begin.
 
 ghost use Rattle.recovery_line.specs.Laws.{LineIsSound, LineCovers, LineNeverFallsBack};
 ghost use Rattle.recovery_line.specs.Laws.{CommitsWhileHeld, StaysCommitted, HoldersAreNamed};

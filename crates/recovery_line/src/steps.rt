@@ -1,12 +1,14 @@
 //! Laws of each step.
 
-ghost use Rattle.recovery_line.specs.Laws.{Opens, StaysConsistent, IsConsistent, RunsOn};
+ghost use Rattle.recovery_line.specs.Laws.{IsConsistent, Opens, RunsOn, StartsConsistently, StaysConsistent};
 ghost use Rattle.recovery_line.specs.Laws.{IsTrueWhenSent, StaysTrue, MovesAtMostOnce};
 
-/// The opening world is consistent, and each step keeps it so. Each run leads from a reachable
-/// world to a reachable one, and those are consistent.
+/// A run may begin with the opening world, and with any world of images that fit together, in which
+/// no node does anything yet. Such a world is consistent, and each step keeps it so. Each run leads
+/// from a reachable world to a reachable one, and those are consistent.
 pub fn consistency_law()
     ensures opening { Opens }
+    ensures starts { StartsConsistently }
     ensures step { StaysConsistent }
     ensures run { RunsOn }
     ensures reachable { IsConsistent }

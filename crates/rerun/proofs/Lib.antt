@@ -1,6 +1,5 @@
 pub mod Turning
 pub mod Counts
-pub mod Beginning
 pub mod Stages
 pub mod Handed
 pub mod Own

@@ -11,10 +11,9 @@ use Rattle.kahn_net.specs.declared.program.Port.TheVariants.{Outside, Process}
 use Rattle.protocol.specs.Node.Layout.{node_at, consumer_of, is_node}
 use Rattle.protocol.specs.World.RecoveryLine.{net_seen}
 use Rattle.recovery_line.specs.Images.{IsOutput}
-use Rattle.rerun.specs.Lines.{IsLine}
-use Rattle.rerun.proofs.Beginning.{begins}
+use Rattle.recovery_line.specs.Starts.{IsLine}
 use Rattle.rerun.specs.Rerunning.{Stage, first_stage, CountsFit}
-use Rattle.rerun.proofs.Turning.{begins as begins_soundly}
+use Rattle.rerun.proofs.Turning.{begins}
 use Rattle.rerun.proofs.Counts.{counts}
 use Rattle.rerun.specs.Lines.{base_by, image_at, StagesAreLines}
 
@@ -92,8 +91,15 @@ module _ (net : Network) (s : Stage) (left : ℕ → ℕ) (fit : CountsFit net s
           ≤ cond b (length (s.put c)) 0) (sym is) (omega arith)
 
 pub lines : StagesAreLines
-lines net inputs stages s valid fits runs left modes met idle =
+lines net inputs stages s valid fits runs left modes met unbegun =
     let fit =
-    counts net inputs 0 (λ p. 0) (first_stage net inputs) stages s valid fits (begins_soundly net inputs valid fits)
-    runs (λ c q channel is to. omega arith) in
-    begins (net_seen net) (image_at net s left) modes left (line net s left fit met) idle
+    counts net inputs 0 (λ p. 0) (first_stage net inputs) stages s valid fits (begins net inputs valid fits) runs
+    (λ c q channel is to. omega arith) in
+    record {
+      images = image_at net s left;
+      modes = modes;
+      outlets = left;
+      line = line net s left fit met;
+      unbegun = unbegun;
+      is = refl;
+    }

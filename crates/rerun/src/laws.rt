@@ -1,5 +1,5 @@
 // Laws of stages.
-ghost use Rattle.rerun.specs.Lines.{BeginsConsistently, StagesAreLines};
+ghost use Rattle.rerun.specs.Lines.{StagesAreLines};
 ghost use Rattle.rerun.specs.Moving.{MovesWhereItCan};
 ghost use Rattle.rerun.specs.Places.{TablesArePlaces};
 ghost use Rattle.rerun.specs.Resting.{RestsWithAll};
@@ -32,12 +32,10 @@ pub fn count_law()
     ensures { KeepsCounts }
 {}
 
-/// Every stage is a place from which a run of the network may begin.
+/// Every stage is a place from which a run of the network may begin: its images fit together, however much of what was put on the outputs
+/// has left.
 pub fn line_law()
-    // A world is consistent in which each node is down and has one image, where these images fit together.
-    ensures images { BeginsConsistently }
-    // The images of a stage do, however much of what was put on the outputs has left.
-    ensures stages { StagesAreLines }
+    ensures { StagesAreLines }
 {}
 
 /// A turn that a table makes is one of the stage at which the table is, on items that come next there.

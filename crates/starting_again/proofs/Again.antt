@@ -216,7 +216,7 @@ seen_again olds news again sent =
     }) (fun_ext (λ c. ap (length {A = ℤ}) (sym (same_released c olds news (same_outputs olds news again))))))
 
 -- nothing that is in flight says anything, since there is nothing
-carries_nothing : (traffic : Traffic) → ((to : ℕ) → flights_to traffic to ≡ []) → Carries traffic []
+pub carries_nothing : (traffic : Traffic) → ((to : ℕ) → flights_to traffic to ≡ []) → Carries traffic []
 carries_nothing traffic nothing to =
     subst (All (λ (f : Flight). SaysWhatWasSent [] f.packet)) (sym (nothing to))
     (All-nil (λ (f : Flight). SaysWhatWasSent [] f.packet))
@@ -234,12 +234,12 @@ runs_on_again net olds news traffic flown again nothing run = record {
 -- ---- what is true of each station
 
 -- a node that is down doesn't run, and collects nothing
-down_runs_not : (kept : RecordView) (version : ℕ) (mode : ModeView) → mode ≡ view.Down → (node : RunningNode)
+pub down_runs_not : (kept : RecordView) (version : ℕ) (mode : ModeView) → mode ≡ view.Down → (node : RunningNode)
     → running_in kept version mode ≡ Some node → ⊥
 down_runs_not kept version mode down node is =
     (let none : None ≡ Some node = sym (ap (running_in kept version) down) ∙ is in cc)
 
-down_asks_not : (mode : ModeView) → mode ≡ view.Down → (live : LiveView) → live_in mode ≡ Some live → ⊥
+pub down_asks_not : (mode : ModeView) → mode ≡ view.Down → (live : LiveView) → live_in mode ≡ Some live → ⊥
 down_asks_not mode down live is = (let none : None ≡ Some live = sym (ap live_in down) ∙ is in cc)
 
 station_again : (net : Network) (inputs : List (List ℤ)) (old new : StationView) → StationStartsAgain old new
@@ -261,7 +261,7 @@ joined_again net old new again joined = record {
 -- ---- the laws
 
 -- no packet is in flight that might not be sound
-traffic_again : (net : Network) (inputs : List (List ℤ)) (traffic : Traffic) → ((to : ℕ) → flights_to traffic to ≡ [])
+pub traffic_again : (net : Network) (inputs : List (List ℤ)) (traffic : Traffic) → ((to : ℕ) → flights_to traffic to ≡ [])
     → TrafficIsSound net inputs traffic
 traffic_again net inputs traffic nothing to =
     subst (All (FlightIsSound net inputs to)) (sym (nothing to)) (All-nil (FlightIsSound net inputs to))

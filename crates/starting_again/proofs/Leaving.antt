@@ -29,11 +29,11 @@ use Rattle.starting_again.specs.WasLeft.{outputs_by_station, outputs_left}
 -- ---- outputs that are told by their channels
 
 -- each of these outputs is the one of its channel
-abbrev AreBy : (ℕ → OutputView) → List OutputView → Type 0
+abbrev pub AreBy : (ℕ → OutputView) → List OutputView → Type 0
 AreBy one outputs =
     (j : ℕ) (output : OutputView) → slice_get outputs j ≡ Some output → output ≡ one output.channel
 
-by_channels : (one : ℕ → OutputView) (outputs : List OutputView) → AreBy one outputs
+pub by_channels : (one : ℕ → OutputView) (outputs : List OutputView) → AreBy one outputs
     → outputs ≡ map one (map (λ (output : OutputView). output.channel) outputs)
 by_channels one [] each = refl
 by_channels one (x ∷ outputs) each =
@@ -97,7 +97,7 @@ own_channels net home number (x ∷ channels) all =
         either true = ap (λ (cs : List ℕ). number ∷ cs) rest
         either false = rest
 
-outputs_of_node : (net : Network) (home : ℕ)
+pub outputs_of_node : (net : Network) (home : ℕ)
     → filter (is_output net home) (output_channels 0 net.channels) ≡ outputs_on net home
 outputs_of_node net home =
     own_channels net home 0 net.channels

@@ -23,7 +23,7 @@ mod world;
 pub use feeding::FeedFault;
 pub use gate_cell::SECTORS;
 pub use laws::{line_law, need_law, room_law, step_law, traffic_law};
-pub use opening::OpeningRefused;
+pub use opening::{NotOpened, OpeningRefused, open_store};
 pub use outputs::{OutletMaker, list_outputs, outputs_of};
 pub use protocol::{DEFAULT_ROOM, Deed, MIN_ROOM, NetworkAct, PlainEvent, Rooms, RoundTurns};
 pub use room::RoomOutOfRange;

@@ -45,9 +45,9 @@ pub(crate) fn forget_failures<O: Outlet>(outputs: &mut Vec<Output<O>>)
 
 /// A disk on which no store was opened, and why.
 #[derive(Drop)]
-pub(crate) struct NotOpened<D: Disk> {
-    pub(crate) disk: D,
-    pub(crate) fault: StoreFault,
+pub struct NotOpened<D: Disk> {
+    pub disk: D,
+    pub fault: StoreFault,
 }
 
 /// The disks and the outputs of a world that wasn't made, in the order in which they were given, and why it wasn't.
@@ -94,9 +94,12 @@ fn version_for(versions: &[u8], number: u8) -> u8
     }
 }
 
-// A store on a disk that is formatted with this record: its header in this version, and its permanent image in slot 0. The
-// disk's calls are counted from here on. Whether the image fits is found before anything is written.
-fn open_store<D: Disk>(
+/// A store on a disk that is formatted with this record: its header in this version, and its permanent image in slot 0. The
+/// disk's calls are counted from here on.
+///
+/// Refuses for want of memory (1), with 22 where the disk has no room for the record, which is found before anything is written, and
+/// with 20 where its device failed.
+pub fn open_store<D: Disk>(
     alloc: Global,
     disk: D,
     kept: &Record,

@@ -31,8 +31,8 @@ use std::alloc::{AllocError, Global};
 use std::sync::Arc;
 use wire::Wire;
 
-/// A network that runs on its inputs: shares of both, its stations, one a node, by node number, the round, and the room of
-/// each channel.
+/// A network that runs on its inputs: shares of both, its stations, one a node, by node number, the round, the room of each
+/// channel, and which inputs are closed.
 ///
 /// Its type keeps that the inputs fit the network, that each station is of the node of its number, that the images of each
 /// station stand where its processes have come on one approximation of the network's histories, that what its outlets took

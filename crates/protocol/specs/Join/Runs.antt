@@ -5,7 +5,8 @@ use Rattle.wire.specs.Traffic.{Traffic, flights_to}
 use Rattle.wire.specs.declared.queue.Flight.{Flight}
 use Rattle.recovery_line.specs.Images.{Net}
 use Rattle.recovery_line.specs.Packets.{Packet}
-use Rattle.recovery_line.specs.Worlds.{World, Run, Reachable}
+use Rattle.recovery_line.specs.Starts.{Reachable}
+use Rattle.recovery_line.specs.Worlds.{World, Run}
 use Rattle.protocol.specs.Join.Seen.{bytes_seen, world_seen}
 use Rattle.protocol.specs.World.RecoveryLine.{net_seen}
 use Rattle.protocol.specs.World.StationView.{StationView}
@@ -46,8 +47,8 @@ pub record IsInFlight (traffic : Traffic) (told : Packet) : Type 0 where
   pub there : slice_get (flights_to traffic to) place ≡ Some flight
   pub says : bytes_seen flight.packet ≡ Some told
 
--- Steps of the abstract machine lead from its opening world to these stations, where just that is under way which is
--- in flight here.
+-- Steps of the abstract machine lead to these stations from a world with which a run may begin, where just that is under
+-- way which is in flight here.
 pub record HasRun (net : Network) (stations : List StationView) (traffic : Traffic) : Type 0 where
   pub sent : List Packet
   pub reached : Reachable (net_seen net) (world_seen stations sent)

@@ -36,7 +36,8 @@ pub use Rattle.recovery_line.specs.Nodes.{Answer, Awaited, By_covered, By_took, 
 pub use Rattle.recovery_line.specs.Observers.{decides, has_node, image_seen, names, record_seen}
 pub use Rattle.recovery_line.specs.Packets.{Packet}
 pub use Rattle.recovery_line.specs.Records.{Record}
-pub use Rattle.recovery_line.specs.Worlds.{Reachable, Step, World}
+pub use Rattle.recovery_line.specs.Starts.{Reachable}
+pub use Rattle.recovery_line.specs.Worlds.{Step, World}
 pub use Rattle.wire.specs.Queue.{is_due}
 pub use Rattle.wire.specs.Traffic.{Traffic, all_sent, flights_to, opening_traffic, traffic_of, traffic_without}
 pub use Rattle.wire.specs.declared.queue.Flight.{Flight}

@@ -1,5 +1,5 @@
 -- A world that stands still, and would go on if channels had more room.
-use Rattle.std.specs.Prelude.{◌==◌, ℕ, nat_le, Bool, false, ◌&&◌, not, if◌then◌else◌, ℤ, List, length, map, Option}
+use Rattle.std.specs.Prelude.{◌==◌, ℕ, nat_le, Bool, false, ◌&&◌, not, if◌then◌else◌, ℤ, List, length, Option}
 use Rattle.std.specs.Prelude.{Some, None, is_some, slice_get}
 use Rattle.std.specs.List.{list_all, list_any}
 use Rattle.ckpt_codec.specs.Common.{Network, received_of, ImageView}

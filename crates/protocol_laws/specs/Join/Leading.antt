@@ -9,7 +9,7 @@ use Rattle.protocol.specs.World.Common.{Leads, WasSent, mode_seen, node_seen, wo
 use Rattle.protocol.specs.World.Common.{outlets_seen, released_of, StationView}
 use Rattle.recovery_line.specs.Nodes.{Node}
 use Rattle.recovery_line.specs.Packets.{Hears}
-use Rattle.recovery_line.specs.Worlds.{node_of, opening, OnlyAt, Acts, Comes, Run}
+use Rattle.recovery_line.specs.Worlds.{node_of, OnlyAt, Acts, Comes, Run}
 use Rattle.protocol.specs.Join.Runs.{KeepRecords, WriteAtFirst}
 use Rattle.protocol.specs.Join.Seen.{mode_or_new, modes_seen}
 use Rattle.protocol.specs.World.RecoveryLine.{record_or_new}
@@ -25,8 +25,12 @@ run_behind net w u v (x ∷ first) later one other = (one.0, run_behind net x u 
 
 -- a world that steps led to, and steps that lead on from there
 pub reached_then : (net : Net) (w v : World) → Reachable net w → Leads net w v → Reachable net v
-reached_then net w v reached leads =
-    (reached.0 ++ leads.worlds, run_behind net opening w v reached.0 leads.worlds reached.1 leads.run)
+reached_then net w v reached leads = record {
+  start = reached.start;
+  may = reached.may;
+  worlds = reached.worlds ++ leads.worlds;
+  run = run_behind net reached.start w v reached.worlds leads.worlds reached.run leads.run;
+}
 
 pub leads_here : (net : Net) (w v : World) → v ≡ w → Leads net w v
 leads_here net w v same = record { worlds = []; run = sym same; once = tt }

@@ -5,13 +5,14 @@ use Rattle.std.specs.Prelude.{◌==◌, slice_index, find, filter}
 use Rattle.std.proofs.Math.Path.{fun_ext}
 use Rattle.protocol.specs.Node.Common.{Network, Channel, received_at, log_at, base_in, sent_in, received_of, base_of}
 use Rattle.protocol.specs.Node.Common.{sent_of, End, SavedEnd, opening_ends, opening_image, opening_record}
-use Rattle.protocol.specs.World.Common.{opening_traffic, image_seen, record_seen}
+use Rattle.protocol.specs.World.Common.{net_seen, opening_traffic, image_seen, record_seen}
 use Rattle.protocol.specs.World.Common.{SaysWhatWasSent, HasRun, world_seen, records_of, records_seen}
 use Rattle.protocol.specs.World.Common.{taken_or, released_of, is_output, OutletView}
 use Rattle.recovery_line.specs.Images.{blank}
 use Rattle.recovery_line.specs.Nodes.{Running}
 use Rattle.recovery_line.specs.Records.{new_record}
 use Rattle.recovery_line.specs.Worlds.{opening}
+use Rattle.recovery_line.proofs.Starting.{may_begin}
 use Rattle.protocol_laws.specs.Join.Promises.{HaveTakenNothing}
 use Rattle.protocol.specs.Join.Seen.{modes_seen}
 use Rattle.protocol.specs.Node.Opening.{opening_end}
@@ -102,7 +103,12 @@ module _ (net : Network) (nodes : ℕ) (outlets : List OutletView) where
       → HasRun net (stations_from net nodes number failures outlets) opening_traffic
   run_opens number failures nothing = record {
     sent = [];
-    reached = ([], sym (world_opens number failures nothing));
+    reached = record {
+      start = opening;
+      may = may_begin (net_seen net);
+      worlds = [];
+      run = sym (world_opens number failures nothing);
+    };
     carries = opened_holds (λ to. SaysWhatWasSent []);
     flown = λ told was. absurd (cc);
   }

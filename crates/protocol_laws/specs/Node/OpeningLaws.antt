@@ -21,7 +21,7 @@ use Rattle.protocol.specs.declared.links.Inbox.{Inbox}
 use Rattle.protocol.specs.declared.links.Outbox.{Outbox}
 
 -- This is the entry of one of a list's elements. The first of them has this number.
-abbrev IsOwn : {A B : Type 0} → (ℕ → A → B) → ℕ → List A → B → Type 0
+abbrev pub IsOwn : {A B : Type 0} → (ℕ → A → B) → ℕ → List A → B → Type 0
 IsOwn {A} entry number xs y = (j : ℕ) × (x : A) × (slice_get xs j ≡ Some x) × (y ≡ entry (number + j) x)
 
 own_further : {A B : Type 0} (entry : ℕ → A → B) (number : ℕ) (x : A) (xs : List A) (y : B) → IsOwn entry (suc number) xs y
@@ -35,7 +35,7 @@ module _ {A B : Type 0} (test : A → Bool) (entry : ℕ → A → B) (listed : 
     (one : (number : ℕ) (x : A) (xs : List A)
     → listed number (x ∷ xs) ≡ cond (test x) (entry number x ∷ listed (suc number) xs) (listed (suc number) xs)) where
   -- which entry stands where
-  own_entry : (number : ℕ) (xs : List A) (k : ℕ) (y : B) → slice_get (listed number xs) k ≡ Some y → IsOwn entry number xs y
+  pub own_entry : (number : ℕ) (xs : List A) (k : ℕ) (y : B) → slice_get (listed number xs) k ≡ Some y → IsOwn entry number xs y
   own_entry number [] k y is = absurd (let bad = rw none at is in cc)
   own_entry number (x ∷ xs) k y is =
       at (test x) k (rw one at is) (λ j there. own_further entry number x xs y (own_entry (suc number) xs j y there))
@@ -49,7 +49,7 @@ module _ {A B : Type 0} (test : A → Bool) (entry : ℕ → A → B) (listed : 
 
   module _ (name : B → ℕ) (named : (number : ℕ) (x : A) → name (entry number x) ≡ number) where
     -- the entry of a number is that of the element there
-    entry_there : (xs : List A) (k : ℕ) (y : B) (x : A) → slice_get (listed 0 xs) k ≡ Some y
+    pub entry_there : (xs : List A) (k : ℕ) (y : B) (x : A) → slice_get (listed 0 xs) k ≡ Some y
         → slice_get xs (name y) ≡ Some x → y ≡ entry (name y) x
     entry_there xs k y x is there =
         let own = own_entry 0 xs k y is in
@@ -59,7 +59,7 @@ module _ {A B : Type 0} (test : A → Bool) (entry : ℕ → A → B) (listed : 
         rw (number, ← same) (own.3 ∙ ap (λ (n : ℕ). entry n own.1) sum)
 
     -- their numbers are those at which the elements pass the test
-    entry_numbers : (mark : ℕ → Bool) (number : ℕ) (xs : List A)
+    pub entry_numbers : (mark : ℕ → Bool) (number : ℕ) (xs : List A)
         → ((j : ℕ) (x : A) → slice_get xs j ≡ Some x → mark (number + j) ≡ test x)
         → map name (listed number xs) ≡ numbers_where mark number (length xs)
     entry_numbers mark number [] marked = rw none refl

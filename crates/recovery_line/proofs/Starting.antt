@@ -1,17 +1,19 @@
--- A world of images that fit together is consistent: all else that is asked of it speaks of nothing there.
-use Rattle.std.proofs.Common.{◌≡◌, inl, inr, ℕ, ◌≤◌, Some, None, sym, ap, subst, ◌∙◌, arith}
+-- A world with which a run may begin is consistent: its images fit together, and all else that is asked of it speaks of
+-- nothing there.
+use Rattle.std.proofs.Common.{◌≡◌, inl, inr, ℕ, ◌≤◌, Some, None, refl, sym, ap, subst, ◌∙◌, arith}
 use Rattle.recovery_line.specs.Images.{Image, Net, AtMost, blank}
+use Rattle.recovery_line.specs.Laws.{Opens, StartsConsistently}
 use Rattle.recovery_line.specs.Nodes.{Mode, Down, In_doubt, Running, Live, current_of, live_of}
+use Rattle.recovery_line.specs.Starts.{IsLine, IsUnbegun, world_at}
 use Rattle.recovery_line.specs.Worlds.{node_of}
 use Rattle.recovery_line.specs.Invariant.{IsImageOf, Permanent, Held, Current, NodeOk, Agreed, LogsKept, Consistent}
-use Rattle.rerun.specs.Lines.{IsLine, IsIdle, world_at, BeginsConsistently}
 
 module _ (net : Net) (images : ℕ → Image) (modes : ℕ → Mode) (outlets : ℕ → ℕ) (line : IsLine net images outlets)
-    (idle : (k : ℕ) → IsIdle images modes k) where
+    (unbegun : (k : ℕ) → IsUnbegun images modes k) where
   current_is : (k : ℕ) (i : Image) → current_of (modes k) ≡ Some i → images k ≡ i
-  current_is k i is = at (idle k)
+  current_is k i is = at (unbegun k)
     where
-      at : IsIdle images modes k → images k ≡ i
+      at : IsUnbegun images modes k → images k ≡ i
       at (inl down) = let no : None ≡ Some i = sym (ap current_of down) ∙ is in absurd (cc)
       at (inr none) =
           let one : Some blank ≡ Some i = sym (ap current_of none.0) ∙ is in
@@ -19,16 +21,16 @@ module _ (net : Net) (images : ℕ → Image) (modes : ℕ → Mode) (outlets : 
           none.1 ∙ same
 
   not_live : (k : ℕ) (live : Live) → live_of (modes k) ≡ Some live → ⊥
-  not_live k live is = at (idle k)
+  not_live k live is = at (unbegun k)
     where
-      at : IsIdle images modes k → ⊥
+      at : IsUnbegun images modes k → ⊥
       at (inl down) = let no : None ≡ Some live = sym (ap live_of down) ∙ is in absurd (cc)
       at (inr none) = let no : None ≡ Some live = sym (ap live_of none.0) ∙ is in absurd (cc)
 
   not_in_doubt : (k : ℕ) → modes k ≡ In_doubt → ⊥
-  not_in_doubt k is = at (idle k)
+  not_in_doubt k is = at (unbegun k)
     where
-      at : IsIdle images modes k → ⊥
+      at : IsUnbegun images modes k → ⊥
       at (inl down) = let no : Down ≡ In_doubt = sym down ∙ is in absurd (cc)
       at (inr none) = let no : Running blank None ≡ In_doubt = sym none.0 ∙ is in absurd (cc)
 
@@ -78,5 +80,25 @@ module _ (net : Net) (images : ℕ → Image) (modes : ℕ → Mode) (outlets : 
     packets = λ packet there. absurd (let no = there.1 in cc);
   }
 
-pub begins : BeginsConsistently
-begins net images modes outlets line idle = consistent net images modes outlets line idle
+pub starts : StartsConsistently
+starts net w start =
+    subst (Consistent net) (sym start.is)
+    (consistent net start.images start.modes start.outlets start.line start.unbegun)
+
+pub may_begin : Opens
+may_begin net = record {
+  images = λ k. blank;
+  modes = λ k. Running blank None;
+  outlets = λ c. 0;
+  line = record {
+    sound = record {
+      no_orphan = λ c p q from to. omega arith;
+      nothing_lost = λ c p q from to. omega arith;
+      outputs = λ c p out. omega arith;
+    };
+    covered = λ c p out. omega arith;
+    logs = λ c p. omega arith;
+  };
+  unbegun = λ k. inr (refl, refl);
+  is = refl;
+}
