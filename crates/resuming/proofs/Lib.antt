@@ -1,0 +1,6 @@
+pub mod Lists
+pub mod Images
+pub mod Standing
+pub mod Stations
+pub mod Starts
+pub mod Left

@@ -1,0 +1,3 @@
+-- Worlds that begin where processes were run again.
+pub mod Images
+pub mod Resuming
