@@ -6,8 +6,8 @@ use Rattle.std.specs.Prelude.{◌==◌, ◌||◌, slice_get, slice_index, IsTrue
 use Rattle.std.proofs.lemmas.Option.{slice_get_within}
 use Rattle.protocol.specs.Node.Common.{Code, Network, Channel, Port, Outside, Process, MAX_COUNT, history_of}
 use Rattle.protocol.specs.Node.Common.{has_process, has_end, port_on, role_by, role_of, is_counting, received_at}
-use Rattle.protocol.specs.Node.Common.{received_of, log_at, log_of, end_of, CountIsWithin, CountsAreWithin, IsLaidOut}
-use Rattle.protocol.specs.Node.Common.{LogState, IsLogOf, SavedProcessView, SavedEnd, End, Receives}
+use Rattle.protocol.specs.Node.Common.{received_of, log_at, log_of, end_of, CountIsWithin, CountsAreWithin, IsLaidOut, LogsAreWithin}
+use Rattle.protocol.specs.Node.Common.{LogState, log_end, IsLogOf, SavedProcessView, SavedEnd, End, Receives}
 use Rattle.protocol.specs.Node.Layout.{channel_on}
 use Rattle.protocol_laws.specs.Node.CountLaws.{count_limit, receives_within, sends_within, both_within}
 use Rattle.protocol_laws.specs.Node.ImageLaws.{channel_of_entry}
@@ -19,7 +19,7 @@ use Rattle.rerun.specs.Rerunning.{Stage}
 use Rattle.rerun.specs.Soundness.{Matches}
 use Rattle.rerun.specs.Tables.{TableView, IsAt, IsInOrder, log_on}
 use Rattle.resuming.proofs.Lists.{index_at}
-use Rattle.resuming.specs.Images.{end_on, image_end, image_ends, image_of, image_processes, standing_in}
+use Rattle.resuming.specs.Images.{end_on, image_end, image_ends, image_of, image_processes, KeepsShares, standing_in}
 
 -- the entry of a process
 abbrev process_on : TableView → ℕ → Code → SavedProcessView
@@ -143,6 +143,26 @@ module _ (net : Network) (t : TableView) (home : ℕ) where
             let consumer = port_is channel.consumer to in
             both_within net inputs saved.channel (slice_index t.got saved.channel) (log_on t saved.channel)
             (ordered.of_link saved.channel producer.0 consumer.0 channel on producer.1 consumer.1)
+
+    -- a log that keeps to its share is within its limits, since each log of the table ends at a count
+    pub logs_within : IsInOrder net inputs t → KeepsShares (image_of net t home) → LogsAreWithin (image_of net t home)
+    logs_within ordered keeps k saved log is has =
+        let there = channel_of_entry net home (image_of net t home) k saved laid_out is in
+        let own = ap (λ (x : SavedEnd). x.end) (own_end k saved there.0 is there.1) in
+        let same : log_on t saved.channel ≡ log =
+        at (port_on net home there.0.producer) (port_on net home there.0.consumer)
+        (ap (λ (e : End). log_at (Some e)) (sym own) ∙ has) in
+        record {
+          count = keeps k saved log is has;
+          last = subst (λ (l : LogState). log_end l ≤ MAX_COUNT) same (ordered.within saved.channel).last;
+        }
+      where
+        at : (puts gets : Bool)
+            → log_at (Some (image_end puts gets (slice_index t.got saved.channel) (log_on t saved.channel))) ≡ Some log
+            → log_on t saved.channel ≡ log
+        at true true is = cc
+        at true false is = cc
+        at false gets is = absurd (cc)
 
     -- it has what the stage has of which the table is in memory
     module _ (s : Stage) (is_at : IsAt net inputs t s) where

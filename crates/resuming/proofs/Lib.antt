@@ -4,3 +4,5 @@ pub mod Standing
 pub mod Stations
 pub mod Starts
 pub mod Left
+pub mod Copied
+pub mod Written

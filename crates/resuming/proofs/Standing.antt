@@ -18,7 +18,7 @@ use Rattle.kahn_net.specs.Streams.{IsPrefix, history_of}
 use Rattle.protocol.specs.Join.Joined.{KeepsNodes}
 use Rattle.protocol.specs.Node.Common.{approximation, acts_of, base_in, base_of, Channel, Fits, IsValid, Network}
 use Rattle.protocol.specs.Node.Common.{node_count, port_on, Process, sent_in, sent_of, sent_on, ImageStands, IsRecord}
-use Rattle.protocol.specs.Node.Common.{LogsAreWithin, MAX_DECISIONS, MAX_NODES}
+use Rattle.protocol.specs.Node.Common.{MAX_DECISIONS, MAX_NODES}
 use Rattle.protocol.specs.World.Common.{is_output, OutputView, outputs_on, RecordIsSound}
 use Rattle.protocol.specs.World.RecordSound.{CoversAll, ImageIsSound, RecordHasCome}
 use Rattle.protocol.specs.World.Released.{IsStreamOf}
@@ -30,9 +30,9 @@ use Rattle.rerun.proofs.Turning.{images, put_below}
 use Rattle.rerun.specs.Places.{IsPlace}
 use Rattle.rerun.specs.Tables.{TableView, IsInOrder, log_on}
 use Rattle.retained.specs.LogState.{log_end}
-use Rattle.resuming.proofs.Images.{counts, laid_out, logged_there, matches}
+use Rattle.resuming.proofs.Images.{counts, laid_out, logged_there, logs_within, matches}
 use Rattle.resuming.proofs.Lists.{kept_from, shorter}
-use Rattle.resuming.specs.Images.{image_of, record_of}
+use Rattle.resuming.specs.Images.{image_of, KeepsShares, record_of}
 use Rattle.resuming.specs.Resuming.{Agrees, MayResume}
 use Rattle.starting_again.proofs.Leaving.{outputs_of_node}
 use Rattle.starting_again.specs.WasLeft.{outputs_at}
@@ -45,11 +45,27 @@ channels_at net home (x ∷ outputs) =
     let rest = channels_at net home outputs in
     grind (arith, rest)
 
-stands : (net : Network) (inputs : List (List ℤ)) (t : TableView) (place : IsPlace net inputs t) (home : ℕ)
+pub stands : (net : Network) (inputs : List (List ℤ)) (t : TableView) (place : IsPlace net inputs t) (home : ℕ)
     → ImageStands net (approximation net inputs place.n) place.made (image_of net t home)
 stands net inputs t place home =
     images net inputs place.n place.made place.stage (image_of net t home) place.sound
     (matches net t home inputs place.stage place.is_at)
+
+pub within : (net : Network) (inputs : List (List ℤ)) (t : TableView) → IsValid net → IsInOrder net inputs t
+    → IsPlace net inputs t → (home : ℕ) → KeepsShares (image_of net t home)
+    → IsRecordWithin MAX_RETAINED_ITEMS (record_of net t home)
+within net inputs t valid ordered place home shares = record {
+  nodes =
+      (let same : length (record_of net t home).highest ≡ node_count net = length-replicate (node_count net) 0 in
+      let few = nodes_few net valid in
+      omega (arith, same, few));
+  decided = omega arith;
+  decisions = λ k d is. absurd (cc);
+  permanent =
+      image_within net home (approximation net inputs place.n) place.made (image_of net t home) valid
+      (laid_out net t home) (stands net inputs t place home) (logs_within net t home inputs ordered shares);
+  tentative = λ held is. absurd (cc);
+}
 
 module _ (net : Network) (inputs : List (List ℤ)) (t : TableView) (outputs : List OutputView) (valid : IsValid net)
     (fits : Fits net inputs) (ordered : IsInOrder net inputs t) (may : MayResume net inputs t outputs)
@@ -83,7 +99,7 @@ module _ (net : Network) (inputs : List (List ℤ)) (t : TableView) (outputs : L
   image_sound home = record {
     laid_out = laid_out net t home;
     counts = counts net t home inputs ordered;
-    logs = may.shares home;
+    logs = logs_within net t home inputs ordered (may.shares home);
     no_gap = λ j output is.
         (let base = base_there home output.channel (here home j output is) in
         let from = (own_agree home j output is).in_log.from_base in
@@ -133,20 +149,6 @@ module _ (net : Network) (inputs : List (List ℤ)) (t : TableView) (outputs : L
           (∥∥₁_elim agrees.stream (hlevel props)
           (begins output.channel p channel output.taken on from agrees.in_log.to_end))
 
-  within : (home : ℕ) → IsRecordWithin MAX_RETAINED_ITEMS (record_of net t home)
-  within home = record {
-    nodes =
-        (let same : length (record_of net t home).highest ≡ node_count net = length-replicate (node_count net) 0 in
-        let few = nodes_few net valid in
-        omega (arith, same, few));
-    decided = omega arith;
-    decisions = λ k d is. absurd (cc);
-    permanent =
-        image_within net home (approximation net inputs place.n) place.made (image_of net t home) valid
-        (laid_out net t home) (stands net inputs t place home) (may.shares home);
-    tentative = λ held is. absurd (cc);
-  }
-
   pub record_sound : (home : ℕ) → RecordIsSound net inputs (record_of net t home) (outputs_at net home outputs)
   record_sound home = record {
     listed = own_listed home;
@@ -155,7 +157,7 @@ module _ (net : Network) (inputs : List (List ℤ)) (t : TableView) (outputs : L
     ahead = λ tentative is. absurd (cc);
     covered = covered home;
     epoch = omega arith;
-    bounded = within home;
+    bounded = within net inputs t valid ordered place home (may.shares home);
     come = ∣ come home ∣₁;
   }
 
@@ -178,15 +180,16 @@ entries_allowed zero = All-nil IsAllowed
 entries_allowed (suc nodes) = All-cons IsAllowed (count 0) _ (omega arith, refl) (entries_allowed nodes)
 
 module _ (net : Network) (inputs : List (List ℤ)) (t : TableView) (valid : IsValid net) (fits : Fits net inputs)
-    (ordered : IsInOrder net inputs t) (shares : (home : ℕ) → LogsAreWithin (image_of net t home))
-    (place : IsPlace net inputs t) where
-  image_may : (home : ℕ) → AreAllowed (image_fields None (image_of net t home))
-  image_may home =
+    (ordered : IsInOrder net inputs t) (place : IsPlace net inputs t) (home : ℕ)
+    (shares : KeepsShares (image_of net t home)) where
+  image_may : AreAllowed (image_fields None (image_of net t home))
+  image_may =
       image_allowed net home inputs (approximation net inputs place.n) place.made (image_of net t home) valid fits.few
-      (laid_out net t home) (stands net inputs t place home) (counts net t home inputs ordered) (shares home)
+      (laid_out net t home) (stands net inputs t place home) (counts net t home inputs ordered)
+      (logs_within net t home inputs ordered shares)
 
-  pub may_be_written : (home : ℕ) → home < node_count net → IsRecord (record_of net t home)
-  may_be_written home below =
+  pub may_be_written : home < node_count net → IsRecord (record_of net t home)
+  may_be_written below =
       let few = nodes_few net valid in
       let many : length (record_of net t home).highest ≡ node_count net = length-replicate (node_count net) 0 in
       let version : IsAllowed (version_field VERSION) = (omega arith, refl) in
@@ -203,6 +206,6 @@ module _ (net : Network) (inputs : List (List ℤ)) (t : TableView) (valid : IsV
         head = search (All-cons IsAllowed, All-nil IsAllowed, version, own, epoch, lengths);
         entries = entries_allowed (node_count net);
         decisions = one_field (at_most 1 MAX_DECISIONS 0) (omega arith, refl);
-        permanent = image_may home;
+        permanent = image_may;
         tentative = one_field (flag 0) (omega arith, refl);
       })

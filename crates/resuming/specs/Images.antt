@@ -1,12 +1,14 @@
 -- The images that nodes have where the processes of a network were run again, and records of these images.
-use Rattle.std.specs.Prelude.{◌==◌, ℕ, zero, suc, Bool, true, false, if◌then◌else◌, List, [], ◌∷◌, replicate, Some, None}
-use Rattle.std.specs.Prelude.{slice_index, slice_index_or}
+use Rattle.std.specs.Prelude.{◌≡◌, ◌≤◌, ◌==◌, ℕ, zero, suc, Bool, true, false, if◌then◌else◌, List, [], ◌∷◌, length}
+use Rattle.std.specs.Prelude.{replicate, Some, None, slice_get, slice_index, slice_index_or}
 use Rattle.kahn_net.specs.Nodes.{node_count}
 use Rattle.kahn_net.specs.Processes.{Standing, NotBegun}
 use Rattle.kahn_net.specs.Syntax.{Code, Network}
 use Rattle.kahn_net.specs.declared.program.Channel.{Channel}
 use Rattle.protocol.specs.Node.Layout.{channel_on, port_on}
+use Rattle.protocol.specs.Node.Sharing.{log_share}
 use Rattle.record.specs.Common.{ImageView, RecordView, SavedProcessView}
+use Rattle.record.specs.Ends.{log_at}
 use Rattle.record.specs.declared.image.End.{End}
 use Rattle.record.specs.declared.image.End.TheVariants.{Receives, Sends, Both}
 use Rattle.record.specs.declared.image.SavedEnd.{SavedEnd}
@@ -53,6 +55,12 @@ image_of net t home =
       processes = image_processes t.standings home 0 net.codes;
       ends = image_ends net t.got t.logs home 0 net.channels;
     }
+
+-- each log of an image has no more items than its share
+abbrev pub KeepsShares : ImageView → Type 0
+KeepsShares image =
+    (k : ℕ) (saved : SavedEnd) (log : LogState) → slice_get image.ends k ≡ Some saved
+    → log_at (Some (saved.end)) ≡ Some log → length log.items ≤ log_share image
 
 -- the record of a node that has this image as its permanent one: nothing is held, decided or numbered
 abbrev pub record_of : Network → TableView → ℕ → RecordView

@@ -3,14 +3,13 @@ use Rattle.std.specs.Prelude.{◌≡◌, ℕ, ℤ, List, length, map, Some, slic
 use Rattle.kahn_net.specs.Fits.{Fits}
 use Rattle.kahn_net.specs.Syntax.{Network}
 use Rattle.kahn_net.specs.Valid.{IsValid}
-use Rattle.protocol.specs.Node.Reached.{LogsAreWithin}
 use Rattle.protocol.specs.World.OutputView.{OutputView}
 use Rattle.protocol.specs.World.Released.{IsStreamOf}
 use Rattle.protocol.specs.World.Sound.{output_channels}
 use Rattle.rerun.specs.Tables.{TableView, HasRerun, IsInOrder, log_on}
 use Rattle.retained.specs.LogState.{IsInLog}
 use Rattle.starting_again.specs.WasLeft.{WasLeft}
-use Rattle.resuming.specs.Images.{image_of, records_there}
+use Rattle.resuming.specs.Images.{image_of, KeepsShares, records_there}
 
 -- What has left of an output agrees with what was put there: it is a prefix of the channel's history in some
 -- approximation, and the log has what comes next.
@@ -23,7 +22,7 @@ pub record Agrees (net : Network) (inputs : List (List ℤ)) (t : TableView) (ou
 pub record MayResume (net : Network) (inputs : List (List ℤ)) (t : TableView) (outputs : List OutputView) : Type 0 where
   pub listed : map (λ (output : OutputView). output.channel) outputs ≡ output_channels 0 net.channels
   pub agree : (j : ℕ) (output : OutputView) → slice_get outputs j ≡ Some output → Agrees net inputs t output
-  pub shares : (home : ℕ) → LogsAreWithin (image_of net t home)
+  pub shares : (home : ℕ) → KeepsShares (image_of net t home)
 
 -- Some world leaves what the nodes have there: so one may begin with it.
 abbrev pub IsLeftThere : Type 0
