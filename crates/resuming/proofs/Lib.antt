@@ -6,3 +6,4 @@ pub mod Starts
 pub mod Left
 pub mod Copied
 pub mod Written
+pub mod Begun

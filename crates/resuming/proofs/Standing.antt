@@ -95,11 +95,12 @@ module _ (net : Network) (inputs : List (List ℤ)) (t : TableView) (outputs : L
   sent_there home c of =
       ap sent_in (logged_there net t home c of.channel of.there (ap (port_on net home) of.producer ∙ of.here))
 
-  image_sound : (home : ℕ) → ImageIsSound net home inputs (image_of net t home) (outputs_at net home outputs)
-  image_sound home = record {
+  image_sound : (home : ℕ) → home < node_count net
+      → ImageIsSound net home inputs (image_of net t home) (outputs_at net home outputs)
+  image_sound home below = record {
     laid_out = laid_out net t home;
     counts = counts net t home inputs ordered;
-    logs = logs_within net t home inputs ordered (may.shares home);
+    logs = logs_within net t home inputs ordered (may.shares home below);
     no_gap = λ j output is.
         (let base = base_there home output.channel (here home j output is) in
         let from = (own_agree home j output is).in_log.from_base in
@@ -149,15 +150,16 @@ module _ (net : Network) (inputs : List (List ℤ)) (t : TableView) (outputs : L
           (∥∥₁_elim agrees.stream (hlevel props)
           (begins output.channel p channel output.taken on from agrees.in_log.to_end))
 
-  pub record_sound : (home : ℕ) → RecordIsSound net inputs (record_of net t home) (outputs_at net home outputs)
-  record_sound home = record {
+  pub record_sound : (home : ℕ) → home < node_count net
+      → RecordIsSound net inputs (record_of net t home) (outputs_at net home outputs)
+  record_sound home below = record {
     listed = own_listed home;
-    permanent = image_sound home;
+    permanent = image_sound home below;
     held = λ tentative is. absurd (cc);
     ahead = λ tentative is. absurd (cc);
     covered = covered home;
     epoch = omega arith;
-    bounded = within net inputs t valid ordered place home (may.shares home);
+    bounded = within net inputs t valid ordered place home (may.shares home below);
     come = ∣ come home ∣₁;
   }
 

@@ -123,13 +123,15 @@ module _ (net : Network) (t : TableView) (outputs : List OutputView) where
 
   module _ (inputs : List (List ℤ)) (valid : IsValid net) (fits : Fits net inputs) (ordered : IsInOrder net inputs t)
       (may : MayResume net inputs t outputs) (place : IsPlace net inputs t) where
-    sound_there : (i : ℕ) → StationInvariant net inputs (station_there net t outputs i)
-    sound_there i = record {
+    sound_there : (i : ℕ) → i < node_count net → StationInvariant net inputs (station_there net t outputs i)
+    sound_there i below = record {
       kept =
           let own = outlets_are (outputs_at net i outputs) in
-          rw own (record_sound net inputs t outputs valid fits ordered may place i);
+          rw own (record_sound net inputs t outputs valid fits ordered may place i below);
       runs = λ node is. absurd (down_runs_not (record_of net t i) 0 Down refl node is);
     }
 
     pub sound : AreSound net inputs (stations_there net t outputs)
-    sound i station is = subst (StationInvariant net inputs) (sym (station_is i station is).1) (sound_there i)
+    sound i station is =
+        let there = station_is i station is in
+        subst (StationInvariant net inputs) (sym there.1) (sound_there i there.0)

@@ -3,11 +3,10 @@
 use Rattle.std.specs.Prelude.{◌≡◌, ◌⊎◌, ℕ, suc, ℤ, List, [], ◌∷◌, map}
 use Rattle.ckpt_store.specs.declared.fault.StoreFault.TheVariants.{Device, NoMemory, TooLarge}
 use Rattle.gate_cell.specs.declared.cell.StableCell.{Ghosts as CellWords}
-use Rattle.net_check.specs.declared.inputs.Inputs.{Inputs}
 use Rattle.outlet.specs.declared.outlet.Outlet.{Ghosts as OutletWords}
 use Rattle.protocol.specs.Node.Common.{image_length, Network, RecordView, slot_room_on, StoreFault}
 use Rattle.rerun.specs.Tables.{TableView}
-use Rattle.resuming.specs.Images.{image_of, record_of, records_there}
+use Rattle.resuming.specs.Images.{image_of, KeepsShares, record_of, records_there}
 use Rattle.sector_disk.specs.declared.disk.ArmedFault.{ArmedFault}
 use Rattle.sector_disk.specs.declared.disk.Disk.{Ghosts as DiskWords}
 use Rattle.slot_cell.specs.declared.slot_cell.SlotCell.{Ghosts as SlotWords}
@@ -18,7 +17,7 @@ use Rattle.station.specs.StationView.{outlet_views}
 use Rattle.station.specs.declared.output.Output.{Output}
 use Rattle.world.specs.Feeding.{none_closed}
 use Rattle.world.specs.Left.{HoldsRecord, record_on}
-use Rattle.world.specs.OpeningWorld.{AllNumbered, HasRoom}
+use Rattle.world.specs.OpeningWorld.{AllNumbered, HasNoRoom, HasRoom}
 use Rattle.world.specs.Reopening.{world_again}
 use Rattle.world.specs.WholeView.{world_of}
 use Rattle.world.specs.WorldView.{capacities}
@@ -35,9 +34,50 @@ pub record IsWritten {D : Type 0} (sectors : D → ℕ) (content : D → List �
   pub same_faults : armed back ≡ armed given
   pub fits : HasRoom (sectors given) (image_length kept.permanent)
 
--- each of these disks holds the record of the node of its place, the first being of the node of this number
+-- the disk of the node of this number holds its record, each log of which keeps to its share
+abbrev pub HoldsIts : {D : Type 0} → (D → ℕ) → (D → List ℕ) → (D → List ℕ → Type 0) → (D → List ArmedFault) → (D → ℕ)
+    → Network → TableView → ℕ → D → D → Type 0
+HoldsIts sectors content may_leave armed failures net t node given back =
+    IsWritten sectors content may_leave armed failures (record_of net t node) given back
+    × KeepsShares (image_of net t node)
+
+-- each of these disks does, the first being of the node of this number
 abbrev pub AreWritten : {D : Type 0} → (D → ℕ) → (D → List ℕ) → (D → List ℕ → Type 0) → (D → List ArmedFault) → (D → ℕ)
     → Network → TableView → ℕ → List D → List D → Type 0
 AreWritten {D} sectors content may_leave armed failures net t number givens backs =
-    AllNumbered (λ (node : ℕ) (given back : D). IsWritten sectors content may_leave armed failures (record_of net t node)
-    given back) number givens backs
+    AllNumbered (HoldsIts sectors content may_leave armed failures net t) number givens backs
+
+-- ---- why no world begins
+
+-- the node of this number has no place for its record on a disk of so many sectors, or one of its logs has more than its
+-- share
+abbrev pub HasNoPlace : Network → TableView → ℕ → ℕ → Type 0
+HasNoPlace net t node sectors =
+    HasNoRoom sectors (image_length (image_of net t node)) ⊎ (¬ (KeepsShares (image_of net t node)))
+
+-- one of these nodes doesn't, the first being of this number
+abbrev pub SomeHasNoPlace : Network → TableView → ℕ → List ℕ → Type 0
+SomeHasNoPlace net t number [] = ⊥
+SomeHasNoPlace net t number (sectors ∷ rest) = HasNoPlace net t number sectors ⊎ SomeHasNoPlace net t (suc number) rest
+
+-- Memory is missing (1), a device failed (20), or a node has no place for its record (22).
+abbrev pub IsResumingRefusal : Network → TableView → List ℕ → StoreFault → Type 0
+IsResumingRefusal net t sectors fault =
+    (fault ≡ NoMemory) ⊎ ((fault ≡ Device) ⊎ ((fault ≡ TooLarge) × SomeHasNoPlace net t 0 sectors))
+
+-- ---- the world
+
+-- A world of the network on its inputs begins where its processes were run again: each node is down, with the record that
+-- its image is, and may be recovered in any round; and what has left is what these outputs took.
+pub record IsResumed {D O : Type 0} {disk : DiskWords D} {cell : CellWords (SplitCell D disk)} {slots : SlotWords (SplitCell D disk)}
+    {outlet : OutletWords O} (net : Network) (inputs : List (List ℤ)) (t : TableView) (disks : List D)
+    (outputs : List (Output O)) (world : World (SplitCell D disk) O slots cell outlet) : Type 0 where
+  pub opening : world_of world
+      ≡ world_again net inputs (records_there net t) (map (λ (d : D). disk.failure_count d) disks)
+      (outlet_views outlet.taken outlet.failures outputs)
+  pub opens : OpensOver net inputs (records_there net t) (outputs_view outlet.taken outputs) (world_of world)
+  pub same_left : outputs_left (world_of world) ≡ outputs_view outlet.taken outputs
+  -- None of its inputs is closed.
+  pub fresh_inputs : world.closed ≡ none_closed
+  -- Each cell has the room that its disk gives.
+  pub room : capacities world.stations.items ≡ map (λ (d : D). slot_room_on (disk.sector_count d)) disks

@@ -1,6 +1,7 @@
 -- That a run of a network goes on where its processes were run again.
-use Rattle.std.specs.Prelude.{◌≡◌, ℕ, ℤ, List, length, map, Some, slice_get}
+use Rattle.std.specs.Prelude.{◌≡◌, ◌<◌, ℕ, ℤ, List, length, map, Some, slice_get}
 use Rattle.kahn_net.specs.Fits.{Fits}
+use Rattle.kahn_net.specs.Nodes.{node_count}
 use Rattle.kahn_net.specs.Syntax.{Network}
 use Rattle.kahn_net.specs.Valid.{IsValid}
 use Rattle.protocol.specs.World.OutputView.{OutputView}
@@ -22,7 +23,7 @@ pub record Agrees (net : Network) (inputs : List (List ℤ)) (t : TableView) (ou
 pub record MayResume (net : Network) (inputs : List (List ℤ)) (t : TableView) (outputs : List OutputView) : Type 0 where
   pub listed : map (λ (output : OutputView). output.channel) outputs ≡ output_channels 0 net.channels
   pub agree : (j : ℕ) (output : OutputView) → slice_get outputs j ≡ Some output → Agrees net inputs t output
-  pub shares : (home : ℕ) → KeepsShares (image_of net t home)
+  pub shares : (home : ℕ) → home < node_count net → KeepsShares (image_of net t home)
 
 -- Some world leaves what the nodes have there: so one may begin with it.
 abbrev pub IsLeftThere : Type 0

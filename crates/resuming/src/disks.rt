@@ -1,12 +1,12 @@
 // The records of nodes on their disks.
-ghost use Rattle.std.specs.Prelude.{◌≡◌, [], None, IfErr, IfOk, length};
+ghost use Rattle.std.specs.Prelude.{◌≡◌, [], None, IfErr, IfOk, length, map};
 ghost use Rattle.ckpt_codec.specs.Lengths.{image_length};
 ghost use Rattle.ckpt_codec.specs.RecordText.{IsRecord};
 ghost use Rattle.ckpt_codec.specs.SizeLaws.{IsRecordWithin};
 ghost use Rattle.ckpt_codec.specs.declared.lengths.TheConstants.{MAX_RETAINED_ITEMS};
 ghost use Rattle.kahn_net.specs.Nodes.{node_count};
 ghost use Rattle.rerun.specs.Whole.{net_in, table_in};
-ghost use Rattle.resuming.specs.Disks.{AreWritten, IsWritten};
+ghost use Rattle.resuming.specs.Disks.{AreWritten, IsResumingRefusal, IsWritten};
 ghost use Rattle.world.specs.OpeningWorld.{IsNotOpened};
 
 use crate::copying::record_of;
@@ -45,6 +45,8 @@ pub(crate) fn write_records<D: Disk>(
     requires { length disks.items ≡ node_count (net_in rerun.now) }
     ensures written { IfOk result (λ written. AreWritten D.sector_count D.content D.may_leave D.armed D.failure_count
         (net_in rerun.now) (table_in rerun.now) 0 disks.items written.items) }
+    ensures cause { IfErr result (IsResumingRefusal (net_in rerun.now) (table_in rerun.now)
+        (map (λ disk. D.sector_count disk) disks.items)) }
 {
     let nodes = disks.len();
     let mut written = Vec::with_capacity(alloc, nodes)?;
