@@ -37,8 +37,11 @@ module _ {D : Type 0} (sectors : D → ℕ) (net : Network) (t : TableView) wher
   has_no_place all done coming more x count long comes split none =
       let number : 0 + length done ≡ length done = omega arith in
       let whole : done ++ x ∷ more ≡ all = ap (λ (rest : List D). done ++ rest) (sym comes) ∙ split in
-      inr (inr (refl, subst (λ (xs : List D). SomeHasNoPlace net t 0 (map sectors xs)) whole
-      (lacks 0 done x more (subst (λ (n : ℕ). HasNoPlace net t n (sectors x)) (sym (number ∙ long)) none))))
+      inr (inr (
+        refl,
+        subst (λ (xs : List D). SomeHasNoPlace net t 0 (map sectors xs)) whole
+            (lacks 0 done x more (subst (λ (n : ℕ). HasNoPlace net t n (sectors x)) (sym (number ∙ long)) none)),
+      ))
 
   -- as a disk on which the record wasn't written
   pub not_written : (all done coming more : List D) (x : D) (count image_len : ℕ) → length done ≡ count

@@ -233,8 +233,11 @@ ends_above net got logs home number [] k d within = absurd (omega (arith, within
 ends_above net got logs home number (channel ∷ channels) zero d within =
     grind (arith, ends_above net got logs home (suc number) channels zero d)
 ends_above net got logs home number (channel ∷ channels) (suc k) d within =
-    grind (arith, ends_above net got logs home (suc number) channels k d,
-    ends_above net got logs home (suc number) channels (suc k) d)
+    grind (
+      arith,
+      ends_above net got logs home (suc number) channels k d,
+      ends_above net got logs home (suc number) channels (suc k) d,
+    )
 
 pub ascends : (net : Network) (got : List ℕ) (logs : List LogState) (home number : ℕ) (channels : List Channel)
     → AreAscending (image_ends net got logs home number channels)

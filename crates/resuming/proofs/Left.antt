@@ -94,6 +94,8 @@ module _ (net : Network) (inputs : List (List ℤ)) (t : TableView) (outputs : L
 
 pub is_left_there : IsLeftThere
 is_left_there net inputs t outputs valid fits ordered rerun may =
-    ∥∥₁_map rerun (λ ran.
-    (world_there net inputs t outputs, left net inputs t outputs valid fits ordered may
-    (places net inputs t valid fits ran)))
+    ∥∥₁_map rerun (λ ran. (
+      world_there net inputs t outputs,
+      left net inputs t outputs valid fits ordered may
+          (places net inputs t valid fits ran),
+    ))

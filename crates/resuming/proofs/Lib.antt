@@ -7,3 +7,4 @@ pub mod Left
 pub mod Copied
 pub mod Written
 pub mod Begun
+pub mod Following

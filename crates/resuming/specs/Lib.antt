@@ -2,3 +2,4 @@
 pub mod Images
 pub mod Resuming
 pub mod Disks
+pub mod CatchingUp

@@ -2,10 +2,12 @@
 #![tactic(auto)]
 
 mod beginning;
+mod catching_up;
 mod copying;
 mod disks;
 mod laws;
 mod shares;
 
 pub use beginning::{NotResumed, resume};
+pub use catching_up::{Behind, CaughtUp, IDLE_SWEEPS, catch_up};
 pub use laws::resuming_law;
