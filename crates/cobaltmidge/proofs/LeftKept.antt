@@ -6,7 +6,7 @@ use Rattle.std.proofs.lemmas.Bool.{false≢true}
 use Rattle.kahn_net.specs.Laws.Prefixes.{prefix_nil}
 use Rattle.outlet.specs.declared.outlet.Outlet.{Ghosts as OutletWords}
 use Rattle.protocol.specs.Node.Common.{Network, approximation, history_of}
-use Rattle.protocol.specs.World.Common.{are_quiet, output_channels}
+use Rattle.protocol.specs.World.Common.{are_quiet, output_channels, WorldView}
 use Rattle.replay.specs.declared.kept.ScriptedEvent.{ScriptedEvent}
 use Rattle.station.specs.declared.output.Output.{Output}
 use Rattle.world.specs.OpeningWorld.{IsUnused}
@@ -14,7 +14,7 @@ use Rattle.world.specs.WholeView.{world_of}
 use Rattle.cobaltmidge.specs.FirstWorld.{first_world}
 use Rattle.cobaltmidge.specs.KeptOutlets.{taken_streams}
 use Rattle.cobaltmidge.specs.KeptRuns.{IsKeptSoFar, IsKeptWhereRefused}
-use Rattle.cobaltmidge.specs.Remaining.{IsLeft, streams_left}
+use Rattle.cobaltmidge.specs.Remaining.{IsFarFrom, IsLeft, streams_left}
 use Rattle.cobaltmidge.specs.Runs.{IsRun, released_streams}
 use Rattle.cobaltmidge.specs.declared.settings.Settings.{Settings}
 use Rattle.cobaltmidge.specs.declared.state_error.StateFault.{StateFault}
@@ -88,3 +88,20 @@ refused_maps net inputs kept other more (Refused error) is = ∥∥₁_map is (�
 })
 refused_maps net inputs kept other more (Files fault) is = tt
 refused_maps net inputs kept other more (Kept fault) is = tt
+
+-- of one that may have gone on
+pub far_so_far : {O : Type 0} {outlet : OutletWords O} (settings : Settings) (net : Network) (inputs : List (List ℤ))
+    (script : List ScriptedEvent) (first : WorldView) (kept : List (List ℤ) → Type 0) (it : Left O outlet)
+    → (first.net ≡ net) × (first.inputs ≡ inputs) → IsFarFrom first settings script it → kept (streams_left it)
+    → ∥ IsKeptSoFar net inputs kept ∥₁
+far_so_far settings net inputs script first kept (left.Outputs back) begins is has = absurd is
+far_so_far settings net inputs script first kept (left.World world history) begins is has =
+    ∥∥₁_map (run_stays _ script first (world_of world) is.1.run) (λ same. record {
+      streams = released_streams net (world_of world).stations;
+      complete = are_quiet (world_of world);
+      is_run = subst (λ (i : List (List ℤ)). IsRun net i (released_streams net (world_of world).stations) (are_quiet (world_of world)))
+          begins.1
+          (subst (λ (n : Network). IsRun n first.inputs (released_streams n (world_of world).stations) (are_quiet (world_of world)))
+          begins.0 is.0);
+      has_kept = subst (λ (n : Network). kept (released_streams n (world_of world).stations)) (same.0 ∙ begins.0) has;
+    })

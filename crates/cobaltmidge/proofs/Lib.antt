@@ -1,5 +1,7 @@
 pub mod Turns
 mod Remaining
+mod GoingOn
+pub mod Beginnings
 mod LeftKept
 pub mod Streams
 pub mod Named

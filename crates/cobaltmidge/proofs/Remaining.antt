@@ -4,7 +4,8 @@ use Rattle.outlet.specs.declared.outlet.Outlet.{Ghosts as OutletWords}
 use Rattle.protocol.specs.Node.Common.{Network}
 use Rattle.replay.specs.declared.kept.ScriptedEvent.{ScriptedEvent}
 use Rattle.station.specs.declared.output.Output.{Output}
-use Rattle.cobaltmidge.specs.Remaining.{HasOutputs, IsFar, IsLeft}
+use Rattle.cobaltmidge.specs.Remaining.{HasOutputs, IsFar, IsFarFrom, IsLeft}
+use Rattle.cobaltmidge.specs.FirstWorld.{first_world}
 use Rattle.cobaltmidge.specs.declared.settings.Settings.{Settings}
 use Rattle.cobaltmidge.specs.declared.unfinished.Left.{Left}
 use Rattle.cobaltmidge.specs.declared.unfinished.Left.TheVariants as left
@@ -22,3 +23,10 @@ pub far_of : {O : Type 0} {outlet : OutletWords O} (settings : Settings) (net : 
     → IsFar settings net inputs script it
 far_of settings net inputs script outputs (left.Outputs back) is = tt
 far_of settings net inputs script outputs (left.World world history) is = is
+
+-- of one that began with the network's first world
+pub left_far : {O : Type 0} {outlet : OutletWords O} (settings : Settings) (net : Network) (inputs : List (List ℤ))
+    (script : List ScriptedEvent) (outputs : List (Output O)) (it : Left O outlet)
+    → IsFarFrom (first_world net inputs settings.room) settings script it → IsLeft settings net inputs script outputs it
+left_far settings net inputs script outputs (left.Outputs back) is = absurd is
+left_far settings net inputs script outputs (left.World world history) is = is

@@ -1,12 +1,12 @@
 -- Turns of a run.
 use Rattle.std.proofs.Common.{◌≡◌, ◌++◌, Ok, Err, inl, inr, ◌∙◌, ◌∷◌, [], ◌+◌, ◌≤◌, ℕ, zero, suc, ℤ}
-use Rattle.std.proofs.Common.{Bool, true, false, List, map, Option, Some, None, refl, sym, ap, subst, arith}
+use Rattle.std.proofs.Common.{Bool, true, false, List, map, refl, sym, ap, subst, arith}
 use Rattle.std.specs.List.{AllByRecursion}
-use Rattle.std.specs.Prelude.{replicate, IfOk, IsSome, Result}
+use Rattle.std.specs.Prelude.{replicate, IfOk, Result}
 use Rattle.std.proofs.Math.Logic.{∥∥₁_elim, ∥∥₁_map, ∥∥₁_prop}
 use Rattle.replay.proofs.Replays.{replays_stay}
 use Rattle.protocol.specs.Node.Common.{node_count, Network, IsValid, slot_room_on, StoreFault, opening_record}
-use Rattle.protocol.specs.Node.Common.{RecordView, fits_in, Job, SECTORS}
+use Rattle.protocol.specs.Node.Common.{RecordView, fits_in, SECTORS}
 use Rattle.ckpt_codec.specs.declared.lengths.TheConstants.{MAX_RECORD_BYTES}
 use Rattle.ckpt_store.specs.declared.fault.StoreFault.TheVariants.{NoMemory, Device, TooLarge, Reopen, Truncated}
 use Rattle.ckpt_store.specs.declared.fault.StoreFault.TheVariants.{Version, Malformed, HoldsOther, PastNumber, NotHeld}
@@ -16,26 +16,19 @@ use Rattle.protocol_laws.specs.Node.SizeLaws.{opening_within}
 use Rattle.protocol_laws.specs.World.RoomLaws.{bounded_image}
 use Rattle.gate_cell.specs.declared.cell.StableCell.{Ghosts as CellWords}
 use Rattle.slot_cell.specs.declared.slot_cell.SlotCell.{Ghosts as SlotWords}
-use Rattle.std.specs.declared.alloc.Global.{Global}
-use Rattle.std.specs.declared.sync.Arc.{Arc}
 use Rattle.protocol.specs.World.Common.{opening_traffic, opening_world, output_channels, OutletView, WorldView}
-use Rattle.protocol.specs.World.Common.{with_rooms, ReplyView}
+use Rattle.protocol.specs.World.Common.{with_rooms}
 use Rattle.protocol.specs.Node.Sharing.{IsRoom, even_rooms}
 use Rattle.protocol.specs.World.OpeningWorld.{opening_outlet, opening_stations}
 use Rattle.world.specs.OpeningWorld.{IsUnused}
 use Rattle.station.specs.StationView.{outlet_view, outlet_views}
 use Rattle.protocol.specs.declared.limits.TheConstants.{DEFAULT_ROOM}
-use Rattle.replay.specs.Armed.{ArmedEvent, ArmedView, IsArmedStep}
 use Rattle.replay.specs.Replay.{Happening, LeadsTo}
 use Rattle.runtime.specs.Logs.{HasRun}
 use Rattle.replay.specs.declared.kept.ScriptedEvent.{ScriptedEvent}
-use Rattle.replay.specs.declared.kept.RunEvent.{RunEvent}
-use Rattle.station.specs.ReplyView.{reply_view}
 use Rattle.world.specs.WorldView.{capacities, rooms}
 use Rattle.station.specs.StationView.{station_view}
 use Rattle.world.specs.OpeningWorld.{opening_length, HasNoRoom, IsOpeningRefusal, IsWorldRefusal}
-use Rattle.station.specs.ReplyView.{Reply}
-use Rattle.protocol.specs.declared.reply.Reply.TheVariants.{Granted}
 use Rattle.station.specs.declared.output.Output.{Output}
 use Rattle.station.specs.declared.station.Station.{Station}
 use Rattle.runtime.specs.Causes.{last_round}
@@ -47,7 +40,7 @@ use Rattle.cobaltmidge.specs.FirstWorld.{first_world, HasNoFailures, IsRunRoom, 
 use Rattle.runtime.specs.Logs.{HubFault}
 use Rattle.runtime.specs.Logs as hub
 use Rattle.cobaltmidge.specs.Failing.{HasFailedAtOnce, hub_fault, IsRunFault, store_fault}
-use Rattle.cobaltmidge.specs.Runs.{HasCome, IsEnd, bounds_of}
+use Rattle.cobaltmidge.specs.Runs.{HasComeFrom, IsEndFrom, bounds_of}
 use Rattle.cobaltmidge.specs.declared.settings.Settings.{Settings}
 
 -- one more of which it holds
@@ -198,46 +191,40 @@ until_over over nodes fits script first now Items unrefused ends = ends
 until_over over nodes fits script first now (Refused fault) unrefused ends = absurd (cc)
 until_over over nodes fits script first now Stopped unrefused ends = absurd ends
 
--- How far a run came, of the network's own first world
+-- How far a run came that began with this world
 pub come_so : {C O : Type 0} {cell : CellWords C} {slots : SlotWords C} (taken : O → List ℤ) (failures : O → ℕ)
-    (stations : List (Station C O slots cell)) (settings : Settings) (net : Network) (inputs : List (List ℤ))
-    (script : List ScriptedEvent) (happened : List Happening) (first now : WorldView)
-    → AllByRecursion IsRunRoom (capacities stations) → first.stations ≡ map (station_view taken failures) stations
-    → first ≡ first_world net inputs settings.room → HasRun (rooms stations) script first now
+    (stations : List (Station C O slots cell)) (settings : Settings) (script : List ScriptedEvent) (happened : List Happening)
+    (first now : WorldView) → AllByRecursion IsRunRoom (capacities stations)
+    → first.stations ≡ map (station_view taken failures) stations → HasRun (rooms stations) script first now
     → (settings.history ≡ true → LeadsTo (rooms stations) script first happened now)
-    → HasCome settings net inputs script happened now
-come_so taken failures stations settings net inputs script happened first now room same opened run leads =
+    → HasComeFrom first settings script happened now
+come_so taken failures stations settings script happened first now room same run leads =
     record {
-      run = subst (λ (w : WorldView). HasRun (run_rooms w.stations) script w now) opened
-          (subst (λ (fits : List (RecordView → Bool)). HasRun fits script first now) fitting run);
-      history = λ yes. subst (λ (w : WorldView). LeadsTo (run_rooms w.stations) script w happened now) opened
-          (subst (λ (fits : List (RecordView → Bool)). LeadsTo fits script first happened now) fitting (leads yes));
+      run = subst (λ (fits : List (RecordView → Bool)). HasRun fits script first now) fitting run;
+      history = λ yes. subst (λ (fits : List (RecordView → Bool)). LeadsTo fits script first happened now) fitting (leads yes);
     }
   where
     fitting : rooms stations ≡ run_rooms first.stations
     fitting = rooms_are taken failures stations room ∙ ap run_rooms (sym same)
 
--- How a run comes to its end, of the network's own first world
+-- How a run comes to its end that began with this world
 pub ended_so : {C O : Type 0} {cell : CellWords C} {slots : SlotWords C} (taken : O → List ℤ) (failures : O → ℕ)
-    (stations : List (Station C O slots cell)) (settings : Settings) (net : Network) (inputs : List (List ℤ))
-    (script : List ScriptedEvent) (happened : List Happening) (first now : WorldView) (end : RunEnd) (nodes : ℕ)
-    → AllByRecursion IsRunRoom (capacities stations) → first.stations ≡ map (station_view taken failures) stations
-    → first ≡ first_world net inputs settings.room → nodes ≡ node_count net → was_refused end ≡ false
-    → HasRun (rooms stations) script first now
+    (stations : List (Station C O slots cell)) (settings : Settings) (script : List ScriptedEvent) (happened : List Happening)
+    (first now : WorldView) (end : RunEnd) (nodes : ℕ) → AllByRecursion IsRunRoom (capacities stations)
+    → first.stations ≡ map (station_view taken failures) stations → nodes ≡ node_count first.net
+    → was_refused end ≡ false → HasRun (rooms stations) script first now
     → (settings.history ≡ true → LeadsTo (rooms stations) script first happened now)
     → (settings.threads ≡ false → EndsByTurns (is_over first.net.channels (bounds_of settings)) nodes (rooms stations) script first now end)
     → (settings.threads ≡ true → was_refused end ≡ false → now.round ≤ last_round first script (bounds_of settings))
-    → IsEnd settings net inputs script happened now
-ended_so taken failures stations settings net inputs script happened first now end nodes room same opened many unrefused run leads turns
-    rounds = record {
-      come = come_so taken failures stations settings net inputs script happened first now room same opened run leads;
-      turns = λ by_turns. subst (λ (w : WorldView). IsRunByTurns (is_over w.net.channels (bounds_of settings)) (node_count net)
-          (run_rooms w.stations) script w now) opened
-          (subst (λ (n : ℕ). IsRunByTurns (is_over first.net.channels (bounds_of settings)) n (run_rooms first.stations) script first now) many
-          (subst (λ (fits : List (RecordView → Bool)). IsRunByTurns (is_over first.net.channels (bounds_of settings)) nodes fits script first now)
-          fitting (until_over _ nodes (rooms stations) script first now end unrefused (turns by_turns))));
-      rounds = λ by_threads. subst (λ (w : WorldView). now.round ≤ last_round w script (bounds_of settings)) opened (rounds by_threads unrefused);
-    }
+    → IsEndFrom first settings first.net script happened now
+ended_so taken failures stations settings script happened first now end nodes room same many unrefused run leads turns rounds = record {
+  come = come_so taken failures stations settings script happened first now room same run leads;
+  turns = λ by_turns.
+      subst (λ (n : ℕ). IsRunByTurns (is_over first.net.channels (bounds_of settings)) n (run_rooms first.stations) script first now) many
+      (subst (λ (fits : List (RecordView → Bool)). IsRunByTurns (is_over first.net.channels (bounds_of settings)) nodes fits script first now)
+      fitting (until_over _ nodes (rooms stations) script first now end unrefused (turns by_turns)));
+  rounds = λ by_threads. rounds by_threads unrefused;
+}
   where
     fitting : rooms stations ≡ run_rooms first.stations
     fitting = rooms_are taken failures stations room ∙ ap run_rooms (sym same)

@@ -1,5 +1,5 @@
 -- What a run came to of which what left is kept.
-use Rattle.std.specs.Prelude.{◌≡◌, ℤ, Bool, List, length}
+use Rattle.std.specs.Prelude.{◌≡◌, ℤ, Bool, true, List, length}
 use Rattle.protocol.specs.Node.Common.{Network}
 use Rattle.protocol.specs.World.Common.{WorldView, are_quiet}
 use Rattle.replay.specs.declared.kept.ScriptedEvent.{ScriptedEvent}
@@ -7,7 +7,7 @@ use Rattle.runtime.specs.Logs.{happenings}
 use Rattle.runtime.specs.Ending.{IsOver}
 use Rattle.cobaltmidge.specs.Reasons.{IsReasonOf}
 use Rattle.cobaltmidge.specs.Released.{AreReleased, lists_of}
-use Rattle.cobaltmidge.specs.Runs.{IsEnd, IsRun, bounds_of, released_streams}
+use Rattle.cobaltmidge.specs.Runs.{IsEndOf, IsRun, bounds_of, released_streams}
 use Rattle.cobaltmidge.specs.declared.kept_run.KeptRun.{KeptRun}
 use Rattle.cobaltmidge.specs.declared.settings.Settings.{Settings}
 use Rattle.cobaltmidge.specs.declared.state_error.StateFault.{StateFault}
@@ -19,7 +19,7 @@ pub record IsKeptRun (settings : Settings) (net : Network) (inputs : List (List 
     (kept : List (List ℤ) → Type 0) (run : KeptRun) : Type 0 where
   pub now : WorldView
   pub is_run : IsRun net inputs (released_streams net now.stations) (are_quiet now)
-  pub is_end : IsEnd settings net inputs script (happenings run.history.lines.items) now
+  pub is_end : IsEndOf true settings net inputs script (happenings run.history.lines.items) now
   pub over : IsOver net.channels (bounds_of settings) now run.end
   pub reason : IsReasonOf now run.end settings run.reason
   pub complete : run.complete ≡ are_quiet now

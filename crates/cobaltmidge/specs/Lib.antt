@@ -4,6 +4,7 @@ pub mod Texts
 pub mod Errors
 pub mod Names
 pub mod FirstWorld
+pub mod Beginning
 pub mod Reasons
 pub mod Runs
 pub mod Remaining

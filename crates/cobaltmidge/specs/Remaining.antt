@@ -1,14 +1,14 @@
 -- What is left of a run that came to no end.
 use Rattle.std.specs.Prelude.{◌≡◌, ℤ, List}
 use Rattle.protocol.specs.Node.Common.{Network, network_of}
-use Rattle.protocol.specs.World.Common.{are_quiet}
+use Rattle.protocol.specs.World.Common.{are_quiet, WorldView}
 use Rattle.outlet.specs.declared.outlet.Outlet.{Ghosts as OutletWords}
 use Rattle.replay.specs.declared.kept.ScriptedEvent.{ScriptedEvent}
 use Rattle.runtime.specs.Logs.{happenings}
 use Rattle.station.specs.declared.output.Output.{Output}
 use Rattle.world.specs.WholeView.{net_in, world_of}
 use Rattle.cobaltmidge.specs.KeptOutlets.{taken_streams}
-use Rattle.cobaltmidge.specs.Runs.{HasCome, IsRun, released_streams}
+use Rattle.cobaltmidge.specs.Runs.{HasCome, HasComeFrom, IsRun, released_streams}
 use Rattle.cobaltmidge.specs.declared.settings.Settings.{Settings}
 use Rattle.cobaltmidge.specs.declared.unfinished.Left.{Left}
 use Rattle.cobaltmidge.specs.declared.unfinished.Left.TheVariants as left
@@ -18,6 +18,14 @@ module _ {O : Type 0} {outlet : OutletWords O} where
   abbrev pub HasOutputs : List (Output O) → Left O outlet → Type 0
   HasOutputs outputs (left.Outputs back) = back.items ≡ outputs
   HasOutputs outputs (left.World world history) = ⊥
+
+  -- of a run that began with this world, what have left are prefixes of the outputs' histories in one approximation, and a history of the run
+  -- leads to its world
+  abbrev pub IsFarFrom : WorldView → Settings → List ScriptedEvent → Left O outlet → Type 0
+  IsFarFrom first settings script (left.Outputs back) = ⊥
+  IsFarFrom first settings script (left.World world history) =
+      IsRun first.net first.inputs (released_streams first.net (world_of world).stations) (are_quiet (world_of world))
+      × HasComeFrom first settings script (happenings history.lines.items) (world_of world)
 
   -- of a run that began, what have left are prefixes of the outputs' histories in one approximation, and a history of the run leads to its world
   abbrev pub IsFar : Settings → Network → List (List ℤ) → List ScriptedEvent → Left O outlet → Type 0

@@ -11,6 +11,7 @@ use Rattle.runtime.specs.declared.bounds.Bounds.{Bounds}
 use Rattle.replay.specs.declared.kept.ScriptedEvent.{ScriptedEvent}
 use Rattle.runtime.specs.Ending.{is_over}
 use Rattle.runtime.specs.Turning.{IsRunByTurns}
+use Rattle.cobaltmidge.specs.Beginning.{IsBeginning}
 use Rattle.cobaltmidge.specs.FirstWorld.{first_world, run_rooms}
 use Rattle.cobaltmidge.specs.declared.settings.Settings.{Settings}
 
@@ -50,22 +51,36 @@ cut_at None released = None
 cut_at (Some items) released =
     if list_all (λ (stream : List ℤ). nat_le items (length stream)) released then Some items else None
 
--- How far a run came. A history leads there from the opening world: each event of it is one that was next for its node, a turn that came back to
--- its node, or the event of the script's next line. Where the history is kept, it is that one.
-pub record HasCome (settings : Settings) (net : Network) (inputs : List (List ℤ)) (script : List ScriptedEvent) (happened : List Happening)
-    (now : WorldView) : Type 0
+-- How far a run came that began with this world. A history leads from there: each event of it is one that was next for its node, a turn that
+-- came back to its node, or the event of the script's next line. Where the history is kept, it is that one.
+pub record HasComeFrom (first : WorldView) (settings : Settings) (script : List ScriptedEvent) (happened : List Happening) (now : WorldView)
+    : Type 0
   where
-    pub run : HasRun (run_rooms (first_world net inputs settings.room).stations) script (first_world net inputs settings.room) now
-    pub history : settings.history ≡ true
-        → LeadsTo (run_rooms (first_world net inputs settings.room).stations) script (first_world net inputs settings.room) happened now
+    pub run : HasRun (run_rooms first.stations) script first now
+    pub history : settings.history ≡ true → LeadsTo (run_rooms first.stations) script first happened now
 
--- How a run comes to its end. By turns it is also fixed which event comes when, the same whether the history is kept or not, and that turns were
--- taken until the run was over. By threads no round begins behind the last one.
-pub record IsEnd (settings : Settings) (net : Network) (inputs : List (List ℤ)) (script : List ScriptedEvent) (happened : List Happening)
+-- one that began with the network's first world
+abbrev pub HasCome : Settings → Network → List (List ℤ) → List ScriptedEvent → List Happening → WorldView → Type 0
+HasCome settings net inputs script happened now =
+    HasComeFrom (first_world net inputs settings.room) settings script happened now
+
+-- How a run comes to its end that began with this world. By turns it is also fixed which event comes when, the same whether the history is kept
+-- or not, and that turns were taken until the run was over. By threads no round begins behind the last one.
+pub record IsEndFrom (first : WorldView) (settings : Settings) (net : Network) (script : List ScriptedEvent) (happened : List Happening)
     (now : WorldView) : Type 0
   where
-    pub come : HasCome settings net inputs script happened now
+    pub come : HasComeFrom first settings script happened now
     pub turns : settings.threads ≡ false
-        → IsRunByTurns (is_over net.channels (bounds_of settings)) (node_count net)
-        (run_rooms (first_world net inputs settings.room).stations) script (first_world net inputs settings.room) now
-    pub rounds : settings.threads ≡ true → now.round ≤ last_round (first_world net inputs settings.room) script (bounds_of settings)
+        → IsRunByTurns (is_over net.channels (bounds_of settings)) (node_count net) (run_rooms first.stations) script first now
+    pub rounds : settings.threads ≡ true → now.round ≤ last_round first script (bounds_of settings)
+
+-- one that began with the network's first world
+abbrev pub IsEnd : Settings → Network → List (List ℤ) → List ScriptedEvent → List Happening → WorldView → Type 0
+IsEnd settings net inputs script happened now =
+    IsEndFrom (first_world net inputs settings.room) settings net script happened now
+
+-- How a run comes to its end that may have gone on (`true`) where its processes were run again, and how one does that may not.
+abbrev pub IsEndOf : Bool → Settings → Network → List (List ℤ) → List ScriptedEvent → List Happening → WorldView → Type 0
+IsEndOf false settings net inputs script happened now = IsEnd settings net inputs script happened now
+IsEndOf true settings net inputs script happened now =
+    (first : WorldView) × IsBeginning true net inputs settings.room first × IsEndFrom first settings net script happened now

@@ -1,9 +1,9 @@
 //! Outlets over files, which outlast a run.
 
-ghost use Rattle.std.specs.Prelude.{◌≡◌, [], map, IfErr, IfOk, OnOk};
+ghost use Rattle.std.specs.Prelude.{◌≡◌, [], length, map, IfErr, IfOk, OnOk};
 ghost use Rattle.std.specs.List.{AllByRecursion};
 ghost use Rattle.output_file.specs.InFile.{IsInFile};
-ghost use Rattle.output_file.specs.Output.{failures_of, taken_of};
+ghost use Rattle.output_file.specs.Output.{failures_of, held_of, taken_of};
 ghost use Rattle.protocol.specs.Node.Common.{network_of};
 ghost use Rattle.protocol.specs.World.Common.{output_channels};
 ghost use Rattle.world.specs.OpeningWorld.{IsUnused};
@@ -94,6 +94,20 @@ pub fn outlets_over<F: LineFile>(
             KeepFault::NoMemory
         }),
     }
+}
+
+/// How many items the file of each output held, when it was opened.
+pub fn held_counts<F: LineFile>(
+    alloc: Global,
+    outputs: &[Output<ResumedOutlet<F>>],
+) -> Result<Vec<u64>, AllocError>
+    ensures { IfOk result (λ held. held.items ≡ map (λ output. length (held_of output.outlet)) outputs.now) }
+{
+    let mut held = Vec::with_capacity(alloc, outputs.len())?;
+    for output in outputs {
+        held.push(output.outlet.held_items().len() as u64)?;
+    }
+    Ok(held)
 }
 
 // What there is to say of an item that differs from the one that the file holds at its place: the line of the file, and both.

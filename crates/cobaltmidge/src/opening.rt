@@ -24,7 +24,7 @@ use std::sync::Arc;
 use world::{MIN_ROOM, OpeningRefused, Output, World};
 
 /// The room of a channel that is nearest to the one asked for.
-fn nearest_room(asked: u64) -> usize
+pub(crate) fn nearest_room(asked: u64) -> usize
     ensures { result ≡ nearest_room asked }
 {
     asked.max(MIN_ROOM as u64).min(MAX_RETAINED_ITEMS as u64) as usize
@@ -41,7 +41,7 @@ fn unbegun<O: Outlet>(outputs: Vec<Output<O>>, fault: RunFault) -> Unfinished<O>
 }
 
 /// The world of a run before its first event, with the room that is asked for on its channels. A refusal hands back the outlets.
-pub(crate) fn open_world<O: Outlet>(
+pub fn open_world<O: Outlet>(
     alloc: Global,
     net: &Arc<Net>,
     inputs: Inputs,

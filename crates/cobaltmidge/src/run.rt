@@ -43,7 +43,10 @@ pub struct Run<'a> {
 }
 
 // The events of a script, if there is one.
-fn events_or_none(alloc: Global, script: Option<Vec<ScriptedEvent>>) -> Vec<ScriptedEvent>
+pub(crate) fn events_or_none(
+    alloc: Global,
+    script: Option<Vec<ScriptedEvent>>,
+) -> Vec<ScriptedEvent>
     ensures { result.items ≡ script_of script }
 {
     match script {

@@ -11,12 +11,12 @@ ghost use Rattle.runtime.specs.Causes.{last_round};
 ghost use Rattle.runtime.specs.Ending.{IsOver, is_over, was_refused};
 ghost use Rattle.runtime.specs.Turning.{EndsByTurns};
 ghost use Rattle.runtime.specs.declared.ending.RunEnd.TheVariants.{Refused, Stopped};
-ghost use Rattle.world.specs.WholeView.{net_in, nodes_in, rooms_in, world_of};
+ghost use Rattle.world.specs.WholeView.{capacities_in, net_in, nodes_in, rooms_in, world_of};
 ghost use Rattle.world.specs.OpeningWorld.{IsUnused};
 ghost use Rattle.cobaltmidge.specs.Failing.{hub_fault, IsRunFault};
-ghost use Rattle.cobaltmidge.specs.FirstWorld.{HasNoFailures};
-ghost use Rattle.cobaltmidge.specs.Runs.{IsEnd, IsRun, bounds_of, released_streams};
-ghost use Rattle.cobaltmidge.specs.Remaining.{IsLeft};
+ghost use Rattle.cobaltmidge.specs.FirstWorld.{HasNoFailures, IsRunRoom};
+ghost use Rattle.cobaltmidge.specs.Runs.{IsEnd, IsEndFrom, IsRun, bounds_of, released_streams};
+ghost use Rattle.cobaltmidge.specs.Remaining.{IsFarFrom, IsLeft};
 ghost use Rattle.cobaltmidge.specs.declared.unfinished.Left.TheVariants as left;
 
 use crate::ending::{RunEnded, RunWorld};
@@ -87,6 +87,43 @@ fn run_to_end<O: Outlet + Send, W: RunWatch + TurnWatch + Sync, R: Threads + Wai
     }
 }
 
+/// Runs a world to its end by the events of a script, as the settings say: until nothing is left to do, the rounds are over, or each output has
+/// the items that are asked for. Gives the world at its end, what happened, where that is to be kept, and why the run ended. A run that comes to
+/// no end hands back what is left of it. `watch` looks at the run meanwhile (`&mut NoWatch` where nobody does).
+pub fn run_from<O: Outlet + Send, W: RunWatch + TurnWatch + Sync, R: Threads + Wait + Sync>(
+    rt: &R,
+    alloc: Global,
+    settings: Settings,
+    world: RunWorld<O>,
+    script: Vec<ScriptedEvent>,
+    watch: &mut W,
+) -> Result<RunEnded<O>, Unfinished<O>>
+    requires room { AllByRecursion IsRunRoom (capacities_in world) }
+    // What has left are prefixes of the outputs' histories in one approximation, and where nothing is left to do whole, in the least
+    // solution.
+    ensures run { IfOk result (λ now. IsRun (world_of world).net (world_of world).inputs
+        (released_streams (world_of world).net (world_of now.world).stations) (are_quiet (world_of now.world))) }
+    // How the world came to its end.
+    ensures end { IfOk result (λ now. IsEndFrom (world_of world) settings (world_of world).net
+        script.items (happenings now.history.lines.items) (world_of now.world)) }
+    // Why it did: where nothing is left to do, the rounds are over, or each output has its items, the world is so.
+    ensures over { IfOk result (λ now. IsOver (world_of world).net.channels
+        (bounds_of settings) (world_of now.world) now.end) }
+    // Where the history is kept, it begins with the events of the script's lines of round 0.
+    ensures begun { settings.history ≡ true → IfOk result
+        (λ now. HasBegun script.items (happenings now.history.lines.items) now.end) }
+    ensures same { IfOk result (λ now. ∥ ((world_of now.world).net ≡ (world_of world).net)
+        × ((world_of now.world).inputs ≡ (world_of world).inputs) ∥₁) }
+    // It ends by a stop only where who watches it may stop it.
+    ensures stopped { IfOk result (λ now. now.end ≡ Stopped → W.may_stop ≡ true) }
+    // Memory is missing (1), or a count would pass 2^63 - 1 (44).
+    ensures err { IfErr result (λ unfinished. IsRunFault true unfinished.fault) }
+    // And then the world to which it came is handed back, with what happened.
+    ensures left { IfErr result (λ unfinished. IsFarFrom (world_of world) settings script.items unfinished.left) }
+{
+    came_to(run_to_end(rt, alloc, settings, world, script, watch))
+}
+
 /// Runs a network on its inputs by the events of a script, as the settings say, until nothing is left to do, the rounds are over, or
 /// each output has the items that are asked for: by these outlets, each of which took nothing yet. Gives the world at its end, what
 /// happened, where that is to be kept, and why the run ended. A run that comes to no end hands back what is left of it. `watch` looks at the
@@ -132,5 +169,5 @@ pub fn run_network<O: Outlet + Send, W: RunWatch + TurnWatch + Sync, R: Threads 
 {
     let nodes = node_count(net);
     let world = open_world(alloc, net, inputs, outputs, nodes, settings.room)?;
-    came_to(run_to_end(rt, alloc, settings, world, script, watch))
+    run_from(rt, alloc, settings, world, script, watch)
 }

@@ -9,7 +9,7 @@ ghost use Rattle.run_files.specs.Rules.{GoesOn, IsReady, rule};
 ghost use Rattle.run_files.specs.Wanted.{wanted_of};
 ghost use Rattle.world.specs.WholeView.{net_in, world_of};
 ghost use Rattle.cobaltmidge.specs.Errors.{run_error};
-ghost use Rattle.cobaltmidge.specs.declared.state_error.StateFault.TheVariants.{Refused as RefusedBy};
+ghost use Rattle.cobaltmidge.specs.declared.state_error.StateFault.TheVariants.{Kept, Refused as RefusedBy};
 ghost use Rattle.cobaltmidge.specs.Accepting.{IsAccepted};
 ghost use Rattle.cobaltmidge.specs.FileNames.{file_names};
 ghost use Rattle.cobaltmidge.specs.KeptOutlets.{AreInFiles, IsPutFault, IsRunStop};
@@ -23,12 +23,13 @@ ghost use Rattle.cobaltmidge.specs.Texts.{AreInputsOf, IsNetOf};
 use crate::ending::RunWorld;
 use crate::error::run_error;
 use crate::fault::RunFault;
-use crate::finished::Finished;
-use crate::kept_outlets::{KeepFault, NotKept, outlets_over, put_each};
+use crate::going_on::{NotBegun, resume_world};
+use crate::kept_outlets::{KeepFault, NotKept, held_counts, outlets_over, put_each};
 use crate::kept_run::{KeptRun, lists_of};
 use crate::output_names::file_names;
 use crate::reason::reason_of;
-use crate::run::Run;
+use crate::run::{Run, events_or_none};
+use crate::running::run_from;
 use crate::state_error::{StateError, StateFault};
 use crate::texts::{Accepted, Texts};
 use crate::unfinished::{Left, Unfinished};
@@ -38,9 +39,11 @@ use output_file::ResumedOutlet;
 use run_files::{
     FolderTexts, HeldFile, Names, OpenFolder, OpenedName, give_back, let_go, open_folder,
 };
+use runtime::{Ended, NoWatch};
 use std::alloc::Global;
 use std::sync::Wait;
 use std::thread::Threads;
+use world::node_count;
 
 // Ends a world: what its outlets took is put to their files, which are added to `outlets`.
 fn close_world<F: LineFile>(
@@ -91,7 +94,18 @@ fn run_refused(fault: RunFault) -> StateError
     }
 }
 
-// Runs it so that the items leave into these files, one for each output, which are added to `outlets`. Where the run is refused, what had left
+// Why a run doesn't go on, as what a run with a folder is refused for.
+fn not_begun(fault: KeepFault) -> StateError
+    ensures { result.fault ≡ Kept fault }
+{
+    StateError {
+        fault: StateFault::Kept(fault),
+        words: None,
+    }
+}
+
+// Lets it go on where these files stop, so that the items leave into them, one for each output; they are added to `outlets`. Where the run is
+// refused, what had left
 // by then is put there all the same.
 fn run_over<'a, F: LineFile + Send, R: Threads + Wait + Sync>(
     run: Run<'a>,
@@ -118,22 +132,47 @@ fn run_over<'a, F: LineFile + Send, R: Threads + Wait + Sync>(
             });
         }
     };
-    let finished = match run.run_into(rt, alloc, outputs) {
-        Ok(finished) => finished,
+    let Run {
+        network,
+        inputs,
+        script,
+        settings,
+    } = run;
+    let held = held_counts(alloc, &outputs)?;
+    let nodes = node_count(&network.net);
+    let begun = resume_world(
+        alloc,
+        &network.net,
+        inputs,
+        outputs,
+        &held,
+        nodes,
+        settings.room,
+    );
+    let world = match begun {
+        Ok(world) => world,
+        Err(refused) => {
+            let NotBegun { outputs, fault } = refused;
+            // It says where an item differs, or a put failed.
+            put_each(alloc, folder, outputs, outlets)?;
+            return Err(not_begun(fault));
+        }
+    };
+    let script = events_or_none(alloc, script);
+    let ended = match run_from(rt, alloc, settings, world, script, &mut NoWatch) {
+        Ok(ended) => ended,
         Err(unfinished) => {
             let Unfinished { fault, left } = unfinished;
             put_left(alloc, folder, left, outlets)?;
             return Err(run_refused(fault));
         }
     };
-    let complete = finished.complete();
-    let Finished {
-        network,
+    let Ended {
         world,
         history,
         end,
-        settings,
-    } = finished;
+    } = ended;
+    let complete = world.complete();
     let reason = reason_of(&network.net, &world, end, settings);
     let lists = lists_of(alloc, &world, network.net.program.channels.len())?;
     close_world(alloc, folder, world, outlets)?;

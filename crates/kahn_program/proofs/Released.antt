@@ -10,7 +10,7 @@ use Rattle.protocol.specs.World.Common.{goes_outside, output_channels, WorldView
 use Rattle.cobaltmidge.specs.Common.{history_text}
 use Rattle.replay.specs.Replay.{Happening}
 use Rattle.replay.specs.declared.kept.ScriptedEvent.{ScriptedEvent}
-use Rattle.cobaltmidge.specs.Runs.{released_streams, IsRun, IsEnd}
+use Rattle.cobaltmidge.specs.Runs.{released_streams, IsRun, IsEndOf}
 use Rattle.cobaltmidge.specs.Runs.{cut_at}
 use Rattle.kahn_program.specs.Asked.{settings_of}
 use Rattle.kahn_program.specs.Report.{one_if_output, output_count, report_text}
@@ -93,7 +93,7 @@ reported net given items cut streams now text complete told channels where_cut l
 pub report_is : (kept : List (List ℤ) → Type 0) (wrote : List ℕ → Type 0) (options : Options) (net : Net) (inputs : List (List ℤ))
     (script : List ScriptedEvent) (happened : List Happening) (now : WorldView) (text : List ℕ) (told : Bool)
     → ∥ (now.net ≡ network_of net.program) × (now.inputs ≡ inputs) ∥₁
-    → IsEnd (settings_of options) (network_of net.program) inputs script happened now
+    → IsEndOf (is_some options.state) (settings_of options) (network_of net.program) inputs script happened now
     → IsRun (network_of net.program) inputs (released_streams (network_of net.program) now.stations) (are_quiet now)
     → IsToldOf net options.items now text told → kept (released_streams now.net now.stations)
     → IsWrittenIf (is_some options.history) wrote (history_text net happened)

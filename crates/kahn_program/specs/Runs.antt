@@ -4,7 +4,7 @@ use Rattle.std.specs.Prelude.{List, Option, Some, None, map, take}
 use Rattle.protocol.specs.Node.Common.{history_of, node_count, network_of, approximation, Net}
 use Rattle.kahn_net.specs.Approximations.{IsSolution}
 use Rattle.protocol.specs.World.Common.{output_channels, are_quiet, WorldView}
-use Rattle.cobaltmidge.specs.Runs.{IsEnd, IsRun, released_streams}
+use Rattle.cobaltmidge.specs.Runs.{IsEndOf, IsRun, released_streams}
 use Rattle.cobaltmidge.specs.Scripts.{scripted_of}
 use Rattle.cobaltmidge.specs.Runs.{cut_at}
 use Rattle.fail_script.specs.declared.act.ScriptLine.{ScriptLine}
@@ -44,14 +44,14 @@ abbrev pub IsWrittenIf : Bool → (List ℕ → Type 0) → List ℕ → Type 0
 IsWrittenIf true wrote text = wrote text
 IsWrittenIf false wrote text = Unit {0}
 
--- A text is the report of a run of this network on these inputs, by the events of this script, and tells whether it is
--- complete: of what has left in the world at its end, which is kept too. Where so many items of each output were asked for, and
+-- A text is the report of a run of this network on these inputs, by the events of this script, which may have gone on where
+-- one before stopped, where a folder is asked for, and tells whether it is complete: of what has left in the world at its end, which is kept too. Where so many items of each output were asked for, and
 -- each has them, the first ones of each are printed, and the run is partial. Where a history is asked for, what happened on the way
 -- to that world is written too.
 abbrev pub IsReport : (List (List ℤ) → Type 0) → (List ℕ → Type 0) → Options → Net → List (List ℤ) → List ScriptedEvent → List ℕ → Bool → Type 0
 IsReport kept wrote options net inputs script text told =
     ∥ ((now : WorldView) × (happened : List Happening)
-    × IsEnd (settings_of options) (network_of net.program) inputs script happened now
+    × IsEndOf (is_some options.state) (settings_of options) (network_of net.program) inputs script happened now
     × IsRun (network_of net.program) inputs (released_streams (network_of net.program) now.stations) (are_quiet now)
     × IsToldOf net options.items now text told
     × kept (released_streams (network_of net.program) now.stations)

@@ -5,6 +5,8 @@ use cobaltmidge::{
     Error, Explanation, Net, Network, NeverDue, Outlet, Reason, RunEnd, RunWorld, cut,
     explain_bytes, never_due, reason_of,
 };
+use diagnosis::Grouped;
+use kahn_net::Port;
 use std::alloc::{AllocError, Global};
 use std::str;
 
@@ -124,6 +126,28 @@ fn undue(script: Option<&[u8]>, ended: u64) -> Option<NeverDue> {
         Ok(script) => never_due(script, ended),
         Err(_) => None,
     }
+}
+
+/// The lines that say behind which item of each output a run goes on, each with its line feed; none where it is a first one. `world` is that
+/// with which it begins. Refuses for want of memory alone.
+pub(crate) fn going_on<O: Outlet>(
+    alloc: Global,
+    net: &Net,
+    world: &RunWorld<O>,
+) -> Result<String, AllocError> {
+    let mut lines = String::new(alloc);
+    let channels = net.program.channels.iter().enumerate();
+    for ((number, channel), name) in channels.zip(net.channel_names.iter()) {
+        let held = world.released(number as u8).len() as u64;
+        if let Port::Outside = channel.consumer {
+            if held > 0 {
+                let name = name.as_str();
+                let held = Grouped(held);
+                write!(lines, "went on behind item {held} of {name}\n")?;
+            }
+        }
+    }
+    Ok(lines)
 }
 
 /// The lines that say why a run's report ends in `partial`, and which lines of its script never came due, each with its line feed; none

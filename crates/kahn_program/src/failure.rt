@@ -2,7 +2,9 @@
 
 ghost use Rattle.std.specs.Prelude.{◌≡◌, Some};
 ghost use Rattle.kahn_program.specs.Failures.{failure_text, source_text, status_of};
+ghost use Rattle.kahn_program.specs.Runnable.{run_failure};
 
+use cobaltmidge::RunFault;
 use std::fmt;
 
 /// A text that the program reads.
@@ -101,5 +103,17 @@ impl Failure {
             | Failure::Unwritten
             | Failure::Other { .. } => 1,
         }
+    }
+}
+
+/// What a fault of a run comes to.
+pub(crate) fn run_failure(fault: RunFault) -> Failure
+    ensures { result ≡ run_failure fault }
+{
+    match fault {
+        RunFault::NoMemory => Failure::NoMemory,
+        RunFault::Device | RunFault::PastNumber => Failure::Other {
+            number: fault.number(),
+        },
     }
 }

@@ -1,18 +1,20 @@
 //! Where the items of a run's outputs go, beside its report.
 
-ghost use Rattle.std.specs.Prelude.{◌≡◌, Bool, List, ℕ, ℤ, map, false, IfErr, IfOk, OnOk};
+ghost use Rattle.std.specs.Prelude.{◌≡◌, Bool, List, ℕ, ℤ, false, IfErr, IfOk, OnOk};
 ghost use Rattle.std.specs.List.{AllByRecursion};
-ghost use Rattle.protocol.specs.Node.Common.{network_of};
-ghost use Rattle.protocol.specs.World.Common.{output_channels};
-ghost use Rattle.cobaltmidge.specs.Common.{IsUnused};
-ghost use Rattle.cobaltmidge.specs.FirstWorld.{HasNoFailures};
+ghost use Rattle.protocol.specs.Node.Common.{Fits, network_of};
+ghost use Rattle.cobaltmidge.specs.Beginning.{IsBeginning};
+ghost use Rattle.cobaltmidge.specs.Common.{capacities_in, world_of};
+ghost use Rattle.cobaltmidge.specs.FirstWorld.{IsRunRoom, first_world};
 ghost use Rattle.kahn_program.specs.Keeping.{IsKeeperFailure, IsKeptFailure, taken_streams};
+ghost use Rattle.kahn_program.specs.Runnable.{IsReportless};
 
-use crate::failure::Failure;
-use cobaltmidge::{Output, list_outputs};
-use net_check::Net;
+use crate::failure::{Failure, run_failure};
+use cobaltmidge::{Output, RunWorld, list_outputs, node_count, open_world};
+use net_check::{Inputs, Net};
 use outlet::{ListOutlet, Outlet};
 use std::alloc::Global;
+use std::sync::Arc;
 
 /// What gives a run its outlets, and takes them back at its end.
 pub trait Keeper<O: Outlet> {
@@ -25,13 +27,20 @@ pub trait Keeper<O: Outlet> {
     /// Why it refused or failed, by the number of the refusal.
     ghost has_failed: { Self → ℕ → Type 0 };
 
-    /// The network's outputs, each with an outlet that took nothing yet.
-    fn open(&mut self, alloc: Global, net: &Net) -> Result<Vec<Output<O>>, Failure>
-        ensures listed { IfOk result (λ outputs. map (λ output. output.channel) outputs.items
-            ≡ output_channels 0 (network_of net.now.program).channels) }
-        ensures unused { IfOk result (λ outputs. AllByRecursion (IsUnused O.taken) outputs.items) }
-        ensures unfailed { IfOk result (λ outputs. AllByRecursion (HasNoFailures O.failures) outputs.items) }
-        ensures err { IfErr result (IsKeeperFailure keeps) }
+    /// The world with which a run of the network begins, by outlets that it has. Where what they take outlasts the run, it goes on where they
+    /// stopped.
+    fn begin(
+        &mut self,
+        alloc: Global,
+        net: &Arc<Net>,
+        inputs: Inputs,
+        room: u64,
+    ) -> Result<RunWorld<O>, Failure>
+        requires fitting { Fits (network_of net.now.value.program) inputs }
+        ensures begins { IfOk result
+            (λ world. IsBeginning keeps (network_of net.now.value.program) inputs room (world_of world)) }
+        ensures room { IfOk result (λ world. AllByRecursion IsRunRoom (capacities_in world)) }
+        ensures err { IfErr result (IsReportless keeps) }
         ensures cause { IfErr result (IsKeptFailure (has_failed self.new)) };
 
     /// The run is over, and the outlets took what they took.
@@ -57,10 +66,26 @@ impl Keeper<ListOutlet> for InMemory {
 
     ghost has_failed = { λ keeper number. ⊥ };
 
-    fn open(&mut self, alloc: Global, net: &Net) -> Result<Vec<Output<ListOutlet>>, Failure> {
-        match list_outputs(alloc, net) {
-            Ok(outputs) => Ok(outputs),
-            Err(_) => Err(Failure::NoMemory),
+    fn begin(
+        &mut self,
+        alloc: Global,
+        net: &Arc<Net>,
+        inputs: Inputs,
+        room: u64,
+    ) -> Result<RunWorld<ListOutlet>, Failure>
+        requires fitting { Fits (network_of net.now.value.program) inputs }
+        ensures begins { IfOk result
+            (λ world. world_of world ≡ first_world (network_of net.now.value.program) inputs room) }
+        ensures room { IfOk result (λ world. AllByRecursion IsRunRoom (capacities_in world)) }
+        ensures err { IfErr result (IsReportless false) }
+        ensures cause { IfErr result (IsKeptFailure (λ number. ⊥)) }
+    {
+        let Ok(outputs) = list_outputs(alloc, net) else {
+            return Err(Failure::NoMemory);
+        };
+        match open_world(alloc, net, inputs, outputs, node_count(net), room) {
+            Ok(world) => Ok(world),
+            Err(unfinished) => Err(run_failure(unfinished.fault)),
         }
     }
 

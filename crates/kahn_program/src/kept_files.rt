@@ -1,19 +1,29 @@
 //! Outlets over files, which outlast a run.
 
-ghost use Rattle.std.specs.Prelude.{◌≡◌, true, IfErr, OnOk};
+ghost use Rattle.std.specs.Prelude.{◌≡◌, true, IfErr, IfOk, OnOk};
+ghost use Rattle.std.specs.List.{AllByRecursion};
 ghost use Rattle.output_file.specs.Output.{taken_of};
+ghost use Rattle.protocol.specs.Node.Common.{Fits, network_of};
+ghost use Rattle.cobaltmidge.specs.Beginning.{IsBeginning};
+ghost use Rattle.cobaltmidge.specs.Common.{capacities_in, world_of};
+ghost use Rattle.cobaltmidge.specs.FirstWorld.{IsRunRoom};
 ghost use Rattle.kahn_program.specs.Keeping.{IsKeeperFailure, IsKeptFailure, taken_streams};
 ghost use Rattle.kahn_program.specs.KeptFiles.{AreInFiles, HasFailedBy, closed_of, keep_failure};
+ghost use Rattle.kahn_program.specs.Runnable.{IsReportless};
 
 use crate::failure::Failure;
 use crate::keeper::Keeper;
-use cobaltmidge::{KeepFault, Output, outlets_over, put_each};
+use cobaltmidge::{
+    KeepFault, NotBegun, Output, RunWorld, held_counts, node_count, outlets_over, put_each,
+    resume_world,
+};
 use host::LineFile;
-use net_check::Net;
+use net_check::{Inputs, Net};
 use output_file::ResumedOutlet;
 use run_files::HeldFile;
 use std::alloc::Global;
 use std::mem;
+use std::sync::Arc;
 
 /// The refusal of a folder that is another network's, or has other inputs, or is damaged.
 pub const OTHER_STATE: u8 = 80;
@@ -84,11 +94,37 @@ impl<'a, F: LineFile> Keeper<ResumedOutlet<F>> for FileKeeper<'a, F> {
 
     ghost has_failed = { λ keeper number. HasFailedBy keeper number };
 
-    fn open(&mut self, alloc: Global, net: &Net) -> Result<Vec<Output<ResumedOutlet<F>>>, Failure> {
+    fn begin(
+        &mut self,
+        alloc: Global,
+        net: &Arc<Net>,
+        inputs: Inputs,
+        room: u64,
+    ) -> Result<RunWorld<ResumedOutlet<F>>, Failure>
+        requires fitting { Fits (network_of net.now.value.program) inputs }
+        ensures begins { IfOk result
+            (λ world. IsBeginning true (network_of net.now.value.program) inputs room (world_of world)) }
+        ensures room { IfOk result (λ world. AllByRecursion IsRunRoom (capacities_in world)) }
+        ensures err { IfErr result (IsReportless true) }
+        ensures cause { IfErr result (IsKeptFailure (HasFailedBy self.new)) }
+    {
         let files = mem::replace(&mut self.files, Vec::new(alloc));
-        match outlets_over(alloc, net, files) {
-            Ok(outputs) => Ok(outputs),
-            Err(fault) => Err(keep_failure(fault)),
+        let outputs = match outlets_over(alloc, net, files) {
+            Ok(outputs) => outputs,
+            Err(fault) => return Err(keep_failure(fault)),
+        };
+        let Ok(held) = held_counts(alloc, &outputs) else {
+            return Err(Failure::NoMemory);
+        };
+        let nodes = node_count(net);
+        match resume_world(alloc, net, inputs, outputs, &held, nodes, room) {
+            Ok(world) => Ok(world),
+            Err(refused) => {
+                let NotBegun { outputs, fault } = refused;
+                // It says where an item differs, or a put failed.
+                self.close(alloc, outputs)?;
+                Err(keep_failure(fault))
+            }
         }
     }
 

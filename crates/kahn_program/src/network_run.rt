@@ -1,23 +1,23 @@
 //! A network's run, and its report.
 
-ghost use Rattle.std.specs.Prelude.{◌≡◌, ◌≤◌, ◌++◌, ◌∷◌, [], if◌then◌else◌, is_some, length, map, IfErr, IfOk, OnOk};
+ghost use Rattle.std.specs.Prelude.{◌≡◌, ◌≤◌, ◌++◌, ◌∷◌, [], true, if◌then◌else◌, is_some, length, map, IfErr, IfOk, OnOk};
 ghost use Rattle.protocol.specs.Node.Common.{Fits, network_of, MAX_CHANNELS};
 ghost use Rattle.protocol.specs.World.Common.{released_of, goes_outside, output_channels};
 ghost use Rattle.cobaltmidge.specs.Common.{happenings, history_text, net_in, world_of};
 ghost use Rattle.cobaltmidge.specs.Remaining.{streams_left};
 ghost use Rattle.cobaltmidge.specs.Runs.{released_streams};
 ghost use Rattle.kahn_program.specs.Keeping.{IsKeeperFailure, IsKeptFailure};
-ghost use Rattle.kahn_program.specs.Runnable.{IsReportless, run_failure};
+ghost use Rattle.kahn_program.specs.Runnable.{IsReportless};
 ghost use Rattle.kahn_program.specs.Runs.{IsReport, IsToldOf, IsWrittenIf, first_items, is_whole};
 
 use crate::asked::Options;
-use crate::explaining::ending;
-use crate::failure::Failure;
+use crate::explaining::{ending, going_on};
+use crate::failure::{Failure, run_failure};
 use crate::keeper::Keeper;
 use crate::reporting::{Stream, report};
 use cobaltmidge::{
-    Ended, History, Left, RunEnd, RunFault, RunWatch, RunWorld, TurnWatch, Unfinished, cut,
-    run_network, write_history,
+    Ended, History, Left, RunEnd, RunWatch, RunWorld, TurnWatch, Unfinished, cut, run_from,
+    write_history,
 };
 use kahn_net::{Channel, Port};
 use net_check::{Inputs, Net};
@@ -26,18 +26,6 @@ use replay::ScriptedEvent;
 use std::alloc::{AllocError, Global};
 use std::sync::{Arc, Wait};
 use std::thread::Threads;
-
-/// What a fault of a run comes to.
-fn run_failure(fault: RunFault) -> Failure
-    ensures { result ≡ run_failure fault }
-{
-    match fault {
-        RunFault::NoMemory => Failure::NoMemory,
-        RunFault::Device | RunFault::PastNumber => Failure::Other {
-            number: fault.number(),
-        },
-    }
-}
 
 /// The first items of a stream, or all.
 fn first_items(stream: &[i64], cut: Option<u64>) -> &[i64]
@@ -120,6 +108,19 @@ fn report_of_world<O: Outlet>(
     Ok((bytes, complete))
 }
 
+/// What there is to say of a run's beginning, where that is asked for.
+fn beginning_if_asked<O: Outlet>(
+    alloc: Global,
+    options: &Options,
+    net: &Net,
+    world: &RunWorld<O>,
+) -> Result<String, AllocError> {
+    if options.explain {
+        return going_on(alloc, net, world);
+    }
+    Ok(String::new(alloc))
+}
+
 /// What there is to say of a run's end, where that is asked for.
 fn ending_if_asked<O: Outlet>(
     alloc: Global,
@@ -192,8 +193,8 @@ fn history_if_asked(
 pub struct Report {
     pub bytes: Vec<u8>,
     pub complete: bool,
-    // what there is to say of the run's end
-    pub ending: String,
+    // what there is to say of where the run went on, and of its end
+    pub words: String,
 }
 
 /// What is told of a run that is over, and the text of what happened, where that is asked for.
@@ -205,6 +206,7 @@ fn told_of<O: Outlet>(
     end: RunEnd,
     happened: &History,
     script: Option<&[u8]>,
+    beginning: Result<String, AllocError>,
 ) -> Result<(Report, Vec<u8>), AllocError>
     ensures told { IfOk result
         (λ came. IsToldOf net.now options.now.items (world_of world.now) came.0.bytes.items came.0.complete) }
@@ -213,18 +215,19 @@ fn told_of<O: Outlet>(
         (history_text net.now (happenings happened.now.lines.items))) }
 {
     let (bytes, complete) = report_of_world(alloc, net, world, options.items)?;
-    let ending = ending_if_asked(alloc, options, net, world, end, script)?;
+    let mut words = beginning?;
+    words.push_str(&ending_if_asked(alloc, options, net, world, end, script)?)?;
     let history = history_if_asked(alloc, options, net, happened)?;
     let report = Report {
         bytes,
         complete,
-        ending,
+        words,
     };
     Ok((report, history))
 }
 
 /// Runs a network on its inputs by the events of a script, as the options say, until nothing is left to do, the rounds are over,
-/// or each output has the items that are asked for. Gives the whole report, whether the run is complete, and what there is to say of its end,
+/// or each output has the items that are asked for. It begins as the keeper says. Gives the whole report, whether the run is complete, and what there is to say of its end,
 /// where that is asked for; and the text of what happened, where that is. `script_text` is the script's text, if there is one.
 pub fn report_of_run<
     O: Outlet + Send,
@@ -243,6 +246,7 @@ pub fn report_of_run<
     watch: &mut P,
 ) -> Result<(Report, Vec<u8>), Failure>
     requires fitting { Fits (network_of net.program) inputs }
+    requires resumes { K.keeps ≡ true → is_some options.now.state ≡ true }
     ensures ok { IfOk result
         (λ came. IsReport (K.has_kept keeper.new) (λ history. came.1.items ≡ history)
         options.now net inputs script.items came.0.bytes.items came.0.complete) }
@@ -251,20 +255,13 @@ pub fn report_of_run<
     // Where what outlasts the run is refused or failed, the keeper says why.
     ensures cause { IfErr result (IsKeptFailure (K.has_failed keeper.new)) }
 {
-    let outputs = keeper.open(alloc, &net)?;
     let Ok(net) = Arc::new(alloc, net) else {
         return Err(Failure::NoMemory);
     };
-    let ended = match run_network(
-        rt,
-        alloc,
-        options.settings(),
-        &net,
-        inputs,
-        outputs,
-        script,
-        watch,
-    ) {
+    let settings = options.settings();
+    let world = keeper.begin(alloc, &net, inputs, settings.room)?;
+    let beginning = beginning_if_asked(alloc, options, &net, &world);
+    let ended = match run_from(rt, alloc, settings, world, script, watch) {
         Ok(ended) => ended,
         Err(unfinished) => {
             let Unfinished { fault, left } = unfinished;
@@ -277,7 +274,16 @@ pub fn report_of_run<
         history: happened,
         end,
     } = ended;
-    let told = told_of(alloc, options, &net, &world, end, &happened, script_text);
+    let told = told_of(
+        alloc,
+        options,
+        &net,
+        &world,
+        end,
+        &happened,
+        script_text,
+        beginning,
+    );
     // Also where there is no memory to tell of it.
     close_outputs(alloc, world, keeper)?;
     match told {

@@ -1,6 +1,6 @@
 //! The whole program over its host.
 
-ghost use Rattle.std.specs.Prelude.{Bool, ◌≡◌, ◌⊎◌, ◌≤◌, IfErr, IfOk, OnOk, Ok, Err, Some, map, string_bytes};
+ghost use Rattle.std.specs.Prelude.{Bool, ◌≡◌, ◌⊎◌, ◌≤◌, true, is_some, IfErr, IfOk, OnOk, Ok, Err, Some, map, string_bytes};
 ghost use Rattle.std.specs.Option.{option_map};
 ghost use Rattle.host.specs.Requests.{Each, Has, IsFree, IsHeld, Read, Said, Told};
 ghost use Rattle.protocol.specs.Node.Common.{Fits, MAX_NODES, network_of, node_count};
@@ -416,6 +416,7 @@ fn run_over<
 ) -> Result<Report, Stop>
     requires ready { IsReady IsAccepted (wanted_of names.now) (H.asked host.old) }
     requires fitting { Fits (network_of asked.net.program) asked.inputs }
+    requires resumes { K.keeps ≡ true → is_some options.now.state ≡ true }
     ensures goes { GoesOn IsAccepted (wanted_of names.now) (H.asked host.old) (H.asked host.new) }
     ensures report { IfOk result (λ report. IsReport (K.has_kept keeper.new)
         (IsWrittenIfAsked (wanted_of names.now).history (H.asked host.new)) options.now asked.entry.net asked.entry.inputs
@@ -460,6 +461,7 @@ fn run_locked<H: Host, P: RunWatch + TurnWatch + Sync, R: Threads + Wait + Sync>
 ) -> Result<Report, Stop>
     requires ready { IsReady IsAccepted (wanted_of names.now) (H.asked host.old) }
     requires fitting { Fits (network_of asked.net.program) asked.inputs }
+    requires resumes { is_some options.now.state ≡ true }
     requires held { IsHeld (string_bytes folder.now) (H.asked host.old) }
     requires opened { AreOpened names.now.sync (string_bytes folder.now) opened.now (H.asked host.old) }
     ensures goes { GoesOn IsAccepted (wanted_of names.now) (H.asked host.old) (H.asked host.new) }
@@ -501,6 +503,7 @@ fn run_kept<H: Host, P: RunWatch + TurnWatch + Sync, R: Threads + Wait + Sync>(
     requires free { IsFree (H.asked host.old) }
     requires ready { IsReady IsAccepted (wanted_of names.now) (H.asked host.old) }
     requires wanted { (wanted_of names.now).state ≡ Some (string_bytes folder.now) }
+    requires resumes { is_some options.now.state ≡ true }
     requires read { WereRead (wanted_of names.now) (given_of texts.now) (H.asked host.old) }
     requires fitting { Fits (network_of asked.net.program) asked.inputs }
     ensures keeps { Keeps (wanted_of names.now) (H.asked host.old) (H.asked host.new) }
@@ -568,6 +571,7 @@ fn run_asked<H: Host, P: RunWatch + TurnWatch + Sync, R: Threads + Wait + Sync>(
     requires read { WereRead (wanted_of names.now) (given_of all.texts) (H.asked host.old) }
     requires accepted { IsAccepted (given_of all.texts) }
     requires fitting { Fits (network_of all.net.program) all.inputs }
+    requires wanted { wanted_of names.now ≡ asked_files options.now }
     ensures keeps { Keeps (wanted_of names.now) (H.asked host.old) (H.asked host.new) }
     ensures report { IfOk result (λ report. IsReport
         (AreKept names.now.sync (wanted_of names.now).state
@@ -630,7 +634,7 @@ fn report_asked<H: Host, P: RunWatch + TurnWatch + Sync, R: Threads + Wait + Syn
     Ok(Report {
         bytes,
         complete,
-        ending: String::new(alloc),
+        words: String::new(alloc),
     })
 }
 
@@ -652,7 +656,7 @@ fn say_report<H: Host>(
     let Report {
         bytes,
         complete,
-        ending,
+        words: told,
     } = report;
     if let Err(_) = say::<H, Accepted>(host, names, &bytes) {
         let words = if options.explain {
@@ -663,7 +667,7 @@ fn say_report<H: Host>(
         tell_words(host, names, words);
         return 1;
     }
-    tell_words(host, names, unless_empty(ending));
+    tell_words(host, names, unless_empty(told));
     if complete { 0 } else { 3 }
 }
 

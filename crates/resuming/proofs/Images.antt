@@ -4,7 +4,7 @@ use Rattle.std.proofs.Common.{◌≡◌, ◌⊎◌, inl, inr, ℕ, zero, suc, �
 use Rattle.std.proofs.Common.{sym, ap, subst, ◌∙◌, arith}
 use Rattle.std.specs.Prelude.{◌==◌, ◌||◌, slice_get, slice_index, IsTrue}
 use Rattle.std.proofs.lemmas.Option.{slice_get_within}
-use Rattle.protocol.specs.Node.Common.{Code, Network, Channel, Port, Outside, Process, MAX_COUNT, history_of}
+use Rattle.protocol.specs.Node.Common.{Code, Network, Channel, Port, Outside, Process, MAX_COUNT}
 use Rattle.protocol.specs.Node.Common.{has_process, has_end, port_on, role_by, role_of, is_counting, received_at}
 use Rattle.protocol.specs.Node.Common.{received_of, log_at, log_of, end_of, CountIsWithin, CountsAreWithin, IsLaidOut, LogsAreWithin}
 use Rattle.protocol.specs.Node.Common.{LogState, log_end, IsLogOf, SavedProcessView, SavedEnd, End, Receives}

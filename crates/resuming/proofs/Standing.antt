@@ -1,11 +1,11 @@
 -- Each node can start again from its record.
 use Rattle.std.proofs.Common.{◌≡◌, ℕ, zero, suc, ◌+◌, ◌<◌, ◌≤◌, ◌&&◌, nat_lt, nat_le, ℤ, List, [], ◌∷◌, length, map}
-use Rattle.std.proofs.Common.{replicate, Some, None, refl, sym, ap, subst, ◌∙◌, arith}
+use Rattle.std.proofs.Common.{replicate, Some, None, refl, ap, subst, ◌∙◌, arith}
 use Rattle.std.specs.Prelude.{filter, slice_get}
 use Rattle.std.proofs.Math.Logic.{∥∥₁_elim}
 use Rattle.std.proofs.Props.{props}
 use Rattle.std.proofs.lemmas.List.{length-replicate}
-use Rattle.std.proofs.lemmas.List.Elements.{All-nil, All-cons, All-append}
+use Rattle.std.proofs.lemmas.List.Elements.{All-nil, All-cons}
 use Rattle.ckpt_codec.specs.Common.{AreAllowed, at_most, count, Field, image_fields, IsAllowed}
 use Rattle.ckpt_codec.specs.RecordText.{any, flag, version_field}
 use Rattle.ckpt_codec.specs.SizeLaws.{IsRecordWithin}
@@ -21,7 +21,6 @@ use Rattle.protocol.specs.Node.Common.{node_count, port_on, Process, sent_in, se
 use Rattle.protocol.specs.Node.Common.{MAX_DECISIONS, MAX_NODES}
 use Rattle.protocol.specs.World.Common.{is_output, OutputView, outputs_on, RecordIsSound}
 use Rattle.protocol.specs.World.RecordSound.{CoversAll, ImageIsSound, RecordHasCome}
-use Rattle.protocol.specs.World.Released.{IsStreamOf}
 use Rattle.protocol_laws.specs.Node.LikeLaws.{image_allowed}
 use Rattle.protocol_laws.specs.Node.PlaceLaws.{nodes_few}
 use Rattle.protocol_laws.specs.Node.SizeLaws.{image_within}

@@ -1,5 +1,5 @@
 -- In the abstract machine a run may begin there.
-use Rattle.std.proofs.Common.{◌≡◌, ◌⊎◌, inl, inr, ℕ, zero, suc, ◌<◌, ◌≤◌, Bool, true, false, ℤ, List, [], ◌∷◌, length, get_or}
+use Rattle.std.proofs.Common.{◌≡◌, ◌⊎◌, inl, inr, ℕ, zero, suc, ◌<◌, ◌≤◌, true, ℤ, List, [], ◌∷◌, length, get_or}
 use Rattle.std.proofs.Common.{replicate, Option, Some, None, refl, sym, ap, subst, ◌∙◌, arith}
 use Rattle.std.specs.Prelude.{option_map, slice_get, slice_index, IsTrue}
 use Rattle.std.proofs.Math.Path.{fun_ext}
@@ -9,17 +9,16 @@ use Rattle.protocol.specs.Node.Common.{base_in, Channel, Code, Fits, IsValid, lo
 use Rattle.protocol.specs.Node.Common.{Network, node_count, Outside, port_on, Port, Process, RecordView, sent_in}
 use Rattle.protocol.specs.Node.Layout.{consumer_of, node_at, producer_of}
 use Rattle.protocol.specs.World.Common.{image_seen, is_output, net_seen, outlets_seen, OutletView, OutputView, records_of, records_seen}
-use Rattle.protocol.specs.World.Common.{released_of, StationView}
+use Rattle.protocol.specs.World.Common.{StationView}
 use Rattle.protocol.specs.World.RecoveryLine.{record_or_new}
 use Rattle.protocol_laws.specs.Join.Crossings.{it_is}
 use Rattle.protocol_laws.specs.Node.ImageLaws.{map_got}
 use Rattle.protocol_laws.specs.Node.PlaceLaws.{node_below}
 use Rattle.protocol_laws.specs.World.OutputLaws.{map_at, output_there}
 use Rattle.protocol_laws.specs.World.ShownLaws.{shown_at}
-use Rattle.recovery_line.specs.Images.{blank, Image, IsOutput}
-use Rattle.recovery_line.specs.Nodes.{Down, Mode, Running}
+use Rattle.recovery_line.specs.Images.{Image, IsOutput}
 use Rattle.recovery_line.specs.Records.{new_record, Record}
-use Rattle.recovery_line.specs.Starts.{IsLine, IsStart, IsUnbegun, world_at}
+use Rattle.recovery_line.specs.Starts.{IsLine, IsStart, IsUnbegun}
 use Rattle.rerun.specs.Places.{IsPlace}
 use Rattle.rerun.specs.Tables.{TableView, IsInOrder, log_on}
 use Rattle.retained.specs.LogState.{log_end}

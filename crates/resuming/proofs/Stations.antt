@@ -1,11 +1,11 @@
 -- A world whose nodes have these records, and are down.
-use Rattle.std.proofs.Common.{◌≡◌, ℕ, zero, suc, ◌+◌, ◌<◌, ℤ, List, [], ◌∷◌, length, map, Option, Some, None, refl, sym, ap}
+use Rattle.std.proofs.Common.{◌≡◌, ℕ, zero, suc, ◌+◌, ◌<◌, ℤ, List, [], ◌∷◌, length, map, Some, None, refl, sym, ap}
 use Rattle.std.proofs.Common.{subst, ◌∙◌, arith}
 use Rattle.std.specs.Prelude.{slice_get}
 use Rattle.protocol.specs.Join.Joined.{IsJoined}
 use Rattle.protocol.specs.Node.Common.{Down, Fits, IsValid, Network, node_count, RecordView}
 use Rattle.protocol.specs.Node.Sharing.{even_rooms}
-use Rattle.protocol.specs.World.Common.{AreSound, IsNumbered, opening_traffic, OutletView, output_of, outputs_of}
+use Rattle.protocol.specs.World.Common.{AreSound, IsNumbered, opening_traffic, OutletView, outputs_of}
 use Rattle.protocol.specs.World.Common.{OutputView, records_of, StationInvariant, StationView, WorldView}
 use Rattle.protocol.specs.World.Invariant.{AreJoined}
 use Rattle.protocol.specs.World.Turns.{no_turns}

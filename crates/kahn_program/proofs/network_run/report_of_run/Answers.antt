@@ -1,12 +1,14 @@
-use Rattle.std.proofs.Common.{true, ◌≡◌, ◌∙◌, inl, subst, sym, ℕ, List}
-use Rattle.protocol.specs.Node.Common.{network_of, Net}
+use Rattle.std.proofs.Common.{true, ◌≡◌, ◌∙◌, inl, subst, sym, ℕ, ℤ, List}
+use Rattle.std.proofs.Math.Logic.{∥∥₁_map}
+use Rattle.protocol.specs.Node.Common.{network_of, Net, Network}
 use Rattle.protocol.specs.World.Common.{are_quiet}
 use Rattle.cobaltmidge.specs.Common.{happenings, history_text, world_of}
 use Rattle.std.specs.Prelude.{is_some}
-use Rattle.cobaltmidge.specs.Runs.{IsEnd, IsRun, released_streams}
+use Rattle.cobaltmidge.proofs.Beginnings.{beginning_same, end_of}
+use Rattle.cobaltmidge.specs.Beginning.{IsBeginning}
+use Rattle.cobaltmidge.specs.Runs.{IsEndOf, IsRun, released_streams}
 use Rattle.cobaltmidge.specs.declared.settings.Settings.{Settings}
 use Rattle.kahn_program.specs.Runnable.{IsReportless}
-use Rattle.kahn_program.specs.Asked.{settings_of}
 use Rattle.kahn_program.specs.Runs.{IsToldOf, IsWrittenIf}
 use Rattle.kahn_program.proofs.Faults.{fault_is}
 use Rattle.kahn_program.proofs.Released.{report_is}
@@ -25,19 +27,25 @@ returns-in-Ok-told-clause-ok g c =
     let inputs = c.args.inputs in
     let script = c.args.script.items in
     let made : c.in-Ok.net.value ≡ net = c.in-Ok.ensures.ok in
-    let now = world_of c.in-Ok-run_network.ended.world in
-    let happened = happenings c.in-Ok-run_network.ended.history.lines.items in
+    let first = world_of c.in_ok-world.world in
+    let begins : IsBeginning g.K.Keeper.keeps (network_of net.program) inputs c.settings-settings.result.room first =
+    subst (λ (n : Net). IsBeginning g.K.Keeper.keeps (network_of n.program) inputs c.settings-settings.result.room first) made
+    c.in_ok-world.ensures.begins in
+    let same = beginning_same g.K.Keeper.keeps (network_of net.program) inputs c.settings-settings.result.room first begins in
+    let now = world_of c.in-Ok-run_from.ended.world in
+    let happened = happenings c.in-Ok-run_from.ended.history.lines.items in
     let told = c.in-Ok-told.told in
-    let seen : c.deref.result.now ≡ net = c.deref.ensures ∙ made in
+    let seen : c.deref-2.result.now ≡ net = c.deref-2.ensures ∙ made in
     let wrote : List ℕ → Type 0 = λ text. told.1.items ≡ text in
     report_is (g.K.Keeper.has_kept c.close_outputs.new.keeper) wrote options net inputs script happened now told.0.bytes.items told.0.complete
-    (subst (λ (n : Net). ∥ (now.net ≡ network_of n.program) × (now.inputs ≡ inputs) ∥₁) made
-    c.in-Ok-run_network.ensures.same)
-    (subst (λ (s : Settings). IsEnd s (network_of net.program) inputs script happened now) c.settings.ensures
-    (subst (λ (n : Net). IsEnd c.settings.result (network_of n.program) inputs script happened now) made
-    c.in-Ok-run_network.ensures.end))
-    (subst (λ (n : Net). IsRun (network_of n.program) inputs (released_streams (network_of n.program) now.stations)
-    (are_quiet now)) made c.in-Ok-run_network.ensures.run)
+    (∥∥₁_map c.in-Ok-run_from.ensures.same (λ s. (s.0 ∙ same.0, s.1 ∙ same.1)))
+    (subst (λ (s : Settings). IsEndOf (is_some options.state) s (network_of net.program) inputs script happened now) c.settings-settings.ensures
+    (end_of g.K.Keeper.keeps (is_some options.state) c.settings-settings.result (network_of net.program) inputs script happened first now
+    c.requires.resumes begins c.in-Ok-run_from.ensures.end))
+    (subst (λ (i : List (List ℤ)). IsRun (network_of net.program) i (released_streams (network_of net.program) now.stations) (are_quiet now))
+    same.1
+    (subst (λ (n : Network). IsRun n first.inputs (released_streams n now.stations) (are_quiet now)) same.0
+    c.in-Ok-run_from.ensures.run))
     (subst (λ (n : Net). IsToldOf n options.items now told.0.bytes.items told.0.complete) seen c.in-Ok-told.ensures.told)
     c.in_ok-close_outputs.ensures.kept
     (subst (λ (n : Net). IsWrittenIf (is_some options.history) wrote (history_text n happened)) seen c.in-Ok-told.ensures.written)

@@ -1,4 +1,4 @@
-use Rattle.std.proofs.Common.{◌≡◌, ℕ, List, sym, subst}
+use Rattle.std.proofs.Common.{ℕ, List, sym, subst}
 use Rattle.std.proofs.lemmas.Result.{IfErr-weaker, err_from_is_err_and}
 use Rattle.cobaltmidge.specs.Texts.{IsTextOfInputs}
 use Rattle.kahn_program.specs.Readings.{IsInputsFailure, IsInputsTextFailure, inputs_not_text, inputs_refused}

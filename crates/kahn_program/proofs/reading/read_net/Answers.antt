@@ -1,4 +1,4 @@
-use Rattle.std.proofs.Common.{◌≡◌, ℕ, List, sym, subst}
+use Rattle.std.proofs.Common.{ℕ, List, sym, subst}
 use Rattle.std.proofs.lemmas.Result.{IfErr-weaker, err_from_is_err_and}
 use Rattle.cobaltmidge.specs.Texts.{IsTextOfNet}
 use Rattle.kahn_program.specs.Readings.{IsNetFailure, IsNetTextFailure, net_not_text, net_refused}

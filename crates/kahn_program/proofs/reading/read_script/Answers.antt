@@ -1,4 +1,4 @@
-use Rattle.std.proofs.Common.{◌≡◌, ℕ, List, sym, subst}
+use Rattle.std.proofs.Common.{ℕ, List, sym, subst}
 use Rattle.std.proofs.lemmas.Result.{IfErr-weaker, err_from_is_err_and}
 use Rattle.fail_script.specs.Lines.{IsScript}
 use Rattle.kahn_program.specs.Readings.{IsScriptFailure, IsScriptTextFailure, script_not_text, script_refused}

@@ -1,14 +1,14 @@
-use Rattle.std.proofs.Common.{◌≡◌, inr, ◌<◌, length, sym, ap, subst, ◌∙◌, rules, arith}
+use Rattle.std.proofs.Common.{inr, length, sym, ap, subst, ◌∙◌, rules, arith}
 use Rattle.std.specs.Prelude.{IsTrue}
 use Rattle.std.specs.Vec.Iter.{into_iter_items}
-use Rattle.protocol.specs.Node.Common.{image_length, IsRecord, MAX_RETAINED_ITEMS, node_count, RecordView}
+use Rattle.protocol.specs.Node.Common.{image_length, IsRecord, MAX_RETAINED_ITEMS, RecordView}
 use Rattle.ckpt_codec.specs.SizeLaws.{IsRecordWithin}
 use Rattle.protocol_laws.specs.Node.PlaceLaws.{nodes_few}
 use Rattle.rerun.specs.Whole.{inputs_in, net_in, table_in}
 use Rattle.resuming.specs.Disks.{IsWritten}
 use Rattle.resuming.specs.Images.{KeepsShares, record_of}
 use Rattle.resuming.proofs.Begun.{has_no_place, not_written}
-use Rattle.resuming.proofs.Written.{as_many_each, below_all, bounded, none_more, one_more, writable}
+use Rattle.resuming.proofs.Written.{as_many_each, below_all, bounded, one_more, writable}
 use Rattle.resuming.proofs.disks.write_records.Goals as goal
 
 pub overflow_cast-len : goal.overflow_cast-len
