@@ -128,9 +128,10 @@ fn first_world<O: Outlet>(
     }
 }
 
-/// The world of a run that goes on. Where no output held an item it is the network's first world. Else the network's processes are run again, alone, until each output has as many items as it held; `held` has
-/// these numbers, by output. Each outlet takes what is put there meanwhile. The world begins where the processes are by then, with the room
-/// that is asked for on its channels.
+/// The world of a run that goes on. Where no output held an item it is the network's first world. Else the network's processes are run again,
+/// alone; a process stops at an output that has as many items as it held. `held` has these numbers, by output. Each outlet takes what is put
+/// there meanwhile. The world begins where the processes are by then, with the room that is asked for on its channels. No clause says how far
+/// they come.
 ///
 /// A refusal hands back the outlets, and says why: memory is missing (1); an outlet failed; or no world begins there, which is a fault of
 /// this crate (83).

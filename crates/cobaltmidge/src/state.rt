@@ -105,8 +105,7 @@ fn not_begun(fault: KeepFault) -> StateError
 }
 
 // Lets it go on where these files stop, so that the items leave into them, one for each output; they are added to `outlets`. Where the run is
-// refused, what had left
-// by then is put there all the same.
+// refused, what had left by then is put there all the same.
 fn run_over<'a, F: LineFile + Send, R: Threads + Wait + Sync>(
     run: Run<'a>,
     rt: &R,

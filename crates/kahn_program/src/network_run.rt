@@ -227,8 +227,9 @@ fn told_of<O: Outlet>(
 }
 
 /// Runs a network on its inputs by the events of a script, as the options say, until nothing is left to do, the rounds are over,
-/// or each output has the items that are asked for. It begins as the keeper says. Gives the whole report, whether the run is complete, and what there is to say of its end,
-/// where that is asked for; and the text of what happened, where that is. `script_text` is the script's text, if there is one.
+/// or each output has the items that are asked for. It begins as the keeper says. Gives the whole report, whether the run is complete, and
+/// what there is to say of its end, where that is asked for; and the text of what happened, where that is. `script_text` is the script's text,
+/// if there is one.
 pub fn report_of_run<
     O: Outlet + Send,
     K: Keeper<O>,
