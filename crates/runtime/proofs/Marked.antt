@@ -1,13 +1,13 @@
 -- What a node's turns let leave, and what its marks tell then.
-use Rattle.std.proofs.Common.{◌≡◌, ◌≢◌, ◌∙◌, ◌≤◌, ◌<◌, ◌+◌, ◌⊎◌, ◌++◌, inl, inr, ℕ, zero, suc, ℤ, Bool, true, false, List, [], ◌∷◌, length, max}
-use Rattle.std.proofs.Common.{Option, Some, None, refl, sym, ap, subst, arith}
+use Rattle.std.proofs.Common.{◌≡◌, ◌≢◌, ◌∙◌, ◌≤◌, ◌<◌, ◌+◌, ◌++◌, ℕ, Bool, true, false, List, [], ◌∷◌}
+use Rattle.std.proofs.Common.{Option, refl, sym, ap, subst, arith}
 use Rattle.std.specs.Prelude.{◌==◌, IfOk, OnErr, Result, Ok, Err}
 use Rattle.std.proofs.lemmas.Bool.Decides.{nat_tests}
 use Rattle.marks.specs.Known.{greatest}
 use Rattle.marks.specs.Owners.{IsOutputOf}
 use Rattle.node_memory.specs.JobView.{shared_view}
-use Rattle.protocol.specs.Node.Common.{MAX_CHANNELS, RecordView}
-use Rattle.protocol.specs.World.Common.{IsGrantedAt, WorldView, node_in, released_of}
+use Rattle.protocol.specs.Node.Common.{RecordView}
+use Rattle.protocol.specs.World.Common.{IsGrantedAt, released_of}
 use Rattle.protocol.specs.declared.reply.Reply.TheVariants as reply
 use Rattle.replay.specs.Armed.{ArmedView, OfWorld}
 use Rattle.replay.specs.Endings.{may_have_left}

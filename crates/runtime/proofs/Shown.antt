@@ -6,12 +6,11 @@ use Rattle.std.proofs.lemmas.Result.{IfOk-weaker}
 use Rattle.journal.specs.Histories.{Begins}
 use Rattle.protocol.specs.World.Common.{ReplyView}
 use Rattle.replay.specs.Armed.{ArmedEvent}
-use Rattle.replay.specs.Replay.{Happening, Silent}
+use Rattle.replay.specs.Replay.{Silent}
 use Rattle.replay.specs.declared.kept.Maker.{Maker}
 use Rattle.replay.specs.declared.kept.Silence.{Silence}
 use Rattle.run_log.specs.Added.{IsAdded}
 use Rattle.run_log.specs.Answers.{IsFaultWritten, IsTurnWritten}
-use Rattle.run_log.specs.Counts.{IsCounted}
 use Rattle.run_log.specs.Lines.{happenings, happenings_of}
 use Rattle.run_log.specs.declared.answer.FaultAnswer.{FaultAnswer}
 use Rattle.run_log.specs.declared.answer.FaultAnswer.TheVariants as fault

@@ -22,7 +22,9 @@ use crate::hub_run::HubRun;
 use crate::run_watch::RunWatch;
 use crate::seat::{DriverSeat, NodeSeat};
 use crate::threads::{DriverSeats, NodeSeats, SharedRun, unled};
+use crate::until::Until;
 use crate::watching::run_watched;
+use crate::working::raise_marks;
 use journal::Journal;
 use kahn_net::Channel;
 use marks::{MarksName, Opened, Seat};
@@ -37,14 +39,19 @@ use std::sync::{Arc, Wait};
 use std::thread::Threads;
 use world::World;
 
-// The seats of each node, side by side.
-fn list_seats<ThisRun: HubRun, ItsMarks: MarksName>(
+// The seats of each node, side by side. The marks of its outputs are raised to how far these have come by now: a world that goes on has
+// outputs by which items have left.
+fn list_seats<C: SlotCell, O: Outlet, ThisRun: HubRun, ItsMarks: MarksName, R: Wait>(
+    rt: &R,
     alloc: Global,
+    shared: &SharedRun<C, O, ThisRun, ItsMarks>,
     seats: Vec<NodeSeat<ThisRun>>,
     marks_seats: Vec<Seat<ItsMarks>>,
 ) -> Result<Vec<NodeSeats<ThisRun, ItsMarks>>, AllocError> {
+    let entered = shared.hub.enter_driver(rt, Until::now());
     let mut node_seats = Vec::with_capacity(alloc, seats.len())?;
-    for (seat, marks) in seats.into_iter().zip(marks_seats) {
+    for (seat, mut marks) in seats.into_iter().zip(marks_seats) {
+        raise_marks(&entered, &shared.marks, &mut marks)?;
         node_seats.push(NodeSeats { seat, marks })?;
     }
     Ok(node_seats)
@@ -184,7 +191,7 @@ fn play<
         seat: driver,
         marks: driver_marks,
     };
-    let driven = match list_seats(alloc, seats, marks_seats) {
+    let driven = match list_seats(rt, alloc, &shared, seats, marks_seats) {
         Ok(node_seats) => run_watched(
             rt,
             alloc,

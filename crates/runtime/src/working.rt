@@ -20,15 +20,15 @@ use marks::{Marks, MarksName, Seat};
 use outlet::Outlet;
 use run_log::HubFault;
 use slot_cell::SlotCell;
-use std::alloc::Global;
+use std::alloc::{AllocError, Global};
 use std::sync::Wait;
 
 // The marks of the node's outputs are raised to how far these have come.
-fn raise_marks<C: SlotCell, O: Outlet, ThisRun: HubRun, ItsMarks: MarksName>(
+pub(crate) fn raise_marks<C: SlotCell, O: Outlet, ThisRun: HubRun, ItsMarks: MarksName>(
     entered: &Entered<'_, C, O, ThisRun>,
     marks: &Marks<ItsMarks>,
     seat: &mut Seat<ItsMarks>,
-) -> Result<(), Refusal>
+) -> Result<(), AllocError>
     ensures node { node_of seat.new ≡ node_of seat.old }
     ensures marked { OnOk result (AreMarked (owners_of marks.now) (node_of seat.old) (known seat.new)
         (world_of (mutex_guard_value entered.now.locked).log.armed.world)) }
@@ -39,9 +39,7 @@ fn raise_marks<C: SlotCell, O: Outlet, ThisRun: HubRun, ItsMarks: MarksName>(
             return Ok(());
         };
         if marks.owns(seat, output) {
-            let Ok(freed) = entered.freed(output) else {
-                return Err(Refusal::new(HubFault::NoMemory));
-            };
+            let freed = entered.freed(output)?;
             marks.raise(seat, freed);
         }
     }
@@ -106,8 +104,8 @@ fn take_marked_turns<C: SlotCell, O: Outlet, ThisRun: HubRun, ItsMarks: MarksNam
         }
     };
     if left {
-        if let Err(refusal) = raise_marks(entered, marks, marks_seat) {
-            entered.refuse(refusal);
+        if let Err(_) = raise_marks(entered, marks, marks_seat) {
+            entered.refuse(Refusal::new(HubFault::NoMemory));
         }
     }
     turned

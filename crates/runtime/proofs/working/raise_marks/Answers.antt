@@ -8,7 +8,7 @@ use Rattle.runtime.proofs.Marked.{others_at, passed_next, raised_at, raised_next
 use Rattle.std.proofs.Common.{arith}
 use Rattle.std.proofs.lemmas.Grind.{common_steps}
 use Rattle.runtime.proofs.working.raise_marks.Goals as goal
-use Rattle.runtime.proofs.working.raise_marks.Goals.{then-owns+in-Ok-freed, else-owns}
+use Rattle.runtime.proofs.working.raise_marks.Goals.{then-owns+in_ok-freed, else-owns}
 
 pub loop-number-preserved : goal.loop-number-preserved
 loop-number-preserved g c =
@@ -19,20 +19,20 @@ loop-number-preserved g c =
     let left : ℕ → ℕ = λ output.
     length (released_of output (world_of (mutex_guard_value c.args.entered.now.locked).log.armed.world).stations) in
     elim c.if-owns.branch [
-      | then-owns+in-Ok-freed w ↦
+      | then-owns+in_ok-freed w ↦
           let raised = w.raise.ensures.raised in
           let others = w.raise.ensures.others in
-          let freed = w.in-Ok-freed.ensures in
+          let freed = w.in_ok-freed.ensures in
           let is = c.in-Ok.ensures in
           let seat = w.seat-is in
           record {
             node = ap (λ s. node_of s) seat ∙ (w.raise.ensures.node ∙ c.loop-number.invariant.node);
             marked = raised_next owners node left (known old) (known c.if-owns.seat) number c.loop-number.invariant.marked
                 (ap (λ s. known s number) seat
-                ∙ raised_at (known w.raise.new.seat) (known old) left w.in-Ok-freed.freed.output w.in-Ok-freed.freed.number c.in-Ok.output number
+                ∙ raised_at (known w.raise.new.seat) (known old) left w.in_ok-freed.freed.output w.in_ok-freed.freed.number c.in-Ok.output number
                 freed.0 freed.1 is.1 raised)
                 (λ channel apart. ap (λ s. known s channel) seat
-                ∙ others_at (known w.raise.new.seat) (known old) w.in-Ok-freed.freed.output c.in-Ok.output number freed.0 is.1 others channel
+                ∙ others_at (known w.raise.new.seat) (known old) w.in_ok-freed.freed.output c.in-Ok.output number freed.0 is.1 others channel
                 apart);
           }
       | else-owns w ↦
