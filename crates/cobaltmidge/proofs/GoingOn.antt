@@ -1,22 +1,26 @@
 -- A run that goes on where its outputs stopped.
-use Rattle.std.proofs.Common.{◌≡◌, ℕ, zero, suc, ℤ, List, [], ◌∷◌, length, map, replicate, Some, refl, sym, ap}
-use Rattle.std.proofs.Common.{◌∙◌, arith}
+use Rattle.std.proofs.Common.{◌≡◌, ◌<◌, ◌+◌, ◌++◌, ℕ, zero, suc, ℤ, Bool, true, false, List, [], ◌∷◌, drop, get_or, length, map, replicate, Some, refl, sym, ap, subst}
+use Rattle.std.proofs.Common.{◌∙◌, append_assoc, arith}
+use Rattle.std.proofs.Math.Seq.{drop-cons}
 use Rattle.std.specs.List.{AllByRecursion}
 use Rattle.std.specs.Prelude.{slice_get, slice_index_or}
-use Rattle.kahn_net.specs.Laws.Prefixes.{prefix_nil}
-use Rattle.protocol.specs.Node.Common.{approximation, history_of, log_end, LogState, Network, node_count}
+use Rattle.kahn_net.specs.Laws.Prefixes.{prefix_nil, prefix_refl}
+use Rattle.kahn_net.specs.Streams.{IsPrefix}
+use Rattle.protocol.specs.Node.Common.{approximation, Channel, history_of, log_end, LogState, Network, node_count}
 use Rattle.protocol.specs.Node.Sharing.{even_rooms}
-use Rattle.protocol.specs.World.Common.{OutletView, OutputView, with_rooms, WorldView}
-use Rattle.rerun.specs.Tables.{first_table, HasRerun, log_on, no_log, TableView}
-use Rattle.resuming.specs.CatchingUp.{HaveTakenAll}
+use Rattle.protocol.specs.World.Common.{output_channels, OutletView, OutputView, with_rooms, WorldView}
+use Rattle.rerun.specs.Tables.{first_table, HasRerun, KeepsLimits, log_on, no_log, TableView}
+use Rattle.rerun.specs.declared.stopped.Stopped.{Stopped}
+use Rattle.resuming.specs.CatchingUp.{HasCaughtUp, HaveGoneOn, HaveTakenAll, StoppedSince}
 use Rattle.resuming.specs.Images.{records_there}
 use Rattle.resuming.specs.Resuming.{Agrees}
 use Rattle.station.specs.OutputView.{output_view, outputs_view}
+use Rattle.station.specs.StationView.{outlet_views}
 use Rattle.station.specs.declared.output.Output.{Output}
 use Rattle.world.specs.OpeningWorld.{IsUnused}
 use Rattle.world.specs.Reopening.{world_again}
-use Rattle.cobaltmidge.specs.Beginning.{IsWorldAgain}
-use Rattle.cobaltmidge.specs.FirstWorld.{nearest_room}
+use Rattle.cobaltmidge.specs.Beginning.{BeginsBehind, held_behind, held_nothing, IsBeginning, IsWorldAgain, left_by, limit_of, limits_from, limits_of}
+use Rattle.cobaltmidge.specs.FirstWorld.{first_world, nearest_room}
 
 -- nothing was put before any process has begun
 none_logged : (count c : ℕ) → slice_index_or (replicate count no_log) c no_log ≡ no_log
@@ -67,15 +71,68 @@ module _ {O : Type 0} (taken : O → List ℤ) where
     all_agree net inputs t outputs (λ j output is. all (suc j) output is),
   )
 
+  -- what these outlets took, as what has left
+  pub views_left : (failures : O → ℕ) (outputs : List (Output O))
+      → map left_by (outlet_views taken failures outputs) ≡ outputs_view taken outputs
+  views_left failures [] = refl
+  views_left failures (x ∷ outputs) = ap (λ (views : List OutputView). output_view taken x ∷ views) (views_left failures outputs)
+
+  pub channels_of : (failures : O → ℕ) (outputs : List (Output O))
+      → map (λ (outlet : OutletView). outlet.channel) (outlet_views taken failures outputs)
+      ≡ map (λ (output : Output O). output.channel) outputs
+  channels_of failures [] = refl
+  channels_of failures (x ∷ outputs) = ap (λ (cs : List ℕ). x.channel ∷ cs) (channels_of failures outputs)
+
+same_output : (x y : OutputView) → Some x ≡ Some y → x ≡ y
+same_output x y same = cc
+
+-- outputs that took nothing more are those of before
+pub stay : (outputs : List OutputView) → HaveGoneOn outputs outputs
+stay outputs = record {
+  channels = refl;
+  kept = λ j old new was is. subst (λ (o : OutputView). IsPrefix old.taken o.taken) (same_output old new (sym was ∙ is))
+      (prefix_refl old.taken);
+}
+
+pub stay_as : (before after : List OutputView) → after ≡ before → HaveGoneOn before after
+stay_as before after same = subst (λ (os : List OutputView). HaveGoneOn before os) (sym same) (stay before)
+
+-- how far processes were run again that were run so far on another network, which is this one
+record HasStopped (net : Network) (inputs : List (List ℤ)) (held : List ℕ) (t : TableView) (stopped : Stopped)
+    (outlets : List OutletView) : Type 0 where
+  pub since : StoppedSince net inputs (limits_of net.channels held) t stopped
+  pub within : KeepsLimits net (limits_of net.channels held) (first_table net) t
+  pub taken : HaveTakenAll net inputs t (map left_by outlets)
+
+pub has_stopped : (net other : Network) (inputs others : List (List ℤ)) (held limits : List ℕ) (before : List OutputView)
+    (old t : TableView) (after : List OutputView) (stopped : Stopped) (outlets : List OutletView) → other ≡ net → others ≡ inputs
+    → limits ≡ limits_of net.channels held → old ≡ first_table net → map left_by outlets ≡ after
+    → HasCaughtUp other others limits old before t after stopped → HasStopped net inputs held t stopped outlets
+has_stopped net other inputs others held limits before old t after stopped outlets same_net same_inputs limits_are first left caught =
+    let here : HasCaughtUp net inputs limits old before t after stopped = rw (same_net, same_inputs) at caught in
+    record {
+      since = subst (λ (ls : List ℕ). StoppedSince net inputs ls t stopped) limits_are here.since;
+      within = subst (λ (ls : List ℕ). KeepsLimits net ls (first_table net) t) limits_are
+          (subst (λ (x : TableView). KeepsLimits net limits x t) first here.within);
+      taken = subst (λ (os : List OutputView). HaveTakenAll net inputs t os) (sym left) here.taken;
+    }
+
 -- the world that begins there, once its rooms are set
-pub again : (net other : Network) (inputs others : List (List ℤ)) (room : ℕ) (t : TableView) (failed : List ℕ)
-    (outlets : List OutletView) (opened first : WorldView) → other ≡ net → others ≡ inputs → ∥ HasRerun other others t ∥₁
-    → failed ≡ replicate (node_count net) 0 → opened ≡ world_again other others (records_there other t) failed outlets
-    → first ≡ with_rooms (even_rooms (nearest_room room)) opened → IsWorldAgain net inputs room first
-again net other inputs others room t failed outlets opened first same_net same_inputs rerun never opening set = record {
+pub again : (net other : Network) (inputs others : List (List ℤ)) (room : ℕ) (held : List ℕ) (t : TableView) (failed : List ℕ)
+    (outlets : List OutletView) (opened first : WorldView) (stopped : Stopped) → HasStopped net inputs held t stopped outlets
+    → map (λ (outlet : OutletView). outlet.channel) outlets ≡ output_channels 0 net.channels → other ≡ net → others ≡ inputs
+    → ∥ HasRerun other others t ∥₁ → failed ≡ replicate (node_count net) 0
+    → opened ≡ world_again other others (records_there other t) failed outlets
+    → first ≡ with_rooms (even_rooms (nearest_room room)) opened → IsWorldAgain net inputs room held first
+again net other inputs others room held t failed outlets opened first stopped far listed same_net same_inputs rerun never opening set = record {
   table = t;
   rerun = rw (same_net, same_inputs) at rerun;
+  stopped = stopped;
+  since = far.since;
+  within = far.within;
   outlets = outlets;
+  listed = listed;
+  taken = far.taken;
   is = set
       ∙ ap (with_rooms (even_rooms (nearest_room room)))
       (opening
@@ -84,3 +141,29 @@ again net other inputs others room t failed outlets opened first same_net same_i
       ∙ ap (λ (i : List (List ℤ)). world_again net i (records_there net t) (replicate (node_count net) 0) outlets)
       same_inputs)));
 }
+
+-- a run that goes on where outputs held nothing, and where they held something
+pub begins_first : (none : Bool) (net : Network) (inputs : List (List ℤ)) (room : ℕ) (held : List ℕ) (first : WorldView)
+    → none ≡ held_nothing held → none ≡ true → first ≡ first_world net inputs room → IsBeginning (Some held) net inputs room first
+begins_first none net inputs room held first is nothing begins =
+    subst (λ (b : Bool). BeginsBehind b net inputs room held first) (sym nothing ∙ is) begins
+
+pub begins_again : (none : Bool) (net : Network) (inputs : List (List ℤ)) (room : ℕ) (held : List ℕ) (first : WorldView)
+    → none ≡ held_nothing held → none ≡ false → IsWorldAgain net inputs room held first
+    → IsBeginning (Some held) net inputs room first
+begins_again none net inputs room held first is something begins =
+    subst (λ (b : Bool). BeginsBehind b net inputs room held first) (sym something ∙ is) begins
+
+-- one more channel was looked at
+pub limits_next : (inner : ℕ) (held : List ℕ) (channels : List Channel) (k : ℕ) (d : Channel) (before now whole : List ℕ)
+    → k < length channels → before ++ limits_from inner held (drop k channels) ≡ whole
+    → now ≡ before ++ limit_of inner held (get_or channels k d) ∷ []
+    → now ++ limits_from inner (held_behind held (get_or channels k d)) (drop (k + 1) channels) ≡ whole
+limits_next inner held channels k d before now whole within so_far added =
+    let channel = get_or channels k d in
+    let next : suc k ≡ k + 1 = omega arith in
+    let rest : ℕ → List ℕ = λ n. limits_from inner (held_behind held channel) (drop n channels) in
+    ap (λ (n : ℕ). now ++ rest n) (sym next)
+    ∙ (ap (λ (list : List ℕ). list ++ rest (suc k)) added
+    ∙ (append_assoc before (limit_of inner held channel ∷ []) (rest (suc k))
+    ∙ (ap (λ (list : List Channel). before ++ limits_from inner held list) (sym (drop-cons channels k d within)) ∙ so_far)))

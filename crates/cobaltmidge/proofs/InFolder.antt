@@ -1,23 +1,24 @@
 -- What outlets took, in the files of a folder, and which of them failed: in the host's log, and in what it has become.
-use Rattle.std.proofs.Common.{◌≡◌, inl, inr, sym, subst, ℕ, zero, suc, ℤ, Bool, List, [], ◌∷◌, ◌++◌, Option, Some, None, Ok, slice_get, string_bytes}
+use Rattle.std.proofs.Common.{◌≡◌, inl, inr, refl, sym, subst, drop, ℕ, zero, suc, ℤ, Bool, List, [], ◌∷◌, ◌++◌, Option, Some, None, Ok, slice_get, string_bytes}
 use Rattle.host.specs.Requests.{Request, Has, Later, Opened, Used}
 use Rattle.host.specs.declared.line_file.LineFile.{Ghosts as FileWords}
 use Rattle.output_file.specs.InFile.{IsInFile}
 use Rattle.output_file.specs.Output.{asked_of, held_of, items_of}
 use Rattle.output_file.specs.declared.resumed.ResumedOutlet.{ResumedOutlet}
 use Rattle.run_files.specs.Keeping.{IsKept}
-use Rattle.run_files.specs.Opening.{AreOpened, AreUsed, opened_names, paths_in}
+use Rattle.run_files.specs.Opening.{AreHeldAs, AreOpened, AreUsed, opened_names, paths_in}
 use Rattle.run_files.specs.Syncing.{AreSyncedIf}
 use Rattle.run_files.specs.Wanted.{Wanted}
+use Rattle.run_files.specs.declared.held_file.HeldFile.{HeldFile}
 use Rattle.run_files.specs.declared.held_file.OpenedName.{OpenedName}
 use Rattle.run_files.proofs.Going.{synced_later}
 use Rattle.run_files.proofs.Caused.{caused_later}
 use Rattle.run_files.specs.Causes.{IsCaused}
 use Rattle.protocol.specs.Node.Common.{Network}
 use Rattle.replay.specs.declared.kept.ScriptedEvent.{ScriptedEvent}
-use Rattle.cobaltmidge.specs.KeptOutlets.{AreInFiles, IsAtFault, IsPutFault, IsRunStop}
+use Rattle.cobaltmidge.specs.KeptOutlets.{AreInFiles, held_counts, IsAtFault, IsPutFault, IsRunStop}
 use Rattle.cobaltmidge.specs.KeptRuns.{IsKeptRun}
-use Rattle.cobaltmidge.specs.KeptStreams.{AreKept, AreKeptIn, HasKeepFault, IsStateCause}
+use Rattle.cobaltmidge.specs.KeptStreams.{AllHeld, AreKept, AreKeptIn, HasKeepFault, HeldSoMany, IsStateCause}
 use Rattle.cobaltmidge.specs.declared.kept_run.KeptRun.{KeptRun}
 use Rattle.cobaltmidge.specs.declared.settings.Settings.{Settings}
 use Rattle.cobaltmidge.specs.declared.state_error.StateFault.{StateFault}
@@ -84,6 +85,51 @@ kept_as sync folder names others a b same later synced streams are =
     let P : List (List ℕ) → Type 0 = λ ns. AreKeptIn sync folder ns b streams in
     (subst P same (kept_in_later sync folder names a b later streams are), synced)
 
+held_later : (sync : Bool) (folder name : List ℕ) (count : ℕ) (a b : List Request) → Later a b → HeldSoMany sync folder name a count
+    → HeldSoMany sync folder name b count
+held_later sync folder name count a b later is = record {
+  bytes = is.bytes;
+  opened = later _ is.opened;
+  items = is.items;
+  tail = is.tail;
+  lines = is.lines;
+  counted = is.counted;
+}
+
+pub all_held_later : (sync : Bool) (folder : List ℕ) (names : List (List ℕ)) (a b : List Request) → Later a b → (counts : List ℕ)
+    → AllHeld sync folder names a counts → AllHeld sync folder names b counts
+all_held_later sync folder [] a b later [] are = tt
+all_held_later sync folder [] a b later (count ∷ counts) are = are
+all_held_later sync folder (name ∷ names) a b later [] are = are
+all_held_later sync folder (name ∷ names) a b later (count ∷ counts) are =
+    (held_later sync folder name count a b later are.0, all_held_later sync folder names a b later counts are.1)
+
+-- the same by names that are others' in other words
+pub held_as : (sync : Bool) (folder : List ℕ) (names others : List (List ℕ)) (a b : List Request) → names ≡ others → Later a b
+    → (counts : List ℕ) → AllHeld sync folder names a counts → AllHeld sync folder others b counts
+held_as sync folder names others a b same later counts are =
+    let P : List (List ℕ) → Type 0 = λ ns. AllHeld sync folder ns b counts in
+    subst P same (all_held_later sync folder names a b later counts are)
+
+module _ {F : Type 0} {file : FileWords F} where
+  -- files that were opened held so many items
+  pub held_in : (sync : Bool) (folder : List ℕ) (opened : List OpenedName) (files : List (HeldFile F file)) (e : List Request)
+      → AreOpened sync folder opened e → AreHeldAs opened files e → AllHeld sync folder (opened_names opened) e (held_counts files)
+  held_in sync folder [] [] e were held = tt
+  held_in sync folder [] (one ∷ files) e were held = absurd held
+  held_in sync folder (name ∷ opened) [] e were held = absurd held
+  held_in sync folder (name ∷ opened) (one ∷ files) e were held = (
+    record {
+      bytes = name.bytes.value.items;
+      opened = were.0;
+      items = one.held.items.items;
+      tail = drop one.held.bytes name.bytes.value.items;
+      lines = held.0.lines;
+      counted = refl;
+    },
+    held_in sync folder opened files e were.1 held.1,
+  )
+
 some_is : {A : Type 0} (x y : A) → Some x ≡ Some y → x ≡ y
 some_is x y same = cc
 
@@ -143,12 +189,15 @@ cause_later counted o a b (Refused error) later why = why
 cause_later counted o a b (Files fault) later why = caused_later o a b later fault why
 cause_later counted o a b (Kept fault) later why = keep_fault_later o a b fault later why
 
--- a run whose streams are kept by one account is one whose streams are kept by another
+-- a run whose files held so much, and whose streams are kept, by one account is such a run by another
 pub kept_run_maps : (settings : Settings) (net : Network) (inputs : List (List ℤ)) (script : List ScriptedEvent)
-    (kept other : List (List ℤ) → Type 0) (run : KeptRun) → ((streams : List (List ℤ)) → kept streams → other streams)
-    → IsKeptRun settings net inputs script kept run → IsKeptRun settings net inputs script other run
-kept_run_maps settings net inputs script kept other run more is = record {
+    (held holds : List ℕ → Type 0) (kept other : List (List ℤ) → Type 0) (run : KeptRun)
+    → ((counts : List ℕ) → held counts → holds counts) → ((streams : List (List ℤ)) → kept streams → other streams)
+    → IsKeptRun settings net inputs script held kept run → IsKeptRun settings net inputs script holds other run
+kept_run_maps settings net inputs script held holds kept other run so more is = record {
   now = is.now;
+  counts = is.counts;
+  were_held = so is.counts is.were_held;
   is_run = is.is_run;
   is_end = is.is_end;
   over = is.over;

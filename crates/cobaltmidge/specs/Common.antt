@@ -1,5 +1,6 @@
 -- The names that a program's own contracts and proofs over this crate cite most, passed on from one place. Declares nothing.
 pub use Rattle.sector_disk.specs.Clock.{Only}
+pub use Rattle.sector_disk.specs.Past.{states_of}
 pub use Rattle.slot_cell.specs.SplitLayout.{whole_on}
 pub use Rattle.ckpt_store.specs.StoreView.{record_spelled}
 pub use Rattle.protocol.specs.Node.Common.{Fits, Network, RecordView, SECTOR_BYTES, SECTORS, Spells, Whole, network_of, node_count}

@@ -1,5 +1,5 @@
 -- What outlets over files took, what the files have of it, and which of them failed.
-use Rattle.std.specs.Prelude.{◌≡◌, ◌⊎◌, ℕ, Bool, ℤ, true, List, Some, IsTrue, is_some, map, slice_get}
+use Rattle.std.specs.Prelude.{◌≡◌, ◌⊎◌, ℕ, Bool, ℤ, true, List, Some, IsTrue, is_some, length, map, slice_get}
 use Rattle.std.specs.List.{AllZip}
 use Rattle.host.specs.LineRequests.{has_failed}
 use Rattle.host.specs.declared.line_file.LineFile.{Ghosts as FileWords}
@@ -7,12 +7,17 @@ use Rattle.output_file.specs.InFile.{IsInFile}
 use Rattle.output_file.specs.Output.{asked_of, output_view}
 use Rattle.output_file.specs.declared.resumed.ResumedOutlet.{ResumedOutlet}
 use Rattle.station.specs.declared.output.Output.{Output}
+use Rattle.run_files.specs.declared.held_file.HeldFile.{HeldFile}
 use Rattle.run_files.specs.declared.fault.FilesFault.TheVariants as files
 use Rattle.cobaltmidge.specs.Errors.{IsRunError}
 use Rattle.cobaltmidge.specs.declared.kept_outlets.KeepFault.{KeepFault}
 use Rattle.cobaltmidge.specs.declared.kept_outlets.KeepFault.TheVariants.{NoMemory, Astray, ItemDiffers, PutFailed}
 use Rattle.cobaltmidge.specs.declared.state_error.StateFault.{StateFault}
 use Rattle.cobaltmidge.specs.declared.state_error.StateFault.TheVariants.{Unread, NotText, Refused, Files, Kept}
+
+-- how many items each of these files held when it was opened
+abbrev pub held_counts : {F : Type 0} {file : FileWords F} → List (HeldFile F file) → List ℕ
+held_counts {F} {file} files = map (λ (one : HeldFile F file). length one.held.items.items) files
 
 -- what the outlets of these outputs took
 abbrev pub taken_streams : {O : Type 0} → (O → List ℤ) → List (Output O) → List (List ℤ)

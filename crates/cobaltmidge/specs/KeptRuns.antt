@@ -1,5 +1,5 @@
 -- What a run came to of which what left is kept.
-use Rattle.std.specs.Prelude.{◌≡◌, ℤ, Bool, true, List, length}
+use Rattle.std.specs.Prelude.{◌≡◌, ℕ, ℤ, Bool, List, Some, length}
 use Rattle.protocol.specs.Node.Common.{Network}
 use Rattle.protocol.specs.World.Common.{WorldView, are_quiet}
 use Rattle.replay.specs.declared.kept.ScriptedEvent.{ScriptedEvent}
@@ -13,13 +13,16 @@ use Rattle.cobaltmidge.specs.declared.settings.Settings.{Settings}
 use Rattle.cobaltmidge.specs.declared.state_error.StateFault.{StateFault}
 use Rattle.cobaltmidge.specs.declared.state_error.StateFault.TheVariants.{Unread, NotText, Refused, Files, Kept}
 
--- The world at the run's end, of which all is told. What has left are prefixes of the outputs' histories in one approximation, and where the
--- run is complete whole, in the least solution. It is kept, as `kept` says.
+-- The world at the run's end, of which all is told. The run went on behind what its outputs held, each so many items, as `held` says. What
+-- has left are prefixes of the outputs' histories in one approximation, and where the run is complete whole, in the least solution. It is
+-- kept, as `kept` says.
 pub record IsKeptRun (settings : Settings) (net : Network) (inputs : List (List ℤ)) (script : List ScriptedEvent)
-    (kept : List (List ℤ) → Type 0) (run : KeptRun) : Type 0 where
+    (held : List ℕ → Type 0) (kept : List (List ℤ) → Type 0) (run : KeptRun) : Type 0 where
   pub now : WorldView
+  pub counts : List ℕ
+  pub were_held : held counts
   pub is_run : IsRun net inputs (released_streams net now.stations) (are_quiet now)
-  pub is_end : IsEndOf true settings net inputs script (happenings run.history.lines.items) now
+  pub is_end : IsEndOf (Some counts) settings net inputs script (happenings run.history.lines.items) now
   pub over : IsOver net.channels (bounds_of settings) now run.end
   pub reason : IsReasonOf now run.end settings run.reason
   pub complete : run.complete ≡ are_quiet now

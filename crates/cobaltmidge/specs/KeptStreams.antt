@@ -1,9 +1,10 @@
 -- Streams that are kept in the files of a folder, and why they aren't, by what stands in the host's log.
-use Rattle.std.specs.Prelude.{◌≡◌, ℕ, ℤ, Bool, true, List, [], ◌∷◌, ◌++◌, Option, Some, None, Ok, Err, IsUtf8}
+use Rattle.std.specs.Prelude.{◌≡◌, ℕ, ℤ, Bool, true, List, [], ◌∷◌, ◌++◌, Option, Some, None, Ok, Err, IsUtf8, length}
 use Rattle.host.specs.declared.fault.HostFault.{HostFault}
 use Rattle.host.specs.LineRequests as lines
 use Rattle.host.specs.LineRequests.{has_failed}
 use Rattle.host.specs.Requests.{Request, Has, Opened, Read, Used}
+use Rattle.output_file.specs.Lines.{HoldsLines}
 use Rattle.run_files.specs.Causes.{IsCaused, IsRead}
 use Rattle.run_files.specs.Keeping.{IsKept}
 use Rattle.run_files.specs.Opening.{paths_in}
@@ -31,6 +32,22 @@ abbrev pub AreKept : Bool → Option (List ℕ) → List (List ℕ) → List Req
 AreKept sync None names e streams = Unit {0}
 AreKept sync (Some folder) names e streams =
     AreKeptIn sync folder names e streams × AreSyncedIf sync (paths_in folder names ++ folder ∷ []) e
+
+-- The file of an output had so many items when it was opened: it held their lines, and behind them at most a line that was cut off.
+pub record HeldSoMany (sync : Bool) (folder name : List ℕ) (e : List Request) (count : ℕ) : Type 0 where
+  pub bytes : List ℕ
+  pub opened : Has (Opened folder name sync (Ok bytes)) e
+  pub items : List ℤ
+  pub tail : List ℕ
+  pub lines : HoldsLines bytes items tail
+  pub counted : count ≡ length items
+
+-- so had each of these files, in order
+abbrev pub AllHeld : Bool → List ℕ → List (List ℕ) → List Request → List ℕ → Type 0
+AllHeld sync folder [] e [] = Unit {0}
+AllHeld sync folder [] e (count ∷ counts) = ⊥
+AllHeld sync folder (name ∷ names) e [] = ⊥
+AllHeld sync folder (name ∷ names) e (count ∷ counts) = HeldSoMany sync folder name e count × AllHeld sync folder names e counts
 
 -- A file of the folder failed: an item of the run differs from one that it held, or a put to it did. For want of memory, and where the files
 -- came back otherwise than they were opened, nothing is said.

@@ -1,17 +1,23 @@
 -- What is left of a run that came to no end.
-use Rattle.std.specs.Prelude.{◌≡◌, ℤ, List}
+use Rattle.std.specs.Prelude.{◌≡◌, ℕ, ℤ, true, List, Some}
 use Rattle.protocol.specs.Node.Common.{Network, network_of}
 use Rattle.protocol.specs.World.Common.{are_quiet, WorldView}
 use Rattle.outlet.specs.declared.outlet.Outlet.{Ghosts as OutletWords}
 use Rattle.replay.specs.declared.kept.ScriptedEvent.{ScriptedEvent}
+use Rattle.resuming.specs.CatchingUp.{failures_by, HaveGoneOn}
 use Rattle.runtime.specs.Logs.{happenings}
+use Rattle.station.specs.OutputView.{outputs_view}
 use Rattle.station.specs.declared.output.Output.{Output}
 use Rattle.world.specs.WholeView.{net_in, world_of}
+use Rattle.cobaltmidge.specs.Beginning.{IsBeginning, IsBeginStop}
+use Rattle.cobaltmidge.specs.Failing.{IsRunFault}
 use Rattle.cobaltmidge.specs.KeptOutlets.{taken_streams}
 use Rattle.cobaltmidge.specs.Runs.{HasCome, HasComeFrom, IsRun, released_streams}
 use Rattle.cobaltmidge.specs.declared.settings.Settings.{Settings}
 use Rattle.cobaltmidge.specs.declared.unfinished.Left.{Left}
 use Rattle.cobaltmidge.specs.declared.unfinished.Left.TheVariants as left
+use Rattle.cobaltmidge.specs.declared.unfinished.Unresumed.{Unresumed}
+use Rattle.cobaltmidge.specs.declared.unfinished.Unresumed.TheVariants.{NotBegun, Unfinished}
 
 module _ {O : Type 0} {outlet : OutletWords O} where
   -- these outlets, of a run that didn't begin
@@ -44,3 +50,16 @@ module _ {O : Type 0} {outlet : OutletWords O} where
   abbrev pub streams_left : Left O outlet → List (List ℤ)
   streams_left (left.Outputs back) = taken_streams outlet.taken back.items
   streams_left (left.World world history) = released_streams (network_of (net_in world).value.program) (world_of world).stations
+
+module _ {O : Type 0} {outlet : OutletWords O} where
+  -- Why a run that was to go on behind what its outlets held, each so many items, doesn't, or comes to no end. Where it didn't begin its outlets
+  -- come back, with what they took meanwhile. Else what have left are prefixes of the outputs' histories in one approximation, and a history of
+  -- the run leads to its world from where it began.
+  abbrev pub IsUnresumed : Settings → Network → List (List ℤ) → List ScriptedEvent → List ℕ → List (Output O) → Unresumed O outlet → Type 0
+  IsUnresumed settings net inputs script held outputs (NotBegun refused) =
+      IsBeginStop (failures_by outlet.failures outputs) (failures_by outlet.failures refused.outputs.items) refused.fault
+      × HaveGoneOn (outputs_view outlet.taken outputs) (outputs_view outlet.taken refused.outputs.items)
+  IsUnresumed settings net inputs script held outputs (Unfinished unfinished) =
+      IsRunFault true unfinished.fault
+      × ((first : WorldView) × IsBeginning (Some held) net inputs settings.room first
+      × IsFarFrom first settings script unfinished.left)

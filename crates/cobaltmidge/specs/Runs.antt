@@ -79,8 +79,8 @@ abbrev pub IsEnd : Settings → Network → List (List ℤ) → List ScriptedEve
 IsEnd settings net inputs script happened now =
     IsEndFrom (first_world net inputs settings.room) settings net script happened now
 
--- How a run comes to its end that may have gone on (`true`) where its processes were run again, and how one does that may not.
-abbrev pub IsEndOf : Bool → Settings → Network → List (List ℤ) → List ScriptedEvent → List Happening → WorldView → Type 0
-IsEndOf false settings net inputs script happened now = IsEnd settings net inputs script happened now
-IsEndOf true settings net inputs script happened now =
-    (first : WorldView) × IsBeginning true net inputs settings.room first × IsEndFrom first settings net script happened now
+-- How a run comes to its end that went on behind what its outputs held, each so many items, and how one does that didn't go on.
+abbrev pub IsEndOf : Option (List ℕ) → Settings → Network → List (List ℤ) → List ScriptedEvent → List Happening → WorldView → Type 0
+IsEndOf None settings net inputs script happened now = IsEnd settings net inputs script happened now
+IsEndOf (Some held) settings net inputs script happened now =
+    (first : WorldView) × IsBeginning (Some held) net inputs settings.room first × IsEndFrom first settings net script happened now

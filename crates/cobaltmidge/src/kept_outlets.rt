@@ -1,15 +1,16 @@
 //! Outlets over files, which outlast a run.
 
-ghost use Rattle.std.specs.Prelude.{◌≡◌, [], length, map, IfErr, IfOk, OnOk};
+ghost use Rattle.std.specs.Prelude.{◌≡◌, [], map, IfErr, IfOk, OnOk};
 ghost use Rattle.std.specs.List.{AllByRecursion};
 ghost use Rattle.output_file.specs.InFile.{IsInFile};
-ghost use Rattle.output_file.specs.Output.{failures_of, held_of, taken_of};
+ghost use Rattle.output_file.specs.Output.{failures_of, taken_of};
 ghost use Rattle.protocol.specs.Node.Common.{network_of};
 ghost use Rattle.protocol.specs.World.Common.{output_channels};
 ghost use Rattle.world.specs.OpeningWorld.{IsUnused};
-ghost use Rattle.cobaltmidge.specs.KeptOutlets.{AreInFiles, IsAtFault, IsOpenFault, IsPutFault, taken_streams};
+ghost use Rattle.cobaltmidge.specs.KeptOutlets.{AreInFiles, IsAtFault, IsOpenFault, IsPutFault, held_counts, taken_streams};
 ghost use Rattle.cobaltmidge.specs.FirstWorld.{HasNoFailures};
 
+use crate::going_on::BeginFault;
 use host::LineFile;
 use net_check::Net;
 use outlet::Outlet;
@@ -37,6 +38,16 @@ pub struct NotKept {
     pub fault: KeepFault,
     /// None where there is nothing more to say, or no memory for it.
     pub words: Option<String>,
+}
+
+/// What is told of a run over files that doesn't go on. Where an outlet refused an item that is told by itself, as its file is closed.
+pub fn begin_fault(fault: BeginFault) -> KeepFault
+    ensures { IsOpenFault result }
+{
+    match fault {
+        BeginFault::NoMemory => KeepFault::NoMemory,
+        BeginFault::Outlet | BeginFault::Astray => KeepFault::Astray,
+    }
 }
 
 // Makes an outlet over the next file.
@@ -96,18 +107,18 @@ pub fn outlets_over<F: LineFile>(
     }
 }
 
-/// How many items the file of each output held, when it was opened.
+/// How many items each file held when it was opened.
 pub fn held_counts<F: LineFile>(
     alloc: Global,
-    outputs: &[Output<ResumedOutlet<F>>],
+    files: &[HeldFile<F>],
 ) -> Result<Vec<u64>, AllocError>
-    ensures { IfOk result (λ held. held.items ≡ map (λ output. length (held_of output.outlet)) outputs.now) }
+    ensures { IfOk result (λ counts. counts.items ≡ held_counts files.now) }
 {
-    let mut held = Vec::with_capacity(alloc, outputs.len())?;
-    for output in outputs {
-        held.push(output.outlet.held_items().len() as u64)?;
+    let mut counts = Vec::with_capacity(alloc, files.len())?;
+    for file in files {
+        counts.push(file.held.items.len() as u64)?;
     }
-    Ok(held)
+    Ok(counts)
 }
 
 // What there is to say of an item that differs from the one that the file holds at its place: the line of the file, and both.

@@ -12,16 +12,17 @@ ghost use Rattle.world.specs.OpeningWorld.{IsUnused};
 ghost use Rattle.world.specs.WholeView.{world_of};
 ghost use Rattle.cobaltmidge.specs.Failing.{IsRunFault};
 ghost use Rattle.cobaltmidge.specs.Names.{script_of};
-ghost use Rattle.cobaltmidge.specs.Runs.{IsEnd, IsRun, bounds_of, released_streams};
+ghost use Rattle.cobaltmidge.specs.Runs.{IsEnd, IsEndOf, IsRun, bounds_of, released_streams};
 ghost use Rattle.cobaltmidge.specs.FirstWorld.{HasNoFailures};
-ghost use Rattle.cobaltmidge.specs.Remaining.{IsFar, IsLeft};
+ghost use Rattle.cobaltmidge.specs.Remaining.{IsFar, IsLeft, IsUnresumed};
 
 use crate::fault::RunFault;
 use crate::finished::Finished;
+use crate::going_on::resume_world;
 use crate::network::{Network, outputs_in_memory};
-use crate::running::run_network;
+use crate::running::{run_from, run_network};
 use crate::settings::Settings;
-use crate::unfinished::{Left, Unfinished};
+use crate::unfinished::{Left, Unfinished, Unresumed};
 use net_check::Inputs;
 use outlet::{ListOutlet, Outlet};
 use replay::ScriptedEvent;
@@ -29,7 +30,7 @@ use runtime::{NoWatch, RunWatch, TurnWatch};
 use std::alloc::Global;
 use std::sync::Wait;
 use std::thread::Threads;
-use world::Output;
+use world::{Output, node_count};
 
 /// A run of a network on its inputs, to be set and then started: by turns on one thread, for 1,000 rounds at most, with no failure,
 /// unless it is told otherwise.
@@ -306,6 +307,79 @@ impl<'a> Run<'a> {
                 settings,
             }),
             Err(unfinished) => Err(unfinished),
+        }
+    }
+
+    /// Lets it go on behind what its outlets hold: each so many items as `held` says, in order of the outputs. An outlet has taken nothing yet.
+    /// It is handed the first items once more, and may compare them with those that it holds.
+    ///
+    /// The network's processes are run again, alone, up to these numbers. Then the run begins, with nothing in flight, and what leaves is new.
+    /// Script, rounds and history are of what comes then. `watch` looks at that (`&mut NoWatch` where nobody does).
+    pub fn resume<O: Outlet + Send, W: RunWatch + TurnWatch + Sync, R: Threads + Wait + Sync>(
+        self,
+        rt: &R,
+        alloc: Global,
+        outputs: Vec<Output<O>>,
+        held: &[u64],
+        watch: &mut W,
+    ) -> Result<Finished<'a, O>, Unresumed<O>>
+        requires listed { map (λ output. output.channel) outputs.items
+            ≡ output_channels 0 (network_of self.network.now.net.value.program).channels }
+        requires unused { AllByRecursion (IsUnused O.taken) outputs.items }
+        requires unfailed { AllByRecursion (HasNoFailures O.failures) outputs.items }
+        ensures run { IfOk result (λ finished. IsRun (network_of self.entry.network.now.net.value.program)
+            self.entry.inputs (released_streams (network_of self.entry.network.now.net.value.program)
+            (world_of finished.world).stations) (are_quiet (world_of finished.world))) }
+        // It began behind what its outlets held, and came to its end from there.
+        ensures end { IfOk result (λ finished. IsEndOf (Some held.now) self.entry.settings
+            (network_of self.entry.network.now.net.value.program) self.entry.inputs (script_of self.entry.script)
+            (happenings finished.history.lines.items) (world_of finished.world)) }
+        ensures over { IfOk result (λ finished. IsOver (network_of self.entry.network.now.net.value.program).channels
+            (bounds_of self.entry.settings) (world_of finished.world) finished.end) }
+        ensures same { IfOk result (λ finished.
+            ∥ ((world_of finished.world).net ≡ network_of self.entry.network.now.net.value.program)
+            × ((world_of finished.world).inputs ≡ self.entry.inputs) ∥₁) }
+        // Where the history is kept, it begins with the events of the script's lines of round 0.
+        ensures begun { self.entry.settings.history ≡ true → IfOk result
+            (λ finished. HasBegun (script_of self.entry.script) (happenings finished.history.lines.items) finished.end) }
+        // It ends by a stop only where who watches it may stop it.
+        ensures stopped { IfOk result (λ finished. finished.end ≡ Stopped → W.may_stop ≡ true) }
+        ensures network { IfOk result (λ finished. finished.network ≡ self.entry.network) }
+        ensures settings { IfOk result (λ finished. finished.settings ≡ self.entry.settings) }
+        // Else it didn't begin, or it comes to no end. What is left of it comes back.
+        ensures err { IfErr result (IsUnresumed self.entry.settings (network_of self.entry.network.now.net.value.program)
+            self.entry.inputs (script_of self.entry.script) held.now outputs.items) }
+    {
+        let Run {
+            network,
+            inputs,
+            script,
+            settings,
+        } = self;
+        let nodes = node_count(&network.net);
+        let begun = resume_world(
+            alloc,
+            &network.net,
+            inputs,
+            outputs,
+            held,
+            nodes,
+            settings.room,
+        );
+        let world = match begun {
+            Ok(world) => world,
+            Err(refused) => return Err(Unresumed::NotBegun(refused)),
+        };
+        let script = events_or_none(alloc, script);
+        match run_from(rt, alloc, settings, world, script, watch) {
+            Ok(ended) => Ok(Finished {
+                network,
+                world: ended.world,
+                history: ended.history,
+                end: ended.end,
+                settings,
+            }),
+            Err(unfinished) => Err(Unresumed::Unfinished(unfinished)),
         }
     }
 }

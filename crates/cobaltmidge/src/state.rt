@@ -4,7 +4,7 @@ ghost use Rattle.std.specs.Prelude.{◌≡◌, [], true, IfErr, IfOk, OnOk, Ok, 
 ghost use Rattle.host.specs.Requests.{Each, Has, IsFree, IsHeld, Later, Read};
 ghost use Rattle.protocol.specs.Node.Common.{network_of};
 ghost use Rattle.run_files.specs.Leftovers.{LeavesNothing};
-ghost use Rattle.run_files.specs.Opening.{AreOpened, opened_names};
+ghost use Rattle.run_files.specs.Opening.{AreHeldAs, AreOpened, opened_names};
 ghost use Rattle.run_files.specs.Rules.{GoesOn, IsReady, rule};
 ghost use Rattle.run_files.specs.Wanted.{wanted_of};
 ghost use Rattle.world.specs.WholeView.{net_in, world_of};
@@ -12,9 +12,9 @@ ghost use Rattle.cobaltmidge.specs.Errors.{run_error};
 ghost use Rattle.cobaltmidge.specs.declared.state_error.StateFault.TheVariants.{Kept, Refused as RefusedBy};
 ghost use Rattle.cobaltmidge.specs.Accepting.{IsAccepted};
 ghost use Rattle.cobaltmidge.specs.FileNames.{file_names};
-ghost use Rattle.cobaltmidge.specs.KeptOutlets.{AreInFiles, IsPutFault, IsRunStop};
+ghost use Rattle.cobaltmidge.specs.KeptOutlets.{AreInFiles, IsPutFault, IsRunStop, held_counts};
 ghost use Rattle.cobaltmidge.specs.KeptRuns.{IsKeptRun, IsKeptWhereRefused};
-ghost use Rattle.cobaltmidge.specs.KeptStreams.{AreKept, AreKeptIn, IsStateCause};
+ghost use Rattle.cobaltmidge.specs.KeptStreams.{AllHeld, AreKept, AreKeptIn, IsStateCause};
 ghost use Rattle.cobaltmidge.specs.Names.{script_of};
 ghost use Rattle.cobaltmidge.specs.Remaining.{streams_left};
 ghost use Rattle.cobaltmidge.specs.Runs.{released_streams};
@@ -23,27 +23,26 @@ ghost use Rattle.cobaltmidge.specs.Texts.{AreInputsOf, IsNetOf};
 use crate::ending::RunWorld;
 use crate::error::run_error;
 use crate::fault::RunFault;
-use crate::going_on::{NotBegun, resume_world};
-use crate::kept_outlets::{KeepFault, NotKept, held_counts, outlets_over, put_each};
+use crate::finished::Finished;
+use crate::going_on::NotBegun;
+use crate::kept_outlets::{KeepFault, NotKept, begin_fault, held_counts, outlets_over, put_each};
 use crate::kept_run::{KeptRun, lists_of};
 use crate::output_names::file_names;
 use crate::reason::reason_of;
-use crate::run::{Run, events_or_none};
-use crate::running::run_from;
+use crate::run::Run;
 use crate::state_error::{StateError, StateFault};
 use crate::texts::{Accepted, Texts};
-use crate::unfinished::{Left, Unfinished};
+use crate::unfinished::{Left, Unfinished, Unresumed};
 use host::{Host, LineFile};
 use outlet::Outlet;
 use output_file::ResumedOutlet;
 use run_files::{
     FolderTexts, HeldFile, Names, OpenFolder, OpenedName, give_back, let_go, open_folder,
 };
-use runtime::{Ended, NoWatch};
+use runtime::NoWatch;
 use std::alloc::Global;
 use std::sync::Wait;
 use std::thread::Threads;
-use world::node_count;
 
 // Ends a world: what its outlets took is put to their files, which are added to `outlets`.
 fn close_world<F: LineFile>(
@@ -116,12 +115,14 @@ fn run_over<'a, F: LineFile + Send, R: Threads + Wait + Sync>(
 ) -> Result<KeptRun<'a>, StateError>
     requires { outlets.old.items ≡ [] }
     ensures run { IfOk result (λ kept. ∥ IsKeptRun run.entry.settings (network_of run.entry.network.now.net.value.program)
-        run.entry.inputs (script_of run.entry.script) (AreInFiles outlets.new.items) kept ∥₁) }
+        run.entry.inputs (script_of run.entry.script) (λ counts. counts ≡ held_counts files.items)
+        (AreInFiles outlets.new.items) kept ∥₁) }
     ensures network { IfOk result (λ kept. kept.network ≡ run.entry.network) }
     ensures cause { IfErr result (λ error. IsRunStop true outlets.new.items error.fault) }
     ensures left { IfErr result (λ error. IsKeptWhereRefused (network_of run.entry.network.now.net.value.program)
         run.entry.inputs (AreInFiles outlets.new.items) error.fault) }
 {
+    let held = held_counts(alloc, files.as_slice())?;
     let outputs = match outlets_over(alloc, &run.network.net, files) {
         Ok(outputs) => outputs,
         Err(fault) => {
@@ -131,46 +132,27 @@ fn run_over<'a, F: LineFile + Send, R: Threads + Wait + Sync>(
             });
         }
     };
-    let Run {
-        network,
-        inputs,
-        script,
-        settings,
-    } = run;
-    let held = held_counts(alloc, &outputs)?;
-    let nodes = node_count(&network.net);
-    let begun = resume_world(
-        alloc,
-        &network.net,
-        inputs,
-        outputs,
-        &held,
-        nodes,
-        settings.room,
-    );
-    let world = match begun {
-        Ok(world) => world,
-        Err(refused) => {
+    let finished = match run.resume(rt, alloc, outputs, &held, &mut NoWatch) {
+        Ok(finished) => finished,
+        Err(Unresumed::NotBegun(refused)) => {
             let NotBegun { outputs, fault } = refused;
             // It says where an item differs, or a put failed.
             put_each(alloc, folder, outputs, outlets)?;
-            return Err(not_begun(fault));
+            return Err(not_begun(begin_fault(fault)));
         }
-    };
-    let script = events_or_none(alloc, script);
-    let ended = match run_from(rt, alloc, settings, world, script, &mut NoWatch) {
-        Ok(ended) => ended,
-        Err(unfinished) => {
+        Err(Unresumed::Unfinished(unfinished)) => {
             let Unfinished { fault, left } = unfinished;
             put_left(alloc, folder, left, outlets)?;
             return Err(run_refused(fault));
         }
     };
-    let Ended {
+    let Finished {
+        network,
         world,
         history,
         end,
-    } = ended;
+        settings,
+    } = finished;
     let complete = world.complete();
     let reason = reason_of(&network.net, &world, end, settings);
     let lists = lists_of(alloc, &world, network.net.program.channels.len())?;
@@ -198,9 +180,11 @@ fn run_locked<'a, H: Host, R: Threads + Wait + Sync>(
 ) -> Result<KeptRun<'a>, StateError>
     requires held { IsHeld (string_bytes folder.now) (H.asked host.old) }
     requires opened { AreOpened names.now.sync (string_bytes folder.now) opened.now (H.asked host.old) }
+    requires files { AreHeldAs opened.now files.items (H.asked host.old) }
     ensures goes { GoesOn IsAccepted (wanted_of names.now) (H.asked host.old) (H.asked host.new) }
     ensures run { IfOk result (λ kept. ∥ IsKeptRun run.entry.settings (network_of run.entry.network.now.net.value.program)
         run.entry.inputs (script_of run.entry.script)
+        (AllHeld names.now.sync (string_bytes folder.now) (opened_names opened.now) (H.asked host.new))
         (AreKeptIn names.now.sync (string_bytes folder.now) (opened_names opened.now) (H.asked host.new)) kept ∥₁) }
     ensures network { IfOk result (λ kept. kept.network ≡ run.entry.network) }
     ensures cause { IfErr result (λ error. IsStateCause true (wanted_of names.now) (H.asked host.new) error.fault) }
@@ -245,10 +229,13 @@ impl<'a> Run<'a> {
         ensures cleared { LeavesNothing (H.asked host.old) (H.asked host.new) }
         // No lock is held at the end.
         ensures free { IsFree (H.asked host.new) }
-        // What has left are prefixes of the outputs' histories in one approximation, and where the run is complete whole, in the least
-        // solution. Each output's stream is kept in its own file of the folder.
+        // It goes on behind what the files held. What has left are prefixes of the outputs' histories in one approximation, and where the run is
+        // complete whole, in the least solution. Each output's stream is kept in its own file of the folder.
         ensures run { IfOk result (λ kept. ∥ IsKeptRun self.entry.settings (network_of self.entry.network.now.net.value.program)
             self.entry.inputs (script_of self.entry.script)
+            (AllHeld names.now.sync (string_bytes folder.now)
+            (file_names self.entry.network.now.net.value.program.channels.items self.entry.network.now.net.value.channel_names.items)
+            (H.asked host.new))
             (AreKept names.now.sync (Some (string_bytes folder.now))
             (file_names self.entry.network.now.net.value.program.channels.items self.entry.network.now.net.value.channel_names.items)
             (H.asked host.new)) kept ∥₁) }

@@ -6,6 +6,7 @@ ghost use Rattle.cobaltmidge.specs.Errors.{error_text, run_error};
 use crate::ending::RunWorld;
 use crate::error::{Error, run_error};
 use crate::fault::RunFault;
+use crate::going_on::NotBegun;
 use outlet::Outlet;
 use runtime::History;
 use std::{error, fmt};
@@ -27,6 +28,15 @@ pub enum Left<O: Outlet> {
     World(RunWorld<O>, History),
 }
 
+/// A run that doesn't go on behind what its outlets hold, or comes to no end.
+#[derive(Drop)]
+pub enum Unresumed<O: Outlet> {
+    /// It didn't begin.
+    NotBegun(NotBegun<O>),
+    /// It began.
+    Unfinished(Unfinished<O>),
+}
+
 impl<O: Outlet> fmt::Debug for Unfinished<O> {
     fn fmt<W: fmt::Write>(&self, f: &mut fmt::Formatter<W>) -> fmt::Result {
         write!(f, "{:?}", self.fault)
@@ -43,6 +53,27 @@ impl<O: Outlet> fmt::Display for Unfinished<O> {
 }
 
 impl<O: Outlet> error::Error for Unfinished<O> {}
+
+impl<O: Outlet> fmt::Debug for Unresumed<O> {
+    fn fmt<W: fmt::Write>(&self, f: &mut fmt::Formatter<W>) -> fmt::Result {
+        match self {
+            Unresumed::NotBegun(refused) => write!(f, "{:?}", refused.fault),
+            Unresumed::Unfinished(unfinished) => write!(f, "{unfinished:?}"),
+        }
+    }
+}
+
+// It reads as its fault does.
+impl<O: Outlet> fmt::Display for Unresumed<O> {
+    fn fmt<W: fmt::Write>(&self, f: &mut fmt::Formatter<W>) -> fmt::Result {
+        match self {
+            Unresumed::NotBegun(refused) => write!(f, "{}", refused.fault),
+            Unresumed::Unfinished(unfinished) => write!(f, "{unfinished}"),
+        }
+    }
+}
+
+impl<O: Outlet> error::Error for Unresumed<O> {}
 
 impl<O: Outlet> From<Unfinished<O>> for Error {
     ghost from_gives = { λ unfinished e. e ≡ run_error unfinished.fault };

@@ -90,18 +90,21 @@ reported net given items cut streams now text complete told channels where_cut l
     )
 
 -- the report of a run's last world
-pub report_is : (kept : List (List ℤ) → Type 0) (wrote : List ℕ → Type 0) (options : Options) (net : Net) (inputs : List (List ℤ))
-    (script : List ScriptedEvent) (happened : List Happening) (now : WorldView) (text : List ℕ) (told : Bool)
+pub report_is : (held : Option (List ℕ) → Type 0) (kept : List (List ℤ) → Type 0) (wrote : List ℕ → Type 0) (options : Options) (net : Net)
+    (inputs : List (List ℤ)) (script : List ScriptedEvent) (happened : List Happening) (counts : Option (List ℕ)) (now : WorldView)
+    (text : List ℕ) (told : Bool) → held counts
     → ∥ (now.net ≡ network_of net.program) × (now.inputs ≡ inputs) ∥₁
-    → IsEndOf (is_some options.state) (settings_of options) (network_of net.program) inputs script happened now
+    → IsEndOf counts (settings_of options) (network_of net.program) inputs script happened now
     → IsRun (network_of net.program) inputs (released_streams (network_of net.program) now.stations) (are_quiet now)
     → IsToldOf net options.items now text told → kept (released_streams now.net now.stations)
     → IsWrittenIf (is_some options.history) wrote (history_text net happened)
-    → IsReport kept wrote options net inputs script text told
-report_is kept wrote options net inputs script happened now text told same end run told_of has written =
+    → IsReport held kept wrote options net inputs script text told
+report_is held kept wrote options net inputs script happened counts now text told were same end run told_of has written =
     ∥∥₁_map same (λ s. (
       now,
       happened,
+      counts,
+      were,
       end,
       run,
       told_of,

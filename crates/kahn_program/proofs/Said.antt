@@ -9,12 +9,12 @@ use Rattle.fail_script.specs.declared.act.ScriptLine.{ScriptLine}
 use Rattle.host.specs.Requests.{Request, Later}
 use Rattle.protocol.specs.Node.Common.{Net, network_of, node_count}
 use Rattle.replay.specs.declared.kept.ScriptedEvent.{ScriptedEvent}
-use Rattle.cobaltmidge.proofs.InFolder.{all_kept_later}
+use Rattle.cobaltmidge.proofs.InFolder.{all_held_later, all_kept_later, held_as}
 use Rattle.cobaltmidge.specs.Scripts.{scripted_of}
 use Rattle.cobaltmidge.specs.Texts.{IsNetOf, AreInputsOf}
 use Rattle.run_files.specs.Rules.{Given, WereRead}
 use Rattle.run_files.specs.Wanted.{Wanted}
-use Rattle.kahn_program.specs.Program.{AreKept, HasReport, IsAccepted, IsWrittenIfAsked, asked_by, asked_files, file_names}
+use Rattle.kahn_program.specs.Program.{AreKept, HasReport, IsAccepted, IsWrittenIfAsked, WereHeld, asked_by, asked_files, file_names}
 use Rattle.run_files.proofs.Going.{read_later}
 use Rattle.kahn_program.specs.Runs.{IsApproximated, IsReport, IsReportBy, IsWrittenIf}
 use Rattle.kahn_program.specs.Scripts.{AreLinesOf}
@@ -26,13 +26,24 @@ written_maps : (asked : Bool) (wrote other : List ℕ → Type 0) → ((text : L
 written_maps true wrote other more text h = more text h
 written_maps false wrote other more text h = tt
 
--- a report that was kept and written so is one that was kept and written otherwise too
-pub report_maps : (kept held : List (List ℤ) → Type 0) (wrote other : List ℕ → Type 0) (options : Options) (net : Net)
-    (inputs : List (List ℤ)) (script : List ScriptedEvent) (text : List ℕ) (told : Bool)
-    → ((streams : List (List ℤ)) → kept streams → held streams) → ((t : List ℕ) → wrote t → other t)
-    → IsReport kept wrote options net inputs script text told → IsReport held other options net inputs script text told
-report_maps kept held wrote other options net inputs script text told keeps writes report =
-    ∥∥₁_map report (λ r. (r.0, r.1, r.2, r.3, r.4, keeps _ r.5, written_maps (is_some options.history) wrote other writes _ r.6))
+-- a report whose outputs held so much, and that was kept and written so, is one of which that is so by other accounts too
+pub report_maps : (held holds : Option (List ℕ) → Type 0) (kept keeps : List (List ℤ) → Type 0) (wrote other : List ℕ → Type 0)
+    (options : Options) (net : Net) (inputs : List (List ℤ)) (script : List ScriptedEvent) (text : List ℕ) (told : Bool)
+    → ((counts : Option (List ℕ)) → held counts → holds counts) → ((streams : List (List ℤ)) → kept streams → keeps streams)
+    → ((t : List ℕ) → wrote t → other t) → IsReport held kept wrote options net inputs script text told
+    → IsReport holds keeps other options net inputs script text told
+report_maps held holds kept keeps wrote other options net inputs script text told holding keeping writing report =
+    ∥∥₁_map report (λ r. (
+      r.0,
+      r.1,
+      r.2,
+      holding _ r.3,
+      r.4,
+      r.5,
+      r.6,
+      keeping _ r.7,
+      written_maps (is_some options.history) wrote other writing _ r.8,
+    ))
 
 -- a text that is written is what happened
 pub written_as : (path : Option (List ℕ)) (e : List Request) (happened text : List ℕ) → IsWrittenIfAsked path e happened → happened ≡ text
@@ -57,13 +68,37 @@ pub none_asked : (sync : Bool) (state : Option (List ℕ)) (names : List (List �
 none_asked sync state names e is streams =
     let P : Option (List ℕ) → Type 0 = λ s. AreKept sync s names e streams in subst P (sym is) tt
 
+-- what the files of the folder that is asked for held
+pub held_asked : (sync : Bool) (state : Option (List ℕ)) (folder : List ℕ) (names : List (List ℕ)) (e : List Request)
+    → state ≡ Some folder → (counts : Option (List ℕ)) → WereHeld sync (Some folder) names e counts → WereHeld sync state names e counts
+held_asked sync state folder names e is counts were =
+    let P : Option (List ℕ) → Type 0 = λ s. WereHeld sync s names e counts in subst P (sym is) were
+
+-- where none is asked for a run doesn't go on
+pub none_held : (sync : Bool) (state : Option (List ℕ)) (names : List (List ℕ)) (e : List Request) → state ≡ None
+    → (counts : Option (List ℕ)) → counts ≡ None → WereHeld sync state names e counts
+none_held sync state names e is counts none =
+    let P : Option (List ℕ) → Type 0 = λ s. WereHeld sync s names e counts in subst P (sym is) none
+
+pub were_held_later : (sync : Bool) (state : Option (List ℕ)) (names : List (List ℕ)) (a b : List Request) → Later a b
+    → (counts : Option (List ℕ)) → WereHeld sync state names a counts → WereHeld sync state names b counts
+were_held_later sync None names a b later counts were = were
+were_held_later sync (Some folder) names a b later None were = were
+were_held_later sync (Some folder) names a b later (Some counts) were = all_held_later sync folder names a b later counts were
+
+-- the same by names that are others' in other words
+pub were_held_as : (sync : Bool) (folder : List ℕ) (names others : List (List ℕ)) (a b : List Request) → names ≡ others → Later a b
+    → (counts : Option (List ℕ)) → WereHeld sync (Some folder) names a counts → WereHeld sync (Some folder) others b counts
+were_held_as sync folder names others a b same later None were = were
+were_held_as sync folder names others a b same later (Some counts) were = held_as sync folder names others a b same later counts were
+
 pub report_later : (sync : Bool) (state path : Option (List ℕ)) (names : List (List ℕ)) (a b : List Request) (options : Options)
     (net : Net) (inputs : List (List ℤ)) (script : List ScriptedEvent) (text : List ℕ) (told : Bool) → Later a b
-    → IsReport (AreKept sync state names a) (IsWrittenIfAsked path a) options net inputs script text told
-    → IsReport (AreKept sync state names b) (IsWrittenIfAsked path b) options net inputs script text told
+    → IsReport (WereHeld sync state names a) (AreKept sync state names a) (IsWrittenIfAsked path a) options net inputs script text told
+    → IsReport (WereHeld sync state names b) (AreKept sync state names b) (IsWrittenIfAsked path b) options net inputs script text told
 report_later sync state path names a b options net inputs script text told later =
-    report_maps (AreKept sync state names a) (AreKept sync state names b) (IsWrittenIfAsked path a) (IsWrittenIfAsked path b) options net
-    inputs script text told (all_kept_later sync state names a b later) (written_later path a b later)
+    report_maps (WereHeld sync state names a) (WereHeld sync state names b) (AreKept sync state names a) (AreKept sync state names b) (IsWrittenIfAsked path a) (IsWrittenIfAsked path b) options net
+    inputs script text told (were_held_later sync state names a b later) (all_kept_later sync state names a b later) (written_later path a b later)
 
 pub status_is : (a b : Bool) → status_of_run a ≡ status_of_run b → a ≡ b
 status_is true true same = refl
@@ -88,7 +123,8 @@ pub run_report : (options : Options) (o : Wanted) (given : Given) (net : Net) (i
     → options.approx ≡ None → o ≡ asked_files options → o.script ≡ option_map string_bytes name
     → WereRead o given a → Later a e → IsNetOf given.net net → AreInputsOf given.inputs net inputs
     → AreLinesOf name (node_count (network_of net.program)) given.script lines
-    → IsReport (AreKept o.sync o.state (file_names net.program.channels.items net.channel_names.items) e) (IsWrittenIfAsked o.history e) options net
+    → IsReport (WereHeld o.sync o.state (file_names net.program.channels.items net.channel_names.items) e)
+    (AreKept o.sync o.state (file_names net.program.channels.items net.channel_names.items) e) (IsWrittenIfAsked o.history e) options net
     inputs (map scripted_of lines) text told
     → HasReport options text told e
 run_report options o given net inputs name lines text told a e none same script read later of_net of_inputs are report =
@@ -99,9 +135,9 @@ run_report options o given net inputs name lines text told a e none same script 
     let Q : Wanted → Type 0 = λ w. WereRead w given e in
     let outputs : List (List ℕ) = file_names net.program.channels.items net.channel_names.items in
     let R : Wanted → Type 0 = λ w.
-    IsReport (AreKept w.sync w.state outputs e) (IsWrittenIfAsked w.history e) options net inputs (map scripted_of lines) text told in
+    IsReport (WereHeld w.sync w.state outputs e) (AreKept w.sync w.state outputs e) (IsWrittenIfAsked w.history e) options net inputs (map scripted_of lines) text told in
     let S : Option ℕ → Type 0 = λ n.
-    IsReportBy n (AreKept (asked_files options).sync (asked_files options).state outputs e) (IsWrittenIfAsked (asked_files options).history e) options net inputs
+    IsReportBy n (WereHeld (asked_files options).sync (asked_files options).state outputs e) (AreKept (asked_files options).sync (asked_files options).state outputs e) (IsWrittenIfAsked (asked_files options).history e) options net inputs
     given.script text told in
     record {
       given = given;
@@ -122,7 +158,7 @@ approximation_report options n o given net inputs text told e some same read of_
     let Q : Wanted → Type 0 = λ w. WereRead w given e in
     let outputs : List (List ℕ) = file_names net.program.channels.items net.channel_names.items in
     let S : Option ℕ → Type 0 = λ m.
-    IsReportBy m (AreKept (asked_files options).sync (asked_files options).state outputs e) (IsWrittenIfAsked (asked_files options).history e) options net inputs
+    IsReportBy m (WereHeld (asked_files options).sync (asked_files options).state outputs e) (AreKept (asked_files options).sync (asked_files options).state outputs e) (IsWrittenIfAsked (asked_files options).history e) options net inputs
     given.script text told in
     record {
       given = given;
@@ -136,8 +172,8 @@ approximation_report options n o given net inputs text told e some same read of_
 
 by_later : (approx : Option ℕ) (sync : Bool) (state path : Option (List ℕ)) (names : List (List ℕ)) (a b : List Request)
     (options : Options) (net : Net) (inputs : List (List ℤ)) (script : Option (List ℕ)) (text : List ℕ) (told : Bool) → Later a b
-    → IsReportBy approx (AreKept sync state names a) (IsWrittenIfAsked path a) options net inputs script text told
-    → IsReportBy approx (AreKept sync state names b) (IsWrittenIfAsked path b) options net inputs script text told
+    → IsReportBy approx (WereHeld sync state names a) (AreKept sync state names a) (IsWrittenIfAsked path a) options net inputs script text told
+    → IsReportBy approx (WereHeld sync state names b) (AreKept sync state names b) (IsWrittenIfAsked path b) options net inputs script text told
 by_later (Some n) sync state path names a b options net inputs script text told later report = report
 by_later None sync state path names a b options net inputs script text told later report =
     (report.0, report.1, report_later sync state path names a b options net inputs (map scripted_of report.0) text told later report.2)

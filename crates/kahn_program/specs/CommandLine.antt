@@ -45,7 +45,7 @@ kahnrun =
     let script = with_rule inputs (file_option (codes "script")) in
     let state = with_rule script (file_option (codes "state")) in
     let sync = with_rule state (flag (codes "sync")) in
-    let rounds = with_rule sync (by_default (codes "1000") (number (codes "rounds") 1 MAX_ROUNDS)) in
+    let rounds = with_rule sync (number (codes "rounds") 1 MAX_ROUNDS) in
     let items = with_rule rounds (number (codes "items") 0 MAX_ITEMS) in
     let room =
     with_rule items (by_default (codes "4096") (number (codes "room") MIN_ROOM MAX_RETAINED_ITEMS)) in
@@ -78,7 +78,7 @@ pub record IsAsked (rows : List Row) (options : Options) : Type 0 where
   pub script : first_of (codes "script") rows ≡ option_map string_bytes options.script
   pub state : first_of (codes "state") rows ≡ option_map string_bytes options.state
   pub sync : IsFlag (one_of (codes "sync") rows) options.sync
-  pub rounds : IsNumber 1 MAX_ROUNDS (one_of (codes "rounds") rows) (Some options.rounds)
+  pub rounds : IsNumber 1 MAX_ROUNDS (one_of (codes "rounds") rows) options.rounds
   pub items : IsNumber 0 MAX_ITEMS (one_of (codes "items") rows) options.items
   pub room : IsNumber MIN_ROOM MAX_RETAINED_ITEMS (one_of (codes "room") rows) (Some options.room)
   pub plain : IsFlag (one_of (codes "plain") rows) options.plain

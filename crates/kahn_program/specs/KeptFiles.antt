@@ -9,7 +9,11 @@ use Rattle.kahn_program.specs.declared.failure.Failure.{Failure}
 use Rattle.kahn_program.specs.declared.failure.Failure.TheVariants.{NoMemory, State}
 use Rattle.kahn_program.specs.declared.kept_files.FileKeeper.{FileKeeper}
 use Rattle.kahn_program.specs.declared.kept_files.TheConstants.{ASTRAY, FILE_FAILED, ITEM_DIFFERS}
-pub use Rattle.cobaltmidge.specs.KeptOutlets.{AreInFiles}
+pub use Rattle.cobaltmidge.specs.KeptOutlets.{AreInFiles, held_counts}
+
+-- how many items its files held when they were opened, before a run begins
+abbrev pub held_of : {F : Type 0} {file : FileWords F} → FileKeeper F file → List ℕ
+held_of keeper = held_counts keeper.files.items
 
 -- the outlets of a run that is over
 abbrev pub closed_of : {F : Type 0} {file : FileWords F} → FileKeeper F file → List (ResumedOutlet F file)

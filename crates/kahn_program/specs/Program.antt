@@ -1,6 +1,6 @@
 -- The whole program over its host: what it accepts, and what stands in the host's log where it is done.
 use Rattle.std.specs.declared.alloc.Global.{Global}
-use Rattle.std.specs.Prelude.{Vec, ℕ, ℤ, Bool, Ok, false, List, Option, Some, None, string_bytes}
+use Rattle.std.specs.Prelude.{◌≡◌, Vec, ℕ, ℤ, Bool, Ok, false, List, Option, Some, None, string_bytes}
 use Rattle.std.specs.Option.{option_map}
 use Rattle.cobaltmidge.specs.Texts.{IsNetOf, AreInputsOf}
 use Rattle.host.specs.Requests.{Request, Said, Each, Has, IsFree, Later}
@@ -16,7 +16,7 @@ use Rattle.run_files.specs.declared.happened.HistoryFile.{HistoryFile}
 use Rattle.run_files.specs.Wanted.{Wanted}
 pub use Rattle.cobaltmidge.specs.Accepting.{IsAccepted}
 pub use Rattle.cobaltmidge.specs.FileNames.{file_names}
-pub use Rattle.cobaltmidge.specs.KeptStreams.{AreKept, AreKeptIn}
+pub use Rattle.cobaltmidge.specs.KeptStreams.{AllHeld, AreKept, AreKeptIn}
 
 -- What a command line asks of files. An approximation needs no script, and nothing outlasts it.
 abbrev pub asked_by : Option ℕ → Options → Wanted
@@ -44,6 +44,12 @@ asked_files options = asked_by options.approx options
 abbrev pub IsWrittenIfAsked : Option (List ℕ) → List Request → List ℕ → Type 0
 IsWrittenIfAsked None e bytes = Unit {0}
 IsWrittenIfAsked (Some path) e bytes = IsWrittenTo path bytes e
+
+-- where a folder is asked for, the files of the outputs held so many items each when they were opened
+abbrev pub WereHeld : Bool → Option (List ℕ) → List (List ℕ) → List Request → Option (List ℕ) → Type 0
+WereHeld sync None names e counts = counts ≡ None
+WereHeld sync (Some folder) names e None = ⊥
+WereHeld sync (Some folder) names e (Some counts) = AllHeld sync folder names e counts
 
 -- the file for it is open, where it is asked for
 abbrev pub IsOpenIfAsked : {F : Type 0} → (F → List ℕ) → Option (List ℕ) → Option (HistoryFile F) → List Request → Type 0
@@ -73,8 +79,8 @@ given_of texts = record {
   script = option_map (λ (script : Vec ℕ Global). script.items) texts.script;
 }
 
--- What is to be said is the report of a run of the texts that were read, or of an approximation, and tells `complete` or not. Each output's
--- stream is kept, and what happened in that run is written, where that is asked for.
+-- What is to be said is the report of a run of the texts that were read, or of an approximation, and tells `complete` or not. Where a folder is
+-- asked for the run went on behind what its files held. Each output's stream is kept, and what happened in that run is written, where that is asked for.
 pub record HasReport (options : Options) (text : List ℕ) (complete : Bool) (e : List Request) : Type 0 where
   pub given : Given
   pub read : WereRead (asked_files options) given e
@@ -82,7 +88,9 @@ pub record HasReport (options : Options) (text : List ℕ) (complete : Bool) (e 
   pub inputs : List (List ℤ)
   pub of_net : IsNetOf given.net net
   pub of_inputs : AreInputsOf given.inputs net inputs
-  pub report : IsReportOf (AreKept (asked_files options).sync (asked_files options).state (file_names net.program.channels.items net.channel_names.items) e)
+  pub report : IsReportOf
+      (WereHeld (asked_files options).sync (asked_files options).state (file_names net.program.channels.items net.channel_names.items) e)
+      (AreKept (asked_files options).sync (asked_files options).state (file_names net.program.channels.items net.channel_names.items) e)
       (IsWrittenIfAsked (asked_files options).history e) options net inputs given.script text complete
 
 -- such a report was said

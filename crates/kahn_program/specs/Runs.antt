@@ -44,25 +44,27 @@ abbrev pub IsWrittenIf : Bool → (List ℕ → Type 0) → List ℕ → Type 0
 IsWrittenIf true wrote text = wrote text
 IsWrittenIf false wrote text = Unit {0}
 
--- A text is the report of a run of this network on these inputs, by the events of this script, which may have gone on where
--- one before stopped, where a folder is asked for, and tells whether it is complete: of what has left in the world at its end, which is kept too. Where so many items of each output were asked for, and
--- each has them, the first ones of each are printed, and the run is partial. Where a history is asked for, what happened on the way
--- to that world is written too.
-abbrev pub IsReport : (List (List ℤ) → Type 0) → (List ℕ → Type 0) → Options → Net → List (List ℤ) → List ScriptedEvent → List ℕ → Bool → Type 0
-IsReport kept wrote options net inputs script text told =
-    ∥ ((now : WorldView) × (happened : List Happening)
-    × IsEndOf (is_some options.state) (settings_of options) (network_of net.program) inputs script happened now
+-- A text is the report of a run of this network on these inputs, by the events of this script, and tells whether it is complete: of what has
+-- left in the world at its end, which is kept too. The run went on behind what its outputs held, if they did: `held` says whether, and how many
+-- items each. Where so many items of each output were asked for, and each has them, the first ones of each are printed, and the run is partial.
+-- Where a history is asked for, what happened on the way to that world is written too.
+abbrev pub IsReport : (Option (List ℕ) → Type 0) → (List (List ℤ) → Type 0) → (List ℕ → Type 0) → Options → Net → List (List ℤ)
+    → List ScriptedEvent → List ℕ → Bool → Type 0
+IsReport held kept wrote options net inputs script text told =
+    ∥ ((now : WorldView) × (happened : List Happening) × (counts : Option (List ℕ)) × held counts
+    × IsEndOf counts (settings_of options) (network_of net.program) inputs script happened now
     × IsRun (network_of net.program) inputs (released_streams (network_of net.program) now.stations) (are_quiet now)
     × IsToldOf net options.items now text told
     × kept (released_streams (network_of net.program) now.stations)
     × IsWrittenIf (is_some options.history) wrote (history_text net happened)) ∥₁
 
 -- the same by the script of a text with these bytes, where they are known, if a script is asked for
-abbrev pub IsScriptedReport : (List (List ℤ) → Type 0) → (List ℕ → Type 0) → Options → Net → List (List ℤ) → Option (List ℕ) → List ℕ → Bool → Type 0
-IsScriptedReport kept wrote options net inputs script_bytes text told =
+abbrev pub IsScriptedReport : (Option (List ℕ) → Type 0) → (List (List ℤ) → Type 0) → (List ℕ → Type 0) → Options → Net → List (List ℤ)
+    → Option (List ℕ) → List ℕ → Bool → Type 0
+IsScriptedReport held kept wrote options net inputs script_bytes text told =
     (lines : List ScriptLine)
     × AreLinesOf options.script (node_count (network_of net.program)) script_bytes lines
-    × IsReport kept wrote options net inputs (map scripted_of lines) text told
+    × IsReport held kept wrote options net inputs (map scripted_of lines) text told
 
 -- A text is the report of the n-th approximation on these inputs: each output's whole history there. It tells
 -- `complete` exactly where that approximation is a solution.
@@ -74,12 +76,13 @@ pub record IsApproximated (net : Net) (inputs : List (List ℤ)) (n : ℕ) (text
       ↔ IsSolution (network_of net.program) inputs (approximation (network_of net.program) inputs n)
 
 -- a text is the report that is asked for: of an approximation, or of a run
-abbrev pub IsReportBy : Option ℕ → (List (List ℤ) → Type 0) → (List ℕ → Type 0) → Options → Net → List (List ℤ) → Option (List ℕ) → List ℕ → Bool
-    → Type 0
-IsReportBy (Some n) kept wrote options net inputs script_bytes text told = IsApproximated net inputs n text told
-IsReportBy None kept wrote options net inputs script_bytes text told =
-    IsScriptedReport kept wrote options net inputs script_bytes text told
+abbrev pub IsReportBy : Option ℕ → (Option (List ℕ) → Type 0) → (List (List ℤ) → Type 0) → (List ℕ → Type 0) → Options → Net → List (List ℤ)
+    → Option (List ℕ) → List ℕ → Bool → Type 0
+IsReportBy (Some n) held kept wrote options net inputs script_bytes text told = IsApproximated net inputs n text told
+IsReportBy None held kept wrote options net inputs script_bytes text told =
+    IsScriptedReport held kept wrote options net inputs script_bytes text told
 
-abbrev pub IsReportOf : (List (List ℤ) → Type 0) → (List ℕ → Type 0) → Options → Net → List (List ℤ) → Option (List ℕ) → List ℕ → Bool → Type 0
-IsReportOf kept wrote options net inputs script_bytes text told =
-    IsReportBy options.approx kept wrote options net inputs script_bytes text told
+abbrev pub IsReportOf : (Option (List ℕ) → Type 0) → (List (List ℤ) → Type 0) → (List ℕ → Type 0) → Options → Net → List (List ℤ)
+    → Option (List ℕ) → List ℕ → Bool → Type 0
+IsReportOf held kept wrote options net inputs script_bytes text told =
+    IsReportBy options.approx held kept wrote options net inputs script_bytes text told

@@ -1,9 +1,8 @@
 //! What the command line asks for.
 
-ghost use Rattle.std.specs.Prelude.{◌≡◌, None, false};
+ghost use Rattle.std.specs.Prelude.{◌≡◌, None, false, is_some};
 ghost use Rattle.protocol.specs.declared.limits.TheConstants.{DEFAULT_ROOM};
-ghost use Rattle.cobaltmidge.specs.declared.settings.TheConstants.{DEFAULT_ROUNDS};
-ghost use Rattle.kahn_program.specs.Asked.{settings_of};
+ghost use Rattle.kahn_program.specs.Asked.{rounds_of, settings_of};
 
 use cobaltmidge::{DEFAULT_ROOM, DEFAULT_ROUNDS, Settings};
 
@@ -29,8 +28,8 @@ pub struct Options {
     pub state: Option<String>,
     /// What is kept in that folder outlasts a loss of power too.
     pub sync: bool,
-    /// A run ends after so many rounds, complete or not.
-    pub rounds: u64,
+    /// A run ends after so many rounds, complete or not. Where none are asked for it has `DEFAULT_ROUNDS`, and with a folder `MAX_ROUNDS`.
+    pub rounds: Option<u64>,
     /// A run ends where each output has so many items.
     pub items: Option<u64>,
     /// How many items a channel of a run retains at most at first, from `MIN_ROOM` to `MAX_RETAINED_ITEMS`. Any other number is taken
@@ -52,10 +51,9 @@ impl Options {
     /// What the names of the two files alone ask for.
     pub fn new(net: String, inputs: String) -> Self
         ensures names { (result.net ≡ net) × (result.inputs ≡ inputs) }
-        ensures rounds { result.rounds ≡ DEFAULT_ROUNDS }
         ensures room { result.room ≡ DEFAULT_ROOM }
         ensures others { (result.script ≡ None) × (result.state ≡ None) × (result.sync ≡ false) × (result.items ≡ None) × (result.plain ≡ false)
-            × (result.approx ≡ None) × (result.explain ≡ false) × (result.history ≡ None) × (result.quiet ≡ false) }
+            × (result.rounds ≡ None) × (result.approx ≡ None) × (result.explain ≡ false) × (result.history ≡ None) × (result.quiet ≡ false) }
     {
         Options {
             net,
@@ -63,7 +61,7 @@ impl Options {
             script: None,
             state: None,
             sync: false,
-            rounds: DEFAULT_ROUNDS,
+            rounds: None,
             items: None,
             room: DEFAULT_ROOM as u64,
             plain: false,
@@ -74,12 +72,23 @@ impl Options {
         }
     }
 
+    // The rounds after which a run ends. One with a folder may go on as long as may be asked for: what it comes to isn't lost.
+    fn rounds(&self) -> u64
+        ensures { result ≡ rounds_of self.now.rounds (is_some self.now.state) }
+    {
+        match (self.rounds, &self.state) {
+            (Some(rounds), _) => rounds,
+            (None, Some(_)) => MAX_ROUNDS,
+            (None, None) => DEFAULT_ROUNDS,
+        }
+    }
+
     /// How a run goes by them.
     pub(crate) fn settings(&self) -> Settings
         ensures { result ≡ settings_of self.now }
     {
         Settings {
-            rounds: self.rounds,
+            rounds: self.rounds(),
             items: self.items,
             room: self.room,
             threads: !self.plain,

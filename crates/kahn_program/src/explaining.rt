@@ -150,6 +150,22 @@ pub(crate) fn going_on<O: Outlet>(
     Ok(lines)
 }
 
+// Why a run ended. That its rounds were a default is said only where none were asked for.
+fn reason_for<'a, O: Outlet>(
+    options: &Options,
+    net: &'a Net,
+    world: &RunWorld<O>,
+    end: RunEnd,
+) -> Reason<'a> {
+    match reason_of(net, world, end, options.settings()) {
+        Reason::Rounds { rounds, .. } => Reason::Rounds {
+            rounds,
+            is_default: options.rounds.is_none(),
+        },
+        reason => reason,
+    }
+}
+
 /// The lines that say why a run's report ends in `partial`, and which lines of its script never came due, each with its line feed; none
 /// where it is complete and all came due. `end` is what was told with the run's world. Refuses for want of memory alone.
 pub fn ending<O: Outlet>(
@@ -164,7 +180,7 @@ pub fn ending<O: Outlet>(
     let cut = cut(net.program.channels.as_slice(), world, options.items);
     let reason = match cut {
         Some(items) => Reason::Items { items },
-        None => reason_of(net, world, end, options.settings()),
+        None => reason_for(options, net, world, end),
     };
     if cut.is_some() || !world.complete() {
         write!(lines, "partial: {reason}\n")?;

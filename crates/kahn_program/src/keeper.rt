@@ -1,6 +1,6 @@
 //! Where the items of a run's outputs go, beside its report.
 
-ghost use Rattle.std.specs.Prelude.{◌≡◌, Bool, List, ℕ, ℤ, false, IfErr, IfOk, OnOk};
+ghost use Rattle.std.specs.Prelude.{◌≡◌, Bool, List, None, Option, ℕ, ℤ, false, IfErr, IfOk, OnOk};
 ghost use Rattle.std.specs.List.{AllByRecursion};
 ghost use Rattle.protocol.specs.Node.Common.{Fits, network_of};
 ghost use Rattle.cobaltmidge.specs.Beginning.{IsBeginning};
@@ -21,6 +21,9 @@ pub trait Keeper<O: Outlet> {
     /// Whether what the outlets take outlasts the run. Then they can fail.
     ghost keeps: { Bool };
 
+    /// Where what the outlets take outlasts the run: how many items each output held before the run began.
+    ghost held: { Self → Option (List ℕ) };
+
     /// What it has of streams, one for each output, that its outlets took.
     ghost has_kept: { Self → List (List ℤ) → Type 0 };
 
@@ -38,7 +41,7 @@ pub trait Keeper<O: Outlet> {
     ) -> Result<RunWorld<O>, Failure>
         requires fitting { Fits (network_of net.now.value.program) inputs }
         ensures begins { IfOk result
-            (λ world. IsBeginning keeps (network_of net.now.value.program) inputs room (world_of world)) }
+            (λ world. IsBeginning (held self.old) (network_of net.now.value.program) inputs room (world_of world)) }
         ensures room { IfOk result (λ world. AllByRecursion IsRunRoom (capacities_in world)) }
         ensures err { IfErr result (IsReportless keeps) }
         ensures cause { IfErr result (IsKeptFailure (has_failed self.new)) };
@@ -61,6 +64,8 @@ pub struct InMemory;
 
 impl Keeper<ListOutlet> for InMemory {
     ghost keeps = { false };
+
+    ghost held = { λ keeper. None };
 
     ghost has_kept = { λ keeper streams. Unit {0} };
 

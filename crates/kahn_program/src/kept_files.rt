@@ -1,6 +1,6 @@
 //! Outlets over files, which outlast a run.
 
-ghost use Rattle.std.specs.Prelude.{◌≡◌, true, IfErr, IfOk, OnOk};
+ghost use Rattle.std.specs.Prelude.{◌≡◌, Some, true, IfErr, IfOk, OnOk};
 ghost use Rattle.std.specs.List.{AllByRecursion};
 ghost use Rattle.output_file.specs.Output.{taken_of};
 ghost use Rattle.protocol.specs.Node.Common.{Fits, network_of};
@@ -8,7 +8,7 @@ ghost use Rattle.cobaltmidge.specs.Beginning.{IsBeginning};
 ghost use Rattle.cobaltmidge.specs.Common.{capacities_in, world_of};
 ghost use Rattle.cobaltmidge.specs.FirstWorld.{IsRunRoom};
 ghost use Rattle.kahn_program.specs.Keeping.{IsKeeperFailure, IsKeptFailure, taken_streams};
-ghost use Rattle.kahn_program.specs.KeptFiles.{AreInFiles, HasFailedBy, closed_of, keep_failure};
+ghost use Rattle.kahn_program.specs.KeptFiles.{AreInFiles, HasFailedBy, closed_of, held_counts, held_of, keep_failure};
 ghost use Rattle.kahn_program.specs.Runnable.{IsReportless};
 
 use crate::failure::Failure;
@@ -52,7 +52,9 @@ pub struct FileKeeper<'a, F: LineFile> {
 
 impl<'a, F: LineFile> FileKeeper<'a, F> {
     /// A run's outlets over these files of a folder, one for each output, in order of the channels.
-    pub fn new(alloc: Global, folder: &'a String, files: Vec<HeldFile<F>>) -> FileKeeper<'a, F> {
+    pub fn new(alloc: Global, folder: &'a String, files: Vec<HeldFile<F>>) -> FileKeeper<'a, F>
+        ensures { held_of result ≡ held_counts files.items }
+    {
         FileKeeper {
             folder,
             files,
@@ -90,6 +92,8 @@ fn keep_failure(fault: KeepFault) -> Failure
 impl<'a, F: LineFile> Keeper<ResumedOutlet<F>> for FileKeeper<'a, F> {
     ghost keeps = { true };
 
+    ghost held = { λ keeper. Some (held_of keeper) };
+
     ghost has_kept = { λ keeper streams. AreInFiles keeper.closed.items streams };
 
     ghost has_failed = { λ keeper number. HasFailedBy keeper number };
@@ -103,18 +107,18 @@ impl<'a, F: LineFile> Keeper<ResumedOutlet<F>> for FileKeeper<'a, F> {
     ) -> Result<RunWorld<ResumedOutlet<F>>, Failure>
         requires fitting { Fits (network_of net.now.value.program) inputs }
         ensures begins { IfOk result
-            (λ world. IsBeginning true (network_of net.now.value.program) inputs room (world_of world)) }
+            (λ world. IsBeginning (Some (held_of self.old)) (network_of net.now.value.program) inputs room (world_of world)) }
         ensures room { IfOk result (λ world. AllByRecursion IsRunRoom (capacities_in world)) }
         ensures err { IfErr result (IsReportless true) }
         ensures cause { IfErr result (IsKeptFailure (HasFailedBy self.new)) }
     {
         let files = mem::replace(&mut self.files, Vec::new(alloc));
+        let Ok(held) = held_counts(alloc, files.as_slice()) else {
+            return Err(Failure::NoMemory);
+        };
         let outputs = match outlets_over(alloc, net, files) {
             Ok(outputs) => outputs,
             Err(fault) => return Err(keep_failure(fault)),
-        };
-        let Ok(held) = held_counts(alloc, &outputs) else {
-            return Err(Failure::NoMemory);
         };
         let nodes = node_count(net);
         match resume_world(alloc, net, inputs, outputs, &held, nodes, room) {

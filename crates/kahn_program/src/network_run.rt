@@ -1,6 +1,6 @@
 //! A network's run, and its report.
 
-ghost use Rattle.std.specs.Prelude.{◌≡◌, ◌≤◌, ◌++◌, ◌∷◌, [], true, if◌then◌else◌, is_some, length, map, IfErr, IfOk, OnOk};
+ghost use Rattle.std.specs.Prelude.{◌≡◌, ◌≤◌, ◌++◌, ◌∷◌, [], if◌then◌else◌, is_some, length, map, IfErr, IfOk, OnOk};
 ghost use Rattle.protocol.specs.Node.Common.{Fits, network_of, MAX_CHANNELS};
 ghost use Rattle.protocol.specs.World.Common.{released_of, goes_outside, output_channels};
 ghost use Rattle.cobaltmidge.specs.Common.{happenings, history_text, net_in, world_of};
@@ -247,9 +247,8 @@ pub fn report_of_run<
     watch: &mut P,
 ) -> Result<(Report, Vec<u8>), Failure>
     requires fitting { Fits (network_of net.program) inputs }
-    requires resumes { K.keeps ≡ true → is_some options.now.state ≡ true }
     ensures ok { IfOk result
-        (λ came. IsReport (K.has_kept keeper.new) (λ history. came.1.items ≡ history)
+        (λ came. IsReport (λ counts. counts ≡ K.held keeper.old) (K.has_kept keeper.new) (λ history. came.1.items ≡ history)
         options.now net inputs script.items came.0.bytes.items came.0.complete) }
     // A device failed (20), memory is missing (1), a count would pass 2^63 - 1 (44), or what outlasts the run failed.
     ensures err { IfErr result (IsReportless K.keeps) }

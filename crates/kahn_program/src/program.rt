@@ -1,12 +1,12 @@
 //! The whole program over its host.
 
-ghost use Rattle.std.specs.Prelude.{Bool, ◌≡◌, ◌⊎◌, ◌≤◌, true, is_some, IfErr, IfOk, OnOk, Ok, Err, Some, map, string_bytes};
+ghost use Rattle.std.specs.Prelude.{Bool, ◌≡◌, ◌⊎◌, ◌≤◌, true, IfErr, IfOk, OnOk, Ok, Err, Some, map, string_bytes};
 ghost use Rattle.std.specs.Option.{option_map};
 ghost use Rattle.host.specs.Requests.{Each, Has, IsFree, IsHeld, Read, Said, Told};
 ghost use Rattle.protocol.specs.Node.Common.{Fits, MAX_NODES, network_of, node_count};
 ghost use Rattle.cobaltmidge.specs.Texts.{AreInputsOf, IsNetOf};
 ghost use Rattle.fail_script.specs.Lines.{IsScript};
-ghost use Rattle.kahn_program.specs.Program.{IsAccepted, IsOpenIfAsked, IsWrittenIfAsked, Keeps, asked_files, file_names, given_of, made_for, AreKept, AreKeptIn, HasReport, IsDone};
+ghost use Rattle.kahn_program.specs.Program.{IsAccepted, IsOpenIfAsked, IsWrittenIfAsked, Keeps, asked_files, file_names, given_of, made_for, AreKept, AreKeptIn, HasReport, IsDone, WereHeld};
 ghost use Rattle.kahn_program.specs.Causes.{HasCause, HasFailed, HasFileFault, IsRefused, IsScriptStop, IsStopped, IsToldOf, IsUnread};
 ghost use Rattle.kahn_program.specs.Failures.{failure_line, status_of};
 ghost use Rattle.kahn_program.specs.Readings.{IsInputsFailure, IsNetFailure, IsScriptFailure};
@@ -15,7 +15,7 @@ ghost use Rattle.kahn_program.specs.Scripts.{AreLinesOf};
 ghost use Rattle.kahn_program.specs.Statuses.{status_of_run};
 ghost use Rattle.cobaltmidge.specs.Scripts.{scripted_of};
 ghost use Rattle.run_files.specs.Leftovers.{AreGone, LeavesNothing};
-ghost use Rattle.run_files.specs.Opening.{AreOpened, opened_names};
+ghost use Rattle.run_files.specs.Opening.{AreHeldAs, AreOpened, opened_names};
 ghost use Rattle.run_files.specs.Rules.{GoesOn, GoesWith, IsReady, WasReadIf, WereRead, rule};
 ghost use Rattle.run_files.specs.Wanted.{wanted_of};
 ghost use Rattle.host.specs.declared.fault.HostFault.{HostFault};
@@ -416,9 +416,8 @@ fn run_over<
 ) -> Result<Report, Stop>
     requires ready { IsReady IsAccepted (wanted_of names.now) (H.asked host.old) }
     requires fitting { Fits (network_of asked.net.program) asked.inputs }
-    requires resumes { K.keeps ≡ true → is_some options.now.state ≡ true }
     ensures goes { GoesOn IsAccepted (wanted_of names.now) (H.asked host.old) (H.asked host.new) }
-    ensures report { IfOk result (λ report. IsReport (K.has_kept keeper.new)
+    ensures report { IfOk result (λ report. IsReport (λ counts. counts ≡ K.held keeper.old) (K.has_kept keeper.new)
         (IsWrittenIfAsked (wanted_of names.now).history (H.asked host.new)) options.now asked.entry.net asked.entry.inputs
         (map scripted_of asked.entry.lines.items) report.bytes.items report.complete) }
     ensures cause { IfErr result (λ stop. IsStopped (K.has_failed keeper.new) (wanted_of names.now) (H.asked host.new) stop.failure) }
@@ -461,11 +460,12 @@ fn run_locked<H: Host, P: RunWatch + TurnWatch + Sync, R: Threads + Wait + Sync>
 ) -> Result<Report, Stop>
     requires ready { IsReady IsAccepted (wanted_of names.now) (H.asked host.old) }
     requires fitting { Fits (network_of asked.net.program) asked.inputs }
-    requires resumes { is_some options.now.state ≡ true }
     requires held { IsHeld (string_bytes folder.now) (H.asked host.old) }
     requires opened { AreOpened names.now.sync (string_bytes folder.now) opened.now (H.asked host.old) }
+    requires files { AreHeldAs opened.now files.items (H.asked host.old) }
     ensures goes { GoesOn IsAccepted (wanted_of names.now) (H.asked host.old) (H.asked host.new) }
     ensures report { IfOk result (λ report. IsReport
+        (WereHeld names.now.sync (Some (string_bytes folder.now)) (opened_names opened.now) (H.asked host.new))
         (AreKeptIn names.now.sync (string_bytes folder.now) (opened_names opened.now) (H.asked host.new))
         (IsWrittenIfAsked (wanted_of names.now).history (H.asked host.new)) options.now asked.entry.net asked.entry.inputs
         (map scripted_of asked.entry.lines.items) report.bytes.items report.complete) }
@@ -503,11 +503,12 @@ fn run_kept<H: Host, P: RunWatch + TurnWatch + Sync, R: Threads + Wait + Sync>(
     requires free { IsFree (H.asked host.old) }
     requires ready { IsReady IsAccepted (wanted_of names.now) (H.asked host.old) }
     requires wanted { (wanted_of names.now).state ≡ Some (string_bytes folder.now) }
-    requires resumes { is_some options.now.state ≡ true }
     requires read { WereRead (wanted_of names.now) (given_of texts.now) (H.asked host.old) }
     requires fitting { Fits (network_of asked.net.program) asked.inputs }
     ensures keeps { Keeps (wanted_of names.now) (H.asked host.old) (H.asked host.new) }
     ensures report { IfOk result (λ report. IsReport
+        (WereHeld names.now.sync (Some (string_bytes folder.now))
+        (file_names asked.entry.net.program.channels.items asked.entry.net.channel_names.items) (H.asked host.new))
         (AreKept names.now.sync (Some (string_bytes folder.now))
         (file_names asked.entry.net.program.channels.items asked.entry.net.channel_names.items) (H.asked host.new))
         (IsWrittenIfAsked (wanted_of names.now).history (H.asked host.new)) options.now asked.entry.net asked.entry.inputs
@@ -574,6 +575,8 @@ fn run_asked<H: Host, P: RunWatch + TurnWatch + Sync, R: Threads + Wait + Sync>(
     requires wanted { wanted_of names.now ≡ asked_files options.now }
     ensures keeps { Keeps (wanted_of names.now) (H.asked host.old) (H.asked host.new) }
     ensures report { IfOk result (λ report. IsReport
+        (WereHeld names.now.sync (wanted_of names.now).state
+        (file_names all.net.program.channels.items all.net.channel_names.items) (H.asked host.new))
         (AreKept names.now.sync (wanted_of names.now).state
         (file_names all.net.program.channels.items all.net.channel_names.items) (H.asked host.new))
         (IsWrittenIfAsked (wanted_of names.now).history (H.asked host.new)) options.now all.net all.inputs

@@ -103,8 +103,7 @@ fn number<'a>(alloc: Global, name: &'a str, least: u64, most: u64, help: &'a str
 
 /// How many rounds a run goes on at most.
 fn rounds<'a>(alloc: Global) -> Arg<'a>
-    ensures rule { rule_of result
-        ≡ by_default (codes "1000") (number (codes "rounds") 1 MAX_ROUNDS) }
+    ensures rule { rule_of result ≡ number (codes "rounds") 1 MAX_ROUNDS }
     ensures here { result.global ≡ false }
 {
     number(
@@ -112,9 +111,8 @@ fn rounds<'a>(alloc: Global) -> Arg<'a>
         "rounds",
         1,
         MAX_ROUNDS,
-        "Ends the run after so many rounds, complete or not",
+        "Ends the run after so many rounds, complete or not: 1000 if not said, and 1000000 with --state",
     )
-    .default_value("1000")
 }
 
 /// How many items a channel retains at most.
@@ -192,7 +190,7 @@ fn command<'a>(alloc: Global) -> Result<Command<'a>, AllocError>
             alloc,
             "state",
             "FOLDER",
-            "Keeps what left in this folder; a later run computes again, compares, and adds what is missing",
+            "Keeps what left in this folder, and a later run goes on behind it",
         ),
     );
     let sync = and(
@@ -301,10 +299,9 @@ fn given(
 fn options_of(alloc: Global, matches: &ArgMatches<'_>) -> Result<Options, AllocError>
     ensures { IfOk result (IsAsked (rows_of (found_of matches.now))) }
 {
-    let (Some(net), Some(inputs), Some(rounds), Some(room)) = (
+    let (Some(net), Some(inputs), Some(room)) = (
         matches.get_str("NET"),
         matches.get_str("INPUTS"),
-        given(matches, "rounds", 1, MAX_ROUNDS)?,
         given(matches, "room", LEAST_ROOM, MOST_ROOM)?,
     ) else {
         return Err(AllocError);
@@ -315,7 +312,7 @@ fn options_of(alloc: Global, matches: &ArgMatches<'_>) -> Result<Options, AllocE
         script: name_given(alloc, matches, "script")?,
         state: name_given(alloc, matches, "state")?,
         sync: matches.get_flag("sync"),
-        rounds,
+        rounds: given(matches, "rounds", 1, MAX_ROUNDS)?,
         items: given(matches, "items", 0, MAX_ITEMS)?,
         room,
         plain: matches.get_flag("plain"),

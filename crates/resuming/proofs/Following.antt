@@ -13,6 +13,8 @@ use Rattle.kahn_net.specs.Laws.Prefixes.{prefix_of, prefix_refl, prefix_trans}
 use Rattle.kahn_net.specs.Streams.{IsPrefix, history_of}
 use Rattle.kahn_net.specs.declared.program.Port.{Port}
 use Rattle.kahn_net.specs.declared.program.Port.TheVariants.{Outside, Process}
+use Rattle.outlet.specs.declared.fault.OutletFault.{OutletFault}
+use Rattle.outlet.specs.declared.fault.OutletFault.TheVariants.{Failed, NoMemory}
 use Rattle.protocol.specs.Node.Common.{approximation, Channel, Fits, IsValid, Network}
 use Rattle.protocol.specs.World.Common.{goes_outside, output_channels, OutputView}
 use Rattle.protocol_laws.specs.World.OutputLaws.{map_at, set_cases, set_keeps, set_same}
@@ -25,7 +27,7 @@ use Rattle.rerun.specs.declared.stopped.Stopped.{Stopped}
 use Rattle.rerun.specs.declared.stopped.Stopped.TheVariants.{Reached, Rests, Sweeps}
 use Rattle.resuming.proofs.Lists.{index_at, shorter}
 use Rattle.resuming.specs.CatchingUp.{AllFollow, Follows, HasAll, HaveAll, HaveGoneOn, HaveTakenAll, KeepsEnds}
-use Rattle.resuming.specs.CatchingUp.{NothingPut, StoppedSince}
+use Rattle.resuming.specs.CatchingUp.{failures_by, IsBehindBy, IsCounted, NothingPut, StoppedSince}
 use Rattle.resuming.specs.declared.catching_up.TheConstants.{IDLE_SWEEPS}
 use Rattle.retained.specs.LogState.{IsInLog, IsLogOf, LogState, log_end, trimmed}
 use Rattle.station.specs.OutputView.{outputs_view}
@@ -57,6 +59,38 @@ map_set {A} {B} f (x ∷ xs) (suc k) y = ap (λ (l : List B). f x ∷ l) (map_se
 pub as_many : {A B : Type 0} (f : A → B) (xs : List A) → length (map f xs) ≡ length xs
 as_many f [] = refl
 as_many f (x ∷ xs) = ap suc (as_many f xs)
+
+-- a count of failures that stays leaves all counts as they were
+pub same_count : {O : Type 0} (failures : O → ℕ) (outputs : List (Output O)) (k : ℕ) (old new : Output O)
+    → slice_get outputs k ≡ Some old → failures new.outlet ≡ failures old.outlet
+    → failures_by failures (slice_set outputs k new) ≡ failures_by failures outputs
+same_count failures [] k old new is same = absurd (cc)
+same_count {O} failures (x ∷ outputs) zero old new is same =
+    let at : x ≡ old = cc in
+    ap (λ (n : ℕ). n ∷ failures_by failures outputs) (same ∙ ap (λ (o : Output O). failures o.outlet) (sym at))
+same_count failures (x ∷ outputs) (suc k) old new is same =
+    ap (λ (counts : List ℕ). failures x.outlet ∷ counts) (same_count failures outputs k old new is same)
+
+-- what is set at a place stands there
+set_there : {A : Type 0} (xs : List A) (k : ℕ) (x y : A) → slice_get xs k ≡ Some x → slice_get (slice_set xs k y) k ≡ Some y
+set_there [] k x y is = absurd (cc)
+set_there (z ∷ xs) zero x y is = refl
+set_there (z ∷ xs) (suc k) x y is = set_there xs k x y is
+
+-- an outlet that failed is the cause
+pub behind_by : {O : Type 0} (failures : O → ℕ) (before outputs : List (Output O)) (k : ℕ) (old new : Output O) (fault : OutletFault)
+    → slice_get outputs k ≡ Some old → failures_by failures outputs ≡ failures_by failures before
+    → IsCounted (failures old.outlet) (failures new.outlet) fault
+    → IsBehindBy (failures_by failures before) (failures_by failures (slice_set outputs k new)) fault
+behind_by failures before outputs k old new NoMemory is so_far counted = tt
+behind_by {O} failures before outputs k old new Failed is so_far counted =
+    let count : Output O → ℕ = λ output. failures output.outlet in (
+      k,
+      failures old.outlet,
+      ap (λ (counts : List ℕ). slice_get counts k) (sym so_far) ∙ map_at count outputs k old is,
+      ap (λ (counts : List ℕ). slice_get counts k) (map_set count outputs k new)
+          ∙ (set_there (map count outputs) k (count old) (count new) (map_at count outputs k old is) ∙ ap Some counted),
+    )
 
 -- what holds of a network and its inputs holds of the same ones
 pub at_same : (P : Network → List (List ℤ) → Type 0) (net net' : Network) (inputs inputs' : List (List ℤ)) → net' ≡ net

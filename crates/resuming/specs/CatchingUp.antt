@@ -1,9 +1,11 @@
 -- Processes that are run again up to what their outputs held, while each output takes what is put there.
-use Rattle.std.specs.Prelude.{◌≡◌, ℕ, true, ℤ, List, length, map, Some, slice_get}
+use Rattle.std.specs.Prelude.{◌≡◌, ◌+◌, ℕ, true, ℤ, List, length, map, Some, slice_get}
 use Rattle.kahn_net.specs.Streams.{IsPrefix}
 use Rattle.kahn_net.specs.Syntax.{Network}
 use Rattle.kahn_net.specs.declared.program.Channel.{Channel}
 use Rattle.kahn_net.specs.declared.program.Port.TheVariants.{Outside}
+use Rattle.outlet.specs.declared.fault.OutletFault.{OutletFault}
+use Rattle.outlet.specs.declared.fault.OutletFault.TheVariants.{Failed, NoMemory}
 use Rattle.protocol.specs.World.OutputView.{OutputView}
 use Rattle.rerun.specs.Tables.{AreSwept, HaveReached, IsAtRest, KeepsLimits, TableView, is_output, log_on}
 use Rattle.rerun.specs.declared.stopped.Stopped.{Stopped}
@@ -11,6 +13,7 @@ use Rattle.rerun.specs.declared.stopped.Stopped.TheVariants.{Reached, Rests, Swe
 use Rattle.resuming.specs.Resuming.{Agrees}
 use Rattle.resuming.specs.declared.catching_up.TheConstants.{IDLE_SWEEPS}
 use Rattle.retained.specs.LogState.{log_end}
+use Rattle.station.specs.declared.output.Output.{Output}
 
 -- an output has taken all that was put there, and the log has let go of that
 pub record HasTakenAll (net : Network) (inputs : List (List ℤ)) (t : TableView) (output : OutputView) : Type 0 where
@@ -77,3 +80,18 @@ pub record HasCaughtUp (net : Network) (inputs : List (List ℤ)) (limits : List
   pub gone_on : HaveGoneOn before after
   pub within : KeepsLimits net limits old now
   pub since : StoppedSince net inputs limits now stopped
+
+-- how often the outlet of each output has failed
+abbrev pub failures_by : {O : Type 0} → (O → ℕ) → List (Output O) → List ℕ
+failures_by {O} failures outputs = map (λ (output : Output O). failures output.outlet) outputs
+
+-- an outlet's count of failures after a fault: one more where it failed, and else the same
+abbrev pub IsCounted : ℕ → ℕ → OutletFault → Type 0
+IsCounted before after NoMemory = after ≡ before
+IsCounted before after Failed = after ≡ before + 1
+
+-- Why the outputs don't take all that was put, by the counts of failures before and after: memory is missing, or one of their outlets failed.
+abbrev pub IsBehindBy : List ℕ → List ℕ → OutletFault → Type 0
+IsBehindBy before after NoMemory = Unit {0}
+IsBehindBy before after Failed =
+    (j : ℕ) × (times : ℕ) × (slice_get before j ≡ Some times) × (slice_get after j ≡ Some (times + 1))

@@ -5,7 +5,7 @@ ghost use Rattle.protocol.specs.World.Sound.{output_channels};
 ghost use Rattle.rerun.specs.Tables.{KeepsLimits};
 ghost use Rattle.rerun.specs.Whole.{inputs_in, net_in, table_in};
 ghost use Rattle.resuming.specs.CatchingUp.{AllFollow, Follows, HasAll, HasCaughtUp, HaveAll, HaveGoneOn, HaveTakenAll};
-ghost use Rattle.resuming.specs.CatchingUp.{KeepsEnds, StoppedSince};
+ghost use Rattle.resuming.specs.CatchingUp.{IsBehindBy, IsCounted, KeepsEnds, StoppedSince, failures_by};
 ghost use Rattle.station.specs.OutputView.{output_view, outputs_view};
 
 use outlet::{Outlet, OutletFault, release};
@@ -39,6 +39,8 @@ fn hand_one<O: Outlet>(rerun: &Rerun, output: &mut Output<O>) -> Result<bool, Ou
     ensures still { IfOk result (λ moved. moved ≡ false
         → output_view O.taken output.new ≡ output_view O.taken output.old) }
     ensures gone_on { IsPrefix (O.taken output.old.outlet) (O.taken output.new.outlet) }
+    ensures unfailed { OnOk result (O.failures output.new.outlet ≡ O.failures output.old.outlet) }
+    ensures fault { IfErr result (IsCounted (O.failures output.old.outlet) (O.failures output.new.outlet)) }
     ensures channel { output.new.channel ≡ output.old.channel }
 {
     let Some(log) = rerun.put_on(output.channel as usize) else {
@@ -62,6 +64,8 @@ fn hand_over<O: Outlet>(rerun: &Rerun, outputs: &mut Vec<Output<O>>) -> Result<b
     ensures still { IfOk result (λ moved. moved ≡ false
         → outputs_view O.taken outputs.new.items ≡ outputs_view O.taken outputs.old.items) }
     ensures gone_on { HaveGoneOn (outputs_view O.taken outputs.old.items) (outputs_view O.taken outputs.new.items) }
+    ensures unfailed { OnOk result (failures_by O.failures outputs.new.items ≡ failures_by O.failures outputs.old.items) }
+    ensures fault { IfErr result (IsBehindBy (failures_by O.failures outputs.old.items) (failures_by O.failures outputs.new.items)) }
 {
     let mut any = false;
     for place in 0..outputs.len() {
@@ -103,6 +107,8 @@ fn go_round<O: Outlet>(
     ensures since { IfOk result (λ last. IfSome last (StoppedSince (net_in rerun.old) (inputs_in rerun.old) limits.now
         (table_in rerun.new))) }
     ensures gone_on { HaveGoneOn (outputs_view O.taken outputs.old.items) (outputs_view O.taken outputs.new.items) }
+    ensures unfailed { OnOk result (failures_by O.failures outputs.new.items ≡ failures_by O.failures outputs.old.items) }
+    ensures fault { IfErr result (IsBehindBy (failures_by O.failures outputs.old.items) (failures_by O.failures outputs.new.items)) }
     ensures within { KeepsLimits (net_in rerun.old) limits.now (table_in rerun.old) (table_in rerun.new) }
     ensures net { net_in rerun.new ≡ net_in rerun.old }
     ensures inputs { inputs_in rerun.new ≡ inputs_in rerun.old }
@@ -137,9 +143,14 @@ pub fn catch_up<O: Outlet>(
         caught.stopped) }
     ensures net { IfOk result (λ caught. net_in caught.rerun ≡ net_in rerun) }
     ensures inputs { IfOk result (λ caught. inputs_in caught.rerun ≡ inputs_in rerun) }
+    ensures unfailed { IfOk result (λ caught. failures_by O.failures caught.outputs.items
+        ≡ failures_by O.failures outputs.items) }
     // What the outputs had taken they have yet.
     ensures behind { IfErr result (λ behind. HaveGoneOn (outputs_view O.taken outputs.items)
         (outputs_view O.taken behind.outputs.items)) }
+    // It says that an outlet failed only where one did.
+    ensures cause { IfErr result (λ behind. IsBehindBy (failures_by O.failures outputs.items)
+        (failures_by O.failures behind.outputs.items) behind.fault) }
 {
     // No run has so many rounds, but a loop has to end.
     for _round in 0..u64::MAX {

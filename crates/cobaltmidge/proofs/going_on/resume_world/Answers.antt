@@ -48,22 +48,39 @@ resume-requires-clause-agree g c =
 pub returns-then-held_nothing-clause-begins : goal.returns-then-held_nothing-clause-begins
 returns-then-held_nothing-clause-begins g c =
     let net = network_of c.args.net.now.value.program in
+    let held = c.args.held.now in
     if_ok_then (λ world. world_of world ≡ first_world net c.args.inputs c.args.room)
-    (λ world. IsBeginning true net c.args.inputs c.args.room (world_of world)) c.first_world.result
-    (λ world is. inl is) c.first_world.ensures.first
+    (λ world. IsBeginning (Some held) net c.args.inputs c.args.room (world_of world)) c.first_world.result
+    (λ world is. begins_first c.held_nothing.result net c.args.inputs c.args.room held (world_of world) c.held_nothing.ensures ? is)
+    c.first_world.ensures.first
 
 pub returns-clause-begins : goal.returns-clause-begins
 returns-clause-begins g c =
+    let net = network_of c.args.net.now.value.program in
+    let held = c.args.held.now in
     let caught = c.in-Ok.caught in
     let made = c.in-Ok-resume.ensures.made in
-    let same_net : net_in caught.rerun ≡ network_of c.args.net.now.value.program =
-    c.in-Ok.ensures.net ∙ (c.in-Ok-Ok-Ok.ensures.net ∙ ap (λ (net : Net). network_of net.program) c.in-Ok-Ok.ensures') in
-    let same_inputs : inputs_in caught.rerun ≡ c.args.inputs =
-    c.in-Ok.ensures.inputs ∙ (c.in-Ok-Ok-Ok.ensures.inputs ∙ c.in-Ok-Ok.ensures.ok) in
-    inr (again (network_of c.args.net.now.value.program) (net_in caught.rerun) c.args.inputs (inputs_in caught.rerun)
-    c.args.room (table_in caught.rerun) (map failures_of c.in-Ok-Ok-Ok.disks.items)
-    (outlet_views g.O.Outlet.taken g.O.Outlet.failures caught.outputs.items) (world_of c.in-Ok-resume.world)
-    (world_of c.set_room.new.self) same_net same_inputs caught.rerun.reached
+    let first_net : net_in c.in-Ok-Ok-Ok.rerun ≡ net =
+    c.in-Ok-Ok-Ok.ensures.net ∙ ap (λ (net : Net). network_of net.program) c.in-Ok-Ok.ensures' in
+    let first_inputs : inputs_in c.in-Ok-Ok-Ok.rerun ≡ c.args.inputs = c.in-Ok-Ok-Ok.ensures.inputs ∙ c.in-Ok-Ok.ensures.ok in
+    let same_net : net_in caught.rerun ≡ net = c.in-Ok.ensures.net ∙ first_net in
+    let same_inputs : inputs_in caught.rerun ≡ c.args.inputs = c.in-Ok.ensures.inputs ∙ first_inputs in
+    let outlets = outlet_views g.O.Outlet.taken g.O.Outlet.failures caught.outputs.items in
+    let listed : map (λ (outlet : OutletView). outlet.channel) outlets ≡ output_channels 0 net.channels =
+    channels_of g.O.Outlet.taken g.O.Outlet.failures caught.outputs.items
+    ∙ (sym (channels_are g.O.Outlet.taken caught.outputs.items)
+    ∙ (c.in-Ok.ensures.caught_up.gone_on.channels
+    ∙ (channels_are g.O.Outlet.taken c.args.outputs.items ∙ c.requires.listed))) in
+    begins_again c.held_nothing.result net c.args.inputs c.args.room held (world_of c.set_room.new.self) c.held_nothing.ensures ?
+    (again net (net_in caught.rerun) c.args.inputs (inputs_in caught.rerun) c.args.room held (table_in caught.rerun)
+    (map failures_of c.in-Ok-Ok-Ok.disks.items) outlets (world_of c.in-Ok-resume.world) (world_of c.set_room.new.self)
+    caught.stopped
+    (has_stopped net (net_in c.in-Ok-Ok-Ok.rerun) c.args.inputs (inputs_in c.in-Ok-Ok-Ok.rerun) held c.in-Ok-Ok-Ok.limits.items
+    (outputs_view g.O.Outlet.taken c.args.outputs.items) (table_in c.in-Ok-Ok-Ok.rerun) (table_in caught.rerun)
+    (outputs_view g.O.Outlet.taken caught.outputs.items) caught.stopped outlets first_net first_inputs ?
+    (c.in-Ok-Ok-Ok.ensures.table ∙ ap first_table ?) (views_left g.O.Outlet.taken g.O.Outlet.failures caught.outputs.items)
+    c.in-Ok.ensures.caught_up)
+    listed same_net same_inputs caught.rerun.reached
     (c.in-Ok-Ok-Ok.ensures''.unfailed ∙ ap (λ (n : ℕ). replicate n 0) c.requires.nodes) made.opening
     (c.in-Ok-set_room.ensures.set
     ∙ ap (λ (n : ℕ). with_rooms (even_rooms n) (world_of c.in-Ok-resume.world)) c.nearest_room.ensures))

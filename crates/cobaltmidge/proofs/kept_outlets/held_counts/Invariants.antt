@@ -1,8 +1,7 @@
-use Rattle.std.proofs.Common.{◌≡◌, length, map, take}
-use Rattle.output_file.specs.Output.{held_of}
+use Rattle.std.proofs.Common.{◌≡◌, take}
+use Rattle.cobaltmidge.specs.KeptOutlets.{held_counts}
 use Rattle.cobaltmidge.proofs.kept_outlets.held_counts.Given as goal
 
--- those of the outputs that were looked at
-abbrev pub invariant-loop-output : goal.invariant-loop-output
-invariant-loop-output g l =
-    l.held.items ≡ map (λ output. length (held_of output.outlet)) (take l.output-index l.outputs)
+-- those of the files that were looked at
+abbrev pub invariant-loop-file : goal.invariant-loop-file
+invariant-loop-file g l = l.counts.items ≡ held_counts (take l.file-index l.files)

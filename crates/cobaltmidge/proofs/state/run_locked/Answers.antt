@@ -1,4 +1,5 @@
-use Rattle.std.proofs.Common.{true, string_bytes, ℤ, List}
+use Rattle.std.proofs.Common.{◌≡◌, true, string_bytes, subst, sym, ℕ, ℤ, List}
+use Rattle.host.specs.Requests.{Later}
 use Rattle.std.proofs.Math.Logic.{∥∥₁_map}
 use Rattle.std.proofs.lemmas.Result.{IfErr-weaker, IfOk-weaker, err_from_is_err_and}
 use Rattle.protocol.specs.Node.Common.{network_of}
@@ -7,13 +8,13 @@ use Rattle.run_files.specs.Wanted.{wanted_of}
 use Rattle.run_files.specs.declared.fault.FilesFault.TheVariants.{Astray}
 use Rattle.run_files.proofs.Caused.{caused_as}
 use Rattle.run_files.proofs.Going.{opened_goes}
-use Rattle.cobaltmidge.specs.KeptOutlets.{AreInFiles, IsRunStop}
+use Rattle.cobaltmidge.specs.KeptOutlets.{AreInFiles, held_counts, IsRunStop}
 use Rattle.cobaltmidge.specs.KeptRuns.{IsKeptRun, IsKeptWhereRefused}
-use Rattle.cobaltmidge.specs.KeptStreams.{AreKeptIn, IsStateCause}
+use Rattle.cobaltmidge.specs.KeptStreams.{AllHeld, AreKeptIn, IsStateCause}
 use Rattle.cobaltmidge.specs.Names.{script_of}
 use Rattle.cobaltmidge.specs.declared.kept_run.KeptRun.{KeptRun}
 use Rattle.cobaltmidge.specs.declared.state_error.StateError.{StateError}
-use Rattle.cobaltmidge.proofs.InFolder.{kept_in, kept_run_maps, stop_in_log}
+use Rattle.cobaltmidge.proofs.InFolder.{all_held_later, held_in, kept_in, kept_run_maps, stop_in_log}
 use Rattle.cobaltmidge.proofs.LeftKept.{refused_maps}
 use Rattle.cobaltmidge.proofs.state.run_locked.Goals as goal
 
@@ -33,10 +34,16 @@ returns-clause-run g c =
     let now = g.H.Host.asked c.give_back.new.host in
     let filed : List (List ℤ) → Type 0 = λ streams. AreInFiles outlets streams in
     let kept : List (List ℤ) → Type 0 = λ streams. AreKeptIn sync folder (opened_names c.args.opened.now) now streams in
+    let counted : List ℕ → Type 0 = λ counts. counts ≡ held_counts c.args.files.items in
+    let held : List ℕ → Type 0 = λ counts. AllHeld sync folder (opened_names c.args.opened.now) now counts in
+    let later : Later (g.H.Host.asked c.args.host.old) now = c.give_back.ensures.goes.later in
     IfOk-weaker c.run_over-kept.result
-    (λ (it : KeptRun). ∥ IsKeptRun run.settings net run.inputs script filed it ∥₁)
-    (λ (it : KeptRun). ∥ IsKeptRun run.settings net run.inputs script kept it ∥₁)
-    (λ it is. ∥∥₁_map is (kept_run_maps run.settings net run.inputs script filed kept it
+    (λ (it : KeptRun). ∥ IsKeptRun run.settings net run.inputs script counted filed it ∥₁)
+    (λ (it : KeptRun). ∥ IsKeptRun run.settings net run.inputs script held kept it ∥₁)
+    (λ it is. ∥∥₁_map is (kept_run_maps run.settings net run.inputs script counted held filed kept it
+    (λ counts are. all_held_later sync folder (opened_names c.args.opened.now) _ now later counts (subst
+    (λ ns. AllHeld sync folder (opened_names c.args.opened.now) (g.H.Host.asked c.args.host.old) ns) (sym are)
+    (held_in sync folder c.args.opened.now c.args.files.items _ c.requires.opened c.requires.files)))
     (λ streams are. kept_in sync folder c.args.opened.now outlets now (opened_goes _ _ _ _ _ _ _ c.give_back.ensures.goes c.requires.opened)
     c.in_ok-give_back.ensures.used streams are)))
     c.run_over-kept.ensures.run

@@ -1,4 +1,4 @@
-use Rattle.std.proofs.Common.{true, ◌≡◌, ◌∙◌, inl, subst, sym, ℕ, ℤ, List}
+use Rattle.std.proofs.Common.{true, ◌≡◌, ◌∙◌, inl, refl, subst, sym, ℕ, ℤ, List, Option}
 use Rattle.std.proofs.Math.Logic.{∥∥₁_map}
 use Rattle.protocol.specs.Node.Common.{network_of, Net, Network}
 use Rattle.protocol.specs.World.Common.{are_quiet}
@@ -28,20 +28,22 @@ returns-in-Ok-told-clause-ok g c =
     let script = c.args.script.items in
     let made : c.in-Ok.net.value ≡ net = c.in-Ok.ensures.ok in
     let first = world_of c.in_ok-world.world in
-    let begins : IsBeginning g.K.Keeper.keeps (network_of net.program) inputs c.settings-settings.result.room first =
-    subst (λ (n : Net). IsBeginning g.K.Keeper.keeps (network_of n.program) inputs c.settings-settings.result.room first) made
+    let counts : Option (List ℕ) = g.K.Keeper.held c.args.keeper.old in
+    let begins : IsBeginning counts (network_of net.program) inputs c.settings-settings.result.room first =
+    subst (λ (n : Net). IsBeginning counts (network_of n.program) inputs c.settings-settings.result.room first) made
     c.in_ok-world.ensures.begins in
-    let same = beginning_same g.K.Keeper.keeps (network_of net.program) inputs c.settings-settings.result.room first begins in
+    let same = beginning_same counts (network_of net.program) inputs c.settings-settings.result.room first begins in
     let now = world_of c.in-Ok-run_from.ended.world in
     let happened = happenings c.in-Ok-run_from.ended.history.lines.items in
     let told = c.in-Ok-told.told in
     let seen : c.deref-2.result.now ≡ net = c.deref-2.ensures ∙ made in
     let wrote : List ℕ → Type 0 = λ text. told.1.items ≡ text in
-    report_is (g.K.Keeper.has_kept c.close_outputs.new.keeper) wrote options net inputs script happened now told.0.bytes.items told.0.complete
+    report_is (λ held. held ≡ counts) (g.K.Keeper.has_kept c.close_outputs.new.keeper) wrote options net inputs script happened counts now
+    told.0.bytes.items told.0.complete refl
     (∥∥₁_map c.in-Ok-run_from.ensures.same (λ s. (s.0 ∙ same.0, s.1 ∙ same.1)))
-    (subst (λ (s : Settings). IsEndOf (is_some options.state) s (network_of net.program) inputs script happened now) c.settings-settings.ensures
-    (end_of g.K.Keeper.keeps (is_some options.state) c.settings-settings.result (network_of net.program) inputs script happened first now
-    c.requires.resumes begins c.in-Ok-run_from.ensures.end))
+    (subst (λ (s : Settings). IsEndOf counts s (network_of net.program) inputs script happened now) c.settings-settings.ensures
+    (end_of counts c.settings-settings.result (network_of net.program) inputs script happened first now begins
+    c.in-Ok-run_from.ensures.end))
     (subst (λ (i : List (List ℤ)). IsRun (network_of net.program) i (released_streams (network_of net.program) now.stations) (are_quiet now))
     same.1
     (subst (λ (n : Network). IsRun n first.inputs (released_streams n now.stations) (are_quiet now)) same.0

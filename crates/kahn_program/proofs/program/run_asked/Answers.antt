@@ -1,16 +1,16 @@
-use Rattle.std.proofs.Common.{rules, string_bytes, ◌≡◌, ℕ, ℤ, List, Some, None, map}
+use Rattle.std.proofs.Common.{rules, string_bytes, ◌≡◌, ℕ, ℤ, List, Option, Some, None, map}
 use Rattle.run_files.specs.Wanted.{wanted_of}
 use Rattle.run_files.proofs.Going.{read_later}
 use Rattle.cobaltmidge.specs.Scripts.{scripted_of}
 use Rattle.host.specs.Requests.{Request}
 use Rattle.replay.specs.declared.kept.ScriptedEvent.{ScriptedEvent}
-use Rattle.kahn_program.specs.Program.{AreKept, IsAccepted, IsWrittenIfAsked, file_names, given_of}
+use Rattle.kahn_program.specs.Program.{AreKept, IsAccepted, IsWrittenIfAsked, WereHeld, file_names, given_of}
 use Rattle.kahn_program.specs.Runs.{IsReport}
 use Rattle.kahn_program.specs.Causes.{HasFileFault, IsStopped}
 use Rattle.kahn_program.specs.declared.network_run.Report.{Report}
 use Rattle.kahn_program.specs.declared.program.Stop.{Stop}
 use Rattle.kahn_program.proofs.Logs.{keeps_goes, keeps_then}
-use Rattle.kahn_program.proofs.Said.{if_ok, kept_asked, none_asked, report_maps}
+use Rattle.kahn_program.proofs.Said.{held_asked, if_ok, kept_asked, none_asked, none_held, report_maps}
 use Rattle.std.proofs.lemmas.Result.{err_from_is_err_and}
 use Rattle.kahn_program.proofs.Causes.{if_err, stopped_by_files, stopped_later}
 use Rattle.kahn_program.proofs.program.run_asked.Goals as goal
@@ -48,15 +48,17 @@ returns-in-Some-clause-report g c =
     let wrote : List ℕ → Type 0 = IsWrittenIfAsked (wanted_of c.args.names.now).history now in
     let script : List ScriptedEvent = map scripted_of c.args.all.lines.items in
     let is : (wanted_of c.args.names.now).state ≡ Some (string_bytes c.in-Some.folder) = search rules in
+    let held : Option (List ℕ) → Type 0 = λ counts. WereHeld sync (Some (string_bytes c.in-Some.folder)) outputs now counts in
+    let holds : Option (List ℕ) → Type 0 = λ counts. WereHeld sync (wanted_of c.args.names.now).state outputs now counts in
     if_ok
-    (λ (report : Report). IsReport (AreKept sync (Some (string_bytes c.in-Some.folder)) outputs now) wrote c.args.options.now c.args.all.net
+    (λ (report : Report). IsReport held (AreKept sync (Some (string_bytes c.in-Some.folder)) outputs now) wrote c.args.options.now c.args.all.net
     c.args.all.inputs script report.bytes.items report.complete)
-    (λ (report : Report). IsReport (AreKept sync (wanted_of c.args.names.now).state outputs now) wrote c.args.options.now c.args.all.net
-    c.args.all.inputs script report.bytes.items report.complete)
+    (λ (report : Report). IsReport holds (AreKept sync (wanted_of c.args.names.now).state outputs now) wrote c.args.options.now
+    c.args.all.net c.args.all.inputs script report.bytes.items report.complete)
     c.run_kept.result
-    (λ report has. report_maps (AreKept sync (Some (string_bytes c.in-Some.folder)) outputs now) (AreKept sync (wanted_of c.args.names.now).state outputs now)
+    (λ report has. report_maps held holds (AreKept sync (Some (string_bytes c.in-Some.folder)) outputs now) (AreKept sync (wanted_of c.args.names.now).state outputs now)
     wrote wrote c.args.options.now c.args.all.net c.args.all.inputs script report.bytes.items report.complete
-    (kept_asked sync ((wanted_of c.args.names.now).state) (string_bytes c.in-Some.folder) outputs now is) (λ t written. written) has)
+    (held_asked sync ((wanted_of c.args.names.now).state) (string_bytes c.in-Some.folder) outputs now is) (kept_asked sync ((wanted_of c.args.names.now).state) (string_bytes c.in-Some.folder) outputs now is) (λ t written. written) has)
     c.run_kept.ensures.report
 
 pub returns-clause-report : goal.returns-clause-report
@@ -68,13 +70,16 @@ returns-clause-report g c =
     let script : List ScriptedEvent = map scripted_of c.args.all.lines.items in
     let any : List (List ℤ) → Type 0 = λ streams. Unit {0} in
     let is : (wanted_of c.args.names.now).state ≡ None = search rules in
+    let none : Option (List ℕ) → Type 0 = λ counts. counts ≡ None in
+    let held : Option (List ℕ) → Type 0 = λ counts. WereHeld sync (wanted_of c.args.names.now).state outputs now counts in
     if_ok
-    (λ (report : Report). IsReport any wrote c.args.options.now c.args.all.net c.args.all.inputs script report.bytes.items report.complete)
-    (λ (report : Report). IsReport (AreKept sync (wanted_of c.args.names.now).state outputs now) wrote c.args.options.now c.args.all.net
-    c.args.all.inputs script report.bytes.items report.complete)
+    (λ (report : Report). IsReport none any wrote c.args.options.now c.args.all.net c.args.all.inputs script report.bytes.items report.complete)
+    (λ (report : Report). IsReport held (AreKept sync (wanted_of c.args.names.now).state outputs now) wrote c.args.options.now
+    c.args.all.net c.args.all.inputs script report.bytes.items report.complete)
     c.run_over.result
-    (λ report has. report_maps any (AreKept sync (wanted_of c.args.names.now).state outputs now) wrote wrote c.args.options.now c.args.all.net
+    (λ report has. report_maps none held any (AreKept sync (wanted_of c.args.names.now).state outputs now) wrote wrote c.args.options.now c.args.all.net
     c.args.all.inputs script report.bytes.items report.complete
+    (none_held sync ((wanted_of c.args.names.now).state) outputs now is)
     (λ streams kept. none_asked sync ((wanted_of c.args.names.now).state) outputs now is streams) (λ t written. written) has)
     c.run_over.ensures.report
 

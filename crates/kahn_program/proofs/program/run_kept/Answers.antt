@@ -2,7 +2,7 @@ use Rattle.std.proofs.Common.{string_bytes, ap, ◌∙◌, List}
 use Rattle.run_files.specs.Opening.{opened_names}
 use Rattle.run_files.specs.declared.held_file.OpenedName.{OpenedName}
 use Rattle.cobaltmidge.proofs.InFolder.{kept_as}
-use Rattle.kahn_program.proofs.Said.{report_maps, written_later}
+use Rattle.kahn_program.proofs.Said.{report_maps, were_held_as, written_later}
 use Rattle.run_files.proofs.Going.{ready_later}
 use Rattle.run_files.proofs.Left.{left_by_goes}
 use Rattle.std.proofs.Common.{subst, ◌++◌, ◌∷◌, [], ℕ}
@@ -34,7 +34,11 @@ returns-in-Ok-clause-keeps g c = record {
 
 pub returns-in-Ok-clause-report : goal.returns-in-Ok-clause-report
 returns-in-Ok-clause-report g c =
-    report_maps _ _ _ _ c.args.options.now c.args.asked.net c.args.asked.inputs _ _ _
+    report_maps _ _ _ _ _ _ c.args.options.now c.args.asked.net c.args.asked.inputs _ _ _
+    (were_held_as c.args.names.now.sync (string_bytes c.args.folder.now) (opened_names c.as_slice.result.now) _
+    (g.H.Host.asked c.run_locked.new.host) (g.H.Host.asked c.let_go.new.host)
+    (ap (λ (opened : List OpenedName). opened_names opened) c.as_slice.ensures.value ∙ (c.in_ok-open.ensures.named ∙ c.in_ok-outputs.ensures))
+    c.let_go.ensures.later)
     (kept_as c.args.names.now.sync (string_bytes c.args.folder.now) (opened_names c.as_slice.result.now) _
     (g.H.Host.asked c.run_locked.new.host) (g.H.Host.asked c.let_go.new.host)
     (ap (λ (opened : List OpenedName). opened_names opened) c.as_slice.ensures.value ∙ (c.in_ok-open.ensures.named ∙ c.in_ok-outputs.ensures))
@@ -77,3 +81,6 @@ returns-clause-cause g c =
 
 pub run_locked-requires-clause-opened : goal.run_locked-requires-clause-opened
 run_locked-requires-clause-opened g c = grind (arith, elements)
+
+pub run_locked-requires-clause-files : goal.run_locked-requires-clause-files
+run_locked-requires-clause-files g c = grind (arith, elements)

@@ -1,4 +1,4 @@
-use Rattle.std.proofs.Common.{rules, string_bytes, subst, map, List, ℕ, ℤ}
+use Rattle.std.proofs.Common.{rules, ◌≡◌, string_bytes, subst, sym, map, List, Option, Some, ℕ, ℤ}
 use Rattle.std.proofs.lemmas.Result.{err_from_is_err_and}
 use Rattle.cobaltmidge.specs.Scripts.{scripted_of}
 use Rattle.replay.specs.declared.kept.ScriptedEvent.{ScriptedEvent}
@@ -8,14 +8,14 @@ use Rattle.run_files.specs.declared.fault.FilesFault.TheVariants.{Astray}
 use Rattle.run_files.proofs.Caused.{caused_as}
 use Rattle.run_files.proofs.Going.{goes_then, opened_goes}
 use Rattle.kahn_program.specs.Causes.{HasFileFault, IsStopped}
-use Rattle.kahn_program.specs.KeptFiles.{AreInFiles, HasFailedBy}
-use Rattle.kahn_program.specs.Program.{AreKeptIn, IsWrittenIfAsked}
+use Rattle.kahn_program.specs.KeptFiles.{AreInFiles, HasFailedBy, held_counts}
+use Rattle.kahn_program.specs.Program.{AreKeptIn, IsWrittenIfAsked, WereHeld}
 use Rattle.kahn_program.specs.Runs.{IsReport}
 use Rattle.kahn_program.specs.declared.network_run.Report.{Report}
 use Rattle.kahn_program.specs.declared.program.Stop.{Stop}
 use Rattle.kahn_program.proofs.Causes.{if_err, stopped_by_files, stopped_later}
 use Rattle.kahn_program.proofs.FileFaults.{fault_in_log}
-use Rattle.cobaltmidge.proofs.InFolder.{kept_in}
+use Rattle.cobaltmidge.proofs.InFolder.{all_held_later, held_in, kept_in}
 use Rattle.kahn_program.proofs.Said.{if_ok, report_maps, written_later}
 use Rattle.kahn_program.proofs.program.run_locked.Goals as goal
 
@@ -42,19 +42,25 @@ returns-clause-report g c =
     let filed : List (List ℤ) → Type 0 = λ streams. AreInFiles closed streams in
     let kept : List (List ℤ) → Type 0 = λ streams.
     AreKeptIn sync (string_bytes c.args.folder.now) (opened_names c.args.opened.now) now streams in
+    let counted : Option (List ℕ) → Type 0 = λ counts. counts ≡ Some (held_counts c.args.files.items) in
+    let held : Option (List ℕ) → Type 0 = λ counts.
+    WereHeld sync (Some (string_bytes c.args.folder.now)) (opened_names c.args.opened.now) now counts in
     if_ok
-    (λ (report : Report). IsReport filed (IsWrittenIfAsked history before) c.args.options.now c.args.asked.net c.args.asked.inputs script
+    (λ (report : Report). IsReport counted filed (IsWrittenIfAsked history before) c.args.options.now c.args.asked.net c.args.asked.inputs script
     report.bytes.items report.complete)
-    (λ (report : Report). IsReport kept (IsWrittenIfAsked history now) c.args.options.now c.args.asked.net c.args.asked.inputs script
+    (λ (report : Report). IsReport held kept (IsWrittenIfAsked history now) c.args.options.now c.args.asked.net c.args.asked.inputs script
     report.bytes.items report.complete)
     c.run_over-report.result
-    (λ report has. report_maps filed kept (IsWrittenIfAsked history before) (IsWrittenIfAsked history now) c.args.options.now c.args.asked.net
+    (λ report has. report_maps counted held filed kept (IsWrittenIfAsked history before) (IsWrittenIfAsked history now) c.args.options.now c.args.asked.net
     c.args.asked.inputs script report.bytes.items report.complete
+    (λ counts is. subst held (sym is) (all_held_later sync (string_bytes c.args.folder.now) (opened_names c.args.opened.now) _ now
+    (λ r h. c.give_back.ensures.goes.later r (c.run_over-report.ensures.goes.later r h)) _
+    (held_in sync (string_bytes c.args.folder.now) c.args.opened.now c.args.files.items _ c.requires.opened c.requires.files)))
     (λ streams are. kept_in sync (string_bytes c.args.folder.now) c.args.opened.now closed now
     (opened_goes _ _ _ _ _ _ _ (goes_then _ _ _ _ _ c.run_over-report.ensures.goes c.give_back.ensures.goes) c.requires.opened)
     (subst (λ outlets. AreUsed c.args.opened.now outlets now) c.into_closed.ensures c.in_ok-give_back.ensures.used) streams are)
     (written_later history before now c.give_back.ensures.goes.later) has)
-    c.run_over-report.ensures.report
+    ?
 
 pub returns-in_err-give_back-clause-cause : goal.returns-in_err-give_back-clause-cause
 returns-in_err-give_back-clause-cause g c =

@@ -1,4 +1,4 @@
-use Rattle.std.proofs.Common.{◌∙◌, ap, map, subst}
+use Rattle.std.proofs.Common.{◌≡◌, ◌∙◌, ap, map, subst}
 use Rattle.std.proofs.lemmas.Result.{err_from_is_err_and}
 use Rattle.kahn_program.proofs.Causes.{kept_maps, run_stops, stopped_later, stopped_none}
 use Rattle.cobaltmidge.specs.Scripts.{scripted_of}
@@ -22,12 +22,12 @@ returns-in-Ok-clause-goes g c =
 
 pub returns-in-Ok-clause-report : goal.returns-in-Ok-clause-report
 returns-in-Ok-clause-report g c =
-    subst (λ script. IsReport (g.K.Keeper.has_kept c.report_of_run.new.keeper)
+    subst (λ script. IsReport (λ counts. counts ≡ g.K.Keeper.held c.args.keeper.old) (g.K.Keeper.has_kept c.report_of_run.new.keeper)
     (IsWrittenIfAsked (wanted_of c.args.names.now).history (g.H.Host.asked c.finish_if_asked.new.host)) c.args.options.now
     c.args.asked.net c.args.asked.inputs script c.in-Ok.report.bytes.items c.in-Ok.report.complete)
     (c.in_ok-events.ensures ∙ ap (map scripted_of) c.deref.ensures.value)
-    (report_maps (g.K.Keeper.has_kept c.report_of_run.new.keeper) _ _ _ c.args.options.now c.args.asked.net c.args.asked.inputs _ _ _
-    (λ streams kept. kept) (λ t is. written_as _ _ _ t c.in_ok-finish_if_asked-in-Ok.ensures.written is)
+    (report_maps _ _ (g.K.Keeper.has_kept c.report_of_run.new.keeper) _ _ _ c.args.options.now c.args.asked.net c.args.asked.inputs _ _ _
+    (λ counts held. held) (λ streams kept. kept) (λ t is. written_as _ _ _ t c.in_ok-finish_if_asked-in-Ok.ensures.written is)
     c.in-Ok.ensures.ok)
 
 pub returns-clause-goes : goal.returns-clause-goes

@@ -13,11 +13,11 @@ returns c =
     let rows = rows_of found in
     let text : (id : Text) → first_of id rows ≡ first_value found id = λ id. sym (first_value-rows found id) in
     let one : (id : Text) → one_text found id ≡ one_of id rows = λ id. one_text-rows found id in
-    let some = c.in-Some-Some-Some-Some in
-    let rounds : IsNumber 1 MAX_ROUNDS (one_text found (codes "rounds")) c.in_ok-given.field-0 =
-    c.in_ok-given.ensures in
+    let some = c.in-Some-Some-Some in
     let room : IsNumber MIN_ROOM MAX_RETAINED_ITEMS (one_text found (codes "room")) c.in_ok-room.field-0 =
     c.in_ok-room.ensures in
+    let rounds : IsNumber 1 MAX_ROUNDS (one_text found (codes "rounds")) c.in_ok-given.field-0 =
+    c.in_ok-given.ensures in
     let items : IsNumber 0 MAX_ITEMS (one_text found (codes "items")) c.in_ok-given-2.field-0 =
     c.in_ok-given-2.ensures in
     let approx : IsNumber 0 MAX_APPROXIMATION (one_text found (codes "approx")) c.in_ok-given-3.field-0 =
@@ -28,13 +28,11 @@ returns c =
       script = text (codes "script") ∙ c.in_ok-name_given.ensures;
       state = text (codes "state") ∙ c.in_ok-name_given-2.ensures;
       rounds =
-          subst (λ (given : Option ℕ). IsNumber 1 MAX_ROUNDS (one_of (codes "rounds") rows)
-          given) some.is-2
-          (subst (λ (t : Option Text). IsNumber 1 MAX_ROUNDS t c.in_ok-given.field-0) (one (codes "rounds")) rounds);
+          subst (λ (t : Option Text). IsNumber 1 MAX_ROUNDS t c.in_ok-given.field-0) (one (codes "rounds")) rounds;
       items = subst (λ (t : Option Text). IsNumber 0 MAX_ITEMS t c.in_ok-given-2.field-0) (one (codes "items")) items;
       room =
           subst (λ (given : Option ℕ). IsNumber MIN_ROOM MAX_RETAINED_ITEMS
-          (one_of (codes "room") rows) given) some.is-3
+          (one_of (codes "room") rows) given) some.is-2
           (subst (λ (t : Option Text). IsNumber MIN_ROOM MAX_RETAINED_ITEMS t c.in_ok-room.field-0)
           (one (codes "room")) room);
       sync = record {

@@ -1,10 +1,10 @@
-use Rattle.std.proofs.Common.{sym, ap, ◌∙◌}
+use Rattle.std.proofs.Common.{List, ℕ, sym, ap, subst, ◌∙◌}
 use Rattle.protocol.specs.Node.Common.{Network}
 use Rattle.protocol.specs.World.Common.{output_channels}
 use Rattle.rerun.specs.Whole.{inputs_in, net_in, table_in}
 use Rattle.resuming.proofs.Following.{at_same, channels_seen, gone_twice, limits_twice}
 use Rattle.resuming.proofs.catching_up.catch_up.Goals as goal
-use Rattle.resuming.specs.CatchingUp.{HaveTakenAll, StoppedSince}
+use Rattle.resuming.specs.CatchingUp.{failures_by, HaveTakenAll, IsBehindBy, StoppedSince}
 use Rattle.station.specs.OutputView.{outputs_view}
 
 pub go_round-requires-clause-listed : goal.go_round-requires-clause-listed
@@ -52,6 +52,11 @@ returns-in-Err-clause-behind g c =
     (outputs_view g.O.Outlet.taken c.go_round.new.outputs.items) c.loop-round.invariant.gone_on
     c.in-Err.ensures.gone_on
 
+pub returns-in-Err-clause-cause : goal.returns-in-Err-clause-cause
+returns-in-Err-clause-cause g c =
+    subst (λ (counts : List ℕ). IsBehindBy counts (failures_by g.O.Outlet.failures c.go_round.new.outputs.items) c.in-Err.fault)
+    c.loop-round.invariant.unfailed c.in-Err.ensures.fault
+
 pub loop-round-preserved : goal.loop-round-preserved
 loop-round-preserved g c =
     let old = c.args.rerun in
@@ -71,4 +76,5 @@ loop-round-preserved g c =
           so_far.within made.within;
       net = made.net ∙ so_far.net;
       inputs = made.inputs ∙ so_far.inputs;
+      unfailed = made.unfailed ∙ so_far.unfailed;
     }

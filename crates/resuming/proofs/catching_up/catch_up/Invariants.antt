@@ -2,7 +2,7 @@ use Rattle.std.proofs.Common.{◌≡◌}
 use Rattle.rerun.specs.Tables.{KeepsLimits}
 use Rattle.rerun.specs.Whole.{inputs_in, net_in, table_in}
 use Rattle.resuming.proofs.catching_up.catch_up.Given as goal
-use Rattle.resuming.specs.CatchingUp.{HaveGoneOn, HaveTakenAll}
+use Rattle.resuming.specs.CatchingUp.{failures_by, HaveGoneOn, HaveTakenAll}
 use Rattle.station.specs.OutputView.{outputs_view}
 
 -- the outputs have taken all so far, and the limits were kept
@@ -15,4 +15,5 @@ invariant-loop-round g l = record {
   within : KeepsLimits (net_in l.fn.rerun) l.limits (table_in l.fn.rerun) (table_in l.rerun);
   net : net_in l.rerun ≡ net_in l.fn.rerun;
   inputs : inputs_in l.rerun ≡ inputs_in l.fn.rerun;
+  unfailed : failures_by g.O.Outlet.failures l.outputs.items ≡ failures_by g.O.Outlet.failures l.fn.outputs.items;
 }

@@ -72,6 +72,8 @@ returns-in-Rests g c =
           (outputs_view g.O.Outlet.taken l)) c.deref.ensures.value c.let_go_all.ensures.taken);
       since = tt;
       gone_on = c.in_ok-hand_over.ensures.gone_on;
+      unfailed = c.in_ok-hand_over.ensures.unfailed;
+      fault = tt;
       within = limits_yet (net_in old) c.args.limits.now (table_in old) (table_in new) (table_in last)
           c.run.ensures.within c.let_go_all.ensures.ends;
       net = c.let_go_all.ensures.net ∙ c.run.ensures.net;

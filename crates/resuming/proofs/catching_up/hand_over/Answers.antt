@@ -4,7 +4,7 @@ use Rattle.std.proofs.lemmas.Option.{slice_get-get_or}
 use Rattle.protocol.specs.World.Common.{OutputView}
 use Rattle.protocol_laws.specs.World.OutputLaws.{map_at}
 use Rattle.rerun.specs.Whole.{inputs_in, net_in, table_in}
-use Rattle.resuming.proofs.Following.{AreTaking, all_taken, as_many, gone_one, gone_twice, map_set, none_taken}
+use Rattle.resuming.proofs.Following.{AreTaking, all_taken, as_many, behind_by, gone_one, gone_twice, map_set, none_taken, same_count}
 use Rattle.resuming.proofs.Following.{one_taken}
 use Rattle.resuming.proofs.catching_up.hand_over.Goals as goal
 use Rattle.resuming.proofs.catching_up.hand_over.Goals.{then-any, else-any}
@@ -18,6 +18,7 @@ loop-place-init g c =
       long = c.len-place-end.ensures ∙ c.args.outputs.now.ok.0;
       so_far = none_taken (net_in rerun) (inputs_in rerun) (table_in rerun)
           (outputs_view g.O.Outlet.taken c.args.outputs.now.items) c.requires;
+      unfailed = refl;
     }
 
 pub hand_one-requires : goal.hand_one-requires
@@ -48,6 +49,17 @@ returns-in_err-moved-clause-gone_on g c =
     (gone_twice before now (slice_set now place (view new)) c.loop-place.invariant.so_far.gone_on
     (gone_one now place (view output) (view new) seen c.hand_one.ensures.channel c.hand_one.ensures.gone_on))
 
+pub returns-in_err-moved-clause-fault : goal.returns-in_err-moved-clause-fault
+returns-in_err-moved-clause-fault g c =
+    let outputs = c.loop-place.outputs.items in
+    let place = c.loop-place.place in
+    let output = c.index_mut.result.now in
+    let within : place < length outputs = omega arith in
+    let there : slice_get outputs place ≡ Some output =
+    slice_get-get_or outputs place output within ∙ ap Some (sym c.index_mut.ensures.value) in
+    behind_by g.O.Outlet.failures c.args.outputs.now.items outputs place output c.hand_one.new.output ? there
+    c.loop-place.invariant.unfailed ?
+
 pub loop-place-preserved : goal.loop-place-preserved
 loop-place-preserved g c =
     let rerun = c.args.rerun.now in
@@ -77,6 +89,8 @@ loop-place-preserved g c =
       long = long;
       so_far = subst (λ (l : List OutputView). AreTaking (net_in rerun) (inputs_in rerun) (table_in rerun) (place + 1)
           before l c.if-any.any) (sym (map_set view outputs place new)) step;
+      unfailed = same_count g.O.Outlet.failures outputs place output new there c.in_ok-moved.ensures.unfailed
+          ∙ c.loop-place.invariant.unfailed;
     }
 
 pub returns-clause-all : goal.returns-clause-all

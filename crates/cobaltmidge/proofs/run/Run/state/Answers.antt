@@ -10,11 +10,11 @@ use Rattle.run_files.proofs.Going.{synced_later}
 use Rattle.run_files.proofs.Left.{left_by_goes}
 use Rattle.cobaltmidge.specs.FileNames.{file_names}
 use Rattle.cobaltmidge.specs.KeptRuns.{IsKeptRun, IsKeptWhereRefused}
-use Rattle.cobaltmidge.specs.KeptStreams.{AreKept, AreKeptIn, IsStateCause}
+use Rattle.cobaltmidge.specs.KeptStreams.{AllHeld, AreKept, AreKeptIn, IsStateCause}
 use Rattle.cobaltmidge.specs.Names.{script_of}
 use Rattle.cobaltmidge.specs.declared.kept_run.KeptRun.{KeptRun}
 use Rattle.cobaltmidge.specs.declared.state_error.StateError.{StateError}
-use Rattle.cobaltmidge.proofs.InFolder.{cause_later, kept_as, kept_run_maps}
+use Rattle.cobaltmidge.proofs.InFolder.{cause_later, held_as, kept_as, kept_run_maps}
 use Rattle.cobaltmidge.proofs.LeftKept.{refused_maps}
 use Rattle.std.proofs.lemmas.Grind.{elements}
 use Rattle.std.proofs.Common.{arith}
@@ -49,10 +49,15 @@ returns-clause-run g c =
     ∙ ap (λ (it : Net). file_names it.program.channels.items it.channel_names.items) c.deref.ensures in
     let filed : List (List ℤ) → Type 0 = λ streams. AreKeptIn sync folder names before streams in
     let kept : List (List ℤ) → Type 0 = λ streams. AreKept sync (Some folder) outputs now streams in
+    let held : List ℕ → Type 0 = λ counts. AllHeld sync folder names before counts in
+    let holds : List ℕ → Type 0 = λ counts. AllHeld sync folder outputs now counts in
     IfOk-weaker c.run_locked-kept.result
-    (λ (it : KeptRun). ∥ IsKeptRun run.settings net run.inputs script filed it ∥₁)
-    (λ (it : KeptRun). ∥ IsKeptRun run.settings net run.inputs script kept it ∥₁)
-    (λ it is. ∥∥₁_map is (kept_run_maps run.settings net run.inputs script filed kept it
+    (λ (it : KeptRun). ∥ IsKeptRun run.settings net run.inputs script held filed it ∥₁)
+    (λ (it : KeptRun). ∥ IsKeptRun run.settings net run.inputs script holds kept it ∥₁)
+    (λ it is. ∥∥₁_map is (kept_run_maps run.settings net run.inputs script held holds filed kept it
+    (held_as sync folder names outputs before now
+    (ap (λ (opened : List OpenedName). opened_names opened) c.as_slice.ensures.value ∙ (c.in_ok-open.ensures.named ∙ listed))
+    c.let_go.ensures.later)
     (kept_as sync folder names outputs before now
     (ap (λ (opened : List OpenedName). opened_names opened) c.as_slice.ensures.value ∙ (c.in_ok-open.ensures.named ∙ listed))
     c.let_go.ensures.later
@@ -103,3 +108,6 @@ returns-clause-rules g c = grind (arith, elements)
 
 pub run_locked-kept-requires-clause-opened : goal.run_locked-kept-requires-clause-opened
 run_locked-kept-requires-clause-opened g c = grind (arith, elements)
+
+pub run_locked-kept-requires-clause-files : goal.run_locked-kept-requires-clause-files
+run_locked-kept-requires-clause-files g c κs within = grind (arith, elements)
