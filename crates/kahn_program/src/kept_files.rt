@@ -14,8 +14,8 @@ ghost use Rattle.kahn_program.specs.Runnable.{IsReportless};
 use crate::failure::Failure;
 use crate::keeper::Keeper;
 use cobaltmidge::{
-    KeepFault, NotBegun, Output, RunWorld, held_counts, node_count, outlets_over, put_each,
-    resume_world,
+    KeepFault, NotBegun, Output, RunWorld, begin_fault, held_counts, node_count, outlets_over,
+    put_each, resume_world,
 };
 use host::LineFile;
 use net_check::{Inputs, Net};
@@ -127,7 +127,7 @@ impl<'a, F: LineFile> Keeper<ResumedOutlet<F>> for FileKeeper<'a, F> {
                 let NotBegun { outputs, fault } = refused;
                 // It says where an item differs, or a put failed.
                 self.close(alloc, outputs)?;
-                Err(keep_failure(fault))
+                Err(keep_failure(begin_fault(fault)))
             }
         }
     }
