@@ -1,6 +1,7 @@
 use Rattle.std.proofs.Common.{◌≡◌, ◌+◌, ◌<◌, false, List, length, refl, sym, ap, subst, ◌∙◌, arith, rules}
 use Rattle.std.specs.Prelude.{slice_get, slice_set, Some}
 use Rattle.std.proofs.lemmas.Option.{slice_get-get_or}
+use Rattle.std.proofs.lemmas.Result.{err_from_is_err_and}
 use Rattle.protocol.specs.World.Common.{OutputView}
 use Rattle.protocol_laws.specs.World.OutputLaws.{map_at}
 use Rattle.rerun.specs.Whole.{inputs_in, net_in, table_in}
@@ -57,8 +58,9 @@ returns-in_err-moved-clause-fault g c =
     let within : place < length outputs = omega arith in
     let there : slice_get outputs place ≡ Some output =
     slice_get-get_or outputs place output within ∙ ap Some (sym c.index_mut.ensures.value) in
-    behind_by g.O.Outlet.failures c.args.outputs.now.items outputs place output c.hand_one.new.output ? there
-    c.loop-place.invariant.unfailed ?
+    let p = err_from_is_err_and c.from_residual.result c.from_residual.ensures.1 in
+    rw (p.1, p.2) (behind_by g.O.Outlet.failures c.args.outputs.now.items outputs place output c.hand_one.new.output _ there
+    c.loop-place.invariant.unfailed c.in_err-moved.ensures.fault)
 
 pub loop-place-preserved : goal.loop-place-preserved
 loop-place-preserved g c =
