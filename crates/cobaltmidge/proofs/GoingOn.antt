@@ -98,7 +98,7 @@ pub stay_as : (before after : List OutputView) → after ≡ before → HaveGone
 stay_as before after same = subst (λ (os : List OutputView). HaveGoneOn before os) (sym same) (stay before)
 
 -- how far processes were run again that were run so far on another network, which is this one
-record HasStopped (net : Network) (inputs : List (List ℤ)) (held : List ℕ) (t : TableView) (stopped : Stopped)
+pub record HasStopped (net : Network) (inputs : List (List ℤ)) (held : List ℕ) (t : TableView) (stopped : Stopped)
     (outlets : List OutletView) : Type 0 where
   pub since : StoppedSince net inputs (limits_of net.channels held) t stopped
   pub within : KeepsLimits net (limits_of net.channels held) (first_table net) t
@@ -155,15 +155,16 @@ begins_again none net inputs room held first is something begins =
     subst (λ (b : Bool). BeginsBehind b net inputs room held first) (sym something ∙ is) begins
 
 -- one more channel was looked at
-pub limits_next : (inner : ℕ) (held : List ℕ) (channels : List Channel) (k : ℕ) (d : Channel) (before now whole : List ℕ)
-    → k < length channels → before ++ limits_from inner held (drop k channels) ≡ whole
-    → now ≡ before ++ limit_of inner held (get_or channels k d) ∷ []
-    → now ++ limits_from inner (held_behind held (get_or channels k d)) (drop (k + 1) channels) ≡ whole
-limits_next inner held channels k d before now whole within so_far added =
+pub limits_next : (inner : ℕ) (held behind : List ℕ) (channels : List Channel) (k limit : ℕ) (d : Channel) (before now whole : List ℕ)
+    → k < length channels → before ++ limits_from inner held (drop k channels) ≡ whole → now ≡ before ++ limit ∷ []
+    → limit ≡ limit_of inner held (get_or channels k d) → behind ≡ held_behind held (get_or channels k d)
+    → now ++ limits_from inner behind (drop (k + 1) channels) ≡ whole
+limits_next inner held behind channels k limit d before now whole within so_far added limit_is behind_is =
     let channel = get_or channels k d in
     let next : suc k ≡ k + 1 = omega arith in
-    let rest : ℕ → List ℕ = λ n. limits_from inner (held_behind held channel) (drop n channels) in
-    ap (λ (n : ℕ). now ++ rest n) (sym next)
-    ∙ (ap (λ (list : List ℕ). list ++ rest (suc k)) added
-    ∙ (append_assoc before (limit_of inner held channel ∷ []) (rest (suc k))
-    ∙ (ap (λ (list : List Channel). before ++ limits_from inner held list) (sym (drop-cons channels k d within)) ∙ so_far)))
+    let rest : List ℕ → ℕ → List ℕ = λ list n. limits_from inner list (drop n channels) in
+    ap (λ (n : ℕ). now ++ rest behind n) (sym next)
+    ∙ (ap (λ (list : List ℕ). now ++ rest list (suc k)) behind_is
+    ∙ (ap (λ (list : List ℕ). list ++ rest (held_behind held channel) (suc k)) (added ∙ ap (λ (n : ℕ). before ++ n ∷ []) limit_is)
+    ∙ (append_assoc before (limit_of inner held channel ∷ []) (rest (held_behind held channel) (suc k))
+    ∙ (ap (λ (list : List Channel). before ++ limits_from inner held list) (sym (drop-cons channels k d within)) ∙ so_far))))

@@ -4,5 +4,5 @@ use Rattle.cobaltmidge.proofs.going_on.list_limits.Given as goal
 
 -- what was listed, and then what is to come
 abbrev pub invariant-loop-channel : goal.invariant-loop-channel
-invariant-loop-channel g l =
+invariant-loop-channel l =
     l.limits.items ++ limits_from l.inner l.rest (drop l.channel-index l.channels) ≡ limits_from l.inner l.held l.channels

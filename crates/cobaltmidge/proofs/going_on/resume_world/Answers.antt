@@ -1,20 +1,20 @@
-use Rattle.std.proofs.Common.{◌≡◌, ◌∙◌, inl, inr, true, ℕ, ℤ, ap, List, map, replicate, subst, sym}
+use Rattle.std.proofs.Common.{◌≡◌, ◌∙◌, ℕ, ℤ, ap, List, Some, map, replicate, subst, sym}
 use Rattle.std.specs.List.{AllByRecursion}
 use Rattle.kahn_net.specs.Syntax.{network_of}
-use Rattle.protocol.specs.Node.Common.{Net, Network, sectors_of}
+use Rattle.protocol.specs.Node.Common.{Channel, Net, Network, sectors_of}
 use Rattle.protocol.specs.Node.Sharing.{even_rooms}
-use Rattle.protocol.specs.World.Common.{output_channels, with_rooms}
+use Rattle.protocol.specs.World.Common.{output_channels, OutletView, with_rooms}
 use Rattle.rerun.specs.Tables.{first_table}
 use Rattle.rerun.specs.Whole.{inputs_in, net_in, table_in}
 use Rattle.resuming.specs.Resuming.{Agrees}
 use Rattle.sector_disk.specs.MemDisk.{failures_of}
-use Rattle.station.specs.OutputView.{output_view}
+use Rattle.station.specs.OutputView.{output_view, outputs_view}
 use Rattle.station.specs.StationView.{outlet_views}
 use Rattle.world.specs.WholeView.{world_of}
 use Rattle.world.specs.WorldView.{capacities}
-use Rattle.cobaltmidge.proofs.GoingOn.{all_agree, again, channels_are, none_taken}
+use Rattle.cobaltmidge.proofs.GoingOn.{all_agree, again, begins_again, begins_first, channels_are, channels_of, has_stopped, none_taken, views_left}
 use Rattle.cobaltmidge.proofs.Turns.{if_ok_then, rooms_given}
-use Rattle.cobaltmidge.specs.Beginning.{IsBeginning}
+use Rattle.cobaltmidge.specs.Beginning.{IsBeginning, limits_of}
 use Rattle.cobaltmidge.specs.FirstWorld.{first_world}
 use Rattle.cobaltmidge.proofs.going_on.resume_world.Goals as goal
 
@@ -51,7 +51,8 @@ returns-then-held_nothing-clause-begins g c =
     let held = c.args.held.now in
     if_ok_then (λ world. world_of world ≡ first_world net c.args.inputs c.args.room)
     (λ world. IsBeginning (Some held) net c.args.inputs c.args.room (world_of world)) c.first_world.result
-    (λ world is. begins_first c.held_nothing.result net c.args.inputs c.args.room held (world_of world) c.held_nothing.ensures ? is)
+    (λ world is. begins_first c.held_nothing.result net c.args.inputs c.args.room held (world_of world) c.held_nothing.ensures
+    c.if-held_nothing.true is)
     c.first_world.ensures.first
 
 pub returns-clause-begins : goal.returns-clause-begins
@@ -71,14 +72,19 @@ returns-clause-begins g c =
     ∙ (sym (channels_are g.O.Outlet.taken caught.outputs.items)
     ∙ (c.in-Ok.ensures.caught_up.gone_on.channels
     ∙ (channels_are g.O.Outlet.taken c.args.outputs.items ∙ c.requires.listed))) in
-    begins_again c.held_nothing.result net c.args.inputs c.args.room held (world_of c.set_room.new.self) c.held_nothing.ensures ?
+    begins_again c.held_nothing.result net c.args.inputs c.args.room held (world_of c.set_room.new.self) c.held_nothing.ensures
+    c.if-held_nothing.false
     (again net (net_in caught.rerun) c.args.inputs (inputs_in caught.rerun) c.args.room held (table_in caught.rerun)
     (map failures_of c.in-Ok-Ok-Ok.disks.items) outlets (world_of c.in-Ok-resume.world) (world_of c.set_room.new.self)
     caught.stopped
-    (has_stopped net (net_in c.in-Ok-Ok-Ok.rerun) c.args.inputs (inputs_in c.in-Ok-Ok-Ok.rerun) held c.in-Ok-Ok-Ok.limits.items
+    (has_stopped net (net_in c.in-Ok-Ok-Ok.rerun) c.args.inputs (inputs_in c.in-Ok-Ok-Ok.rerun) held c.deref-3.result.now
     (outputs_view g.O.Outlet.taken c.args.outputs.items) (table_in c.in-Ok-Ok-Ok.rerun) (table_in caught.rerun)
-    (outputs_view g.O.Outlet.taken caught.outputs.items) caught.stopped outlets first_net first_inputs ?
-    (c.in-Ok-Ok-Ok.ensures.table ∙ ap first_table ?) (views_left g.O.Outlet.taken g.O.Outlet.failures caught.outputs.items)
+    (outputs_view g.O.Outlet.taken caught.outputs.items) caught.stopped outlets first_net first_inputs
+    (c.deref-3.ensures.value
+    ∙ (c.in-Ok-Ok-Ok.ensures'
+    ∙ ap (λ (channels : List Channel). limits_of channels held)
+    (c.deref-2.ensures.value ∙ ap (λ (n : Net). n.program.channels.items) c.deref.ensures)))
+    (c.in-Ok-Ok-Ok.ensures.table ∙ ap first_table (sym c.in-Ok-Ok-Ok.ensures.net ∙ first_net)) (views_left g.O.Outlet.taken g.O.Outlet.failures caught.outputs.items)
     c.in-Ok.ensures.caught_up)
     listed same_net same_inputs caught.rerun.reached
     (c.in-Ok-Ok-Ok.ensures''.unfailed ∙ ap (λ (n : ℕ). replicate n 0) c.requires.nodes) made.opening
