@@ -36,13 +36,13 @@ returns-clause-run g c =
     let kept : List (List ℤ) → Type 0 = λ streams. AreKeptIn sync folder (opened_names c.args.opened.now) now streams in
     let counted : List ℕ → Type 0 = λ counts. counts ≡ held_counts c.args.files.items in
     let held : List ℕ → Type 0 = λ counts. AllHeld sync folder (opened_names c.args.opened.now) now counts in
-    let later : Later (g.H.Host.asked c.args.host.old) now = c.give_back.ensures.goes.later in
+    let later : Later (g.H.Host.asked c.args.host.now) now = c.give_back.ensures.goes.later in
     IfOk-weaker c.run_over-kept.result
     (λ (it : KeptRun). ∥ IsKeptRun run.settings net run.inputs script counted filed it ∥₁)
     (λ (it : KeptRun). ∥ IsKeptRun run.settings net run.inputs script held kept it ∥₁)
     (λ it is. ∥∥₁_map is (kept_run_maps run.settings net run.inputs script counted held filed kept it
     (λ counts are. all_held_later sync folder (opened_names c.args.opened.now) _ now later counts (subst
-    (λ ns. AllHeld sync folder (opened_names c.args.opened.now) (g.H.Host.asked c.args.host.old) ns) (sym are)
+    (λ ns. AllHeld sync folder (opened_names c.args.opened.now) (g.H.Host.asked c.args.host.now) ns) (sym are)
     (held_in sync folder c.args.opened.now c.args.files.items _ c.requires.opened c.requires.files)))
     (λ streams are. kept_in sync folder c.args.opened.now outlets now (opened_goes _ _ _ _ _ _ _ c.give_back.ensures.goes c.requires.opened)
     c.in_ok-give_back.ensures.used streams are)))

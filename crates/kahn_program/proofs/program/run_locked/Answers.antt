@@ -1,5 +1,6 @@
 use Rattle.std.proofs.Common.{rules, ◌≡◌, string_bytes, subst, sym, map, List, Option, Some, ℕ, ℤ}
 use Rattle.std.proofs.lemmas.Result.{err_from_is_err_and}
+use Rattle.std.specs.Prelude.{IfOk}
 use Rattle.cobaltmidge.specs.Scripts.{scripted_of}
 use Rattle.replay.specs.declared.kept.ScriptedEvent.{ScriptedEvent}
 use Rattle.run_files.specs.Opening.{AreUsed, opened_names}
@@ -60,7 +61,9 @@ returns-clause-report g c =
     (opened_goes _ _ _ _ _ _ _ (goes_then _ _ _ _ _ c.run_over-report.ensures.goes c.give_back.ensures.goes) c.requires.opened)
     (subst (λ outlets. AreUsed c.args.opened.now outlets now) c.into_closed.ensures c.in_ok-give_back.ensures.used) streams are)
     (written_later history before now c.give_back.ensures.goes.later) has)
-    ?
+    (subst (λ (held : List ℕ). IfOk c.run_over-report.result (λ (report : Report). IsReport (λ counts. counts ≡ Some held) filed
+    (IsWrittenIfAsked history before) c.args.options.now c.args.asked.net c.args.asked.inputs script report.bytes.items report.complete))
+    c.new-keeper.ensures c.run_over-report.ensures.report)
 
 pub returns-in_err-give_back-clause-cause : goal.returns-in_err-give_back-clause-cause
 returns-in_err-give_back-clause-cause g c =
