@@ -28,7 +28,7 @@ returns-in-Ok-told-clause-ok g c =
     let script = c.args.script.items in
     let made : c.in-Ok.net.value ≡ net = c.in-Ok.ensures.ok in
     let first = world_of c.in_ok-world.world in
-    let counts : Option (List ℕ) = g.K.Keeper.held c.args.keeper.old in
+    let counts : Option (List ℕ) = g.K.Keeper.held c.args.keeper.now in
     let begins : IsBeginning counts (network_of net.program) inputs c.settings-settings.result.room first =
     subst (λ (n : Net). IsBeginning counts (network_of n.program) inputs c.settings-settings.result.room first) made
     c.in_ok-world.ensures.begins in

@@ -22,7 +22,7 @@ returns-in-Ok-clause-goes g c =
 
 pub returns-in-Ok-clause-report : goal.returns-in-Ok-clause-report
 returns-in-Ok-clause-report g c =
-    subst (λ script. IsReport (λ counts. counts ≡ g.K.Keeper.held c.args.keeper.old) (g.K.Keeper.has_kept c.report_of_run.new.keeper)
+    subst (λ script. IsReport (λ counts. counts ≡ g.K.Keeper.held c.args.keeper.now) (g.K.Keeper.has_kept c.report_of_run.new.keeper)
     (IsWrittenIfAsked (wanted_of c.args.names.now).history (g.H.Host.asked c.finish_if_asked.new.host)) c.args.options.now
     c.args.asked.net c.args.asked.inputs script c.in-Ok.report.bytes.items c.in-Ok.report.complete)
     (c.in_ok-events.ensures ∙ ap (map scripted_of) c.deref.ensures.value)
