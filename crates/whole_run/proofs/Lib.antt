@@ -1,0 +1,13 @@
+-- The proofs of the law of a whole run.
+mod Joining
+mod Starting
+mod Inside
+mod Begun
+mod Nothing
+mod Going
+mod Left
+mod Over
+mod Gone
+mod Machines
+mod Asking
+mod Whole

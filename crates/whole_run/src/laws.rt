@@ -1,0 +1,8 @@
+// The law of a whole run.
+ghost use Rattle.whole_run.specs.WholeRun.{WholeRun};
+
+/// Whatever happens to a network from the beginning of its run on, at whatever moment one looks: what is true of a world is true then, and
+/// what has left, the recovery line, and the steps of the abstract machine go on from any earlier world of the run.
+pub fn whole_run_law()
+    ensures { WholeRun }
+{}

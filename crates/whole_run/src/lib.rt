@@ -1,0 +1,7 @@
+//! A run of a network as one relation, and one law over it. There is no code: the function does nothing, and that its contract is
+//! proved is what it is for.
+#![tactic(auto)]
+
+mod laws;
+
+pub use laws::whole_run_law;
