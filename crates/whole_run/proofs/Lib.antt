@@ -4,6 +4,7 @@ mod Starting
 mod Inside
 mod Begun
 mod Nothing
+mod Openings
 mod Going
 mod Left
 mod Over
@@ -11,3 +12,5 @@ mod Gone
 mod Machines
 mod Asking
 mod Whole
+mod Met
+mod MetBegun

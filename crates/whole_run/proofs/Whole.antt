@@ -22,7 +22,7 @@ use Rattle.whole_run.proofs.Inside.{LeadsToLeft}
 use Rattle.whole_run.proofs.Joining.{runs_then}
 use Rattle.whole_run.proofs.Left.{counts_are, left_within}
 use Rattle.whole_run.proofs.Machines.{line_not_behind, one_all, one_there}
-use Rattle.whole_run.proofs.Nothing.{nothing_begins}
+use Rattle.whole_run.proofs.Openings.{machine_starts}
 use Rattle.whole_run.proofs.Over.{over_stays}
 use Rattle.whole_run.specs.Machine.{IsSoundLine}
 use Rattle.whole_run.specs.Moments.{MayLie}
@@ -91,9 +91,9 @@ module _ (earlier : WorldView) (after : List WorldView) (records : List RecordVi
         ∙ over_stays earlier next inv gone.sound (leads.same_net ∙ kept.same_net) (leads.same_inputs ∙ same) begins quiet;
     line = in_line;
     not_behind = not_behind;
+    begins = machine_starts earlier;
     machine = one_all earlier after inv;
     asked = λ p x n c m. asked_on p x n c m earlier after inv all;
-    silent = nothing_begins earlier;
     opens = ∣ (next, left_by last records outputs kept.sound leads) ∣₁;
   }
 

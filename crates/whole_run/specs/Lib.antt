@@ -4,3 +4,4 @@ pub mod Moments
 pub mod Runs
 pub mod Machine
 pub mod WholeRun
+pub mod Met

@@ -1,11 +1,12 @@
 -- A run of worlds as a run of the abstract machine of recovery lines.
 use Rattle.std.specs.Prelude.{◌≡◌, ◌==◌, if◌then◌else◌, ℕ, List, [], ◌∷◌, length}
 use Rattle.protocol.specs.Node.Common.{Network, RecordView}
-use Rattle.protocol.specs.World.Common.{net_seen, OutputView, Reachable, records_seen, World, world_seen}
+use Rattle.protocol.specs.World.Common.{flights_to, net_seen, OutputView, Reachable, records_seen, World, world_seen}
 use Rattle.protocol.specs.World.Common.{WorldView}
 use Rattle.protocol_laws.specs.Join.Flown.{all_flown}
 use Rattle.recovery_line.specs.Line.{Covers, Sound}
 use Rattle.recovery_line.specs.Records.{effective}
+use Rattle.recovery_line.specs.Starts.{IsStart}
 use Rattle.recovery_line.specs.Worlds.{Run}
 
 -- a world as the machine sees it, where just that is under way which is in flight
@@ -18,6 +19,11 @@ pub record IsOneRun (earlier last : WorldView) : Type 0 where
   pub reached : Reachable (net_seen earlier.net) (machine_world earlier)
   pub worlds : List World
   pub run : Run (net_seen earlier.net) (machine_world earlier) worlds (machine_world last)
+
+-- With this world a run of the machine may begin, and nothing is in flight.
+pub record IsMachineStart (world : WorldView) : Type 0 where
+  pub start : ∥ IsStart (net_seen world.net) (machine_world world) ∥₁
+  pub nothing : (to : ℕ) → flights_to world.traffic to ≡ []
 
 -- how many items the output of a channel took
 abbrev pub count_left : List OutputView → ℕ → ℕ

@@ -1,8 +1,8 @@
 -- What is true of a run, whatever happens in it, at whatever moment one looks.
-use Rattle.std.specs.Prelude.{◌≡◌, ◌⊎◌, ℕ, List, [], IsTrue}
+use Rattle.std.specs.Prelude.{◌≡◌, ◌⊎◌, ℕ, List, IsTrue}
 use Rattle.kahn_net.specs.Streams.{ArePrefixes}
 use Rattle.protocol.specs.Node.Common.{RecordView}
-use Rattle.protocol.specs.World.Common.{are_quiet, flights_to, OutputView, records_of, records_seen}
+use Rattle.protocol.specs.World.Common.{are_quiet, OutputView, records_of, records_seen}
 use Rattle.protocol.specs.World.Common.{WorldInvariant, WorldView}
 use Rattle.protocol.specs.World.Coordination.{IsAsked, last_of, WasReceived}
 use Rattle.protocol.specs.World.Growing.{EachBegins}
@@ -10,7 +10,7 @@ use Rattle.protocol.specs.World.Headline.{AreWithin}
 use Rattle.recovery_line.specs.Line.{NotBehind}
 use Rattle.starting_again.specs.WasLeft.{outputs_left, WasLeft}
 use Rattle.whole_run.specs.Beginnings.{Begins}
-use Rattle.whole_run.specs.Machine.{IsOneRun, IsSoundLine}
+use Rattle.whole_run.specs.Machine.{IsMachineStart, IsOneRun, IsSoundLine}
 use Rattle.whole_run.specs.Moments.{MayLie}
 use Rattle.whole_run.specs.Runs.{EachNext, GoesOn, Happens}
 
@@ -35,14 +35,14 @@ pub record IsRight (earlier : WorldView) (after : List WorldView) (records : Lis
   -- It isn't behind that of the earlier world, unless the run began again since then.
   pub not_behind : EachNext GoesOn earlier after
       → NotBehind (records_seen (records_of earlier.stations)) (records_seen records)
-  -- Unless it did, steps of the machine of recovery lines lead from the earlier world to the last one.
+  -- Where the run begins, a run of the machine of recovery lines begins, and nothing is in flight.
+  pub begins : Begins earlier → IsMachineStart earlier
+  -- Unless it began again since the earlier world, steps of that machine lead from there to the last one.
   pub machine : EachNext GoesOn earlier after → ∥ IsOneRun earlier (last_of earlier after) ∥₁
   -- Whoever is asked to take part in a checkpoint had to be: what is asked for was asked for in the earlier world, or was
   -- received since then by an image of that checkpoint which was held.
   pub asked : (p x n c m : ℕ) → IsAsked (last_of earlier after).traffic p x n c m
       → ∥ IsAsked earlier.traffic p x n c m ⊎ WasReceived earlier.net earlier after x n c m ∥₁
-  -- (Where the run begins nothing is in flight, so nothing is asked for.)
-  pub silent : Begins earlier → (to : ℕ) → flights_to earlier.traffic to ≡ []
   -- What lies there some world of the network leaves, so that one may be opened over it.
   pub opens : WasLeft (last_of earlier after).net (last_of earlier after).inputs records outputs
 

@@ -3,5 +3,7 @@
 #![tactic(auto)]
 
 mod laws;
+mod meeting;
 
 pub use laws::whole_run_law;
+pub use meeting::{event_law, new_law, resumed_law, stop_law};

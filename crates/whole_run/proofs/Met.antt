@@ -1,0 +1,120 @@
+-- What the calls of a world promise is what may happen in a run.
+use Rattle.std.proofs.Common.{◌≡◌, ℕ, suc, ◌<◌, ◌≤◌, ℤ, List, [], ◌∷◌, ◌++◌, length, map, get_or, inl, inr, Option, Some, None, refl, sym}
+use Rattle.std.proofs.Common.{ap, subst, ◌∙◌, arith}
+use Rattle.std.specs.Prelude.{IsPermutation, slice_get}
+use Rattle.std.specs.List.{AllByRecursion}
+use Rattle.std.specs.declared.alloc.Global.{Global}
+use Rattle.std.specs.declared.sync.Arc.{Arc}
+use Rattle.std.proofs.lemmas.List.{length-map, map-append}
+use Rattle.std.proofs.lemmas.List.Sorted.{IsPermutation-map}
+use Rattle.std.proofs.lemmas.Option.{slice_get_cases}
+use Rattle.net_check.specs.declared.inputs.Inputs.{Inputs}
+use Rattle.sector_disk.specs.declared.disk.Disk.{Ghosts as DiskWords}
+use Rattle.gate_cell.specs.declared.cell.StableCell.{Ghosts as CellWords}
+use Rattle.slot_cell.specs.SplitCell.{whole_of}
+use Rattle.slot_cell.specs.declared.slot_cell.SlotCell.{Ghosts as SlotWords}
+use Rattle.slot_cell.specs.declared.split.SplitCell.{SplitCell}
+use Rattle.ckpt_store.specs.StoreView.{record_spelled}
+use Rattle.outlet.specs.declared.outlet.Outlet.{Ghosts as OutletWords}
+use Rattle.protocol.specs.Node.Common.{cell_in, Fits, IsValid, Net, Network, network_of, node_count, record_in, RecordView}
+use Rattle.protocol.specs.World.Common.{EventView, opening_world, output_channels, outputs_of, OutletView, OutputView}
+use Rattle.protocol.specs.World.Common.{records_of, ReplyView, StationView, WorldInvariant, WorldView}
+use Rattle.growing.specs.LaterInputs.{AreLaterInputs}
+use Rattle.protocol_laws.specs.Node.ImageLaws.{map_got}
+use Rattle.protocol_laws.specs.World.OutputLaws.{map_at}
+use Rattle.rerun.specs.Tables.{TableView}
+use Rattle.resuming.specs.Images.{image_of, KeepsShares, record_of, records_from, records_there}
+use Rattle.resuming.specs.Resuming.{Agrees, MayResume}
+use Rattle.starting_again.proofs.Leaving.{gives_back_its_own}
+use Rattle.starting_again.specs.WasLeft.{OpensOver, outputs_by_station, outputs_left}
+use Rattle.station.specs.OutputView.{output_view, outputs_view}
+use Rattle.station.specs.StationView.{outlet_view, outlet_views, station_view}
+use Rattle.station.specs.declared.output.Output.{Output}
+use Rattle.station.specs.declared.station.Station.{Station}
+use Rattle.world.specs.Applied.{IsApplied}
+use Rattle.world.specs.Closing.{all_outputs, disk_of, disks_of}
+use Rattle.world.specs.Left.{record_on, records_on}
+use Rattle.world.specs.OpeningWorld.{IsUnused}
+use Rattle.world.specs.WholeView.{world_of}
+use Rattle.world.specs.declared.world.World.{World}
+use Rattle.whole_run.specs.Met.{EventGoesOn}
+use Rattle.whole_run.specs.Moments.{Between}
+use Rattle.whole_run.specs.Runs.{ByEvent, ByNothing, ByStop, GoesOn}
+
+-- ---- an event
+
+pub event_goes_on : {C O : Type 0} {cell : CellWords C} {slots : SlotWords C} {outlet : OutletWords O}
+    (old new : World C O slots cell outlet) → EventGoesOn old new
+event_goes_on old new event None applied = ByNothing applied.refused
+event_goes_on old new event (Some answer) applied = ByEvent _ event answer applied.step
+
+-- ---- a stop
+
+outputs_shown : {O : Type 0} (taken : O → List ℤ) (failures : O → ℕ) (outputs : List (Output O))
+    → outputs_of (outlet_views taken failures outputs) ≡ outputs_view taken outputs
+outputs_shown taken failures [] = refl
+outputs_shown taken failures (output ∷ outputs) =
+    ap (λ (rest : List OutputView). output_view taken output ∷ rest) (outputs_shown taken failures outputs)
+
+pub channels_shown : {O : Type 0} (taken : O → List ℤ) (outputs : List (Output O))
+    → map (λ (output : OutputView). output.channel) (outputs_view taken outputs)
+    ≡ map (λ (output : Output O). output.channel) outputs
+channels_shown taken [] = refl
+channels_shown taken (output ∷ outputs) =
+    ap (λ (rest : List ℕ). output.channel ∷ rest) (channels_shown taken outputs)
+
+module _ {D O : Type 0} {disk : DiskWords D} {cell : CellWords (SplitCell D disk)}
+    {slots : SlotWords (SplitCell D disk)} (taken : O → List ℤ) (failures : O → ℕ)
+    (shows : (c : SplitCell D disk) → slots.whole c ≡ whole_of c) where
+  -- the record of a station is the one on its disk
+  record_there : (station : Station (SplitCell D disk) O slots cell)
+      → record_in station.node.store ≡ record_on disk.sector_count disk.content (disk_of station)
+  record_there station = ap record_spelled (shows (cell_in station.node.store))
+
+  kept_on_disks : (stations : List (Station (SplitCell D disk) O slots cell))
+      → records_of (map (station_view taken failures) stations)
+      ≡ records_on disk.sector_count disk.content (disks_of stations)
+  kept_on_disks [] = refl
+  kept_on_disks (station ∷ stations) =
+      ap (λ (kept : RecordView). kept ∷ records_of (map (station_view taken failures) stations)) (record_there station)
+      ∙ ap (λ (rest : List RecordView). record_on disk.sector_count disk.content (disk_of station) ∷ rest)
+      (kept_on_disks stations)
+
+  outputs_there : (stations : List (Station (SplitCell D disk) O slots cell))
+      → outputs_by_station (map (station_view taken failures) stations) ≡ outputs_view taken (all_outputs stations)
+  outputs_there [] = refl
+  outputs_there (station ∷ stations) =
+      ap (λ (own : List OutputView). own ++ outputs_by_station (map (station_view taken failures) stations))
+      (outputs_shown taken failures station.outputs.items)
+      ∙ (ap (λ (rest : List OutputView). outputs_view taken station.outputs.items ++ rest) (outputs_there stations)
+      ∙ sym (map-append (output_view taken) station.outputs.items (all_outputs stations)))
+
+  given_back : (world : WorldView) (stations : List (Station (SplitCell D disk) O slots cell))
+      (outputs : List (Output O)) → WorldInvariant world → world.stations ≡ map (station_view taken failures) stations
+      → IsPermutation (all_outputs stations) outputs
+      → map (λ (output : Output O). output.channel) outputs ≡ output_channels 0 world.net.channels
+      → outputs_view taken outputs ≡ outputs_left world
+  given_back world stations outputs inv same moved listed =
+      gives_back_its_own world (outputs_view taken outputs) inv
+      (subst (λ (list : List OutputView). IsPermutation list (outputs_view taken outputs))
+      (sym (ap outputs_by_station same ∙ outputs_there stations))
+      (IsPermutation-map (output_view taken) (all_outputs stations) outputs moved))
+      (channels_shown taken outputs ∙ listed)
+
+  pub stop_goes_on : (old new : WorldView) (stations : List (Station (SplitCell D disk) O slots cell)) (net : Network)
+      (inputs : List (List ℤ)) (outputs : List (Output O)) → WorldInvariant old
+      → old.stations ≡ map (station_view taken failures) stations
+      → IsPermutation (all_outputs stations) outputs
+      → map (λ (output : Output O). output.channel) outputs ≡ output_channels 0 old.net.channels
+      → net ≡ old.net → AreLaterInputs old.net old.inputs inputs
+      → OpensOver net inputs (records_on disk.sector_count disk.content (disks_of stations)) (outputs_view taken outputs)
+      new
+      → GoesOn old new
+  stop_goes_on old new stations net inputs outputs inv same moved listed same_net later opens =
+      ByStop (records_on disk.sector_count disk.content (disks_of stations)) (outputs_view taken outputs)
+      (Between (sym (ap records_of same ∙ kept_on_disks stations)) (given_back old stations outputs inv same moved listed))
+      (subst (AreLaterInputs old.net old.inputs) (sym opens.same_inputs) later)
+      (subst (λ (n : Network). OpensOver n new.inputs (records_on disk.sector_count disk.content (disks_of stations))
+      (outputs_view taken outputs) new) same_net
+      (subst (λ (i : List (List ℤ)). OpensOver net i (records_on disk.sector_count disk.content (disks_of stations))
+      (outputs_view taken outputs) new) (sym opens.same_inputs) opens))
