@@ -57,7 +57,7 @@ module _ (world : WorldView) (records : List RecordView) (outputs : List OutputV
 -- ---- a stop
 
 -- the world that is opened, were it on the inputs of before
-abbrev on_inputs_of : WorldView → WorldView → WorldView
+abbrev pub on_inputs_of : WorldView → WorldView → WorldView
 on_inputs_of old new = with_inputs old.inputs new
 
 module _ (old new : WorldView) (records : List RecordView) (outputs : List OutputView) (inv : WorldInvariant old)

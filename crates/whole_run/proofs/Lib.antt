@@ -10,6 +10,7 @@ mod Left
 mod Over
 mod Gone
 mod Machines
+mod Coordinating
 mod Asking
 mod Whole
 mod Met

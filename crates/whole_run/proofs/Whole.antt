@@ -11,11 +11,13 @@ use Rattle.protocol.specs.World.Growing.{EachBegins}
 use Rattle.protocol.specs.World.Headline.{AreAllWithin, AreWithin}
 use Rattle.protocol_laws.specs.World.LineLaws.{line_now}
 use Rattle.protocol_laws.specs.World.PrefixLaws.{released_prefix}
+use Rattle.protocol_laws.specs.World.QuietLaws.{quiet_is_whole}
 use Rattle.recovery_line.specs.Line.{Covers, NotBehind, Sound}
 use Rattle.recovery_line.specs.Records.{effective}
 use Rattle.starting_again.specs.WasLeft.{outputs_left}
 use Rattle.whole_run.proofs.Asking.{asked_on}
 use Rattle.whole_run.proofs.Begun.{begins_soundly}
+use Rattle.whole_run.proofs.Coordinating.{coordinated_all, coordinated_inside}
 use Rattle.whole_run.proofs.Going.{goes_there, left_by, lies}
 use Rattle.whole_run.proofs.Gone.{IsKept, kept_all, kept_by, kept_then}
 use Rattle.whole_run.proofs.Inside.{LeadsToLeft}
@@ -86,6 +88,7 @@ module _ (earlier : WorldView) (after : List WorldView) (records : List RecordVi
     longer = kept.longer;
     kept = subst (EachBegins (outputs_left earlier)) leads.outputs_are begins;
     one = ∥∥₁_map (released_prefix next gone.sound) (λ a. (a.0, within a.0 a.1));
+    whole = quiet_is_whole last kept.sound;
     over = λ quiet same.
         sym leads.outputs_are
         ∙ over_stays earlier next inv gone.sound (leads.same_net ∙ kept.same_net) (leads.same_inputs ∙ same) begins quiet;
@@ -93,6 +96,8 @@ module _ (earlier : WorldView) (after : List WorldView) (records : List RecordVi
     not_behind = not_behind;
     begins = machine_starts earlier;
     machine = one_all earlier after inv;
+    coordinated = coordinated_all earlier after inv;
+    inside = coordinated_inside last records outputs kept.sound there;
     asked = λ p x n c m. asked_on p x n c m earlier after inv all;
     opens = ∣ (next, left_by last records outputs kept.sound leads) ∣₁;
   }

@@ -2,11 +2,13 @@
 use Rattle.std.specs.Prelude.{◌≡◌, ◌⊎◌, ℕ, List, IsTrue}
 use Rattle.kahn_net.specs.Streams.{ArePrefixes}
 use Rattle.protocol.specs.Node.Common.{RecordView}
-use Rattle.protocol.specs.World.Common.{are_quiet, OutputView, records_of, records_seen}
+use Rattle.protocol.specs.World.Common.{are_quiet, net_seen, OutputView, records_of, records_seen}
 use Rattle.protocol.specs.World.Common.{WorldInvariant, WorldView}
-use Rattle.protocol.specs.World.Coordination.{IsAsked, last_of, WasReceived}
+use Rattle.protocol.specs.World.Coordination.{AreCoordinated, IsAsked, last_of, WasReceived}
 use Rattle.protocol.specs.World.Growing.{EachBegins}
 use Rattle.protocol.specs.World.Headline.{AreWithin}
+use Rattle.protocol.specs.World.InLine.{IsCoordinatedInside, nodes_seen}
+use Rattle.protocol.specs.World.Quiet.{AreWhole}
 use Rattle.recovery_line.specs.Line.{NotBehind}
 use Rattle.starting_again.specs.WasLeft.{outputs_left, WasLeft}
 use Rattle.whole_run.specs.Beginnings.{Begins}
@@ -27,6 +29,8 @@ pub record IsRight (earlier : WorldView) (after : List WorldView) (records : Lis
   pub kept : EachBegins (outputs_left earlier) outputs
   -- Each stream that has left is a prefix of its channel's history, in one approximation on the inputs so far.
   pub one : ∥ ((n : ℕ) × AreWithin (last_of earlier after).net (last_of earlier after).inputs outputs n) ∥₁
+  -- Where nothing is left to do, each of these streams is its channel's whole history, in the least solution.
+  pub whole : IsTrue (are_quiet (last_of earlier after)) → AreWhole (last_of earlier after)
   -- Where nothing was left to do in the earlier world, nothing more has left, unless more has come on the inputs.
   pub over : IsTrue (are_quiet earlier) → (last_of earlier after).inputs ≡ earlier.inputs
       → outputs ≡ outputs_left earlier
@@ -39,6 +43,11 @@ pub record IsRight (earlier : WorldView) (after : List WorldView) (records : Lis
   pub begins : Begins earlier → IsMachineStart earlier
   -- Unless it began again since the earlier world, steps of that machine lead from there to the last one.
   pub machine : EachNext GoesOn earlier after → ∥ IsOneRun earlier (last_of earlier after) ∥₁
+  -- Checkpoints that several nodes take together are coordinated in each thing that happened, unless it began again, and
+  -- by what lies there now.
+  pub coordinated : EachNext GoesOn earlier after → EachNext AreCoordinated earlier after
+  pub inside : ∥ IsCoordinatedInside (net_seen (last_of earlier after).net) (nodes_seen (last_of earlier after).stations)
+      (records_seen records) ∥₁
   -- Whoever is asked to take part in a checkpoint had to be: what is asked for was asked for in the earlier world, or was
   -- received since then by an image of that checkpoint which was held.
   pub asked : (p x n c m : ℕ) → IsAsked (last_of earlier after).traffic p x n c m
