@@ -29,14 +29,14 @@ use Rattle.starting_again.specs.WasLeft.{output_left, outputs_left}
 
 -- ---- an element in place of one at its place
 
-set_alike : {A : Type 0} (f : StationView → A) (stations : List StationView) (k : ℕ) (x y : StationView)
+pub set_alike : {A : Type 0} (f : StationView → A) (stations : List StationView) (k : ℕ) (x y : StationView)
     → slice_get stations k ≡ Some x → f y ≡ f x → map f (slice_set stations k y) ≡ map f stations
 set_alike {A} f stations k x y there same =
     map-set f stations k y
     ∙ (ap (λ (z : A). slice_set (map f stations) k z) same
     ∙ set_itself (map f stations) k (f x) (map_at f stations k x there))
 
-left_alike : (olds news : List StationView) → outputs_each news ≡ outputs_each olds → (channels : List ℕ)
+pub left_alike : (olds news : List StationView) → outputs_each news ≡ outputs_each olds → (channels : List ℕ)
     → map (output_left news) channels ≡ map (output_left olds) channels
 left_alike olds news same channels =
     ap (λ (one : ℕ → OutputView). map one channels)

@@ -13,5 +13,6 @@ mod Machines
 mod Coordinating
 mod Asking
 mod Whole
+mod Example
 mod Met
 mod MetBegun

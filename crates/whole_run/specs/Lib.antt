@@ -4,4 +4,5 @@ pub mod Moments
 pub mod Runs
 pub mod Machine
 pub mod WholeRun
+pub mod Example
 pub mod Met

@@ -1,8 +1,15 @@
 // The law of a whole run.
+ghost use Rattle.whole_run.specs.Example.{ShortRunIsThere};
 ghost use Rattle.whole_run.specs.WholeRun.{WholeRun};
 
 /// Whatever happens to a network from the beginning of its run on, at whatever moment one looks: what is true of a world is true then, and
 /// what has left, the recovery line, and the steps of the abstract machine go on from any earlier world of the run.
 pub fn whole_run_law()
     ensures { WholeRun }
+{}
+
+/// The law speaks of something: of each network, on whatever inputs fit it, there is a run in which a node crashes, the world is stopped and
+/// opened again over what lies there, and the run then begins again from its outlets alone.
+pub fn short_run_law()
+    ensures { ShortRunIsThere }
 {}
