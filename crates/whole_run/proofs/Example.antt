@@ -30,6 +30,7 @@ use Rattle.whole_run.proofs.Begun.{begins_soundly}
 use Rattle.whole_run.proofs.Inside.{left_alike, set_alike}
 use Rattle.whole_run.specs.Beginnings.{Begins}
 use Rattle.whole_run.specs.Example.{IsShortRun, ShortRunIsThere}
+use Rattle.whole_run.specs.Moments.{Between}
 use Rattle.whole_run.specs.Runs.{BeginsAgain}
 
 -- ---- the world with which it begins
@@ -188,6 +189,9 @@ module _ (net : Network) (inputs : List (List ℤ)) (valid : IsValid net) (fits 
         longer = subst (λ (is : List (List ℤ)). ArePrefixes is inputs) (sym opens.same_inputs) (prefixes_refl inputs);
         fits = subst (λ (n : Network). Fits n inputs) (sym opens.same_net) fits;
       };
+      records = records_of opened.stations;
+      outputs = outputs_left opened;
+      ended = Between refl refl;
       kept = subst (λ (os : List OutputView). EachBegins os (outputs_left first))
           (sym ((opens_soundly net inputs (records_of crash.stations) (outputs_left crash) opened
           (leaves_its_own crash crash_sound) opens).1 ∙ nothing_left))

@@ -11,7 +11,7 @@ use Rattle.protocol_laws.specs.World.GrowLaws.{begins_same}
 use Rattle.starting_again.specs.WasLeft.{output_left, outputs_left}
 use Rattle.std.proofs.Common.{map}
 use Rattle.whole_run.proofs.Begun.{begins_soundly}
-use Rattle.whole_run.proofs.Going.{goes}
+use Rattle.whole_run.proofs.Going.{goes, goes_there, lies}
 use Rattle.whole_run.proofs.Left.{begins_then, by_outputs}
 use Rattle.whole_run.specs.Runs.{BeginsAgain, EachNext, Happens, WithDisks, WithOutlets}
 
@@ -39,17 +39,23 @@ kept_then first next last one other = record {
   left = begins_then (outputs_left first) (outputs_left next) (outputs_left last) one.left other.left;
 }
 
-kept_again : (old new : WorldView) → BeginsAgain old new → IsKept old new
-kept_again old new again = record {
+kept_again : (old new : WorldView) → WorldInvariant old → BeginsAgain old new → IsKept old new
+kept_again old new inv again = record {
   sound = begins_soundly new again.begins;
   same_net = again.same_net;
   longer = again.later.longer;
-  left = again.kept;
+  left = begins_then (outputs_left old) again.outputs (outputs_left new) ended again.kept;
 }
+  where
+    ended : EachBegins (outputs_left old) again.outputs
+    ended =
+        let leads = lies old again.records again.outputs inv again.ended in
+        subst (EachBegins (outputs_left old)) leads.outputs_are
+        (kept_by old leads.next (goes_there old again.records again.outputs inv leads)).left
 
 pub kept_next : (old new : WorldView) → WorldInvariant old → Happens old new → IsKept old new
 kept_next old new inv (WithDisks goes_on) = kept_by old new (goes old new inv goes_on)
-kept_next old new inv (WithOutlets again) = kept_again old new again
+kept_next old new inv (WithOutlets again) = kept_again old new inv again
 
 pub kept_all : (world : WorldView) (worlds : List WorldView) → WorldInvariant world → EachNext Happens world worlds
     → IsKept world (last_of world worlds)

@@ -22,13 +22,16 @@ pub data GoesOn (old new : WorldView) : Type 0 where
       → AreLaterInputs old.net old.inputs new.inputs → OpensOver old.net new.inputs records outputs new
       → GoesOn old new
 
--- The run begins again where only the outlets are left: with the same network, perhaps on later inputs, and with outlets
--- of which each has what had left there.
+-- The run ends at some moment and begins again where only the outlets are left: with the same network, perhaps on later
+-- inputs, and with outlets of which each has what had left there by then, and perhaps more.
 pub record BeginsAgain (old new : WorldView) : Type 0 where
   pub begins : Begins new
   pub same_net : new.net ≡ old.net
   pub later : AreLaterInputs old.net old.inputs new.inputs
-  pub kept : EachBegins (outputs_left old) (outputs_left new)
+  pub records : List RecordView
+  pub outputs : List OutputView
+  pub ended : MayLie old records outputs
+  pub kept : EachBegins outputs (outputs_left new)
 
 -- what may happen next in a run
 pub data Happens (old new : WorldView) : Type 0 where
