@@ -1,24 +1,20 @@
--- Checkpoints are coordinated in whatever happens while the disks are there, and in what lies there at a moment.
+-- Checkpoints are coordinated in whatever happens while the disks are there.
 use Rattle.std.proofs.Common.{◌≡◌, ◌⊎◌, inl, inr, ℕ, Bool, List, [], ◌∷◌, ◌++◌, refl, sym, ap, subst, ◌∙◌}
 use Rattle.std.proofs.Math.Logic.{∥∥₁_elim, ∥∥₁_map, ∥∥₁_map₂}
 use Rattle.protocol.specs.Join.Runs.{KeepRecords, WriteAtFirst}
 use Rattle.protocol.specs.Node.Common.{Network, RecordView}
 use Rattle.protocol.specs.World.Common.{HasRun, Leads, Net, net_seen, OutputView, records_of, records_seen, RunsOn}
-use Rattle.protocol.specs.World.Common.{setting_of, StationView, Step, Traffic, World, WorldInvariant, world_seen, WorldView}
-use Rattle.protocol.specs.World.Common.{event_node}
+use Rattle.protocol.specs.World.Common.{StationView, Step, Traffic, World, WorldInvariant, world_seen, WorldView}
 use Rattle.protocol.specs.World.Coordination.{AreCoordinated, last_of}
-use Rattle.protocol.specs.World.InLine.{IsCoordinatedInside, nodes_seen}
 use Rattle.protocol_laws.specs.Join.Flown.{in_flight_was_sent}
 use Rattle.protocol_laws.specs.Join.Leading.{leads_then, records_at_end, run_behind}
 use Rattle.protocol_laws.specs.World.CoordinationLaws.{coordinated_still, event_is_coordinated, events_are_coordinated}
-use Rattle.protocol_laws.specs.World.LineLaws.{act_in_line, line_now}
 use Rattle.protocol_laws.specs.World.StepKeeps.{step_runs_on}
 use Rattle.recovery_line.specs.Worlds.{Run, Send}
 use Rattle.starting_again.proofs.Again.{goes_on_again, has_the_same, runs_on_again, traffic_again}
 use Rattle.starting_again.specs.StartsAgain.{WorldStartsAgain}
 use Rattle.whole_run.proofs.Going.{goes, goes_there, lies, on_inputs_of, starts_again}
 use Rattle.whole_run.proofs.Inside.{LeadsToLeft}
-use Rattle.whole_run.specs.Moments.{Between, Inside, MayLie}
 use Rattle.whole_run.specs.Runs.{ByEvent, ByItems, ByNothing, ByRooms, ByStop, EachNext, GoesOn}
 
 -- ---- steps of which none but the first writes a record, and behind them steps that write none
@@ -119,15 +115,3 @@ coordinated_all world (next ∷ worlds) inv all = (
   coordinated_next world next inv all.0,
   coordinated_all next worlds (goes world next inv all.0).sound all.1,
 )
-
--- ---- what lies there at a moment
-
-pub coordinated_inside : (world : WorldView) (records : List RecordView) (outputs : List OutputView)
-    → WorldInvariant world → MayLie world records outputs
-    → ∥ IsCoordinatedInside (net_seen world.net) (nodes_seen world.stations) (records_seen records) ∥₁
-coordinated_inside world records outputs inv (Between same left) =
-    subst (λ (rs : List RecordView). ∥ IsCoordinatedInside (net_seen world.net) (nodes_seen world.stations) (records_seen rs) ∥₁)
-    (sym same) (line_now world inv).coordinated
-coordinated_inside world records outputs inv (Inside fits event answer next step there) =
-    (act_in_line fits event step.came world answer (setting_of world) (event_node event) next.stations records inv refl
-    refl step.act there.of_nodes).coordinated

@@ -12,6 +12,7 @@ mod Gone
 mod Machines
 mod Coordinating
 mod Asking
+mod Found
 mod Whole
 mod Example
 mod Met

@@ -37,8 +37,8 @@ use Rattle.world.specs.Left.{record_on, records_on}
 use Rattle.world.specs.OpeningWorld.{IsUnused}
 use Rattle.world.specs.WholeView.{world_of}
 use Rattle.world.specs.declared.world.World.{World}
-use Rattle.whole_run.specs.Met.{EventGoesOn}
-use Rattle.whole_run.specs.Moments.{Between}
+use Rattle.whole_run.specs.Met.{CrashIsFound, EventGoesOn}
+use Rattle.whole_run.specs.Moments.{AsPromised, Between}
 use Rattle.whole_run.specs.Runs.{ByEvent, ByNothing, ByStop, GoesOn}
 
 -- ---- an event
@@ -47,6 +47,11 @@ pub event_goes_on : {C O : Type 0} {cell : CellWords C} {slots : SlotWords C} {o
     (old new : World C O slots cell outlet) → EventGoesOn old new
 event_goes_on old new event None applied = ByNothing applied.refused
 event_goes_on old new event (Some answer) applied = ByEvent _ event answer applied.step
+
+pub crash_is_found : {C O : Type 0} {cell : CellWords C} {slots : SlotWords C} {outlet : OutletWords O}
+    (old new : World C O slots cell outlet) → CrashIsFound old new
+crash_is_found old new event answer lefts records outputs applied left spelled are =
+    AsPromised _ event answer _ applied.step (applied.line.in_line lefts records left spelled) are
 
 -- ---- a stop
 

@@ -13,11 +13,11 @@ use Rattle.recovery_line.specs.Line.{NotBehind}
 use Rattle.starting_again.specs.WasLeft.{outputs_left, WasLeft}
 use Rattle.whole_run.specs.Beginnings.{Begins}
 use Rattle.whole_run.specs.Machine.{IsMachineStart, IsOneRun, IsSoundLine}
-use Rattle.whole_run.specs.Moments.{MayLie}
+use Rattle.whole_run.specs.Moments.{MayBeFound, MayLie}
 use Rattle.whole_run.specs.Runs.{EachNext, GoesOn, Happens}
 
--- What is true of the last of these worlds of a run, since an earlier one, at a moment at which these records lie on the
--- disks and these outputs have what has left: between two events, or inside the next one.
+-- What is true of the last of these worlds of a run, since an earlier one, at a moment at which these records are found
+-- on the disks and these outputs have what has left: between two events, or inside the next one.
 pub record IsRight (earlier : WorldView) (after : List WorldView) (records : List RecordView)
     (outputs : List OutputView) : Type 0 where
   -- All that is true of a world, whatever events came before, is true of the last one.
@@ -44,7 +44,7 @@ pub record IsRight (earlier : WorldView) (after : List WorldView) (records : Lis
   -- Unless it began again since the earlier world, steps of that machine lead from there to the last one.
   pub machine : EachNext GoesOn earlier after → ∥ IsOneRun earlier (last_of earlier after) ∥₁
   -- Checkpoints that several nodes take together are coordinated in each thing that happened, unless it began again, and
-  -- by what lies there now.
+  -- by what is found now.
   pub coordinated : EachNext GoesOn earlier after → EachNext AreCoordinated earlier after
   pub inside : ∥ IsCoordinatedInside (net_seen (last_of earlier after).net) (nodes_seen (last_of earlier after).stations)
       (records_seen records) ∥₁
@@ -52,12 +52,13 @@ pub record IsRight (earlier : WorldView) (after : List WorldView) (records : Lis
   -- received since then by an image of that checkpoint which was held.
   pub asked : (p x n c m : ℕ) → IsAsked (last_of earlier after).traffic p x n c m
       → ∥ IsAsked earlier.traffic p x n c m ⊎ WasReceived earlier.net earlier after x n c m ∥₁
-  -- What lies there some world of the network leaves, so that one may be opened over it.
-  pub opens : WasLeft (last_of earlier after).net (last_of earlier after).inputs records outputs
+  -- What may lie there some world of the network leaves, so that one may be opened over it.
+  pub opens : MayLie (last_of earlier after) records outputs
+      → WasLeft (last_of earlier after).net (last_of earlier after).inputs records outputs
 
 -- From a beginning on, whatever happens, and from whichever of its worlds one looks.
 abbrev pub WholeRun : Type 0
 WholeRun = (first : WorldView) (before after : List WorldView) (records : List RecordView) (outputs : List OutputView)
     → Begins first → EachNext Happens first before → EachNext Happens (last_of first before) after
-    → MayLie (last_of (last_of first before) after) records outputs
+    → MayBeFound (last_of (last_of first before) after) records outputs
     → IsRight (last_of first before) after records outputs

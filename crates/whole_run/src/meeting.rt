@@ -1,5 +1,5 @@
 // What the calls of a world promise is what may happen in a run.
-ghost use Rattle.whole_run.specs.Met.{EventGoesOn, NewBegins, ResumedBegins, StopGoesOn};
+ghost use Rattle.whole_run.specs.Met.{CrashIsFound, EventGoesOn, NewBegins, ResumedBegins, StopGoesOn};
 
 use outlet::Outlet;
 use rerun::Rerun;
@@ -10,6 +10,12 @@ use world::World;
 /// What `World::apply` and `World::step` promise of an event, made or refused, is what may happen next in a run.
 pub fn event_law<C: SlotCell, O: Outlet>(before: &World<C, O>, after: &World<C, O>)
     ensures { EventGoesOn before.now after.now }
+{}
+
+/// What may be found inside an event of a run is what `World::apply` speaks of in its clause `line`: the records which a crash of all nodes
+/// leaves, each at a moment of its own.
+pub fn crash_law<C: SlotCell, O: Outlet>(before: &World<C, O>, after: &World<C, O>)
+    ensures { CrashIsFound before.now after.now }
 {}
 
 /// A world that `World::open` opens over what `World::close` gave back is what may come next in a run.
