@@ -1,4 +1,4 @@
--- The law of a whole run.
+-- What is true of a run since an earlier world of it.
 use Rattle.std.proofs.Common.{◌≡◌, ℕ, ℤ, List, sym, subst, ◌∙◌}
 use Rattle.std.proofs.Math.Logic.{∥∥₁_elim, ∥∥₁_map}
 use Rattle.std.proofs.Math.Bridge.{le_prop}
@@ -15,7 +15,6 @@ use Rattle.recovery_line.specs.Line.{Covers, NotBehind, Sound}
 use Rattle.recovery_line.specs.Records.{effective}
 use Rattle.starting_again.specs.WasLeft.{outputs_left, WasLeft}
 use Rattle.whole_run.proofs.Asking.{asked_on}
-use Rattle.whole_run.proofs.Begun.{begins_soundly}
 use Rattle.whole_run.proofs.Coordinating.{coordinated_all}
 use Rattle.whole_run.proofs.Found.{found, IsFound}
 use Rattle.whole_run.proofs.Going.{left_by, lies}
@@ -27,7 +26,7 @@ use Rattle.whole_run.proofs.Over.{over_stays}
 use Rattle.whole_run.specs.Machine.{IsSoundLine}
 use Rattle.whole_run.specs.Moments.{MayBeFound, MayLie}
 use Rattle.whole_run.specs.Runs.{EachNext, GoesOn, Happens}
-use Rattle.whole_run.specs.WholeRun.{IsRight, WholeRun}
+use Rattle.whole_run.specs.WholeRun.{IsRight}
 
 module _ (earlier : WorldView) (after : List WorldView) (records : List RecordView) (outputs : List OutputView)
     (inv : WorldInvariant earlier) (all : EachNext Happens earlier after)
@@ -96,8 +95,3 @@ module _ (earlier : WorldView) (after : List WorldView) (records : List RecordVi
     asked = λ p x n c m. asked_on p x n c m earlier after inv all;
     opens = opens;
   }
-
-pub whole_run : WholeRun
-whole_run first before after records outputs begun happened then_happened there =
-    is_right (last_of first before) after records outputs
-    (kept_all first before (begins_soundly first begun) happened).sound then_happened there
