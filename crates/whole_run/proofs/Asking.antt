@@ -1,7 +1,7 @@
 -- Whatever is asked for was received by an image of its checkpoint.
-use Rattle.std.proofs.Common.{◌≡◌, ◌⊎◌, inl, inr, ℕ, List, [], ◌∷◌, Some, sym, ap, subst, ◌∙◌}
+use Rattle.std.proofs.Common.{◌≡◌, ◌⊎◌, inl, inr, ℕ, List, [], ◌∷◌, Some, ap, subst}
 use Rattle.std.specs.Prelude.{slice_get}
-use Rattle.std.proofs.Math.Logic.{∥∥₁_elim, ∥∥₁_map, ∥∥₁_map₂}
+use Rattle.std.proofs.Math.Logic.{∥∥₁_elim, ∥∥₁_map}
 use Rattle.protocol.specs.Node.Common.{Network}
 use Rattle.protocol.specs.World.Common.{flights_to, net_seen, Traffic, WorldInvariant, WorldView}
 use Rattle.protocol.specs.World.Coordination.{IsAsked, last_of, WasReceived}
@@ -57,7 +57,8 @@ module _ (p x n c m : ℕ) where
   asked_on world [] inv all asked = ∣ inl asked ∣₁
   asked_on world (next ∷ worlds) inv all asked =
       let kept = kept_next world next inv all.0 in
-      let there = subst (λ (net : Network). WasReceived next.net next worlds x n c m → WasReceived net next worlds x n c m)
+      let there =
+      subst (λ (net : Network). WasReceived next.net next worlds x n c m → WasReceived net next worlds x n c m)
       kept.same_net (λ received. received) in
       ∥∥₁_elim (asked_on next worlds kept.sound all.1 asked) (hlevel)
       (λ where_. elim where_ [

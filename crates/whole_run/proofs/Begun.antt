@@ -1,7 +1,8 @@
 -- What is true of a world is true of one with which a run begins.
 use Rattle.std.proofs.Common.{◌≡◌, ◌⊎◌, inl, inr, ℕ, List, [], ◌∷◌, map, Some, refl, sym, ap, subst, ◌∙◌}
 use Rattle.std.specs.Prelude.{slice_get}
-use Rattle.protocol.specs.World.Common.{opening_world, OutletView, output_of, outputs_of, OutputView, WorldInvariant, WorldView}
+use Rattle.protocol.specs.World.Common.{OutletView, output_of, outputs_of, OutputView, WorldInvariant}
+use Rattle.protocol.specs.World.Common.{WorldView}
 use Rattle.protocol.specs.World.OpeningWorld.{opening_outlet}
 use Rattle.protocol_laws.specs.Node.ImageLaws.{map_got}
 use Rattle.protocol_laws.specs.World.OpenLaws.{world_opened}
@@ -36,5 +37,6 @@ begins_soundly world begins = by begins.how
         (channels_open made.outlets ∙ made.listed) (unused_open made.outlets made.unused))
     by (inr again) =
         (opens_soundly world.net world.inputs (records_there world.net again.table) again.outputs world
-        (is_left_there world.net world.inputs again.table again.outputs begins.valid begins.fits again.ordered again.rerun
+        (is_left_there world.net world.inputs again.table again.outputs begins.valid begins.fits again.ordered
+        again.rerun
         again.may) again.opens).0

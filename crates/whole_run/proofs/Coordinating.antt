@@ -1,11 +1,11 @@
 -- Checkpoints are coordinated in whatever happens while the disks are there.
-use Rattle.std.proofs.Common.{◌≡◌, ◌⊎◌, inl, inr, ℕ, Bool, List, [], ◌∷◌, ◌++◌, refl, sym, ap, subst, ◌∙◌}
-use Rattle.std.proofs.Math.Logic.{∥∥₁_elim, ∥∥₁_map, ∥∥₁_map₂}
+use Rattle.std.proofs.Common.{◌≡◌, inl, inr, List, [], ◌∷◌, ◌++◌, refl, sym, ap, subst, ◌∙◌}
+use Rattle.std.proofs.Math.Logic.{∥∥₁_map₂}
 use Rattle.protocol.specs.Join.Runs.{KeepRecords, WriteAtFirst}
 use Rattle.protocol.specs.Node.Common.{Network, RecordView}
 use Rattle.protocol.specs.World.Common.{HasRun, Leads, Net, net_seen, OutputView, records_of, records_seen, RunsOn}
 use Rattle.protocol.specs.World.Common.{StationView, Step, Traffic, World, WorldInvariant, world_seen, WorldView}
-use Rattle.protocol.specs.World.Coordination.{AreCoordinated, last_of}
+use Rattle.protocol.specs.World.Coordination.{AreCoordinated}
 use Rattle.protocol_laws.specs.Join.Flown.{in_flight_was_sent}
 use Rattle.protocol_laws.specs.Join.Leading.{leads_then, records_at_end, run_behind}
 use Rattle.protocol_laws.specs.World.CoordinationLaws.{coordinated_still, event_is_coordinated, events_are_coordinated}
@@ -23,7 +23,8 @@ keeps_from : (w v : World) (worlds : List World) → v.records ≡ w.records →
 keeps_from w v [] same keeps = tt
 keeps_from w v (x ∷ worlds) same keeps = (keeps.0 ∙ same, keeps_from w v worlds same keeps.1)
 
-keeps_both : (w : World) (one other : List World) → KeepRecords w one → KeepRecords w other → KeepRecords w (one ++ other)
+keeps_both : (w : World) (one other : List World) → KeepRecords w one → KeepRecords w other
+    → KeepRecords w (one ++ other)
 keeps_both w [] other first second = second
 keeps_both w (x ∷ one) other first second = (first.0, keeps_both w one other first.1 second)
 
@@ -100,7 +101,8 @@ module _ (old new : WorldView) (records : List RecordView) (outputs : List Outpu
   ]
 
 coordinated_next : (old new : WorldView) → WorldInvariant old → GoesOn old new → AreCoordinated old new
-coordinated_next old new inv (ByEvent fits event answer step) = events_are_coordinated fits event old answer new inv step
+coordinated_next old new inv (ByEvent fits event answer step) =
+    events_are_coordinated fits event old answer new inv step
 coordinated_next old new inv (ByRooms rooms is) = subst (AreCoordinated old) (sym is) (coordinated_still old inv)
 coordinated_next old new inv (ByItems inputs later is) = subst (AreCoordinated old) (sym is) (coordinated_still old inv)
 coordinated_next old new inv (ByNothing same) = subst (AreCoordinated old) (sym same) (coordinated_still old inv)
@@ -108,7 +110,8 @@ coordinated_next old new inv (ByStop records outputs there later opens) =
     let leads = lies old records outputs inv there in
     stop_coordinated old new records outputs inv leads (starts_again old new records outputs inv leads later opens)
 
-pub coordinated_all : (world : WorldView) (worlds : List WorldView) → WorldInvariant world → EachNext GoesOn world worlds
+pub coordinated_all : (world : WorldView) (worlds : List WorldView) → WorldInvariant world
+    → EachNext GoesOn world worlds
     → EachNext AreCoordinated world worlds
 coordinated_all world [] inv all = tt
 coordinated_all world (next ∷ worlds) inv all = (

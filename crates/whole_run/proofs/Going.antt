@@ -1,22 +1,21 @@
 -- What has left goes on over whatever happens.
-use Rattle.std.proofs.Common.{◌≡◌, ◌⊎◌, inl, inr, ℕ, Bool, ℤ, List, [], ◌∷◌, refl, sym, ap, subst, ◌∙◌}
-use Rattle.growing.proofs.Feeding.{stays_sound}
+use Rattle.std.proofs.Common.{inl, inr, List, refl, sym, subst, ◌∙◌}
 use Rattle.growing.proofs.GoingOn.{goes_on, goes_on_then}
 use Rattle.growing.specs.LaterInputs.{AreLaterInputs, with_inputs}
-use Rattle.growing.specs.WhateverComes.{ByEvent as BecomesByEvent, ByInputs, ByRooms as BecomesByRooms, ByStart, HasGoneOn}
+use Rattle.growing.specs.WhateverComes.{ByEvent as BecomesByEvent, ByInputs, ByRooms as BecomesByRooms, ByStart}
+use Rattle.growing.specs.WhateverComes.{HasGoneOn}
 use Rattle.kahn_net.specs.Laws.Prefixes.{prefix_refl, prefixes_refl}
 use Rattle.protocol.specs.Node.Common.{Network, RecordView}
-use Rattle.protocol.specs.World.Common.{EventView, IsStep, OutputView, records_of, released_of, ReplyView}
+use Rattle.protocol.specs.World.Common.{OutputView, released_of}
 use Rattle.protocol.specs.World.Common.{WorldInvariant, WorldView}
-use Rattle.protocol.specs.World.Coordination.{last_of}
 use Rattle.protocol_laws.specs.World.PrefixLaws.{released_prefix}
 use Rattle.protocol_laws.specs.World.ReleasedLaws.{released_is_right}
 use Rattle.starting_again.specs.StartsAgain.{WorldStartsAgain}
-use Rattle.starting_again.specs.WasLeft.{IsLeftBy, OpensAt, OpensOver, outputs_left}
+use Rattle.starting_again.specs.WasLeft.{IsLeftBy, OpensAt, OpensOver}
 use Rattle.whole_run.proofs.Inside.{leads_inside, LeadsToLeft, stays_itself}
 use Rattle.whole_run.proofs.Starting.{opens_again}
 use Rattle.whole_run.specs.Moments.{Between, Inside, MayLie}
-use Rattle.whole_run.specs.Runs.{ByEvent, ByItems, ByNothing, ByRooms, ByStop, EachNext, GoesOn}
+use Rattle.whole_run.specs.Runs.{ByEvent, ByItems, ByNothing, ByRooms, ByStop, GoesOn}
 
 -- a world goes on to itself
 pub stays : (world : WorldView) → WorldInvariant world → HasGoneOn world world
@@ -78,7 +77,8 @@ module _ (old new : WorldView) (records : List RecordView) (outputs : List Outpu
     same_inputs = sym leads.same_inputs;
     records_are = opens.records_are;
     stations = λ place station is.
-        subst (λ (net : Network). OpensAt net outputs place station) (sym leads.same_net) (opens.stations place station is);
+        subst (λ (net : Network). OpensAt net outputs place station) (sym leads.same_net)
+        (opens.stations place station is);
     nothing = opens.nothing;
   }
 
@@ -86,7 +86,8 @@ module _ (old new : WorldView) (records : List RecordView) (outputs : List Outpu
   starts_again = opens_again leads.next (on_inputs_of old new) records outputs next_left opened_before
 
   pub goes_on_opened : HasGoneOn leads.next (on_inputs_of old new)
-  goes_on_opened = goes_on leads.next (on_inputs_of old new) (goes_there old records outputs inv leads).sound (ByStart starts_again)
+  goes_on_opened =
+      goes_on leads.next (on_inputs_of old new) (goes_there old records outputs inv leads).sound (ByStart starts_again)
 
   later_then : AreLaterInputs (on_inputs_of old new).net (on_inputs_of old new).inputs new.inputs
   later_then = subst (λ (net : Network). AreLaterInputs net old.inputs new.inputs) (sym opens.same_net) later

@@ -1,10 +1,10 @@
 -- What is kept over whatever happens, one thing after another.
-use Rattle.std.proofs.Common.{◌≡◌, List, [], ◌∷◌, refl, sym, ap, subst, ◌∙◌}
+use Rattle.std.proofs.Common.{◌≡◌, List, [], ◌∷◌, refl, sym, subst, ◌∙◌}
 use Rattle.growing.specs.WhateverComes.{HasGoneOn}
 use Rattle.kahn_net.specs.Laws.Prefixes.{prefixes_refl, prefixes_trans}
 use Rattle.kahn_net.specs.Streams.{ArePrefixes}
 use Rattle.protocol.specs.Node.Common.{Network}
-use Rattle.protocol.specs.World.Common.{output_channels, OutputView, WorldInvariant, WorldView}
+use Rattle.protocol.specs.World.Common.{output_channels, WorldInvariant, WorldView}
 use Rattle.protocol.specs.World.Coordination.{last_of}
 use Rattle.protocol.specs.World.Growing.{EachBegins}
 use Rattle.protocol_laws.specs.World.GrowLaws.{begins_same}
@@ -26,7 +26,9 @@ kept_by old new gone = record {
   sound = gone.sound;
   same_net = gone.same_net;
   longer = gone.longer;
-  left = subst (λ (net : Network). EachBegins (outputs_left old) (map (output_left new.stations) (output_channels 0 net.channels)))
+  left = subst
+      (λ (net : Network). EachBegins (outputs_left old)
+      (map (output_left new.stations) (output_channels 0 net.channels)))
       (sym gone.same_net)
       (by_outputs old.stations new.stations (output_channels 0 old.net.channels) gone.kept);
 }

@@ -1,5 +1,5 @@
--- What lies there at a moment inside an event is what a world leaves to which the event leads: the one before it, the one
--- behind it, or the one where its device failed behind the put.
+-- What lies there at a moment inside an event is what a world leaves to which the event leads: the one before it, the
+-- one behind it, or the one where its device failed behind the put.
 use Rattle.std.proofs.Common.{◌≡◌, ◌≢◌, ◌⊎◌, inl, inr, ℕ, zero, suc, ◌+◌, Bool, true, false, cond, ℤ, List, [], ◌∷◌}
 use Rattle.std.proofs.Common.{map, All, Option, Some, None, refl, sym, ap, subst, ◌∙◌, arith}
 use Rattle.std.specs.Prelude.{slice_get, slice_set}

@@ -1,11 +1,10 @@
--- What happens in a run is steps of the abstract machine, each of which begins with the very world with which the one before
--- ends.
+-- What happens in a run is steps of the abstract machine, each of which begins with the very world with which the one
+-- before ends.
 use Rattle.std.proofs.Common.{◌≡◌, inl, List, [], ◌∷◌, ◌++◌, refl, sym, subst}
-use Rattle.std.proofs.Math.Logic.{∥∥₁_map}
 use Rattle.protocol.specs.Join.Runs.{Carries}
 use Rattle.protocol.specs.Node.Common.{Network}
-use Rattle.protocol.specs.World.Common.{HasRun, net_seen, Packet, Reachable, RunsOn, StationView, Step, Traffic, World}
-use Rattle.protocol.specs.World.Common.{world_seen, WorldInvariant, WorldView}
+use Rattle.protocol.specs.World.Common.{HasRun, net_seen, Packet, Reachable, RunsOn, StationView, Step, Traffic}
+use Rattle.protocol.specs.World.Common.{world_seen, WorldView}
 use Rattle.protocol_laws.specs.Join.Flown.{all_flown, flown_carries, in_flight_was_sent, is_flown}
 use Rattle.protocol_laws.specs.Join.Leading.{leads_by, reached_then, run_behind}
 use Rattle.recovery_line.specs.Worlds.{Run, Send}
@@ -31,7 +30,8 @@ recalls net stations traffic run =
       modes = refl;
       outlets = refl;
       flight =
-          λ told was. inl (in_flight_was_sent traffic (all_flown traffic) told (flown_carries traffic) (run.flown told was));
+          λ told was. inl
+          (in_flight_was_sent traffic (all_flown traffic) told (flown_carries traffic) (run.flown told was));
     })
 
 pub has_reached : (world : WorldView) → HasRun world.net world.stations world.traffic
@@ -69,5 +69,6 @@ runs_then first next last same one other = record {
   worlds = one.worlds ++ other.worlds;
   run = run_behind (net_seen first.net) (machine_world first) (machine_world next) (machine_world last) one.worlds
       other.worlds one.run
-      (subst (λ (net : Network). Run (net_seen net) (machine_world next) other.worlds (machine_world last)) same other.run);
+      (subst (λ (net : Network). Run (net_seen net) (machine_world next) other.worlds (machine_world last)) same
+      other.run);
 }

@@ -1,12 +1,13 @@
 -- What has left, by output.
-use Rattle.std.proofs.Common.{◌≡◌, ◌≢◌, ◌⊎◌, inl, inr, ℕ, zero, suc, ◌<◌, ◌≤◌, Bool, true, false, cond, eqb, ℤ, List, [], ◌∷◌}
-use Rattle.std.proofs.Common.{length, map, get_or, Option, Some, None, refl, sym, ap, subst, ◌∙◌, arith}
+use Rattle.std.proofs.Common.{◌≡◌, ◌≢◌, ◌⊎◌, inl, inr, ℕ, zero, suc, Bool, true, false, cond, eqb, ℤ, List}
+use Rattle.std.proofs.Common.{[], ◌∷◌}
+use Rattle.std.proofs.Common.{length, map, Option, Some, None, refl, sym, ap, subst, ◌∙◌, arith}
 use Rattle.std.specs.Prelude.{find, slice_get}
 use Rattle.std.proofs.Math.Path.{fun_ext}
 use Rattle.std.proofs.lemmas.Bool.Decides.{eqb_tells}
 use Rattle.std.proofs.lemmas.List.{length-map}
-use Rattle.std.proofs.lemmas.Option.{get_or_from_slice_get, slice_get_cases, slice_get_within}
-use Rattle.kahn_net.specs.Laws.Prefixes.{prefix_nil, prefix_refl, prefix_trans}
+use Rattle.std.proofs.lemmas.Option.{slice_get_cases, slice_get_within}
+use Rattle.kahn_net.specs.Laws.Prefixes.{prefix_nil, prefix_trans}
 use Rattle.protocol.specs.Node.Common.{approximation, history_of, IsPrefix, Network}
 use Rattle.protocol.specs.World.Common.{is_output, output_channels, output_of, outputs_of, OutletView, OutputView}
 use Rattle.protocol.specs.World.Common.{outlets_seen, released_of, StationView, taken_or, WorldInvariant, WorldView}
@@ -165,7 +166,8 @@ module _ (world : WorldView) (inv : WorldInvariant world) where
       ∙ map_at output_of s.outlets j o there in
       let from = kept_from (λ (output : OutputView). is_output world.net i output.channel) (outputs_left world) j
       (output_of o) own in
-      let had = map_got (output_left world.stations) (output_channels 0 world.net.channels) from.0 (output_of o) from.1 in
+      let had =
+      map_got (output_left world.stations) (output_channels 0 world.net.channels) from.0 (output_of o) from.1 in
       (from.0, had.1 ∙ ap (λ (d : ℕ). Some d) (ap (λ (output : OutputView). output.channel) had.2 ∙ is))
 
   pub count_is : (c : ℕ) → count_left (outputs_left world) c ≡ outlets_seen world.stations c

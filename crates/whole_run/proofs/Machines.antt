@@ -1,8 +1,8 @@
 -- Whatever happens while the disks are there is steps of the abstract machine.
-use Rattle.std.proofs.Common.{◌≡◌, ◌⊎◌, inl, inr, List, [], ◌∷◌, refl, sym, ap, subst}
-use Rattle.std.proofs.Math.Logic.{∥∥₁_elim, ∥∥₁_map, ∥∥₁_map₂}
-use Rattle.protocol.specs.Node.Common.{Network, RecordView}
-use Rattle.protocol.specs.World.Common.{HasRun, net_seen, OutputView, records_of, records_seen, Step, World}
+use Rattle.std.proofs.Common.{inl, inr, List, [], ◌∷◌, refl, ap}
+use Rattle.std.proofs.Math.Logic.{∥∥₁_map, ∥∥₁_map₂}
+use Rattle.protocol.specs.Node.Common.{RecordView}
+use Rattle.protocol.specs.World.Common.{net_seen, OutputView, records_of, records_seen}
 use Rattle.protocol.specs.World.Common.{WorldInvariant, WorldView}
 use Rattle.protocol.specs.World.Coordination.{last_of}
 use Rattle.protocol_laws.specs.World.StepKeeps.{step_runs_on}
@@ -22,7 +22,8 @@ module _ (world : WorldView) (records : List RecordView) (outputs : List OutputV
   pub one_there : ∥ IsOneRun world leads.next ∥₁
   one_there = elim leads.comes [
     | inl same ↦ ∥∥₁_map inv.run (runs_still world leads.next (ap machine_world same))
-    | inr event ↦ ∥∥₁_map (step_runs_on event.0 event.1 world event.2 leads.next inv event.3) (runs_as_one world leads.next)
+    | inr event ↦ ∥∥₁_map (step_runs_on event.0 event.1 world event.2 leads.next inv event.3)
+        (runs_as_one world leads.next)
   ]
 
 pub one_next : (old new : WorldView) → WorldInvariant old → GoesOn old new → ∥ IsOneRun old new ∥₁

@@ -1,14 +1,10 @@
 -- What the calls of a world promise is what may happen in a run.
-use Rattle.std.proofs.Common.{◌≡◌, ℕ, suc, ◌<◌, ◌≤◌, ℤ, List, [], ◌∷◌, ◌++◌, length, map, get_or, inl, inr, Option, Some, None, refl, sym}
+use Rattle.std.proofs.Common.{◌≡◌, ℕ, ℤ, List, [], ◌∷◌, ◌++◌, map, ◌⊎◌}
+use Rattle.std.proofs.Common.{Some, None, refl, sym}
 use Rattle.std.proofs.Common.{ap, subst, ◌∙◌, arith}
-use Rattle.std.specs.Prelude.{IsPermutation, slice_get}
-use Rattle.std.specs.List.{AllByRecursion}
-use Rattle.std.specs.declared.alloc.Global.{Global}
-use Rattle.std.specs.declared.sync.Arc.{Arc}
-use Rattle.std.proofs.lemmas.List.{length-map, map-append}
+use Rattle.std.specs.Prelude.{IsPermutation}
+use Rattle.std.proofs.lemmas.List.{map-append}
 use Rattle.std.proofs.lemmas.List.Sorted.{IsPermutation-map}
-use Rattle.std.proofs.lemmas.Option.{slice_get_cases}
-use Rattle.net_check.specs.declared.inputs.Inputs.{Inputs}
 use Rattle.sector_disk.specs.declared.disk.Disk.{Ghosts as DiskWords}
 use Rattle.gate_cell.specs.declared.cell.StableCell.{Ghosts as CellWords}
 use Rattle.slot_cell.specs.SplitCell.{whole_of}
@@ -16,25 +12,21 @@ use Rattle.slot_cell.specs.declared.slot_cell.SlotCell.{Ghosts as SlotWords}
 use Rattle.slot_cell.specs.declared.split.SplitCell.{SplitCell}
 use Rattle.ckpt_store.specs.StoreView.{record_spelled}
 use Rattle.outlet.specs.declared.outlet.Outlet.{Ghosts as OutletWords}
-use Rattle.protocol.specs.Node.Common.{cell_in, Fits, IsValid, Net, Network, network_of, node_count, record_in, RecordView}
-use Rattle.protocol.specs.World.Common.{EventView, opening_world, output_channels, outputs_of, OutletView, OutputView}
-use Rattle.protocol.specs.World.Common.{records_of, ReplyView, StationView, WorldInvariant, WorldView}
+use Rattle.protocol.specs.Node.Common.{cell_in, Network, record_in}
+use Rattle.protocol.specs.Node.Common.{RecordView}
+use Rattle.protocol.specs.World.Common.{AreInLine, EventView, IsStep, output_channels, outputs_of, OutputView}
+use Rattle.protocol.specs.World.Common.{records_of, WorldInvariant, WorldView}
+use Rattle.protocol.specs.declared.outcome.Outcome.TheVariants as outcome
+use Rattle.protocol.specs.declared.reply.Reply.TheVariants as reply
 use Rattle.growing.specs.LaterInputs.{AreLaterInputs}
-use Rattle.protocol_laws.specs.Node.ImageLaws.{map_got}
-use Rattle.protocol_laws.specs.World.OutputLaws.{map_at}
-use Rattle.rerun.specs.Tables.{TableView}
-use Rattle.resuming.specs.Images.{image_of, KeepsShares, record_of, records_from, records_there}
-use Rattle.resuming.specs.Resuming.{Agrees, MayResume}
 use Rattle.starting_again.proofs.Leaving.{gives_back_its_own}
 use Rattle.starting_again.specs.WasLeft.{OpensOver, outputs_by_station, outputs_left}
 use Rattle.station.specs.OutputView.{output_view, outputs_view}
-use Rattle.station.specs.StationView.{outlet_view, outlet_views, station_view}
+use Rattle.station.specs.StationView.{outlet_views, station_view}
 use Rattle.station.specs.declared.output.Output.{Output}
 use Rattle.station.specs.declared.station.Station.{Station}
-use Rattle.world.specs.Applied.{IsApplied}
 use Rattle.world.specs.Closing.{all_outputs, disk_of, disks_of}
 use Rattle.world.specs.Left.{record_on, records_on}
-use Rattle.world.specs.OpeningWorld.{IsUnused}
 use Rattle.world.specs.WholeView.{world_of}
 use Rattle.world.specs.declared.world.World.{World}
 use Rattle.whole_run.specs.Met.{CrashIsFound, EventGoesOn}
@@ -48,9 +40,26 @@ pub event_goes_on : {C O : Type 0} {cell : CellWords C} {slots : SlotWords C} {o
 event_goes_on old new event None applied = ByNothing applied.refused
 event_goes_on old new event (Some answer) applied = ByEvent _ event answer applied.step
 
+-- an event that isn't due changes nothing
+not_due : (event : EventView) (world : WorldView) → IsStep [] event world reply.NotDue world
+not_due event world = record {
+  net = refl;
+  inputs = refl;
+  came = outcome.NotDue;
+  act = (refl, refl);
+  traffic = refl;
+  round = refl;
+  rooms = refl;
+}
+
 pub crash_is_found : {C O : Type 0} {cell : CellWords C} {slots : SlotWords C} {outlet : OutletWords O}
     (old new : World C O slots cell outlet) → CrashIsFound old new
-crash_is_found old new event answer lefts records outputs applied left spelled are =
+crash_is_found old new event None lefts records outputs applied left spelled are =
+    AsPromised [] event reply.NotDue (world_of old) (not_due event (world_of old))
+    (subst (λ (w : WorldView). AreInLine (world_of old).net (world_of old).stations w.stations records) applied.refused
+    (applied.line.in_line lefts records left spelled))
+    (subst (λ (w : WorldView). (outputs ≡ outputs_left (world_of old)) ⊎ (outputs ≡ outputs_left w)) applied.refused are)
+crash_is_found old new event (Some answer) lefts records outputs applied left spelled are =
     AsPromised _ event answer _ applied.step (applied.line.in_line lefts records left spelled) are
 
 -- ---- a stop
@@ -112,12 +121,14 @@ module _ {D O : Type 0} {disk : DiskWords D} {cell : CellWords (SplitCell D disk
       → IsPermutation (all_outputs stations) outputs
       → map (λ (output : Output O). output.channel) outputs ≡ output_channels 0 old.net.channels
       → net ≡ old.net → AreLaterInputs old.net old.inputs inputs
-      → OpensOver net inputs (records_on disk.sector_count disk.content (disks_of stations)) (outputs_view taken outputs)
+      → OpensOver net inputs (records_on disk.sector_count disk.content (disks_of stations))
+      (outputs_view taken outputs)
       new
       → GoesOn old new
   stop_goes_on old new stations net inputs outputs inv same moved listed same_net later opens =
       ByStop (records_on disk.sector_count disk.content (disks_of stations)) (outputs_view taken outputs)
-      (Between (sym (ap records_of same ∙ kept_on_disks stations)) (given_back old stations outputs inv same moved listed))
+      (Between (sym (ap records_of same ∙ kept_on_disks stations))
+      (given_back old stations outputs inv same moved listed))
       (subst (AreLaterInputs old.net old.inputs) (sym opens.same_inputs) later)
       (subst (λ (n : Network). OpensOver n new.inputs (records_on disk.sector_count disk.content (disks_of stations))
       (outputs_view taken outputs) new) same_net

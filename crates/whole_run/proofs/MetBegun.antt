@@ -1,16 +1,14 @@
 -- A run begins with the worlds that the calls of `world` and `resuming` make.
-use Rattle.std.proofs.Common.{◌≡◌, ◌⊎◌, inl, inr, ℕ, zero, suc, ◌+◌, ◌<◌, ◌≤◌, ℤ, List, [], ◌∷◌, length, map, get_or, Option, Some, None}
+use Rattle.std.proofs.Common.{◌≡◌, inl, inr, ℕ, zero, suc, ◌+◌, ◌<◌, ℤ, List, [], ◌∷◌, length, map}
+use Rattle.std.proofs.Common.{Some}
 use Rattle.std.proofs.Common.{refl, sym, ap, subst, ◌∙◌, arith}
 use Rattle.std.specs.Prelude.{slice_get}
 use Rattle.std.specs.List.{AllByRecursion}
 use Rattle.std.proofs.lemmas.List.{length-map}
-use Rattle.std.proofs.lemmas.Option.{slice_get_cases}
-use Rattle.protocol.specs.Node.Common.{Fits, IsValid, LogsAreWithin, Network, node_count, RecordView}
+use Rattle.protocol.specs.Node.Common.{LogsAreWithin, Network, node_count, RecordView}
 use Rattle.protocol.specs.World.Common.{opening_world, output_channels, OutletView, OutputView, records_of, StationView}
 use Rattle.protocol.specs.World.Common.{WorldInvariant, WorldView}
-use Rattle.protocol_laws.specs.World.OutputLaws.{map_at}
 use Rattle.protocol_laws.specs.Node.ImageLaws.{map_got}
-use Rattle.record.specs.Common.{log_at}
 use Rattle.rerun.specs.Tables.{HasRerun, IsInOrder, TableView}
 use Rattle.resuming.specs.Images.{image_of, KeepsShares, record_of, records_from, records_there}
 use Rattle.resuming.specs.Resuming.{Agrees, MayResume}
@@ -20,7 +18,7 @@ use Rattle.station.specs.StationView.{outlet_view, outlet_views}
 use Rattle.station.specs.declared.output.Output.{Output}
 use Rattle.world.specs.OpeningWorld.{IsUnused}
 use Rattle.whole_run.proofs.Met.{channels_shown}
-use Rattle.whole_run.specs.Beginnings.{Begins, IsMade, IsRunAgain}
+use Rattle.whole_run.specs.Beginnings.{Begins, IsRunAgain}
 
 -- ---- one that was made
 
@@ -59,7 +57,8 @@ new_begins taken failures failed net inputs disks outputs world inv each listed 
             ∙ (listed ∙ sym (ap (λ (n : Network). output_channels 0 n.channels) same_net));
         unused = unused_viewed taken failures outputs unused;
         is = is
-            ∙ sym (ap (λ (n : Network). opening_world n world.inputs (map failed disks) (outlet_views taken failures outputs))
+            ∙ sym (ap
+            (λ (n : Network). opening_world n world.inputs (map failed disks) (outlet_views taken failures outputs))
             same_net
             ∙ ap (λ (i : List (List ℤ)). opening_world net i (map failed disks) (outlet_views taken failures outputs))
             same_inputs);
@@ -75,8 +74,10 @@ new_begins taken failures failed net inputs disks outputs world inv each listed 
 -- ---- one that was opened where the processes were run again
 
 agree_each : {O : Type 0} (taken : O → List ℤ) (net : Network) (inputs : List (List ℤ)) (t : TableView)
-    (outputs : List (Output O)) → AllByRecursion (λ (output : Output O). Agrees net inputs t (output_view taken output)) outputs
-    → (j : ℕ) (output : OutputView) → slice_get (outputs_view taken outputs) j ≡ Some output → Agrees net inputs t output
+    (outputs : List (Output O))
+    → AllByRecursion (λ (output : Output O). Agrees net inputs t (output_view taken output)) outputs
+    → (j : ℕ) (output : OutputView) → slice_get (outputs_view taken outputs) j ≡ Some output
+    → Agrees net inputs t output
 agree_each taken net inputs t [] agree j output is = absurd (cc)
 agree_each taken net inputs t (x ∷ outputs) agree zero output is =
     let same : output_view taken x ≡ output = cc in subst (Agrees net inputs t) same agree.0
@@ -106,6 +107,12 @@ keeps_shares net t world inv kept home below k saved log is logged =
     (inv.stations home had.0 had.1).kept.permanent.logs in
     (sound k saved log is logged).count
 
+-- what is so where the processes were run again on a network and inputs
+abbrev AreThere : TableView → List OutputView → WorldView → Network → List (List ℤ) → Type 0
+AreThere t outputs world net inputs =
+    IsInOrder net inputs t × ∥ HasRerun net inputs t ∥₁ × MayResume net inputs t outputs
+    × OpensOver net inputs (records_there net t) outputs world
+
 pub resumed_begins : {O : Type 0} (taken : O → List ℤ) (net : Network) (inputs : List (List ℤ)) (t : TableView)
     (outputs : List (Output O)) (world : WorldView) → WorldInvariant world → IsInOrder net inputs t
     → ∥ HasRerun net inputs t ∥₁
@@ -115,11 +122,7 @@ pub resumed_begins : {O : Type 0} (taken : O → List ℤ) (net : Network) (inpu
 resumed_begins {O} taken net inputs t outputs world inv ordered rerun listed agree opens =
     record { valid = inv.valid; fits = inv.fits; how = inr again }
   where
-    abbrev Again : Network → List (List ℤ) → Type 0
-    Again n i = IsInOrder n i t × ∥ HasRerun n i t ∥₁ × MayResume n i t (outputs_view taken outputs)
-        × OpensOver n i (records_there n t) (outputs_view taken outputs) world
-
-    there : Again net inputs
+    there : AreThere t (outputs_view taken outputs) world net inputs
     there = (
       ordered,
       rerun,
@@ -131,10 +134,10 @@ resumed_begins {O} taken net inputs t outputs world inv ordered rerun listed agr
       opens,
     )
 
-    here : Again world.net world.inputs
+    here : AreThere t (outputs_view taken outputs) world world.net world.inputs
     here =
-        subst (λ (i : List (List ℤ)). Again world.net i) (sym opens.same_inputs)
-        (subst (λ (n : Network). Again n inputs) (sym opens.same_net) there)
+        subst (AreThere t (outputs_view taken outputs) world world.net) (sym opens.same_inputs)
+        (subst (λ (n : Network). AreThere t (outputs_view taken outputs) world n inputs) (sym opens.same_net) there)
 
     again : IsRunAgain world
     again = record {

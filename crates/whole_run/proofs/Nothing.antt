@@ -1,6 +1,6 @@
 -- Nothing is in flight where a run begins.
-use Rattle.std.proofs.Common.{◌≡◌, ◌⊎◌, inl, inr, ℕ, [], sym, ap, subst, ◌∙◌}
-use Rattle.protocol.specs.World.Common.{flights_to, Traffic, WorldView}
+use Rattle.std.proofs.Common.{◌≡◌, ◌⊎◌, inl, inr, ℕ, [], ap, ◌∙◌}
+use Rattle.protocol.specs.World.Common.{flights_to, WorldView}
 use Rattle.starting_again.proofs.Again.{nothing_opened}
 use Rattle.whole_run.specs.Beginnings.{Begins, IsMade, IsRunAgain}
 

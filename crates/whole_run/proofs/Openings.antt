@@ -1,23 +1,23 @@
 -- Where a run begins, a run of the abstract machine begins.
-use Rattle.std.proofs.Common.{◌≡◌, ◌⊎◌, inl, inr, ℕ, zero, suc, ◌+◌, ◌<◌, ◌≤◌, Bool, true, false, eqb, ℤ, List, [], ◌∷◌}
+use Rattle.std.proofs.Common.{◌≡◌, ◌⊎◌, inl, inr, ℕ, zero, suc, Bool, true, false, eqb, ℤ, List, [], ◌∷◌}
 use Rattle.std.proofs.Common.{length, map, replicate, Option, Some, None, option_map, refl, sym, ap, subst, ◌∙◌, arith}
 use Rattle.std.specs.Prelude.{◌==◌, filter, find, slice_get, slice_index}
 use Rattle.std.proofs.Math.Logic.{∥∥₁_map}
 use Rattle.std.proofs.Math.Path.{fun_ext}
 use Rattle.std.proofs.lemmas.Option.{slice_get_cases}
 use Rattle.protocol.specs.Join.Seen.{mode_seen, modes_seen}
-use Rattle.protocol.specs.Node.Common.{base_in, base_of, Channel, End, log_at, ModeView, Network, node_count, opening_ends}
+use Rattle.protocol.specs.Node.Common.{base_in, base_of, Channel, End, log_at, Network, node_count}
+use Rattle.protocol.specs.Node.Common.{opening_ends}
 use Rattle.protocol.specs.Node.Common.{opening_image, opening_record, received_at, received_of, RecordView, SavedEnd}
 use Rattle.protocol.specs.Node.Common.{sent_in, sent_of}
 use Rattle.protocol.specs.Node.NodeView as view
 use Rattle.protocol.specs.Node.Opening.{opening_end}
-use Rattle.protocol.specs.World.Common.{flights_to, image_seen, is_output, Mode, net_seen, opening_world, outlets_seen}
-use Rattle.protocol.specs.World.Common.{OutletView, outputs_of, OutputView, Packet, Record, record_seen, records_of}
-use Rattle.protocol.specs.World.Common.{records_seen, released_of, StationView, taken_or, Traffic, World, world_seen}
+use Rattle.protocol.specs.World.Common.{flights_to, image_seen, is_output, Mode, net_seen, outlets_seen}
+use Rattle.protocol.specs.World.Common.{OutletView, outputs_of, OutputView, Packet, record_seen, records_of}
+use Rattle.protocol.specs.World.Common.{records_seen, released_of, StationView, taken_or, Traffic, world_seen}
 use Rattle.protocol.specs.World.Common.{WorldView}
 use Rattle.protocol.specs.World.OpeningWorld.{opening_outlet, stations_from}
 use Rattle.protocol_laws.specs.Join.Flown.{all_flown, is_flown}
-use Rattle.protocol_laws.specs.World.OutputLaws.{map_at}
 use Rattle.recovery_line.proofs.Starting.{may_begin}
 use Rattle.recovery_line.specs.Images.{blank}
 use Rattle.recovery_line.specs.Nodes.{Down, Running}
@@ -27,7 +27,7 @@ use Rattle.recovery_line.specs.Worlds.{opening}
 use Rattle.rerun.proofs.Meant.{places}
 use Rattle.rerun.specs.Tables.{TableView}
 use Rattle.resuming.proofs.Starts.{start}
-use Rattle.resuming.proofs.Stations.{as_many, kept_from, outlets_are, station_is, station_there, stations_there}
+use Rattle.resuming.proofs.Stations.{kept_from, outlets_are, station_is, stations_there}
 use Rattle.resuming.specs.Images.{records_there}
 use Rattle.starting_again.proofs.Again.{outputs_each, same_released}
 use Rattle.starting_again.specs.WasLeft.{OpensOver, outputs_at}
@@ -128,7 +128,8 @@ module _ (net : Network) (nodes : ℕ) (outlets : List OutletView)
       nothing_found (λ (outlet : OutletView). is_output net number outlet.channel) c outlets
       (released_of c (stations_from net nodes (suc number) failures outlets)) unused (left_open c (suc number) failures)
 
-  world_opens : (number : ℕ) (failures : List ℕ) → world_seen (stations_from net nodes number failures outlets) [] ≡ opening
+  world_opens : (number : ℕ) (failures : List ℕ)
+      → world_seen (stations_from net nodes number failures outlets) [] ≡ opening
   world_opens number failures =
       rw (
         fun_ext (records_open number failures),
@@ -224,7 +225,8 @@ module _ (net : Network) (inputs : List (List ℤ)) (t : TableView) (outputs : L
       let opened = opens.stations i y other in
       record {
         outputs = opened.outputs_are
-            ∙ (sym (outlets_are (outputs_at net i outputs)) ∙ sym (ap (λ (s : StationView). outputs_of s.outlets) there));
+            ∙ (sym (outlets_are (outputs_at net i outputs))
+            ∙ sym (ap (λ (s : StationView). outputs_of s.outlets) there));
         old_down = ap (λ (s : StationView). s.node.mode) there;
         new_down = opened.down;
       }

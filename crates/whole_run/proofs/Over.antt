@@ -1,5 +1,6 @@
 -- Where nothing is left to do nothing more leaves, as long as nothing comes.
-use Rattle.std.proofs.Common.{◌≡◌, ◌⊎◌, inl, inr, ℕ, suc, ◌+◌, ◌≤◌, ℤ, List, [], ◌∷◌, map, Some, refl, sym, ap, subst, ◌∙◌, arith}
+use Rattle.std.proofs.Common.{◌≡◌, inl, inr, ℕ, suc, ◌+◌, ℤ, List, [], ◌∷◌, map, Some, refl, sym, ap, subst}
+use Rattle.std.proofs.Common.{◌∙◌, arith}
 use Rattle.std.specs.Prelude.{slice_get, IsTrue}
 use Rattle.std.proofs.Math.Logic.{∥∥₁_elim}
 use Rattle.std.proofs.Props.{props}
@@ -8,13 +9,12 @@ use Rattle.kahn_net.specs.Approximations.{IsReached}
 use Rattle.kahn_net.specs.Laws.Approximations.{agreement, approximations_grow}
 use Rattle.kahn_net.specs.Laws.Fixpoints.{prefix_both}
 use Rattle.kahn_net.specs.Laws.Prefixes.{prefix_refl, prefix_trans}
-use Rattle.kahn_net.specs.Streams.{ArePrefixes}
-use Rattle.protocol.specs.Node.Common.{approximation, Channel, Fits, history_of, IsPrefix, IsValid, Network}
-use Rattle.protocol.specs.World.Common.{AreApproximated, are_quiet, output_channels, output_of, outputs_of, OutputView}
+use Rattle.protocol.specs.Node.Common.{approximation, Fits, history_of, IsPrefix, IsValid, Network}
+use Rattle.protocol.specs.World.Common.{AreApproximated, are_quiet, output_channels, output_of, outputs_of}
 use Rattle.protocol.specs.World.Common.{released_of, StationView, WorldInvariant, WorldView}
 use Rattle.protocol.specs.World.Growing.{EachBegins}
 use Rattle.protocol.specs.World.Headline.{AreAllWithin}
-use Rattle.protocol.specs.World.Quiet.{AreAll, AreWhole}
+use Rattle.protocol.specs.World.Quiet.{AreAll}
 use Rattle.protocol_laws.specs.World.OutputLaws.{channel_there, map_at}
 use Rattle.protocol_laws.specs.World.PrefixLaws.{released_prefix}
 use Rattle.protocol_laws.specs.World.QuietLaws.{quiet_is_whole}
@@ -28,7 +28,8 @@ below_rest : (net : Network) (inputs : List (List ℤ)) (m n : ℕ) → IsValid 
 below_rest net inputs m n valid fits rests c = elim (cases_lt m n) [
   | inl below ↦ (approximations_grow net valid inputs fits m n (omega (arith, below))).at c
   | inr past ↦
-      subst (λ (histories : List (List ℤ)). IsPrefix (history_of (approximation net inputs m) c) (history_of histories c))
+      subst (λ (histories : List (List ℤ)). IsPrefix (history_of (approximation net inputs m) c)
+      (history_of histories c))
       (agreement net inputs n m rests past) (prefix_refl (history_of (approximation net inputs m) c))
 ]
 
@@ -54,7 +55,8 @@ module _ (world last : WorldView) (inv : WorldInvariant world) (later : WorldInv
   all_left n end j c listed =
       let there = channel_there 0 world.net.channels j c listed in
       let number : there.0 ≡ c = (let sum : 0 + there.0 ≡ there.0 = omega arith in sym sum ∙ sym there.2) in
-      let on : slice_get world.net.channels c ≡ Some there.1 = ap (slice_get world.net.channels) (sym number) ∙ there.3 in
+      let on : slice_get world.net.channels c ≡ Some there.1 =
+      ap (slice_get world.net.channels) (sym number) ∙ there.3 in
       let seen = output_shown world inv c there.1 on there.4 in
       let shown = seen.at.shown in
       shown.shows

@@ -1,5 +1,5 @@
 -- What is true of a run since an earlier world of it.
-use Rattle.std.proofs.Common.{◌≡◌, ℕ, ℤ, List, sym, subst, ◌∙◌}
+use Rattle.std.proofs.Common.{ℕ, ℤ, List, sym, subst, ◌∙◌}
 use Rattle.std.proofs.Math.Logic.{∥∥₁_elim, ∥∥₁_map}
 use Rattle.std.proofs.Math.Bridge.{le_prop}
 use Rattle.protocol.specs.Node.Common.{Network, RecordView}
@@ -85,7 +85,8 @@ module _ (earlier : WorldView) (after : List WorldView) (records : List RecordVi
     whole = quiet_is_whole last kept.sound;
     over = λ quiet same.
         sym here.outputs_are
-        ∙ over_stays earlier at inv here.gone.sound (here.same_net ∙ kept.same_net) (here.same_inputs ∙ same) begins quiet;
+        ∙ over_stays earlier at inv here.gone.sound (here.same_net ∙ kept.same_net) (here.same_inputs ∙ same) begins
+        quiet;
     line = in_line;
     not_behind = not_behind;
     begins = machine_starts earlier;

@@ -26,7 +26,8 @@ pub record IsRunAgain (world : WorldView) : Type 0 where
   pub may : MayResume world.net world.inputs table outputs
   pub opens : OpensOver world.net world.inputs (records_there world.net table) outputs world
 
--- A run begins with it: it was made, or opened where the processes were run again, for a network and inputs that fit it.
+-- A run begins with it: it was made, or opened where the processes were run again, for a network and inputs that fit
+-- it.
 pub record Begins (world : WorldView) : Type 0 where
   pub valid : IsValid world.net
   pub fits : Fits world.net world.inputs

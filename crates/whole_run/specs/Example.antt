@@ -8,8 +8,8 @@ use Rattle.starting_again.specs.WasLeft.{OpensOver, outputs_left}
 use Rattle.whole_run.specs.Beginnings.{Begins}
 use Rattle.whole_run.specs.Runs.{BeginsAgain}
 
--- The run begins, and node 0 crashes; the world is stopped, and opened again over what lies there; and the run begins again
--- from its outlets alone.
+-- The run begins, and node 0 crashes; the world is stopped, and opened again over what lies there; and the run begins
+-- again from its outlets alone.
 pub record IsShortRun (net : Network) (inputs : List (List ℤ)) (first crashed opened : WorldView) : Type 0 where
   pub of_net : first.net ≡ net
   pub of_inputs : first.inputs ≡ inputs

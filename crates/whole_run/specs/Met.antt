@@ -1,5 +1,6 @@
--- That what the calls of a world promise is what may happen in a run: each premise of `GoesOn` and `Begins` is a clause.
-use Rattle.std.specs.Prelude.{◌≡◌, ◌⊎◌, ℕ, List, length, map, Option, Some, IsPermutation}
+-- That what the calls of a world promise is what may happen in a run: each premise of `GoesOn` and `Begins` is a
+-- clause.
+use Rattle.std.specs.Prelude.{◌≡◌, ◌⊎◌, ℕ, List, length, map, Option, IsPermutation}
 use Rattle.std.specs.List.{AllByRecursion, AllZip}
 use Rattle.std.specs.declared.alloc.Global.{Global}
 use Rattle.std.specs.declared.sync.Arc.{Arc}
@@ -37,17 +38,18 @@ abbrev pub EventGoesOn : {C O : Type 0} {cell : CellWords C} {slots : SlotWords 
 EventGoesOn old new = (event : EventView) (answer : Option ReplyView) → IsApplied event old new answer
     → GoesOn (world_of old) (world_of new)
 
--- Whatever records a crash of all nodes leaves at moments of the event, and what had left before it or has left by its end:
--- these may be found there.
+-- Whatever records a crash of all nodes leaves at moments of the event, and what had left before it or has left by its
+-- end: these may be found there.
 abbrev pub CrashIsFound : {C O : Type 0} {cell : CellWords C} {slots : SlotWords C} {outlet : OutletWords O}
     → World C O slots cell outlet → World C O slots cell outlet → Type 0
-CrashIsFound old new = (event : EventView) (answer : ReplyView) (lefts : List Whole) (records : List RecordView)
-    (outputs : List OutputView) → IsApplied event old new (Some answer) → AreLeftSince (stations_in old) (stations_in new) lefts
-    → AllZip Spells records lefts → (outputs ≡ outputs_left (world_of old)) ⊎ (outputs ≡ outputs_left (world_of new))
+CrashIsFound old new = (event : EventView) (answer : Option ReplyView) (lefts : List Whole) (records : List RecordView)
+    (outputs : List OutputView) → IsApplied event old new answer
+    → AreLeftSince (stations_in old) (stations_in new) lefts → AllZip Spells records lefts
+    → (outputs ≡ outputs_left (world_of old)) ⊎ (outputs ≡ outputs_left (world_of new))
     → MayBeFound (world_of old) records outputs
 
--- So is a stop: the world was closed, and one was opened over the disks and the outputs that came back, of the same network
--- on later inputs.
+-- So is a stop: the world was closed, and one was opened over the disks and the outputs that came back, of the same
+-- network on later inputs.
 abbrev pub StopGoesOn : {D O : Type 0} {disk : DiskWords D} {cell : CellWords (SplitCell D disk)}
     {slots : SlotWords (SplitCell D disk)} {outlet : OutletWords O}
     → World (SplitCell D disk) O slots cell outlet → World (SplitCell D disk) O slots cell outlet → Type 0
@@ -62,7 +64,8 @@ StopGoesOn {D} {O} old new = (net : Arc Net Global) (inputs : Arc Inputs Global)
 
 -- A run begins with a world that `World::new` made,
 abbrev pub NewBegins : {D O : Type 0} {disk : DiskWords D} {cell : CellWords (SplitCell D disk)}
-    {slots : SlotWords (SplitCell D disk)} {outlet : OutletWords O} → World (SplitCell D disk) O slots cell outlet → Type 0
+    {slots : SlotWords (SplitCell D disk)} {outlet : OutletWords O} → World (SplitCell D disk) O slots cell outlet
+    → Type 0
 NewBegins {D} {O} {outlet = outlet} world =
     (net : Arc Net Global) (inputs : Arc Inputs Global) (versions : List ℕ) (disks : List D) (outputs : List (Output O))
     → Fits (network_of net.value.program) inputs.value → length disks ≡ node_count (network_of net.value.program)
@@ -72,7 +75,8 @@ NewBegins {D} {O} {outlet = outlet} world =
 
 -- and with one that `resume` opened where the processes were run again.
 abbrev pub ResumedBegins : {D O : Type 0} {disk : DiskWords D} {cell : CellWords (SplitCell D disk)}
-    {slots : SlotWords (SplitCell D disk)} {outlet : OutletWords O} → Rerun → World (SplitCell D disk) O slots cell outlet
+    {slots : SlotWords (SplitCell D disk)} {outlet : OutletWords O} → Rerun
+    → World (SplitCell D disk) O slots cell outlet
     → Type 0
 ResumedBegins {D} {O} {outlet = outlet} rerun world = (disks : List D) (outputs : List (Output O))
     → map (λ (output : Output O). output.channel) outputs ≡ output_channels 0 (net_of rerun).channels

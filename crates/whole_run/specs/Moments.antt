@@ -5,8 +5,8 @@ use Rattle.protocol.specs.World.Common.{AreInLine, EventView, IsStep, OutputView
 use Rattle.starting_again.specs.Moments.{MayLieThere}
 use Rattle.starting_again.specs.WasLeft.{outputs_left}
 
--- These records may lie there, by node, and these outputs, by channel: between two events those that the world keeps, and
--- inside the next event of each node the record of before or the one that the event puts.
+-- These records may lie there, by node, and these outputs, by channel: between two events those that the world keeps,
+-- and inside the next event of each node the record of before or the one that the event puts.
 pub data MayLie (world : WorldView) (records : List RecordView) (outputs : List OutputView) : Type 0 where
   Between : records ≡ records_of world.stations → outputs ≡ outputs_left world → MayLie world records outputs
   Inside : (fits : List (RecordView → Bool)) (event : EventView) (answer : ReplyView) (next : WorldView)

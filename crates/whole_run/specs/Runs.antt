@@ -9,8 +9,9 @@ use Rattle.whole_run.specs.Beginnings.{Begins}
 use Rattle.whole_run.specs.Moments.{MayLie}
 
 -- What may become of a world while its disks are there: an event is made, whichever it is and however it comes out; its
--- channels get other rooms; more comes on its inputs; nothing that its view shows changes, as where a call is refused or
--- an input is closed; or it is stopped at some moment, and a world is opened over what lies there, perhaps on later inputs.
+-- channels get other rooms; more comes on its inputs; nothing that its view shows changes, as where a call is refused
+-- or an input is closed; or it is stopped at some moment, and a world is opened over what lies there, perhaps on later
+-- inputs.
 pub data GoesOn (old new : WorldView) : Type 0 where
   ByEvent : (fits : List (RecordView → Bool)) (event : EventView) (answer : ReplyView)
       → IsStep fits event old answer new → GoesOn old new

@@ -22,8 +22,9 @@ pub record IsRight (earlier : WorldView) (after : List WorldView) (records : Lis
     (outputs : List OutputView) : Type 0 where
   -- All that is true of a world, whatever events came before, is true of the last one.
   pub sound : WorldInvariant (last_of earlier after)
-  -- It has the same network, and its inputs begin with those of the earlier one.
+  -- It has the same network,
   pub same_net : (last_of earlier after).net ≡ earlier.net
+  -- and its inputs begin with those of the earlier one.
   pub longer : ArePrefixes earlier.inputs (last_of earlier after).inputs
   -- What has left begins, output by output, with what had left of the earlier world, over whatever stops.
   pub kept : EachBegins (outputs_left earlier) outputs
@@ -41,15 +42,16 @@ pub record IsRight (earlier : WorldView) (after : List WorldView) (records : Lis
       → NotBehind (records_seen (records_of earlier.stations)) (records_seen records)
   -- Where the run begins, a run of the machine of recovery lines begins, and nothing is in flight.
   pub begins : Begins earlier → IsMachineStart earlier
-  -- Unless it began again since the earlier world, steps of that machine lead from there to the last one.
+  -- Unless the run began again since the earlier world, steps of that machine lead from there to the last one.
   pub machine : EachNext GoesOn earlier after → ∥ IsOneRun earlier (last_of earlier after) ∥₁
-  -- Checkpoints that several nodes take together are coordinated in each thing that happened, unless it began again, and
-  -- by what is found now.
+  -- Unless it did, checkpoints that several nodes take together are coordinated in each thing that happened,
   pub coordinated : EachNext GoesOn earlier after → EachNext AreCoordinated earlier after
-  pub inside : ∥ IsCoordinatedInside (net_seen (last_of earlier after).net) (nodes_seen (last_of earlier after).stations)
+  -- and in any case by what is found now.
+  pub inside : ∥ IsCoordinatedInside (net_seen (last_of earlier after).net)
+      (nodes_seen (last_of earlier after).stations)
       (records_seen records) ∥₁
-  -- Whoever is asked to take part in a checkpoint had to be: what is asked for was asked for in the earlier world, or was
-  -- received since then by an image of that checkpoint which was held.
+  -- Whoever is asked to take part in a checkpoint had to be: what is asked for was asked for in the earlier world, or
+  -- was received since then by an image of that checkpoint which was held.
   pub asked : (p x n c m : ℕ) → IsAsked (last_of earlier after).traffic p x n c m
       → ∥ IsAsked earlier.traffic p x n c m ⊎ WasReceived earlier.net earlier after x n c m ∥₁
   -- What may lie there some world of the network leaves, so that one may be opened over it.

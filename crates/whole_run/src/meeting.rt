@@ -12,8 +12,8 @@ pub fn event_law<C: SlotCell, O: Outlet>(before: &World<C, O>, after: &World<C, 
     ensures { EventGoesOn before.now after.now }
 {}
 
-/// What may be found inside an event of a run is what `World::apply` speaks of in its clause `line`: the records which a crash of all nodes
-/// leaves, each at a moment of its own.
+/// What may be found inside an event of a run, made or refused, is what `World::apply` speaks of in its clause `line`: the records which a
+/// crash of all nodes leaves, each at a moment of its own.
 pub fn crash_law<C: SlotCell, O: Outlet>(before: &World<C, O>, after: &World<C, O>)
     ensures { CrashIsFound before.now after.now }
 {}
