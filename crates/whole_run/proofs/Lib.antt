@@ -15,5 +15,6 @@ mod Asking
 mod Found
 mod Whole
 mod Example
+mod Histories
 mod Met
 mod MetBegun

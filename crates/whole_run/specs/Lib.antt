@@ -5,4 +5,5 @@ pub mod Runs
 pub mod Machine
 pub mod WholeRun
 pub mod Example
+pub mod Histories
 pub mod Met

@@ -1,5 +1,6 @@
 // The law of a whole run.
 ghost use Rattle.whole_run.specs.Example.{ShortRunIsThere};
+ghost use Rattle.whole_run.specs.Histories.{HistoriesAreRuns};
 ghost use Rattle.whole_run.specs.WholeRun.{WholeRun};
 
 /// Whatever happens to a network from the beginning of its run on, at whatever moment one looks: what is true of a world is true then, and
@@ -12,4 +13,10 @@ pub fn whole_run_law()
 /// opened again over what lies there, and the run then begins again from its outlets alone.
 pub fn short_run_law()
     ensures { ShortRunIsThere }
+{}
+
+/// What programs do is such a run: wherever what happened leads from one world to another, as the contracts of runs say, worlds do that
+/// come to one another while the disks are there.
+pub fn history_law()
+    ensures { HistoriesAreRuns }
 {}
