@@ -16,5 +16,5 @@ mod Found
 mod Whole
 mod Example
 mod Histories
-mod Met
-mod MetBegun
+mod Premises
+mod Beginning

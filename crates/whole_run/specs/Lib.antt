@@ -6,4 +6,4 @@ pub mod Machine
 pub mod WholeRun
 pub mod Example
 pub mod Histories
-pub mod Met
+pub mod Premises

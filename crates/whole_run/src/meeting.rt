@@ -1,5 +1,5 @@
 // What the calls of a world promise is what may happen in a run.
-ghost use Rattle.whole_run.specs.Met.{CrashIsFound, EventGoesOn, NewBegins, ResumedBegins, StopGoesOn};
+ghost use Rattle.whole_run.specs.Premises.{CrashIsFound, EventGoesOn, NewBegins, ResumedBegins, StopGoesOn};
 
 use outlet::Outlet;
 use rerun::Rerun;

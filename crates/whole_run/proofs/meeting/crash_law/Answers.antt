@@ -1,4 +1,4 @@
-use Rattle.whole_run.proofs.Met.{crash_is_found}
+use Rattle.whole_run.proofs.Premises.{crash_is_found}
 use Rattle.whole_run.proofs.meeting.crash_law.Goals as goal
 
 pub returns : goal.returns

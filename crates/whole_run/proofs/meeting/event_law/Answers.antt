@@ -1,4 +1,4 @@
-use Rattle.whole_run.proofs.Met.{event_goes_on}
+use Rattle.whole_run.proofs.Premises.{event_goes_on}
 use Rattle.whole_run.proofs.meeting.event_law.Goals as goal
 
 pub returns : goal.returns

@@ -1,6 +1,6 @@
 use Rattle.protocol.specs.Node.Common.{network_of}
 use Rattle.world.specs.WholeView.{world_of}
-use Rattle.whole_run.proofs.MetBegun.{new_begins}
+use Rattle.whole_run.proofs.Beginning.{new_begins}
 use Rattle.whole_run.proofs.meeting.new_law.Goals as goal
 
 pub returns : goal.returns

@@ -1,6 +1,6 @@
 use Rattle.rerun.specs.Whole.{inputs_in, net_in, table_in}
 use Rattle.world.specs.WholeView.{world_of}
-use Rattle.whole_run.proofs.MetBegun.{resumed_begins}
+use Rattle.whole_run.proofs.Beginning.{resumed_begins}
 use Rattle.whole_run.proofs.meeting.resumed_law.Goals as goal
 
 pub returns : goal.returns

@@ -1,7 +1,7 @@
 use Rattle.std.proofs.Common.{refl}
 use Rattle.world.specs.WholeView.{world_of}
 use Rattle.protocol.specs.Node.Common.{network_of}
-use Rattle.whole_run.proofs.Met.{stop_goes_on}
+use Rattle.whole_run.proofs.Premises.{stop_goes_on}
 use Rattle.whole_run.proofs.meeting.stop_law.Goals as goal
 
 pub returns : goal.returns

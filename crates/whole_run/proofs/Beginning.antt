@@ -17,7 +17,7 @@ use Rattle.station.specs.OutputView.{output_view, outputs_view}
 use Rattle.station.specs.StationView.{outlet_view, outlet_views}
 use Rattle.station.specs.declared.output.Output.{Output}
 use Rattle.world.specs.OpeningWorld.{IsUnused}
-use Rattle.whole_run.proofs.Met.{channels_shown}
+use Rattle.whole_run.proofs.Premises.{channels_shown}
 use Rattle.whole_run.specs.Beginnings.{Begins, IsRunAgain}
 
 -- ---- one that was made

@@ -29,7 +29,7 @@ use Rattle.world.specs.Closing.{all_outputs, disk_of, disks_of}
 use Rattle.world.specs.Left.{record_on, records_on}
 use Rattle.world.specs.WholeView.{world_of}
 use Rattle.world.specs.declared.world.World.{World}
-use Rattle.whole_run.specs.Met.{CrashIsFound, EventGoesOn}
+use Rattle.whole_run.specs.Premises.{CrashIsFound, EventGoesOn}
 use Rattle.whole_run.specs.Moments.{AsPromised, Between}
 use Rattle.whole_run.specs.Runs.{ByEvent, ByNothing, ByStop, GoesOn}
 
