@@ -1,8 +1,7 @@
 -- What is true of a world is true of one with which a run begins.
 use Rattle.std.proofs.Common.{◌≡◌, ◌⊎◌, inl, inr, ℕ, List, [], ◌∷◌, map, Some, refl, sym, ap, subst, ◌∙◌}
 use Rattle.std.specs.Prelude.{slice_get}
-use Rattle.protocol.specs.World.Common.{OutletView, output_of, outputs_of, OutputView, WorldInvariant}
-use Rattle.protocol.specs.World.Common.{WorldView}
+use Rattle.protocol.specs.World.Common.{OutletView, output_of, outputs_of, OutputView, WorldInvariant, WorldView}
 use Rattle.protocol.specs.World.OpeningWorld.{opening_outlet}
 use Rattle.protocol_laws.specs.Node.ImageLaws.{map_got}
 use Rattle.protocol_laws.specs.World.OpenLaws.{world_opened}

@@ -1,6 +1,6 @@
 -- Of each network there is a run in which a node crashes, the world is opened again, and the run begins again.
-use Rattle.std.proofs.Common.{◌≡◌, inl, inr, ℕ, zero, suc, ◌<◌, Bool, true, false, ℤ, List, [], ◌∷◌, All, length}
-use Rattle.std.proofs.Common.{map, replicate, Option, Some, None, refl, sym, ap, subst, ◌∙◌, arith}
+use Rattle.std.proofs.Common.{◌≡◌, inl, inr, ℕ, zero, suc, ◌<◌, Bool, true, false, ℤ, List, [], ◌∷◌, All, length, map}
+use Rattle.std.proofs.Common.{replicate, Option, Some, None, refl, sym, ap, subst, ◌∙◌, arith}
 use Rattle.std.specs.Prelude.{not, slice_get, slice_set}
 use Rattle.std.proofs.Math.Logic.{∥∥₁_map}
 use Rattle.std.proofs.lemmas.List.Elements.{All-nil}
@@ -8,12 +8,11 @@ use Rattle.std.proofs.lemmas.Option.{slice_get_cases}
 use Rattle.kahn_net.specs.Laws.Prefixes.{prefixes_refl}
 use Rattle.kahn_net.specs.Streams.{ArePrefixes}
 use Rattle.protocol.specs.Node.Common.{crashed, Fits, if_due, is_down, IsMade, IsPacket, IsPut, IsValid, Network}
-use Rattle.protocol.specs.Node.Common.{node_count}
-use Rattle.protocol.specs.Node.Common.{packets_by, Prospect, restart_after, room_for, round_later, RecordView}
+use Rattle.protocol.specs.Node.Common.{node_count, packets_by, Prospect, restart_after, room_for, round_later}
+use Rattle.protocol.specs.Node.Common.{RecordView}
 use Rattle.protocol.specs.Node.Plans.{becoming}
 use Rattle.protocol.specs.World.Common.{ByNode, IsActOf, IsPlanned, IsStep, moved_to, opening_world, output_channels}
-use Rattle.protocol.specs.World.Common.{outputs_of, OutletView, OutputView, records_of, round_after}
-use Rattle.protocol.specs.World.Common.{setting_of}
+use Rattle.protocol.specs.World.Common.{outputs_of, OutletView, OutputView, records_of, round_after, setting_of}
 use Rattle.protocol.specs.World.Common.{StationView, traffic_after, WorldInvariant, WorldView}
 use Rattle.protocol.specs.World.OpeningWorld.{opening_outlet}
 use Rattle.protocol.specs.World.Steps.{crash_plan}

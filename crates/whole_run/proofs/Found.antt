@@ -2,8 +2,7 @@
 use Rattle.std.proofs.Common.{◌≡◌, ◌⊎◌, inl, inr, List, refl, sym, subst}
 use Rattle.growing.specs.WhateverComes.{HasGoneOn}
 use Rattle.protocol.specs.Node.Common.{RecordView}
-use Rattle.protocol.specs.World.Common.{AreInLine, event_node, OutputView, setting_of, WorldInvariant}
-use Rattle.protocol.specs.World.Common.{WorldView}
+use Rattle.protocol.specs.World.Common.{AreInLine, event_node, OutputView, setting_of, WorldInvariant, WorldView}
 use Rattle.protocol.specs.World.InLine.{IsLineOf}
 use Rattle.protocol_laws.specs.World.LineLaws.{act_in_line, line_now}
 use Rattle.starting_again.specs.WasLeft.{outputs_left}

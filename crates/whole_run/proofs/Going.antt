@@ -6,8 +6,7 @@ use Rattle.growing.specs.WhateverComes.{ByEvent as BecomesByEvent, ByInputs, ByR
 use Rattle.growing.specs.WhateverComes.{HasGoneOn}
 use Rattle.kahn_net.specs.Laws.Prefixes.{prefix_refl, prefixes_refl}
 use Rattle.protocol.specs.Node.Common.{Network, RecordView}
-use Rattle.protocol.specs.World.Common.{OutputView, released_of}
-use Rattle.protocol.specs.World.Common.{WorldInvariant, WorldView}
+use Rattle.protocol.specs.World.Common.{OutputView, released_of, WorldInvariant, WorldView}
 use Rattle.protocol_laws.specs.World.PrefixLaws.{released_prefix}
 use Rattle.protocol_laws.specs.World.ReleasedLaws.{released_is_right}
 use Rattle.starting_again.specs.StartsAgain.{WorldStartsAgain}

@@ -8,8 +8,8 @@ use Rattle.std.proofs.lemmas.Bool.{eq-eqb, ne_eqb}
 use Rattle.std.proofs.lemmas.List.{map-set}
 use Rattle.std.proofs.lemmas.List.Elements.{All-nil}
 use Rattle.recovery_line.proofs.Basics.{same_or_other}
-use Rattle.protocol.specs.Node.Common.{crashed, Exhausted, IsMade, IsPacket, IsPut, next_record, packets_by}
-use Rattle.protocol.specs.Node.Common.{Plan, Planned, Prospect, RecordView, restart_after, room_for, Undue, with_kept}
+use Rattle.protocol.specs.Node.Common.{crashed, Exhausted, IsMade, IsPacket, IsPut, next_record, packets_by, Plan}
+use Rattle.protocol.specs.Node.Common.{Planned, Prospect, RecordView, restart_after, room_for, Undue, with_kept}
 use Rattle.protocol.specs.World.Common.{AreEither, ByNetwork, ByNode, event_node, EventView, Install, IsActOf}
 use Rattle.protocol.specs.World.Common.{IsPlanned, IsStationStep, IsStep, moved_to, next_kept, output_channels}
 use Rattle.protocol.specs.World.Common.{outputs_of, OutputView, plan_of, records_of, Release, ReplyView, round_after}

@@ -2,8 +2,7 @@
 use Rattle.std.proofs.Common.{inl, inr, List, [], ◌∷◌, refl, ap}
 use Rattle.std.proofs.Math.Logic.{∥∥₁_map, ∥∥₁_map₂}
 use Rattle.protocol.specs.Node.Common.{RecordView}
-use Rattle.protocol.specs.World.Common.{net_seen, OutputView, records_of, records_seen}
-use Rattle.protocol.specs.World.Common.{WorldInvariant, WorldView}
+use Rattle.protocol.specs.World.Common.{net_seen, OutputView, records_of, records_seen, WorldInvariant, WorldView}
 use Rattle.protocol.specs.World.Coordination.{last_of}
 use Rattle.protocol_laws.specs.World.StepKeeps.{step_runs_on}
 use Rattle.recovery_line.proofs.Theorems.{line_never_falls_back}

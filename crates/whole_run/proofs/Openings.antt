@@ -1,26 +1,24 @@
 -- Where a run begins, a run of the abstract machine begins.
-use Rattle.std.proofs.Common.{◌≡◌, ◌⊎◌, inl, inr, ℕ, zero, suc, Bool, true, false, eqb, ℤ, List, [], ◌∷◌}
-use Rattle.std.proofs.Common.{length, map, replicate, Option, Some, None, option_map, refl, sym, ap, subst, ◌∙◌, arith}
+use Rattle.std.proofs.Common.{◌≡◌, ◌⊎◌, inl, inr, ℕ, zero, suc, Bool, true, false, eqb, ℤ, List, [], ◌∷◌, length, map}
+use Rattle.std.proofs.Common.{replicate, Option, Some, None, option_map, refl, sym, ap, subst, ◌∙◌, arith}
 use Rattle.std.specs.Prelude.{◌==◌, filter, find, slice_get, slice_index}
 use Rattle.std.proofs.Math.Logic.{∥∥₁_map}
 use Rattle.std.proofs.Math.Path.{fun_ext}
 use Rattle.std.proofs.lemmas.Option.{slice_get_cases}
 use Rattle.protocol.specs.Join.Seen.{mode_seen, modes_seen}
-use Rattle.protocol.specs.Node.Common.{base_in, base_of, Channel, End, log_at, Network, node_count}
-use Rattle.protocol.specs.Node.Common.{opening_ends}
+use Rattle.protocol.specs.Node.Common.{base_in, base_of, Channel, End, log_at, Network, node_count, opening_ends}
 use Rattle.protocol.specs.Node.Common.{opening_image, opening_record, received_at, received_of, RecordView, SavedEnd}
 use Rattle.protocol.specs.Node.Common.{sent_in, sent_of}
 use Rattle.protocol.specs.Node.NodeView as view
 use Rattle.protocol.specs.Node.Opening.{opening_end}
-use Rattle.protocol.specs.World.Common.{flights_to, image_seen, is_output, Mode, net_seen, outlets_seen}
-use Rattle.protocol.specs.World.Common.{OutletView, outputs_of, OutputView, Packet, record_seen, records_of}
-use Rattle.protocol.specs.World.Common.{records_seen, released_of, StationView, taken_or, Traffic, world_seen}
-use Rattle.protocol.specs.World.Common.{WorldView}
+use Rattle.protocol.specs.World.Common.{flights_to, image_seen, is_output, Mode, net_seen, outlets_seen, OutletView}
+use Rattle.protocol.specs.World.Common.{outputs_of, OutputView, Packet, record_seen, records_of, records_seen}
+use Rattle.protocol.specs.World.Common.{released_of, StationView, taken_or, Traffic, world_seen, WorldView}
 use Rattle.protocol.specs.World.OpeningWorld.{opening_outlet, stations_from}
 use Rattle.protocol_laws.specs.Join.Flown.{all_flown, is_flown}
 use Rattle.recovery_line.proofs.Starting.{may_begin}
 use Rattle.recovery_line.specs.Images.{blank}
-use Rattle.recovery_line.specs.Nodes.{Down, Running}
+use Rattle.recovery_line.specs.Nodes.{Running}
 use Rattle.recovery_line.specs.Records.{new_record}
 use Rattle.recovery_line.specs.Starts.{IsStart}
 use Rattle.recovery_line.specs.Worlds.{opening}

@@ -1,6 +1,5 @@
 -- Where nothing is left to do nothing more leaves, as long as nothing comes.
-use Rattle.std.proofs.Common.{◌≡◌, inl, inr, ℕ, suc, ◌+◌, ℤ, List, [], ◌∷◌, map, Some, refl, sym, ap, subst}
-use Rattle.std.proofs.Common.{◌∙◌, arith}
+use Rattle.std.proofs.Common.{◌≡◌, inl, inr, ℕ, suc, ◌+◌, ℤ, List, [], ◌∷◌, map, Some, refl, sym, ap, subst, ◌∙◌, arith}
 use Rattle.std.specs.Prelude.{slice_get, IsTrue}
 use Rattle.std.proofs.Math.Logic.{∥∥₁_elim}
 use Rattle.std.proofs.Props.{props}
@@ -10,8 +9,8 @@ use Rattle.kahn_net.specs.Laws.Approximations.{agreement, approximations_grow}
 use Rattle.kahn_net.specs.Laws.Fixpoints.{prefix_both}
 use Rattle.kahn_net.specs.Laws.Prefixes.{prefix_refl, prefix_trans}
 use Rattle.protocol.specs.Node.Common.{approximation, Fits, history_of, IsPrefix, IsValid, Network}
-use Rattle.protocol.specs.World.Common.{AreApproximated, are_quiet, output_channels, output_of, outputs_of}
-use Rattle.protocol.specs.World.Common.{released_of, StationView, WorldInvariant, WorldView}
+use Rattle.protocol.specs.World.Common.{AreApproximated, are_quiet, output_channels, output_of, outputs_of, released_of}
+use Rattle.protocol.specs.World.Common.{StationView, WorldInvariant, WorldView}
 use Rattle.protocol.specs.World.Growing.{EachBegins}
 use Rattle.protocol.specs.World.Headline.{AreAllWithin}
 use Rattle.protocol.specs.World.Quiet.{AreAll}

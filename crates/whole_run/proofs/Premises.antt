@@ -1,7 +1,5 @@
 -- What the calls of a world promise is what may happen in a run.
-use Rattle.std.proofs.Common.{◌≡◌, ℕ, ℤ, List, [], ◌∷◌, ◌++◌, map, ◌⊎◌}
-use Rattle.std.proofs.Common.{Some, None, refl, sym}
-use Rattle.std.proofs.Common.{ap, subst, ◌∙◌, arith}
+use Rattle.std.proofs.Common.{◌≡◌, ℕ, ℤ, List, [], ◌∷◌, ◌++◌, map, ◌⊎◌, Some, None, refl, sym, ap, subst, ◌∙◌}
 use Rattle.std.specs.Prelude.{IsPermutation}
 use Rattle.std.proofs.lemmas.List.{map-append}
 use Rattle.std.proofs.lemmas.List.Sorted.{IsPermutation-map}
@@ -12,8 +10,7 @@ use Rattle.slot_cell.specs.declared.slot_cell.SlotCell.{Ghosts as SlotWords}
 use Rattle.slot_cell.specs.declared.split.SplitCell.{SplitCell}
 use Rattle.ckpt_store.specs.StoreView.{record_spelled}
 use Rattle.outlet.specs.declared.outlet.Outlet.{Ghosts as OutletWords}
-use Rattle.protocol.specs.Node.Common.{cell_in, Network, record_in}
-use Rattle.protocol.specs.Node.Common.{RecordView}
+use Rattle.protocol.specs.Node.Common.{cell_in, Network, record_in, RecordView}
 use Rattle.protocol.specs.World.Common.{AreInLine, EventView, IsStep, output_channels, outputs_of, OutputView}
 use Rattle.protocol.specs.World.Common.{records_of, WorldInvariant, WorldView}
 use Rattle.protocol.specs.declared.outcome.Outcome.TheVariants as outcome

@@ -3,8 +3,8 @@ use Rattle.std.proofs.Common.{ℕ, ℤ, List, sym, subst, ◌∙◌}
 use Rattle.std.proofs.Math.Logic.{∥∥₁_elim, ∥∥₁_map}
 use Rattle.std.proofs.Math.Bridge.{le_prop}
 use Rattle.protocol.specs.Node.Common.{Network, RecordView}
-use Rattle.protocol.specs.World.Common.{net_seen, output_channels, OutputView, records_of, records_seen}
-use Rattle.protocol.specs.World.Common.{WorldInvariant, WorldView}
+use Rattle.protocol.specs.World.Common.{net_seen, output_channels, OutputView, records_of, records_seen, WorldInvariant}
+use Rattle.protocol.specs.World.Common.{WorldView}
 use Rattle.protocol.specs.World.Coordination.{last_of}
 use Rattle.protocol.specs.World.Growing.{EachBegins}
 use Rattle.protocol.specs.World.Headline.{AreAllWithin, AreWithin}

@@ -14,11 +14,15 @@ abbrev pub machine_world : WorldView → World
 machine_world world = world_seen world.stations (all_flown world.traffic)
 
 -- Steps of the machine lead from the earlier world to the later one, and to the earlier one from where its runs begin.
--- Two of these make one: the second begins with the very world with which the first ends.
 pub record IsOneRun (earlier last : WorldView) : Type 0 where
   pub reached : Reachable (net_seen earlier.net) (machine_world earlier)
   pub worlds : List World
   pub run : Run (net_seen earlier.net) (machine_world earlier) worlds (machine_world last)
+
+-- Two of these make one, since the second begins with the very world with which the first ends.
+abbrev pub RunsMakeOne : Type 0
+RunsMakeOne = (first next last : WorldView) → next.net ≡ first.net → IsOneRun first next → IsOneRun next last
+    → IsOneRun first last
 
 -- With this world a run of the machine may begin, and nothing is in flight.
 pub record IsMachineStart (world : WorldView) : Type 0 where

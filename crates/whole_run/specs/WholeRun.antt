@@ -2,8 +2,8 @@
 use Rattle.std.specs.Prelude.{◌≡◌, ◌⊎◌, ℕ, List, IsTrue}
 use Rattle.kahn_net.specs.Streams.{ArePrefixes}
 use Rattle.protocol.specs.Node.Common.{RecordView}
-use Rattle.protocol.specs.World.Common.{are_quiet, net_seen, OutputView, records_of, records_seen}
-use Rattle.protocol.specs.World.Common.{WorldInvariant, WorldView}
+use Rattle.protocol.specs.World.Common.{are_quiet, net_seen, OutputView, records_of, records_seen, WorldInvariant}
+use Rattle.protocol.specs.World.Common.{WorldView}
 use Rattle.protocol.specs.World.Coordination.{AreCoordinated, IsAsked, last_of, WasReceived}
 use Rattle.protocol.specs.World.Growing.{EachBegins}
 use Rattle.protocol.specs.World.Headline.{AreWithin}

@@ -1,12 +1,19 @@
 // The law of a whole run.
 ghost use Rattle.whole_run.specs.Example.{ShortRunIsThere};
 ghost use Rattle.whole_run.specs.Histories.{HistoriesAreRuns};
+ghost use Rattle.whole_run.specs.Machine.{RunsMakeOne};
 ghost use Rattle.whole_run.specs.WholeRun.{WholeRun};
 
 /// Whatever happens to a network from the beginning of its run on, at whatever moment one looks: what is true of a world is true then, and
 /// what has left, the recovery line, and the steps of the abstract machine go on from any earlier world of the run.
 pub fn whole_run_law()
     ensures { WholeRun }
+{}
+
+/// Two events of a run meet: steps of the abstract machine from one world to another, and from that one on to a third, are steps from the
+/// first to the third.
+pub fn one_run_law()
+    ensures { RunsMakeOne }
 {}
 
 /// The law speaks of something: of each network, on whatever inputs fit it, there is a run in which a node crashes, the world is stopped and

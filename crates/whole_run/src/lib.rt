@@ -5,5 +5,5 @@
 mod laws;
 mod meeting;
 
-pub use laws::{history_law, short_run_law, whole_run_law};
+pub use laws::{history_law, one_run_law, short_run_law, whole_run_law};
 pub use meeting::{crash_law, event_law, new_law, resumed_law, stop_law};
