@@ -22,9 +22,9 @@ pub record IsRight (earlier : WorldView) (after : List WorldView) (records : Lis
     (outputs : List OutputView) : Type 0 where
   -- All that is true of a world, whatever events came before, is true of the last one.
   pub sound : WorldInvariant (last_of earlier after)
-  -- It has the same network,
+  -- It has the same network.
   pub same_net : (last_of earlier after).net ≡ earlier.net
-  -- and its inputs begin with those of the earlier one.
+  -- Its inputs begin with those of the earlier one.
   pub longer : ArePrefixes earlier.inputs (last_of earlier after).inputs
   -- What has left begins, output by output, with what had left of the earlier world, over whatever stops.
   pub kept : EachBegins (outputs_left earlier) outputs
@@ -37,19 +37,18 @@ pub record IsRight (earlier : WorldView) (after : List WorldView) (records : Lis
       → outputs ≡ outputs_left earlier
   -- The recovery line, from which all nodes would restart now, is sound and covers what has left.
   pub line : IsSoundLine (last_of earlier after).net records outputs
-  -- It isn't behind that of the earlier world, unless the run began again since then.
+  -- The line isn't behind that of the earlier world, unless the run began again since then.
   pub not_behind : EachNext GoesOn earlier after
       → NotBehind (records_seen (records_of earlier.stations)) (records_seen records)
   -- Where the run begins, a run of the machine of recovery lines begins, and nothing is in flight.
   pub begins : Begins earlier → IsMachineStart earlier
   -- Unless the run began again since the earlier world, steps of that machine lead from there to the last one.
   pub machine : EachNext GoesOn earlier after → ∥ IsOneRun earlier (last_of earlier after) ∥₁
-  -- Unless it did, checkpoints that several nodes take together are coordinated in each thing that happened,
+  -- Unless it did, checkpoints that several nodes take together are coordinated in each thing that happened.
   pub coordinated : EachNext GoesOn earlier after → EachNext AreCoordinated earlier after
-  -- and in any case by what is found now.
+  -- They are coordinated by the records that are found now too, in any case.
   pub inside : ∥ IsCoordinatedInside (net_seen (last_of earlier after).net)
-      (nodes_seen (last_of earlier after).stations)
-      (records_seen records) ∥₁
+      (nodes_seen (last_of earlier after).stations) (records_seen records) ∥₁
   -- Whoever is asked to take part in a checkpoint had to be: what is asked for was asked for in the earlier world, or
   -- was received since then by an image of that checkpoint which was held.
   pub asked : (p x n c m : ℕ) → IsAsked (last_of earlier after).traffic p x n c m
