@@ -1,17 +1,21 @@
 -- What a history of a run says is a run.
-use Rattle.std.proofs.Common.{◌≡◌, ℕ, Bool, List, [], ◌∷◌, ◌++◌, Option, Some, None, refl, sym, ap, subst, ◌∙◌}
+use Rattle.std.proofs.Common.{◌≡◌, ℕ, zero, suc, Bool, List, [], ◌∷◌, ◌++◌, Option, Some, None, refl, sym, ap, subst, ◌∙◌}
 use Rattle.std.proofs.Math.Logic.{∥∥₁_map}
-use Rattle.protocol.specs.Node.Common.{RecordView}
+use Rattle.live.specs.Steps.{AreSteps, IsLiveStepBy, IsTurnBy, LiveView}
+use Rattle.protocol.specs.Node.Common.{JobView, RecordView}
 use Rattle.protocol.specs.Node.Sharing.{wider_at}
-use Rattle.protocol.specs.World.Common.{ByNode, ReplyView, WorldView}
+use Rattle.protocol.specs.World.Common.{ByNode, choice, Install, ReplyView, WorldView}
 use Rattle.protocol.specs.World.Coordination.{last_of}
 use Rattle.protocol.specs.declared.event.Deed.TheVariants as event
 use Rattle.replay.specs.Armed.{ArmCrash, ArmedEvent, ArmedView, crash_after, delivered_to, EndsWith, IsArmedStep}
 use Rattle.replay.specs.Armed.{OfWorld}
 use Rattle.replay.specs.Replay.{and_then, at_first, Happening, Happens, IsReplay, Made, Silent, Widened}
 use Rattle.replay.specs.declared.kept.ArmedCrash.{ArmedCrash}
+use Rattle.replay.specs.Rests.{next_turn}
+use Rattle.replay.specs.declared.kept.NextTurn.{NextTurn}
+use Rattle.replay.specs.declared.kept.NextTurn.TheVariants as next
 use Rattle.replay.specs.declared.kept.ScriptedEvent.{ScriptedEvent}
-use Rattle.whole_run.specs.Histories.{HistoriesAreRuns}
+use Rattle.whole_run.specs.Histories.{HistoriesAreRuns, LiveStepsAreRuns}
 use Rattle.whole_run.specs.Runs.{ByEvent, ByNothing, ByRooms, EachNext, GoesOn}
 
 -- some worlds lead from one to another
@@ -80,3 +84,29 @@ histories_are_runs fits script first happened last leads =
     by : {armed : WorldView} → Leads first armed → armed ≡ last
         → (worlds : List WorldView) × EachNext GoesOn first worlds × (last_of first worlds ≡ last)
     by run same = (run.worlds, run.each, run.last_is ∙ same)
+
+-- ---- a network at work
+
+turn_leads : (by : NextTurn) (fits : List (RecordView → Bool)) (node : ℕ) (old : WorldView) (job : Option JobView)
+    (new : WorldView) → IsTurnBy by fits node old job new → GoesOn old new
+turn_leads next.Rest fits node old job new turn = ByNothing turn.1
+turn_leads (next.Widen channel) fits node old job new turn = ByRooms (wider_at channel old.rooms) turn.1
+turn_leads next.Make fits node old job new turn = ByEvent fits (choice old node) turn.answer turn.step
+
+step_leads : (out : Option JobView) (fits : List (RecordView → Bool)) (nodes : ℕ) (old new : LiveView)
+    → IsLiveStepBy out fits nodes old new → GoesOn old.world new.world
+step_leads (Some job) fits nodes old new step = ByEvent fits (Install step.0.done) step.0.answer step.0.step
+step_leads None fits nodes old new step =
+    turn_leads (next_turn old.world old.node) fits old.node old.world new.out new.world step.0
+
+steps_lead : (fits : List (RecordView → Bool)) (nodes steps : ℕ) (old new : LiveView) → AreSteps fits nodes steps old new
+    → Leads old.world new.world
+steps_lead fits nodes zero old new same =
+    record { worlds = []; each = tt; last_is = sym (ap (λ (l : LiveView). l.world) same) }
+steps_lead fits nodes (suc steps) old new made =
+    leads_on old.world made.0.world new.world (steps_lead fits nodes steps old made.0 made.1)
+    (step_leads made.0.out fits nodes made.0 new made.3)
+
+pub live_steps_are_runs : LiveStepsAreRuns
+live_steps_are_runs fits nodes steps old new made =
+    let run = steps_lead fits nodes steps old new made in (run.worlds, run.each, run.last_is)

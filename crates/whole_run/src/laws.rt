@@ -1,6 +1,6 @@
 // The law of a whole run.
 ghost use Rattle.whole_run.specs.Example.{ShortRunIsThere};
-ghost use Rattle.whole_run.specs.Histories.{HistoriesAreRuns};
+ghost use Rattle.whole_run.specs.Histories.{HistoriesAreRuns, LiveStepsAreRuns};
 ghost use Rattle.whole_run.specs.Machine.{RunsMakeOne};
 ghost use Rattle.whole_run.specs.WholeRun.{WholeRun};
 
@@ -23,7 +23,8 @@ pub fn short_run_law()
 {}
 
 /// What programs do is such a run: wherever what happened leads from one world to another, as the contracts of runs say, worlds do that
-/// come to one another while the disks are there.
+/// come to one another while the disks are there. So it is where steps of a network at work lead from one world to another.
 pub fn history_law()
-    ensures { HistoriesAreRuns }
+    ensures histories { HistoriesAreRuns }
+    ensures live { LiveStepsAreRuns }
 {}
