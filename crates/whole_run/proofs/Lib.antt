@@ -1,0 +1,20 @@
+-- The proofs of the law of a whole run.
+mod Joining
+mod Starting
+mod Inside
+mod Begun
+mod Nothing
+mod Openings
+mod Going
+mod Left
+mod Over
+mod Gone
+mod Machines
+mod Coordinating
+mod Asking
+mod Found
+mod Whole
+mod Example
+mod Histories
+mod Premises
+mod Beginning
