@@ -4,14 +4,13 @@ use Rattle.std.proofs.Common.{◌∙◌, append_assoc, arith}
 use Rattle.std.proofs.Math.Seq.{drop-cons}
 use Rattle.std.specs.List.{AllByRecursion}
 use Rattle.std.specs.Prelude.{slice_get, slice_index_or}
-use Rattle.kahn_net.specs.Laws.Prefixes.{prefix_nil, prefix_refl}
-use Rattle.kahn_net.specs.Streams.{IsPrefix}
+use Rattle.kahn_net.specs.Laws.Prefixes.{prefix_nil}
 use Rattle.protocol.specs.Node.Common.{approximation, Channel, history_of, log_end, LogState, Network, node_count}
 use Rattle.protocol.specs.Node.Sharing.{even_rooms}
 use Rattle.protocol.specs.World.Common.{output_channels, OutletView, OutputView, with_rooms, WorldView}
 use Rattle.rerun.specs.Tables.{first_table, HasRerun, KeepsLimits, log_on, no_log, TableView}
 use Rattle.rerun.specs.declared.stopped.Stopped.{Stopped}
-use Rattle.resuming.specs.CatchingUp.{HasCaughtUp, HaveGoneOn, HaveTakenAll, StoppedSince}
+use Rattle.resuming.specs.CatchingUp.{HasCaughtUp, HaveTakenAll, StoppedSince}
 use Rattle.resuming.specs.Images.{records_there}
 use Rattle.resuming.specs.Resuming.{Agrees}
 use Rattle.station.specs.OutputView.{output_view, outputs_view}
@@ -82,20 +81,6 @@ module _ {O : Type 0} (taken : O → List ℤ) where
       ≡ map (λ (output : Output O). output.channel) outputs
   channels_of failures [] = refl
   channels_of failures (x ∷ outputs) = ap (λ (cs : List ℕ). x.channel ∷ cs) (channels_of failures outputs)
-
-same_output : (x y : OutputView) → Some x ≡ Some y → x ≡ y
-same_output x y same = cc
-
--- outputs that took nothing more are those of before
-pub stay : (outputs : List OutputView) → HaveGoneOn outputs outputs
-stay outputs = record {
-  channels = refl;
-  kept = λ j old new was is. subst (λ (o : OutputView). IsPrefix old.taken o.taken) (same_output old new (sym was ∙ is))
-      (prefix_refl old.taken);
-}
-
-pub stay_as : (before after : List OutputView) → after ≡ before → HaveGoneOn before after
-stay_as before after same = subst (λ (os : List OutputView). HaveGoneOn before os) (sym same) (stay before)
 
 -- how far processes were run again that were run so far on another network, which is this one
 pub record HasStopped (net : Network) (inputs : List (List ℤ)) (held : List ℕ) (t : TableView) (stopped : Stopped)

@@ -1,5 +1,5 @@
 -- What is left of a run that came to no end.
-use Rattle.std.proofs.Common.{◌≡◌, ℤ, List}
+use Rattle.std.proofs.Common.{ℤ, List}
 use Rattle.outlet.specs.declared.outlet.Outlet.{Ghosts as OutletWords}
 use Rattle.protocol.specs.Node.Common.{Network}
 use Rattle.replay.specs.declared.kept.ScriptedEvent.{ScriptedEvent}

@@ -1,6 +1,6 @@
 //! The whole program over its host.
 
-ghost use Rattle.std.specs.Prelude.{Bool, ◌≡◌, ◌⊎◌, ◌≤◌, true, IfErr, IfOk, OnOk, Ok, Err, Some, map, string_bytes};
+ghost use Rattle.std.specs.Prelude.{Bool, ◌≡◌, ◌⊎◌, ◌≤◌, IfErr, IfOk, OnOk, Ok, Err, Some, map, string_bytes};
 ghost use Rattle.std.specs.Option.{option_map};
 ghost use Rattle.host.specs.Requests.{Each, Has, IsFree, IsHeld, Read, Said, Told};
 ghost use Rattle.protocol.specs.Node.Common.{Fits, MAX_NODES, network_of, node_count};

@@ -1,4 +1,4 @@
-use Rattle.std.proofs.Common.{true, false, ◌≡◌, ◌∙◌, ℕ, length, ap, sym, refl, subst}
+use Rattle.std.proofs.Common.{true, false, ◌≡◌, ◌∙◌, length, sym, refl, subst}
 use Rattle.std.proofs.lemmas.List.{length-map}
 use Rattle.std.proofs.lemmas.Result.{IfErr-weaker}
 use Rattle.protocol.specs.Node.Common.{node_count}

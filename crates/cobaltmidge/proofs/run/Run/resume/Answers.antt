@@ -1,9 +1,9 @@
 use Rattle.std.proofs.lemmas.Grind.{elements}
-use Rattle.std.proofs.Common.{◌≡◌, ◌∙◌, ℤ, List, Some, subst, arith}
+use Rattle.std.proofs.Common.{◌∙◌, ℤ, List, Some, subst, arith}
 use Rattle.std.proofs.Math.Logic.{∥∥₁_map}
 use Rattle.kahn_net.specs.Syntax.{network_of}
 use Rattle.protocol.specs.Node.Common.{Network}
-use Rattle.protocol.specs.World.Common.{are_quiet, WorldView}
+use Rattle.protocol.specs.World.Common.{are_quiet}
 use Rattle.replay.specs.declared.kept.ScriptedEvent.{ScriptedEvent}
 use Rattle.runtime.specs.Ending.{IsOver}
 use Rattle.runtime.specs.Logs.{happenings}
