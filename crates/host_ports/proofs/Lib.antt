@@ -1,3 +1,4 @@
 mod Ported
+mod Reading
 mod Saying
 mod Taking

@@ -7,6 +7,7 @@ use Rattle.host.specs.Requests.{Has, Request, Said}
 use Rattle.host.specs.Sources.{said_bytes}
 use Rattle.host.specs.declared.fault.HostFault.{HostFault}
 use Rattle.host_ports.specs.Ports.{IsAskedOn, IsOfStreams, PortsStand}
+use Rattle.host_ports.specs.declared.form.Form.{Form}
 use Rattle.host_ports.specs.declared.port.Port.{Port}
 
 -- all that waited was said, and nothing waits
@@ -20,9 +21,9 @@ pub said_nothing : (all text : List ℕ) (fault : HostFault) (said : List ℕ) (
     → all ≡ said_bytes e ++ text → all ≡ said_bytes now ++ text
 said_nothing all text fault said e now asked spoken = rw asked spoken
 
-pub stand_said : {S : Type 0} (source_number : S → ℕ) (ports : List (Option (Port S))) (text : List ℕ) (answer : Answer)
-    (e now : List Request) → now ≡ Said text answer ∷ e → PortsStand source_number e ports → PortsStand source_number now ports
-stand_said {S} source_number ports text answer e now asked stand =
+pub stand_said : {S : Type 0} (form : Form) (source_number : S → ℕ) (ports : List (Option (Port S))) (text : List ℕ) (answer : Answer)
+    (e now : List Request) → now ≡ Said text answer ∷ e → PortsStand form source_number e ports → PortsStand form source_number now ports
+stand_said {S} form source_number ports text answer e now asked stand =
     rw asked (λ input port here. let is = stand input port here in
     record { number = is.number; stands = record { ended = is.stands.ended; read = is.stands.read } })
 

@@ -1,6 +1,9 @@
 -- What is printed of the items that leave.
 use Rattle.std.specs.Prelude.{ℕ, List, [], ◌∷◌, ◌++◌, Option, Some, None, slice_get}
 use Rattle.item_text.specs.Lines.{item_line}
+use Rattle.item_bytes.specs.Bytes.{bytes_of_item}
+use Rattle.host_ports.specs.declared.form.Form.{Form}
+use Rattle.host_ports.specs.declared.form.Form.TheVariants.{Decimal, Binary}
 use Rattle.net_text.specs.Names.{NameTree}
 use Rattle.outside.specs.declared.departure.Departure.{Departure}
 
@@ -18,7 +21,12 @@ name_before (Some names) output = named (slice_get names output)
 abbrev pub departure_line : Option (List NameTree) → Departure → List ℕ
 departure_line names one = name_before names one.output ++ item_line one.item
 
--- the lines of all of these, of which the newest stands first here
-abbrev pub departures_text : Option (List NameTree) → List Departure → List ℕ
-departures_text names [] = []
-departures_text names (one ∷ earlier) = departures_text names earlier ++ departure_line names one
+-- what is written of an item that left: its line, or its bytes, which have no name
+abbrev pub departure_text : Form → Option (List NameTree) → Departure → List ℕ
+departure_text Decimal names one = departure_line names one
+departure_text Binary names one = bytes_of_item one.item
+
+-- and of all of these, of which the newest stands first here
+abbrev pub departures_text : Form → Option (List NameTree) → List Departure → List ℕ
+departures_text form names [] = []
+departures_text form names (one ∷ earlier) = departures_text form names earlier ++ departure_text form names one

@@ -1,39 +1,45 @@
 //! A source of an input, and how far its items are read.
 
-ghost use Rattle.std.specs.Prelude.{◌≡◌, ◌≢◌, ◌∷◌, [], List, IfErr, IfOk, IfSome, None, OnErr, OnOk, false, true};
+ghost use Rattle.std.specs.Prelude.{◌≡◌, ◌≢◌, ◌∷◌, [], ℕ, List, IfErr, IfOk, IfSome, None, OnErr, OnOk, false, true};
 ghost use Rattle.host.specs.Answers.{answered};
 ghost use Rattle.host.specs.Requests.{Request, Took};
-ghost use Rattle.item_text.specs.Items.{read_bytes, reading};
+ghost use Rattle.host_ports.specs.Forms.{IsReadAs, fault_in, is_end, reader_by};
+ghost use Rattle.host_ports.specs.declared.form.Form.{Form as FormValue};
 ghost use Rattle.host_ports.specs.Ports.{IsFaultOf, IsOpenOrNot, IsReadOn, PortStands};
 ghost use Rattle.host_ports.specs.declared.fault.PortFault.TheVariants.{NoMemory};
 
 use crate::fault::PortFault;
+use crate::reader::Reader;
 use host::HostFault;
-use item_text::ItemReader;
 
 /// A source of an input, and how far its items are read.
 #[derive(Drop)]
 pub struct Port<S: Drop> {
     pub source: S,
-    pub reader: ItemReader,
+    pub reader: Reader,
     pub has_ended: bool,
     /// There was no memory for something that came, so that the source can't be read on.
     pub is_lost: bool,
 }
 
-// Reads what came of a source, or its end as a space. Where there is no memory for that the source is lost.
+// Reads what came of a source that wasn't at its end, or its end. Where there is no memory for that the source is lost.
 fn read_piece<S: Drop>(
     port: &mut Port<S>,
-    bytes: &[u8],
+    piece: &[u8],
     items: &mut Vec<i64>,
 ) -> Result<(), PortFault>
-    ensures read { OnOk result (reading port.new.reader items.new.items ≡ read_bytes bytes.now (reading port.old.reader items.old.items)) }
+    requires opened { port.old.has_ended ≡ false }
+    requires empty { items.old.items ≡ [] }
+    ensures read { OnOk result ((form : FormValue) (came : List ℕ) → port.old.reader ≡ reader_by form came false
+        → IsReadAs form came piece.now port.new.reader items.new.items) }
     ensures kept { OnOk result (port.new.is_lost ≡ port.old.is_lost) }
     ensures lost { OnErr result (port.new.is_lost ≡ true) }
-    ensures same { (port.new.source ≡ port.old.source) × (port.new.has_ended ≡ port.old.has_ended) }
+    ensures source { port.new.source ≡ port.old.source }
+    ensures ended { port.new.has_ended ≡ is_end piece.now }
     ensures failed { IfErr result (λ fault. fault ≡ NoMemory) }
 {
-    match port.reader.read(bytes, items) {
+    port.has_ended = piece.is_empty();
+    match port.reader.read(piece, items) {
         Ok(()) => Ok(()),
         Err(_) => {
             port.is_lost = true;
@@ -45,12 +51,12 @@ fn read_piece<S: Drop>(
 // Why a source can't be read on, if it can't.
 fn fault_of<S: Drop>(input: u8, port: &Port<S>) -> Option<PortFault>
     ensures fault { IfSome result (IsFaultOf input port.now) }
-    ensures none { result ≡ None → (port.now.is_lost ≡ false) × (port.now.reader.fault ≡ None) }
+    ensures none { result ≡ None → (port.now.is_lost ≡ false) × (fault_in port.now.reader port.now.has_ended ≡ None) }
 {
     if port.is_lost {
         return Some(PortFault::NoMemory);
     }
-    match port.reader.fault() {
+    match port.reader.fault(port.has_ended) {
         Some(fault) => Some(PortFault::Item { input, fault }),
         None => None,
     }
@@ -84,8 +90,8 @@ pub(crate) fn read_answer<S: Drop>(
     requires empty { items.old.items ≡ [] }
     ensures source { port.new.source ≡ port.old.source }
     // Whatever the log was before.
-    ensures read { (e : List Request) → PortStands e input port.old
-        → IsReadOn e (Took input (answered (λ done. piece.now.items) answer) ∷ e) input port.new items.new.items result }
+    ensures read { (form : FormValue) (e : List Request) → PortStands form e input port.old
+        → IsReadOn form e (Took input (answered (λ done. piece.now.items) answer) ∷ e) input port.new items.new.items result }
 {
     if let Err(fault) = answer {
         return Err(match fault {
@@ -93,16 +99,9 @@ pub(crate) fn read_answer<S: Drop>(
             _ => PortFault::Unread { input },
         });
     }
-    if piece.is_empty() {
-        port.has_ended = true;
-        // A fault at the end is told by the next call.
-        return match read_piece(port, b" ", items) {
-            Ok(()) => Ok(port.reader.fault().is_some()),
-            Err(fault) => Err(fault),
-        };
-    }
     match read_piece(port, piece.as_slice(), items) {
-        Ok(()) => Ok(true),
+        // A fault at the end is told by the next call.
+        Ok(()) => Ok(!port.has_ended || port.reader.fault(true).is_some()),
         Err(fault) => Err(fault),
     }
 }

@@ -8,6 +8,7 @@ ghost use Rattle.host_ports.specs.declared.fault.PortFault.TheVariants.{NoMemory
 ghost use Rattle.host_ports.specs.Speaking.{departures_text};
 
 use crate::fault::PortFault;
+use crate::form::Form;
 use crate::port::{Port, goes_on, read_answer};
 use crate::speaking::speak;
 use host::Host;
@@ -20,6 +21,8 @@ use std::snapshot::Snapshot;
 /// What stays as it is while streams go on.
 #[derive(Drop)]
 pub struct Fixed<'a, H, S: Drop> {
+    /// How items are spelled.
+    pub form: Form,
     /// The names of the channels, where a line says by which output an item left.
     pub names: Option<&'a [Name]>,
     /// The host when they began. At run time there is nothing of it.
@@ -28,7 +31,7 @@ pub struct Fixed<'a, H, S: Drop> {
     pub given: Snapshot<Vec<Option<Port<S>>>>,
 }
 
-/// The sources of a network's inputs, and the standard output of the host, on which each item that leaves is a line.
+/// The sources of a network's inputs, and the standard output of the host, on which each item is printed that leaves.
 pub struct Ports<'a, H: Host> {
     host: H,
     // By the number of the input; none where it has no source.
@@ -41,29 +44,31 @@ pub struct Ports<'a, H: Host> {
     // What came of a source last.
     piece: Vec<u8>,
     put: Past<Departure>,
-    pub ghost spoken: { departures_text (option_map (λ names. names.now) fixed.names) (states_of put)
+    pub ghost spoken: { departures_text fixed.form (option_map (λ names. names.now) fixed.names) (states_of put)
         ≡ said_bytes (H.asked host) ++ text.items },
     // What was asked since is of sources and of standard output alone.
     pub ghost asked_on: { ∥ IsAskedOn (H.asked fixed.begun.value) (H.asked host) ∥₁ },
     // No source is let go of.
     pub ghost given: { HaveTheSame fixed.given.value.items ports.items },
-    pub ghost stand: { PortsStand H.source_number (H.asked host) ports.items },
+    pub ghost stand: { PortsStand fixed.form H.source_number (H.asked host) ports.items },
 }
 
 impl<'a, H: Host> Ports<'a, H> {
-    /// These sources, of which nothing was taken yet, and a host that said nothing yet. Where names are given each line has that of its output.
+    /// These sources, of which nothing was taken yet, and a host that said nothing yet. Items come and leave in this form. Where names are given
+    /// each line has that of its output.
     pub fn new(
         alloc: Global,
         host: H,
         ports: Vec<Option<Port<H::Source>>>,
+        form: Form,
         names: Option<&'a [Name]>,
     ) -> Ports<'a, H>
         requires silent { said_bytes (H.asked host) ≡ [] }
-        requires stand { PortsStand H.source_number (H.asked host) ports.items }
+        requires stand { PortsStand form H.source_number (H.asked host) ports.items }
         ensures host { result.host ≡ host }
         ensures ports { result.ports.items ≡ ports.items }
         ensures none { states_of result.put ≡ [] }
-        ensures fixed { (result.fixed.begun.value ≡ host)
+        ensures fixed { (result.fixed.form ≡ form) × (result.fixed.begun.value ≡ host)
             × (option_map (λ names. names.now) result.fixed.names ≡ option_map (λ names. names.now) names.entry)
             × (result.fixed.given.value.items ≡ ports.items) }
     {
@@ -73,6 +78,7 @@ impl<'a, H: Host> Ports<'a, H> {
             host,
             ports,
             fixed: Fixed {
+                form,
                 names,
                 begun,
                 given,
@@ -84,7 +90,7 @@ impl<'a, H: Host> Ports<'a, H> {
         }
     }
 
-    /// Its host. Lines that wait are never said: after a `flush` that succeeded none waits.
+    /// Its host. Items that wait are never said: after a `flush` that succeeded none waits.
     pub fn into_host(self) -> H
         ensures { result ≡ self.entry.host }
     {
@@ -108,16 +114,16 @@ impl<'a, H: Host> Outside for Ports<'a, H> {
 
     ghost fixed = { λ ports. ports.fixed };
 
-    ghost came = { λ ports input. items_from input (H.asked ports.host) };
+    ghost came = { λ ports input. items_from ports.fixed.form input (H.asked ports.host) };
 
-    ghost has_ended = { λ ports input. is_at_end (slice_get ports.ports.items input) (ended_well input (H.asked ports.host)) };
+    ghost has_ended = { λ ports input. is_at_end (slice_get ports.ports.items input) (ended_well ports.fixed.form input (H.asked ports.host)) };
 
     ghost left = { λ ports. states_of ports.put };
 
-    ghost is_shown = { λ ports. departures_text (option_map (λ names. names.now) ports.fixed.names) (states_of ports.put)
+    ghost is_shown = { λ ports. departures_text ports.fixed.form (option_map (λ names. names.now) ports.fixed.names) (states_of ports.put)
         ≡ said_bytes (H.asked ports.host) };
 
-    ghost has_failed = { λ ports fault. IsPortFault (H.asked ports.host) fault };
+    ghost has_failed = { λ ports fault. IsPortFault ports.fixed.form (H.asked ports.host) fault };
 
     ghost loses = { λ fault. fault ≡ NoMemory };
 
@@ -156,7 +162,7 @@ impl<'a, H: Host> Outside for Ports<'a, H> {
             put,
             ..
         } = self;
-        if speak(text, line, fixed.names, departure).is_err() {
+        if speak(text, line, fixed.form, fixed.names, departure).is_err() {
             return Err(PortFault::NoMemory);
         }
         put.note(&departure);

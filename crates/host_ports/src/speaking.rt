@@ -1,9 +1,11 @@
-//! The lines of items that leave.
+//! What is written of items that leave.
 
 ghost use Rattle.std.specs.Prelude.{◌≡◌, ◌++◌, OnErr, OnOk, option_map, string_bytes};
 ghost use Rattle.item_text.specs.Lines.{item_line};
-ghost use Rattle.host_ports.specs.Speaking.{departure_line, name_before, named};
+ghost use Rattle.host_ports.specs.Speaking.{departure_line, departure_text, name_before, named};
 
+use crate::form::Form;
+use item_bytes::write_item as write_bytes;
 use net_text::Name;
 use outside::Departure;
 use std::alloc::AllocError;
@@ -51,8 +53,8 @@ fn write_line(
     write_item(line, departure.item)
 }
 
-/// Adds the line of an item. `line` is room for it. Refuses for want of memory, and has added nothing then.
-pub(crate) fn speak(
+// Adds the line of an item. `line` is room for it. Refuses for want of memory, and has added nothing then.
+fn speak_line(
     text: &mut Vec<u8>,
     line: &mut String,
     names: Option<&[Name]>,
@@ -65,4 +67,22 @@ pub(crate) fn speak(
     line.clear();
     write_line(line, names, departure)?;
     text.extend_from_slice(line.as_bytes())
+}
+
+/// Adds the line of an item, for which `line` is room, or its bytes. Refuses for want of memory, and has added nothing then.
+pub(crate) fn speak(
+    text: &mut Vec<u8>,
+    line: &mut String,
+    form: Form,
+    names: Option<&[Name]>,
+    departure: Departure,
+) -> Result<(), AllocError>
+    ensures ok { OnOk result (text.new.items ≡ text.old.items
+        ++ departure_text form (option_map (λ names. names.now) names.entry) departure) }
+    ensures err { OnErr result (text.new.items ≡ text.old.items) }
+{
+    match form {
+        Form::Decimal => speak_line(text, line, names, departure),
+        Form::Binary => write_bytes(text, departure.item),
+    }
 }

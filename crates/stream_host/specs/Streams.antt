@@ -5,6 +5,7 @@ use Rattle.host.specs.Requests.{Request}
 use Rattle.host.specs.Sources.{has_ended, said_bytes, taken_from}
 use Rattle.host_ports.specs.Ports.{IsPortFault, items_from}
 use Rattle.host_ports.specs.declared.fault.PortFault.{PortFault}
+use Rattle.host_ports.specs.declared.form.Form.{Form}
 use Rattle.host_ports.specs.Speaking.{departures_text}
 use Rattle.kahn_net.specs.Streams.{history_of, IsPrefix}
 use Rattle.net_text.specs.Names.{NameTree}
@@ -33,35 +34,35 @@ pub record IsComeBy (first now came : List ℤ) : Type 0 where
 
 -- What was said is right. It is the lines of items, some of which may wait to be said still. Those of each output are a beginning of what has left
 -- there, which is right on the inputs so far: their first items, and behind them what came by their sources.
-pub record IsRight (names : Option (List NameTree)) (first now : WorldView) (left : List Departure) (waiting : List ℕ) (e : List Request)
+pub record IsRight (form : Form) (names : Option (List NameTree)) (first now : WorldView) (left : List Departure) (waiting : List ℕ) (e : List Request)
     : Type 0
   where
-    pub inputs : (input : ℕ) → IsComeBy (history_of first.inputs input) (history_of now.inputs input) (items_from input e)
+    pub inputs : (input : ℕ) → IsComeBy (history_of first.inputs input) (history_of now.inputs input) (items_from form input e)
     pub gone_on : HasGoneOn first now
     pub put : (output : ℕ) → IsPrefix (items_by output left) (released_of output now.stations)
-    pub said : departures_text names left ≡ said_bytes e ++ waiting
+    pub said : departures_text form names left ≡ said_bytes e ++ waiting
 
 -- All came to its end, and what was said is all: everything that came is taken in, nothing waits to be said, and what was said of each output is
 -- its channel's whole stream in the least solution.
-pub record IsWhole (names : Option (List NameTree)) (first now : WorldView) (left : List Departure) (e : List Request) : Type 0 where
-  pub inputs : (input : ℕ) → history_of now.inputs input ≡ history_of first.inputs input ++ items_from input e
-  pub said : departures_text names left ≡ said_bytes e
+pub record IsWhole (form : Form) (names : Option (List NameTree)) (first now : WorldView) (left : List Departure) (e : List Request) : Type 0 where
+  pub inputs : (input : ℕ) → history_of now.inputs input ≡ history_of first.inputs input ++ items_from form input e
+  pub said : departures_text form names left ≡ said_bytes e
   pub all : AreAllPut left now
   pub whole : AreWhole now
 
 -- something was said, and it is right
-pub record HasSaid (names : Option (List NameTree)) (first now : WorldView) (e : List Request) : Type 0 where
+pub record HasSaid (form : Form) (names : Option (List NameTree)) (first now : WorldView) (e : List Request) : Type 0 where
   pub left : List Departure
   pub waiting : List ℕ
-  pub right : IsRight names first now left waiting e
+  pub right : IsRight form names first now left waiting e
 
 -- and it is all
-pub record HasSaidAll (names : Option (List NameTree)) (first now : WorldView) (e : List Request) : Type 0 where
+pub record HasSaidAll (form : Form) (names : Option (List NameTree)) (first now : WorldView) (e : List Request) : Type 0 where
   pub left : List Departure
-  pub right : IsRight names first now left [] e
-  pub whole : IsWhole names first now left e
+  pub right : IsRight form names first now left [] e
+  pub whole : IsWhole form names first now left e
 
 -- Why the streams end early: memory is missing; an input has more items, with those that came by its source, than a count goes; or a source or standard
 -- output failed, or what came is no item, as the log has it.
-abbrev pub IsStreamStop : WorldView → List Request → Stopped PortFault → Type 0
-IsStreamStop first e why = IsStop (IsPortFault e) (λ input. []) (λ input. items_from input e) first why
+abbrev pub IsStreamStop : Form → WorldView → List Request → Stopped PortFault → Type 0
+IsStreamStop form first e why = IsStop (IsPortFault form e) (λ input. []) (λ input. items_from form input e) first why

@@ -6,11 +6,12 @@ use Rattle.std.specs.Prelude.{option_map, slice_get, string_bytes, IfErr, OnOk, 
 use Rattle.host.specs.Answers.{Answer}
 use Rattle.host.specs.Requests.{Has, Later, Read, Request, Told}
 use Rattle.cobaltmidge.specs.Names.{IsInputNamed}
+use Rattle.host_ports.specs.Forms.{fault_by}
 use Rattle.host_ports.specs.Ports.{IsPortFault}
+use Rattle.host_ports.specs.declared.form.Form.{Form}
 use Rattle.host_ports.specs.declared.port.Port.{Port}
 use Rattle.host_ports.specs.declared.fault.PortFault.{PortFault}
 use Rattle.host_ports.specs.declared.fault.PortFault.TheVariants as port
-use Rattle.item_text.specs.Items.{Reading}
 use Rattle.kahn_program.specs.Readings.{IsInputsFailure, IsNetFailure}
 use Rattle.kahn_program.specs.declared.failure.Failure.{Failure}
 use Rattle.kahn_program.specs.declared.failure.Source.{Source as TextSource}
@@ -27,10 +28,10 @@ use Rattle.stream_program.specs.Causes.{AreInputsOfSources, failure_of, HasCause
 use Rattle.stream_program.specs.Causes.{memory_missing, net_unread, net_refused, inputs_unread, inputs_refused, misasked, not_made, unopened, stopped}
 use Rattle.stream_program.specs.Causes.{no_memory, refused}
 use Rattle.stream_program.specs.Failures.{failure_line, status_of}
-use Rattle.stream_program.specs.Streamed.{AreInputsRead, AreOpened, AreOpenedAt, IsInputsText, IsNetRead, IsOpeningOf, IsPreparing}
+use Rattle.stream_program.specs.Streamed.{AreInputsRead, AreOpened, AreOpenedAt, form_of, IsInputsText, IsNetRead, IsOpeningOf, IsPreparing}
 use Rattle.stream_program.specs.declared.failure.StreamFailure.{StreamFailure}
 use Rattle.stream_program.specs.declared.failure.StreamFailure.TheVariants.{Text}
-use Rattle.stream_program.proofs.Preparing.{items_still, net_read_still, of_begun, of_still, read_still, text_still}
+use Rattle.stream_program.proofs.Preparing.{came_still, items_still, net_read_still, of_begun, of_still, text_still}
 
 unread_still : (from : TextSource) (path : List ℕ) (old new : List Request) (failure : StreamFailure) → Later old new
     → IsTextUnread from path old failure → IsTextUnread from path new failure
@@ -47,20 +48,21 @@ unopened_still sources numbers old new failure later (no_memory is) = no_memory 
 unopened_still sources numbers old new failure later (refused place number one here there is) =
     refused place number one here there (is.0, later _ is.1, is.2)
 
-fault_still : {allowed : Request → Type 0} (old new : List Request) (fault : PortFault) → IsPreparing allowed old new → IsPortFault old fault → IsPortFault new fault
-fault_still {allowed} old new port.NoMemory prepares is = tt
-fault_still {allowed} old new (port.Unread input) prepares is = (is.0, prepares.later _ is.1)
-fault_still {allowed} old new (port.Item input fault) prepares is = ap (λ (r : Reading). r.fault) (read_still old new input prepares) ∙ is
-fault_still {allowed} old new port.Unsaid prepares is = (is.0, is.1, prepares.later _ is.2)
+fault_still : {allowed : Request → Type 0} (form : Form) (old new : List Request) (fault : PortFault) → IsPreparing allowed old new
+    → IsPortFault form old fault → IsPortFault form new fault
+fault_still {allowed} form old new port.NoMemory prepares is = tt
+fault_still {allowed} form old new (port.Unread input) prepares is = (is.0, prepares.later _ is.1)
+fault_still {allowed} form old new (port.Item input fault) prepares is = came_still (fault_by form) old new input prepares ∙ is
+fault_still {allowed} form old new port.Unsaid prepares is = (is.0, is.1, prepares.later _ is.2)
 
-stop_still : {allowed : Request → Type 0} (first : WorldView) (old new : List Request) (why : Stopped PortFault) → IsPreparing allowed old new → IsStreamStop first old why
-    → IsStreamStop first new why
-stop_still {allowed} first old new stop.NoMemory prepares is = tt
-stop_still {allowed} first old new stop.Full prepares is =
+stop_still : {allowed : Request → Type 0} (form : Form) (first : WorldView) (old new : List Request) (why : Stopped PortFault) → IsPreparing allowed old new
+    → IsStreamStop form first old why → IsStreamStop form first new why
+stop_still {allowed} form first old new stop.NoMemory prepares is = tt
+stop_still {allowed} form first old new stop.Full prepares is =
     let many = is.many in
-    let same = ap length (items_still old new is.input prepares) in
+    let same = ap length (items_still form old new is.input prepares) in
     record { input = is.input; here = is.here; many = omega (arith, many, same) }
-stop_still {allowed} first old new (stop.Outside fault) prepares is = fault_still old new fault prepares is
+stop_still {allowed} form first old new (stop.Outside fault) prepares is = fault_still form old new fault prepares is
 
 pub cause_still : {allowed : Request → Type 0} (options : StreamOptions) (old new : List Request) (names : List NameTree) (failure : StreamFailure) → IsPreparing allowed old new
     → HasCause options old names failure → HasCause options new names failure
@@ -81,7 +83,7 @@ cause_still {allowed} options old new names failure prepares (unopened net numbe
     unopened net numbers (net_read_still (string_bytes options.net) net old new prepares.later net_read) named given
     (unopened_still options.sources.items numbers old new failure prepares.later is)
 cause_still {allowed} options old new names failure prepares (stopped net first why of_net named is so) =
-    stopped net first why (of_still options net first old new prepares.later of_net) named (stop_still first old new why prepares is) so
+    stopped net first why (of_still options net first old new prepares.later of_net) named (stop_still (form_of options.binary) first old new why prepares is) so
 
 -- ---- a text that is refused
 
@@ -106,7 +108,7 @@ refused_inputs options e names net first second bytes given refusal failure one 
 pub stopped_by : {T : Type 0} (options : StreamOptions) (net : Net) (first : WorldView) (old new : List Request) (result : Result T (Stopped PortFault))
     → ∥ Later old new ∥₁ → IsNetRead (string_bytes options.net) net old
     → AreInputsRead (option_map string_bytes options.inputs) net first.inputs old → first.net ≡ network_of net.program
-    → IfErr result (IsStreamStop first new) → IfErr result (λ why. ∥ HasCause options new net.channel_names.items (failure_of why) ∥₁)
+    → IfErr result (IsStreamStop (form_of options.binary) first new) → IfErr result (λ why. ∥ HasCause options new net.channel_names.items (failure_of why) ∥₁)
 stopped_by {T} options net first old new (Ok value) later net_read inputs_read same is = tt
 stopped_by {T} options net first old new (Err why) later net_read inputs_read same is =
     ∥∥₁_map later (λ were. stopped net first why (of_begun options net first old new were net_read inputs_read same) refl is refl)

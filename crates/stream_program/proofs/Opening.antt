@@ -1,11 +1,13 @@
 -- Sources that are opened, one after another, stand to the log.
-use Rattle.std.proofs.Common.{◌≡◌, ◌≢◌, ◌<◌, ◌≤◌, ◌+◌, ◌∙◌, ◌⊎◌, inl, inr, ⊎_elim, ℕ, zero, suc, true, List, [], ◌∷◌, Option, Some, None, length, replicate, refl, subst, sym, ap, arith}
+use Rattle.std.proofs.Common.{◌≡◌, ◌≢◌, ◌<◌, ◌≤◌, ◌+◌, ◌∙◌, ◌⊎◌, inl, inr, ⊎_elim, ℕ, zero, suc, true, List, [], ◌∷◌, Option, Some, None, length, replicate, refl, subst, sym, ap, ap₂, false, arith}
 use Rattle.std.proofs.lemmas.Option.{slice_get_within}
 use Rattle.std.specs.Prelude.{get_or, slice_get, slice_set, string_bytes}
 use Rattle.host.specs.Requests.{Later, Request}
-use Rattle.item_text.specs.Items.{reading, Reading}
-use Rattle.host_ports.specs.Ports.{bytes_from, has_source, PortIsFor, PortsStand, read_from}
+use Rattle.host_ports.specs.Forms.{reader_by}
+use Rattle.host_ports.specs.Ports.{has_source, PortIsFor, PortsStand, reader_from}
+use Rattle.host_ports.specs.declared.form.Form.{Form}
 use Rattle.host_ports.specs.declared.port.Port.{Port}
+use Rattle.stream_host.specs.Streams.{IsUntaken}
 use Rattle.stream_program.specs.Streamed.{AreOpenedAt, IsOpenedAt, IsPreparing}
 use Rattle.stream_words.specs.declared.sources.InputSource.{InputSource}
 
@@ -14,9 +16,9 @@ nothing_at {A} zero k value there = cc there
 nothing_at {A} (suc count) zero value there = cc there
 nothing_at {A} (suc count) (suc k) value there = nothing_at count k value there
 
-pub none_stand : {S : Type 0} (source_number : S → ℕ) (e : List Request) (ports : List (Option (Port S))) (count : ℕ)
-    → ports ≡ replicate count None → PortsStand source_number e ports
-none_stand {S} source_number e ports count none = λ k port there. absurd (nothing_at count k port (rw (← none) there))
+pub none_stand : {S : Type 0} (form : Form) (source_number : S → ℕ) (e : List Request) (ports : List (Option (Port S))) (count : ℕ)
+    → ports ≡ replicate count None → PortsStand form source_number e ports
+none_stand {S} form source_number e ports count none = λ k port there. absurd (nothing_at count k port (rw (← none) there))
 
 pub count_replicate : {A : Type 0} (xs : List A) (count : ℕ) (value : A) → xs ≡ replicate count value → length xs ≡ count
 count_replicate {A} xs count value same = rw same (of count)
@@ -54,33 +56,36 @@ count_set {A} (x ∷ xs) zero new = refl
 count_set {A} (x ∷ xs) (suc place) new = ap suc (count_set xs place new)
 
 -- a source stands to a log to which a request was added that is none of its
-for_still : {allowed : Request → Type 0} {S : Type 0} (source_number : S → ℕ) (old new : List Request) (input : ℕ) (port : Port S) → IsPreparing allowed old new
-    → PortIsFor source_number old input port → PortIsFor source_number new input port
-for_still {allowed} {S} source_number old new input port prepares is =
-    let read : read_from input new ≡ read_from input old = rw (read_from, bytes_from, prepares.taken input, prepares.ended input) refl in
+for_still : {allowed : Request → Type 0} {S : Type 0} (form : Form) (source_number : S → ℕ) (old new : List Request) (input : ℕ) (port : Port S) → IsPreparing allowed old new
+    → PortIsFor form source_number old input port → PortIsFor form source_number new input port
+for_still {allowed} {S} form source_number old new input port prepares is =
     record {
       number = is.number;
       stands = record {
         ended = is.stands.ended ∙ sym (prepares.ended input);
-        read = λ kept. ap (λ (r : Reading). reading port.reader r.items) read ∙ (is.stands.read kept ∙ sym read);
+        read = λ kept. is.stands.read kept ∙ sym (ap₂ (reader_by form) (prepares.taken input) (prepares.ended input));
       };
     }
 
-by_place : {allowed : Request → Type 0} {S : Type 0} (source_number : S → ℕ) (old new : List Request) (ports : List (Option (Port S))) (place : ℕ) (port : Port S)
-    → IsPreparing allowed old new → PortsStand source_number old ports → PortIsFor source_number new place port → (k : ℕ) (one : Port S)
-    → slice_get (slice_set ports place (Some port)) k ≡ Some (Some one) → (k ≡ place) ⊎ (k ≢ place) → PortIsFor source_number new k one
-by_place {allowed} {S} source_number old new ports place port prepares stand is k one there (inl same) =
+-- one of which nothing came
+pub fresh_port : (form : Form) (e : List Request) (input : ℕ) → IsUntaken e input → reader_by form [] false ≡ reader_from form input e
+fresh_port form e input untaken = sym (ap₂ (reader_by form) untaken.0 untaken.1)
+
+by_place : {allowed : Request → Type 0} {S : Type 0} (form : Form) (source_number : S → ℕ) (old new : List Request) (ports : List (Option (Port S))) (place : ℕ) (port : Port S)
+    → IsPreparing allowed old new → PortsStand form source_number old ports → PortIsFor form source_number new place port → (k : ℕ) (one : Port S)
+    → slice_get (slice_set ports place (Some port)) k ≡ Some (Some one) → (k ≡ place) ⊎ (k ≢ place) → PortIsFor form source_number new k one
+by_place {allowed} {S} form source_number old new ports place port prepares stand is k one there (inl same) =
     let at : Some port ≡ Some one = set_at ports place (Some port) (Some one) (rw same at there) in
     let this : port ≡ one = cc in
     rw (same, ← this) is
-by_place {allowed} {S} source_number old new ports place port prepares stand is k one there (inr apart) =
-    for_still source_number old new k one prepares (stand k one (sym (set_apart ports place k (Some port) apart) ∙ there))
+by_place {allowed} {S} form source_number old new ports place port prepares stand is k one there (inr apart) =
+    for_still form source_number old new k one prepares (stand k one (sym (set_apart ports place k (Some port) apart) ∙ there))
 
-pub stand_set : {allowed : Request → Type 0} {S : Type 0} (source_number : S → ℕ) (old new : List Request) (ports : List (Option (Port S))) (place : ℕ) (port : Port S)
-    → IsPreparing allowed old new → PortsStand source_number old ports → PortIsFor source_number new place port
-    → PortsStand source_number new (slice_set ports place (Some port))
-stand_set {allowed} {S} source_number old new ports place port prepares stand is = λ k one there.
-    by_place source_number old new ports place port prepares stand is k one there (same_or k place)
+pub stand_set : {allowed : Request → Type 0} {S : Type 0} (form : Form) (source_number : S → ℕ) (old new : List Request) (ports : List (Option (Port S))) (place : ℕ) (port : Port S)
+    → IsPreparing allowed old new → PortsStand form source_number old ports → PortIsFor form source_number new place port
+    → PortsStand form source_number new (slice_set ports place (Some port))
+stand_set {allowed} {S} form source_number old new ports place port prepares stand is = λ k one there.
+    by_place form source_number old new ports place port prepares stand is k one there (same_or k place)
 
 -- ---- those of the first places are opened
 

@@ -1,13 +1,15 @@
 -- What is asked before streams begin changes nothing of what came and was said.
-use Rattle.std.proofs.Common.{◌≡◌, ◌∙◌, ◌⊎◌, inl, inr, ℕ, ℤ, List, [], ◌∷◌, ◌++◌, Option, Some, None, refl, subst, sym, ap}
+use Rattle.std.proofs.Common.{◌≡◌, ◌∙◌, ◌⊎◌, inl, inr, ℕ, ℤ, List, [], ◌∷◌, ◌++◌, Option, Some, None, refl, subst, sym, ap, ap₂}
 use mathlib.Core.HLevel.{⊥_prop}
 use Rattle.std.proofs.Math.Logic.{∥∥₁_elim, ∥∥₁_map}
-use Rattle.std.specs.Prelude.{true, IsTrue, option_map, slice_get, string_bytes, OnErr, OnOk, Result, Ok, Err}
+use Rattle.std.specs.Prelude.{Bool, true, false, if◌then◌else◌, is_some, IsTrue, option_map, slice_get, string_bytes, OnErr, OnOk, Result, Ok, Err}
 use Rattle.host.specs.Answers.{Answer}
 use Rattle.host.specs.Requests.{Has, Later, OpenedSource, Read, Request, Told}
+use Rattle.host.specs.Sources.{has_ended, taken_from}
 use Rattle.host.specs.declared.fault.HostFault.{HostFault}
-use Rattle.item_text.specs.Items.{Reading}
-use Rattle.host_ports.specs.Ports.{bytes_from, ended_well, has_source, IsAskedOn, IsOfStreams, items_from, read_from}
+use Rattle.host_ports.specs.Forms.{fault_by, items_by}
+use Rattle.host_ports.specs.declared.form.Form.{Form}
+use Rattle.host_ports.specs.Ports.{ended_well, has_source, IsAskedOn, IsOfStreams, items_from}
 use Rattle.host_ports.specs.Ports as asked_by
 use Rattle.host_ports.specs.declared.port.Port.{Port}
 use Rattle.kahn_net.specs.Streams.{history_of}
@@ -20,7 +22,7 @@ use Rattle.world.specs.Feeding.{comes_from_outside, is_input, is_input_by}
 use Rattle.stream_words.specs.declared.options.StreamOptions.{StreamOptions}
 use Rattle.stream_words.specs.declared.sources.InputSource.{InputSource}
 use Rattle.stream_host.specs.Streams.{HasSaid, HasSaidAll, IsFresh, IsRight}
-use Rattle.stream_program.specs.Streamed.{AreEndedSources, AreInputsRead, AreOpened, HasEnded, IsAllAskedFor, IsAllRunFor, IsInputsText, IsNetRead, IsOf, IsOpeningAt, IsPreparing, IsRunFor, IsStreamed, IsTelling, IsUntold, nothing, opens, reads_inputs, reads_net, something, spoken_names, streams}
+use Rattle.stream_program.specs.Streamed.{AreEndedSources, AreInputsRead, AreOpened, form_of, HasEnded, IsAllAskedFor, IsAllRunFor, IsInputsText, IsNetRead, IsOf, IsOpeningAt, IsPreparing, IsRunFor, IsStreamed, IsTelling, IsUntold, nothing, opens, reads_inputs, reads_net, something, spoken_names, streams}
 
 one_more : (allowed : Request → Type 0) (e : List Request) (asked : Request) → allowed asked → (r : Request) → (r ≡ asked) ⊎ Has r e
     → Has r e ⊎ allowed r
@@ -133,13 +135,12 @@ of_begun options net first old new later net_read inputs_read same =
     of_still options net first old new later (record { net_read = net_read; inputs_read = inputs_read; same_net = same })
 
 -- what was said is by the network and the inputs that were read
-pub said_by : (options : StreamOptions) (net : Net) (first now : WorldView) (names : Option (List NameTree)) (old new : List Request)
+pub said_by : (options : StreamOptions) (net : Net) (first now : WorldView) (form : Form) (names : Option (List NameTree)) (old new : List Request)
     → Later old new → IsNetRead (string_bytes options.net) net old
     → AreInputsRead (option_map string_bytes options.inputs) net first.inputs old → first.net ≡ network_of net.program
-    → names ≡ spoken_names options.bare net.channel_names.items → HasSaid names first now new → IsStreamed options new
-said_by options net first now names old new later net_read inputs_read same spoken said =
-    something net first now (of_begun options net first old new later net_read inputs_read same)
-    (subst (λ (names : Option (List NameTree)). HasSaid names first now new) spoken said)
+    → form ≡ form_of options.binary → names ≡ spoken_names options.bare net.channel_names.items → HasSaid form names first now new → IsStreamed options new
+said_by options net first now form names old new later net_read inputs_read same spelled spoken said =
+    something net first now (of_begun options net first old new later net_read inputs_read same) (rw (← spelled, ← spoken) said)
 
 -- the input of a name is an input
 is_input_by_name : (net : Net) (world : WorldView) (name : List ℕ) (number : ℕ) → world.net ≡ network_of net.program
@@ -155,48 +156,52 @@ is_input_by_name net world name number same named = rw same (by_channel (slice_g
         by_end (Process process) is = is
 
 -- each source that was opened has come to its end
-ended_sources : {S : Type 0} (net : Net) (first : WorldView) (sources : List InputSource) (ports : List (Option (Port S))) (old new : List Request)
+ended_sources : {S : Type 0} (form : Form) (net : Net) (first : WorldView) (sources : List InputSource) (ports : List (Option (Port S))) (old new : List Request)
     → Later old new → first.net ≡ network_of net.program → AreOpened net sources ports old
-    → ((input : ℕ) → IsTrue (is_input first.net input) → has_source (slice_get ports input) ≡ true → ended_well input new ≡ true)
-    → AreEndedSources net sources new
-ended_sources {S} net first sources ports old new later same opened ended = λ place one here.
+    → ((input : ℕ) → IsTrue (is_input first.net input) → has_source (slice_get ports input) ≡ true → ended_well form input new ≡ true)
+    → AreEndedSources form net sources new
+ended_sources {S} form net first sources ports old new later same opened ended = λ place one here.
     let is = opened place one here in
     (is.0, (is.1.0, later _ is.1.1), ended is.0 (is_input_by_name net first (string_bytes one.input) is.0 same is.1.0) is.2)
 
 -- and where the streams end well it is all
-pub ended_by : {S T E : Type 0} (options : StreamOptions) (net : Net) (first now : WorldView) (names : Option (List NameTree))
+pub ended_by : {S T E : Type 0} (options : StreamOptions) (net : Net) (first now : WorldView) (form : Form) (names : Option (List NameTree))
     (ports : List (Option (Port S))) (old new : List Request) (result : Result T E) → ∥ Later old new ∥₁ → IsNetRead (string_bytes options.net) net old
     → AreInputsRead (option_map string_bytes options.inputs) net first.inputs old → first.net ≡ network_of net.program
-    → names ≡ spoken_names options.bare net.channel_names.items → AreOpened net options.sources.items ports old
-    → OnOk result ((input : ℕ) → IsTrue (is_input first.net input) → has_source (slice_get ports input) ≡ true → ended_well input new ≡ true)
-    → OnOk result (HasSaidAll names first now new) → OnOk result (∥ HasEnded options new ∥₁)
-ended_by {S} {T} {E} options net first now names ports old new (Ok value) later net_read inputs_read same spoken opened ended said =
+    → form ≡ form_of options.binary → names ≡ spoken_names options.bare net.channel_names.items → AreOpened net options.sources.items ports old
+    → OnOk result ((input : ℕ) → IsTrue (is_input first.net input) → has_source (slice_get ports input) ≡ true → ended_well form input new ≡ true)
+    → OnOk result (HasSaidAll form names first now new) → OnOk result (∥ HasEnded options new ∥₁)
+ended_by {S} {T} {E} options net first now form names ports old new (Ok value) later net_read inputs_read same spelled spoken opened ended said =
     ∥∥₁_map later (λ were. record {
       net = net;
       first = first;
       now = now;
       of_net = of_begun options net first old new were net_read inputs_read same;
-      sources = ended_sources net first options.sources.items ports old new were same opened ended;
-      said = subst (λ (names : Option (List NameTree)). HasSaidAll names first now new) spoken said;
+      sources = subst (λ (f : Form). AreEndedSources f net options.sources.items new) spelled
+          (ended_sources form net first options.sources.items ports old new were same opened ended);
+      said = rw (← spelled, ← spoken) said;
     })
-ended_by {S} {T} {E} options net first now names ports old new (Err fault) later net_read inputs_read same spoken opened ended said = tt
+ended_by {S} {T} {E} options net first now form names ports old new (Err fault) later net_read inputs_read same spelled spoken opened ended said = tt
 
 -- ---- what was said is right still, behind what is asked that says nothing and by which nothing comes
 
-pub read_still : {allowed : Request → Type 0} (old new : List Request) (input : ℕ) → IsPreparing allowed old new → read_from input new ≡ read_from input old
-read_still {allowed} old new input prepares = rw (read_from, bytes_from, prepares.taken input, prepares.ended input) refl
+-- what follows from what came and from its end follows still
+pub came_still : {allowed : Request → Type 0} {A : Type 0} (f : List ℕ → Bool → A) (old new : List Request) (input : ℕ) → IsPreparing allowed old new
+    → f (taken_from input new) (has_ended input new) ≡ f (taken_from input old) (has_ended input old)
+came_still {allowed} {A} f old new input prepares = ap₂ f (prepares.taken input) (prepares.ended input)
 
-pub items_still : {allowed : Request → Type 0} (old new : List Request) (input : ℕ) → IsPreparing allowed old new → items_from input new ≡ items_from input old
-items_still {allowed} old new input prepares = ap (λ (r : Reading). r.items) (read_still old new input prepares)
+pub items_still : {allowed : Request → Type 0} (form : Form) (old new : List Request) (input : ℕ) → IsPreparing allowed old new
+    → items_from form input new ≡ items_from form input old
+items_still {allowed} form old new input prepares = came_still (items_by form) old new input prepares
 
-right_still : {allowed : Request → Type 0} (names : Option (List NameTree)) (first now : WorldView) (left : List Departure) (waiting : List ℕ) (old new : List Request)
-    → IsPreparing allowed old new → IsRight names first now left waiting old → IsRight names first now left waiting new
-right_still {allowed} names first now left waiting old new prepares is =
+right_still : {allowed : Request → Type 0} (form : Form) (names : Option (List NameTree)) (first now : WorldView) (left : List Departure) (waiting : List ℕ) (old new : List Request)
+    → IsPreparing allowed old new → IsRight form names first now left waiting old → IsRight form names first now left waiting new
+right_still {allowed} form names first now left waiting old new prepares is =
     record {
       inputs = λ input. let come = is.inputs input in record {
         items = come.items;
         rest = come.rest;
-        came_so = items_still old new input prepares ∙ come.came_so;
+        came_so = items_still form old new input prepares ∙ come.came_so;
         now_so = come.now_so;
       };
       gone_on = is.gone_on;
@@ -210,18 +215,19 @@ streamed_so {allowed} options old new prepares (something net first now of_net s
     something net first now (of_still options net first old new prepares.later of_net) (record {
       left = said.left;
       waiting = said.waiting;
-      right = right_still _ first now said.left said.waiting old new prepares said.right;
+      right = right_still (form_of options.binary) _ first now said.left said.waiting old new prepares said.right;
     })
 
 pub streamed_still : {allowed : Request → Type 0} (options : StreamOptions) (old new : List Request) → IsPreparing allowed old new → ∥ IsStreamed options old ∥₁
     → ∥ IsStreamed options new ∥₁
 streamed_still {allowed} options old new prepares is = ∥∥₁_map is (streamed_so options old new prepares)
 
-sources_still : {allowed : Request → Type 0} (net : Net) (sources : List InputSource) (old new : List Request) → IsPreparing allowed old new
-    → AreEndedSources net sources old → AreEndedSources net sources new
-sources_still {allowed} net sources old new prepares are = λ place one here.
+sources_still : {allowed : Request → Type 0} (form : Form) (net : Net) (sources : List InputSource) (old new : List Request) → IsPreparing allowed old new
+    → AreEndedSources form net sources old → AreEndedSources form net sources new
+sources_still {allowed} form net sources old new prepares are = λ place one here.
     let is = are place one here in
-    let well : ended_well is.0 new ≡ ended_well is.0 old = rw (read_still old new is.0 prepares, prepares.ended is.0) refl in
+    let well : ended_well form is.0 new ≡ ended_well form is.0 old =
+    came_still (λ (came : List ℕ) (ended : Bool). if is_some (fault_by form came ended) then false else ended) old new is.0 prepares in
     (is.0, (is.1.0, prepares.later _ is.1.1), well ∙ is.2)
 
 ended_so : {allowed : Request → Type 0} (options : StreamOptions) (old new : List Request) → IsPreparing allowed old new → HasEnded options old → HasEnded options new
@@ -231,13 +237,13 @@ ended_so {allowed} options old new prepares is =
       first = is.first;
       now = is.now;
       of_net = of_still options is.net is.first old new prepares.later is.of_net;
-      sources = sources_still is.net options.sources.items old new prepares is.sources;
+      sources = sources_still (form_of options.binary) is.net options.sources.items old new prepares is.sources;
       said = record {
         left = is.said.left;
-        right = right_still _ is.first is.now is.said.left [] old new prepares is.said.right;
+        right = right_still (form_of options.binary) _ is.first is.now is.said.left [] old new prepares is.said.right;
         whole = record {
           inputs = λ input. is.said.whole.inputs input
-              ∙ ap (λ (items : List ℤ). history_of is.first.inputs input ++ items) (sym (items_still old new input prepares));
+              ∙ ap (λ (items : List ℤ). history_of is.first.inputs input ++ items) (sym (items_still (form_of options.binary) old new input prepares));
           said = is.said.whole.said ∙ sym prepares.said;
           all = is.said.whole.all;
           whole = is.said.whole.whole;

@@ -24,7 +24,7 @@ use Rattle.stream_run.specs.declared.stopped.Stopped.TheVariants as stop
 use Rattle.stream_words.specs.declared.options.StreamOptions.{StreamOptions}
 use Rattle.stream_words.specs.declared.sources.InputSource.{InputSource}
 use Rattle.stream_program.specs.Failures.{failure_line, status_of}
-use Rattle.stream_program.specs.Streamed.{IsInputsText, IsNetRead, IsOf, IsUntold}
+use Rattle.stream_program.specs.Streamed.{form_of, IsInputsText, IsNetRead, IsOf, IsUntold}
 use Rattle.stream_program.specs.declared.failure.StreamFailure.{StreamFailure}
 use Rattle.stream_program.specs.declared.failure.StreamFailure.TheVariants.{Text, Refused, Missing, NotOne, Port, Full}
 
@@ -146,7 +146,7 @@ pub data HasCause (options : StreamOptions) (e : List Request) (names : List Nam
       → AreInputsOfSources net options.sources.items numbers → IsUnopened options.sources.items numbers e failure
       → HasCause options e names failure
   stopped : (net : Net) (first : WorldView) (why : Stopped PortFault) → IsOf options net first e → names ≡ net.channel_names.items
-      → IsStreamStop first e why → failure ≡ failure_of why → HasCause options e names failure
+      → IsStreamStop (form_of options.binary) first e why → failure ≡ failure_of why → HasCause options e names failure
 
 -- How it is told: by this line, and then the status is this; or the status is 1, since the host didn't write it, or since there was no memory for it, so
 -- that nothing was told.

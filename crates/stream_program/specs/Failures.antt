@@ -1,13 +1,15 @@
 -- What is printed on standard error where the streams end early, and the exit status.
 use Rattle.std.specs.Prelude.{ℕ, List, [], ◌++◌, Option, Some, None, codes, slice_get, string_bytes}
 use Rattle.std.specs.Fmt.{decimal}
-use Rattle.item_text.specs.Faults.{line_of, number_of}
-use Rattle.item_text.specs.declared.fault.ItemFault.{ItemFault}
+use Rattle.item_text.specs.Faults.{line_of}
 use Rattle.kahn_program.specs.Failures as text
 use Rattle.net_text.specs.Names.{NameTree}
 use Rattle.stream_words.specs.declared.sources.InputSource.{InputSource}
 use Rattle.stream_program.specs.declared.failure.StreamFailure.{StreamFailure}
 use Rattle.stream_program.specs.declared.failure.StreamFailure.TheVariants.{Text, Refused, Missing, NotOne, Port, Full}
+use Rattle.host_ports.specs.Forms.{bad_number}
+use Rattle.host_ports.specs.declared.fault.BadItem.{BadItem}
+use Rattle.host_ports.specs.declared.fault.BadItem.TheVariants.{InText, Cut}
 use Rattle.host_ports.specs.declared.fault.PortFault.{PortFault}
 use Rattle.host_ports.specs.declared.fault.PortFault.TheVariants.{NoMemory, Unread, Item, Unsaid}
 
@@ -35,12 +37,21 @@ of_input name = codes "input " ++ name
 abbrev pub line_words : ℕ → List ℕ
 line_words number = codes " line " ++ decimal number
 
+-- the number of an item
+abbrev pub item_words : ℕ → List ℕ
+item_words number = codes " item " ++ decimal number
+
 -- the number of a refusal, and a line feed
 abbrev pub refusal_end : ℕ → List ℕ
 refusal_end number = codes ": refusal " ++ decimal number ++ codes "\n"
 
-abbrev pub item_fault_line : List ℕ → ItemFault → List ℕ
-item_fault_line name fault = (of_input name ++ line_words (line_of fault)) ++ refusal_end (number_of fault)
+-- where in what came by a source a fault stands: in a line of its text, or in an item of its bytes
+abbrev pub place_words : BadItem → List ℕ
+place_words (InText fault) = line_words (line_of fault)
+place_words (Cut item) = item_words item
+
+abbrev pub item_fault_line : List ℕ → BadItem → List ℕ
+item_fault_line name fault = (of_input name ++ place_words fault) ++ refusal_end (bad_number fault)
 
 abbrev pub port_fault_line : List NameTree → PortFault → List ℕ
 port_fault_line names NoMemory = codes "no memory\n"

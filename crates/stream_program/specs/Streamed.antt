@@ -6,6 +6,8 @@ use Rattle.host.specs.declared.fault.HostFault.{HostFault}
 use Rattle.host.specs.Sources.{has_ended, said_bytes, taken_from}
 use Rattle.protocol.specs.Node.Common.{Channel, Net, network_of, Outside, Port as End, Process}
 use Rattle.host_ports.specs.Ports.{ended_well, has_source, IsOfStreams}
+use Rattle.host_ports.specs.declared.form.Form.{Form}
+use Rattle.host_ports.specs.declared.form.Form.TheVariants.{Decimal, Binary}
 use Rattle.host_ports.specs.declared.port.Port.{Port}
 use Rattle.cobaltmidge.specs.Names.{IsInputNamed}
 use Rattle.stream_words.specs.declared.sources.InputSource.{InputSource}
@@ -94,6 +96,11 @@ abbrev pub spoken_names : Bool → List NameTree → Option (List NameTree)
 spoken_names true names = None
 spoken_names false names = Some names
 
+-- how items are spelled: as bytes, or as decimal text
+abbrev pub form_of : Bool → Form
+form_of true = Binary
+form_of false = Decimal
+
 -- A network that was read, its world on the inputs that were read, and the world to which it came.
 pub record IsOf (options : StreamOptions) (net : Net) (first : WorldView) (e : List Request) : Type 0 where
   pub net_read : IsNetRead (string_bytes options.net) net e
@@ -111,11 +118,11 @@ abbrev pub IsOpenedFor : Net → InputSource → ℕ → List Request → Type 0
 IsOpenedFor net one number e = IsInputNamed net (string_bytes one.input) number × IsOpenedAt number (string_bytes one.path) e
 
 -- and has come to its end, and all that came of it is items
-abbrev pub IsEndedSource : Net → List Request → InputSource → Type 0
-IsEndedSource net e one = (number : ℕ) × IsOpenedFor net one number e × (ended_well number e ≡ true)
+abbrev pub IsEndedSource : Form → Net → List Request → InputSource → Type 0
+IsEndedSource form net e one = (number : ℕ) × IsOpenedFor net one number e × (ended_well form number e ≡ true)
 
-abbrev pub AreEndedSources : Net → List InputSource → List Request → Type 0
-AreEndedSources net sources e = (place : ℕ) (one : InputSource) → slice_get sources place ≡ Some one → IsEndedSource net e one
+abbrev pub AreEndedSources : Form → Net → List InputSource → List Request → Type 0
+AreEndedSources form net sources e = (place : ℕ) (one : InputSource) → slice_get sources place ≡ Some one → IsEndedSource form net e one
 
 -- each was opened, for the channel whose number stands in its place, and is there to be read
 abbrev pub AreOpenedAt : {S : Type 0} → List InputSource → List ℕ → List (Option (Port S)) → List Request → Type 0
@@ -135,7 +142,7 @@ AreOpened {S} net sources ports e =
 pub data IsStreamed (options : StreamOptions) (e : List Request) : Type 0 where
   nothing : said_bytes e ≡ [] → IsStreamed options e
   something : (net : Net) (first now : WorldView) → IsOf options net first e
-      → HasSaid (spoken_names options.bare net.channel_names.items) first now e → IsStreamed options e
+      → HasSaid (form_of options.binary) (spoken_names options.bare net.channel_names.items) first now e → IsStreamed options e
 
 -- Each source came to its end, and what was said is all that can leave.
 pub record HasEnded (options : StreamOptions) (e : List Request) : Type 0 where
@@ -143,5 +150,5 @@ pub record HasEnded (options : StreamOptions) (e : List Request) : Type 0 where
   pub first : WorldView
   pub now : WorldView
   pub of_net : IsOf options net first e
-  pub sources : AreEndedSources net options.sources.items e
-  pub said : HasSaidAll (spoken_names options.bare net.channel_names.items) first now e
+  pub sources : AreEndedSources (form_of options.binary) net options.sources.items e
+  pub said : HasSaidAll (form_of options.binary) (spoken_names options.bare net.channel_names.items) first now e

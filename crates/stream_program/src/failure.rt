@@ -1,10 +1,9 @@
 //! Why the streams end early, and what is then printed.
 
 ghost use Rattle.std.specs.Prelude.{◌≡◌, ◌++◌, IfOk, OnOk, codes, string_bytes};
-ghost use Rattle.stream_program.specs.Failures.{failure_line, input_of, item_fault_line, line_words, name_of, of_input, port_fault_line, refusal_end, status_of};
+ghost use Rattle.stream_program.specs.Failures.{failure_line, input_of, item_fault_line, item_words, line_words, name_of, of_input, place_words, port_fault_line, refusal_end, status_of};
 
-use host_ports::PortFault;
-use item_text::ItemFault;
+use host_ports::{BadItem, PortFault};
 use kahn_program::Failure;
 use net_text::Name;
 use std::alloc::{AllocError, Global};
@@ -70,6 +69,23 @@ fn add_line(line: &mut String, number: u64) -> Result<(), AllocError>
     write!(line, " line {number}")
 }
 
+// Adds the number of an item.
+fn add_item(line: &mut String, number: u64) -> Result<(), AllocError>
+    ensures { OnOk result (string_bytes line.new ≡ string_bytes line.old ++ item_words number) }
+{
+    write!(line, " item {number}")
+}
+
+// Adds where in what came a fault stands.
+fn add_place(line: &mut String, fault: BadItem) -> Result<(), AllocError>
+    ensures { OnOk result (string_bytes line.new ≡ string_bytes line.old ++ place_words fault) }
+{
+    match fault {
+        BadItem::InText(fault) => add_line(line, fault.line()),
+        BadItem::Cut { item } => add_item(line, item),
+    }
+}
+
 // The line of an input that is refused.
 fn refused_input(alloc: Global, name: &str, number: u8) -> Result<String, AllocError>
     ensures { IfOk result (λ line. string_bytes line ≡ of_input name.now ++ refusal_end number) }
@@ -80,11 +96,11 @@ fn refused_input(alloc: Global, name: &str, number: u8) -> Result<String, AllocE
 }
 
 // The line of an item that is refused.
-fn item_line(alloc: Global, name: &str, fault: ItemFault) -> Result<String, AllocError>
+fn item_line(alloc: Global, name: &str, fault: BadItem) -> Result<String, AllocError>
     ensures { IfOk result (λ line. string_bytes line ≡ item_fault_line name.now fault) }
 {
     let mut line = of_input(alloc, name)?;
-    add_line(&mut line, fault.line())?;
+    add_place(&mut line, fault)?;
     add_refusal(&mut line, fault.number())?;
     Ok(line)
 }

@@ -11,15 +11,14 @@ ghost use Rattle.world.specs.Feeding.{is_input, none_closed};
 ghost use Rattle.cobaltmidge.specs.Names.{IsInputNamed};
 ghost use Rattle.stream_program.specs.Causes.{AreInputsOfSources, HasCause, HasStopped, IsInputsUnread, IsMisasked, IsSourceFault, IsTextUnread, IsPathUnopened, IsToldAs, IsUngiven, IsUnmade, IsUnopened, failure_of, is_standard, opening_failure, output_count};
 ghost use Rattle.stream_program.specs.Failures.{failure_line, status_of};
-ghost use Rattle.stream_program.specs.Streamed.{AreInputsRead, AreOpened, AreOpenedAt, HasEnded, IsAllAskedFor, IsAllRunFor, IsInputsText, IsNetRead, IsOpenedAt, IsOpeningAt, IsOpeningOf, IsPreparing, IsReadOf, IsRunFor, IsStreamed, IsTelling, IsUntold, line_if_input, no_items, spoken_names};
+ghost use Rattle.stream_program.specs.Streamed.{AreInputsRead, AreOpened, AreOpenedAt, HasEnded, IsAllAskedFor, IsAllRunFor, IsInputsText, IsNetRead, IsOpenedAt, IsOpeningAt, IsOpeningOf, IsPreparing, IsReadOf, IsRunFor, IsStreamed, IsTelling, IsUntold, form_of, line_if_input, no_items, spoken_names};
 ghost use Rattle.stream_host.specs.Streams.{IsFresh, IsUntaken};
 ghost use Rattle.stream_program.specs.declared.failure.StreamFailure.TheVariants.{Missing, Refused, Text};
 
 use crate::failure::StreamFailure;
 use cobaltmidge::{Error, MemDisk, Network, RunWorld, SplitCell};
 use host::{Host, HostFault};
-use host_ports::{Port, PortFault};
-use item_text::ItemReader;
+use host_ports::{Form, Port, PortFault, Reader};
 use kahn_net::{Channel, MAX_CHANNELS, Port as End};
 use kahn_program::{Failure, Options, Source, explanation, read_inputs, read_net};
 use live::Live;
@@ -336,17 +335,18 @@ fn open_port<H: Host>(
     host: &mut H,
     input: u8,
     path: &String,
+    form: Form,
 ) -> Result<Port<H::Source>, StreamFailure>
     requires untaken { IsUntaken (H.asked host.old) input }
     ensures prepares { IsPreparing (IsOpeningAt (string_bytes path.now)) (H.asked host.old) (H.asked host.new) }
-    ensures port { IfOk result (PortIsFor H.source_number (H.asked host.new) input) }
+    ensures port { IfOk result (PortIsFor form H.source_number (H.asked host.new) input) }
     ensures opened { OnOk result (IsOpenedAt input (string_bytes path.now) (H.asked host.new)) }
     ensures unread { IfErr result (IsPathUnopened input (string_bytes path.now) (H.asked host.new)) }
 {
     match host.open_source(input, path) {
         Ok(source) => Ok(Port {
             source,
-            reader: ItemReader::new(),
+            reader: Reader::new(form),
             has_ended: false,
             is_lost: false,
         }),
@@ -361,11 +361,12 @@ fn open_ports<H: Host>(
     host: &mut H,
     sources: &[InputSource],
     numbers: &[u8],
+    form: Form,
 ) -> Result<Vec<Option<Port<H::Source>>>, StreamFailure>
     requires fresh { IsFresh (H.asked host.old) }
     requires each { length numbers.now ≡ length sources.now }
     ensures prepares { IsPreparing (IsOpeningOf sources.now) (H.asked host.old) (H.asked host.new) }
-    ensures stand { IfOk result (λ ports. PortsStand H.source_number (H.asked host.new) ports.items) }
+    ensures stand { IfOk result (λ ports. PortsStand form H.source_number (H.asked host.new) ports.items) }
     ensures opened { IfOk result (λ ports. AreOpenedAt sources.now numbers.now ports.items (H.asked host.new)) }
     ensures unread { IfErr result (IsUnopened sources.now numbers.now (H.asked host.new)) }
 {
@@ -373,7 +374,7 @@ fn open_ports<H: Host>(
         return Err(NO_MEMORY);
     };
     for (place, number) in numbers.iter().enumerate() {
-        match open_port(host, *number, &sources[place].path) {
+        match open_port(host, *number, &sources[place].path, form) {
             Ok(port) => ports[usize::from(*number)] = Some(port),
             Err(failure) => return Err(failure),
         }
@@ -468,7 +469,7 @@ fn begin<H: Host>(
     ensures first { IfOk result (λ begun. AreInputsRead (option_map string_bytes options.now.inputs) read.now.network.net.value
         (world_on begun.live).inputs (H.asked host.new)) }
     ensures untouched { IfOk result (λ begun. (begun.live.taken ≡ none_taken) × (closed_on begun.live ≡ none_closed)) }
-    ensures stand { IfOk result (λ begun. PortsStand H.source_number (H.asked host.new) begun.ports.items) }
+    ensures stand { IfOk result (λ begun. PortsStand (form_of options.now.binary) H.source_number (H.asked host.new) begun.ports.items) }
     ensures opened { IfOk result (λ begun. AreOpened read.now.network.net.value options.now.sources.items begun.ports.items (H.asked host.new)) }
     ensures cause { IfErr result (λ stop. HasCause options.now (H.asked host.new) read.now.network.net.value.channel_names.items stop.failure) }
 {
@@ -485,7 +486,7 @@ fn begin<H: Host>(
         Ok(live) => live,
         Err(failure) => return Err(Stop::silent(failure)),
     };
-    match open_ports(alloc, host, &options.sources, &numbers) {
+    match open_ports(alloc, host, &options.sources, &numbers, form_of(options)) {
         Ok(ports) => Ok(Begun { live, ports }),
         Err(failure) => Err(Stop::silent(failure)),
     }
@@ -565,6 +566,17 @@ fn tell_end<H: Host>(
     }
 }
 
+// How items are spelled.
+fn form_of(options: &StreamOptions) -> Form
+    ensures { result ≡ form_of options.now.binary }
+{
+    if options.binary {
+        Form::Binary
+    } else {
+        Form::Decimal
+    }
+}
+
 // The names of the channels, where a line tells by which output its item left.
 fn spoken_names<'a>(options: &StreamOptions, net: &'a Net) -> Option<&'a [Name]>
     ensures { option_map (λ names. names.now) result ≡ spoken_names options.now.bare net.now.channel_names.items }
@@ -592,7 +604,7 @@ fn run<H: Host>(
     requires untouched { (begun.live.taken ≡ none_taken) × (closed_on begun.live ≡ none_closed) }
     requires opened { AreOpened network.now.net.value options.now.sources.items begun.ports.items (H.asked host) }
     requires asked { IsAllRunFor options.now (H.asked host) }
-    requires stand { PortsStand H.source_number (H.asked host) begun.ports.items }
+    requires stand { PortsStand (form_of options.now.binary) H.source_number (H.asked host) begun.ports.items }
     ensures asked { ∥ IsAllRunFor options.now (H.asked result.1) ∥₁ }
     ensures right { ∥ IsStreamed options.now (H.asked result.1) ∥₁ }
     ensures ended { OnOk result.0 (∥ HasEnded options.now (H.asked result.1) ∥₁) }
@@ -605,6 +617,7 @@ fn run<H: Host>(
         &mut live,
         host,
         ports,
+        form_of(options),
         spoken_names(options, &network.net),
     )
 }
@@ -654,8 +667,8 @@ pub fn main_of<H: Host>(alloc: Global, host: H, options: &StreamOptions) -> (u8,
     ensures status { result.0 ≤ 2 }
     // Nothing is asked but the texts and the sources that the options name, and to write on standard output and on standard error.
     ensures asked { ∥ IsAllAskedFor options.now (H.asked result.1) ∥₁ }
-    // What was said is right, wherever it ended: the lines of each output's items are a prefix of its channel's history in some approximation
-    // on what came so far.
+    // What was said is right, wherever it ended: each output's items, as lines or as bytes, are a prefix of its channel's history in some
+    // approximation on what came so far.
     ensures right { ∥ IsStreamed options.now (H.asked result.1) ∥₁ }
     // Where the status is 0 each source came to its end, and each output was said whole: its channel's stream in the least solution on all that came.
     ensures ended { result.0 ≡ 0 → ∥ HasEnded options.now (H.asked result.1) ∥₁ }

@@ -5,7 +5,7 @@ use Rattle.std.specs.List.{AllZip, Any, list_any}
 use Rattle.std.specs.Str.Parse.{IsNumeral, digits_value, without_leading_plus}
 use Rattle.clap.specs.Words.{HasKind, Row, Text, all_of, fault_of, first_of, matches_of, one_of}
 use Rattle.clap.specs.declared.error.Error.{Error}
-use Rattle.clap.specs.declared.error.kind.ErrorKind.TheVariants.{ValueValidation}
+use Rattle.clap.specs.declared.error.kind.ErrorKind.TheVariants.{MissingRequiredArgument, ValueValidation}
 use Rattle.stream_words.specs.declared.command.TheConstants.{LEAST_ROOM, MOST_ROOM}
 use Rattle.stream_words.specs.declared.sources.InputSource.{InputSource}
 use Rattle.stream_words.specs.declared.sources.SourceFault.{SourceFault}
@@ -50,16 +50,24 @@ pub record IsStreamAsked (rows : List Row) (options : StreamOptions) : Type 0 wh
   pub net : first_of (codes "NET") rows ≡ Some (string_bytes options.net)
   pub inputs : first_of (codes "INPUTS") rows ≡ option_map string_bytes options.inputs
   pub sources : AllZip IsSource (values_of (codes "input") rows) options.sources.items
+  pub binary : IsFlag (one_of (codes "binary") rows) options.binary
   pub room : IsNumber LEAST_ROOM MOST_ROOM (one_of (codes "room") rows) options.room
   pub explain : IsFlag (one_of (codes "explain") rows) options.explain
 
+-- the matches have a `--binary` that isn't off
+pub record HasBinary (rows : List Row) : Type 0 where
+  pub given : ¬ (one_of (codes "binary") rows ≡ None)
+  pub not_off : ¬ (one_of (codes "binary") rows ≡ Some (codes "false"))
+
 -- Why words are refused: for what `clap` finds wrong with them; or, where it finds nothing, because the value of an `--input` has no form
--- NAME=FILE. Want of memory may be told in either place.
-pub data IsStreamRefusal : List Text → Error → Type 0 where
-  by_words : {words : List Text} {error : Error} → HasKind (fault_of kahnrun_stream words) error → IsStreamRefusal words error
+-- NAME=FILE, or because they ask for items as bytes, and not for these alone. Want of memory may be told in any place.
+pub data IsStreamRefusal (bare : Bool) : List Text → Error → Type 0 where
+  by_words : {words : List Text} {error : Error} → HasKind (fault_of kahnrun_stream words) error → IsStreamRefusal bare words error
   by_source : {words : List Text} {error : Error} → fault_of kahnrun_stream words ≡ []
       → Any IsWithoutForm (values_of (codes "input") (matches_of kahnrun_stream words))
-      → HasKind (ValueValidation ∷ []) error → IsStreamRefusal words error
+      → HasKind (ValueValidation ∷ []) error → IsStreamRefusal bare words error
+  by_binary : {words : List Text} {error : Error} → fault_of kahnrun_stream words ≡ [] → bare ≡ false
+      → HasBinary (matches_of kahnrun_stream words) → HasKind (MissingRequiredArgument ∷ []) error → IsStreamRefusal bare words error
 
 -- why a value gives no source: it has no such form, or there is no memory
 abbrev pub IsValueFault : Text → SourceFault → Type 0

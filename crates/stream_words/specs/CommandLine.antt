@@ -30,12 +30,13 @@ number name least most text = record (new_rule name) {
 abbrev pub with_version : App → App
 with_version app = record app { top = record (app.top) { has_version = true } }
 
--- kahnrun --stream [--input NAME=FILE].. [--room N] [--explain] NET [INPUTS]
+-- kahnrun --stream [--input NAME=FILE].. [--binary] [--room N] [--explain] NET [INPUTS]
 unfoldable pub kahnrun_stream : App
 kahnrun_stream =
     let net = with_rule (with_version (new_app (codes "kahnrun"))) (required (new_rule (codes "NET"))) in
     let inputs = with_rule net (new_rule (codes "INPUTS")) in
     let stream = with_rule inputs (required (flag (codes "stream"))) in
     let input = with_rule stream (several (codes "input")) in
-    let room = with_rule input (number (codes "room") LEAST_ROOM MOST_ROOM (codes "4096")) in
+    let binary = with_rule input (flag (codes "binary")) in
+    let room = with_rule binary (number (codes "room") LEAST_ROOM MOST_ROOM (codes "4096")) in
     with_rule room (flag (codes "explain"))

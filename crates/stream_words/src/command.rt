@@ -26,6 +26,8 @@ const ABOUT: &str =
 const AFTER_OPTIONS: &str = "\
 An output's item is a line with its name, as `o 1`. --stream=bare prints the items alone, of a network with one output.
 
+--binary has each item as eight bytes, in two's complement, the least significant byte first, and nothing between items.
+
 Exit status:
    0  every input came to its end, and all that can leave has left
    2  a text, an item of an input or the command line is refused, or help or the version was asked for
@@ -82,6 +84,19 @@ fn input<'a>(alloc: Global) -> Arg<'a>
         )
 }
 
+// How items are spelled.
+fn binary<'a>(alloc: Global) -> Arg<'a>
+    ensures rule { rule_of result ≡ flag (codes "binary") }
+    ensures here { result.global ≡ false }
+{
+    Arg::new(alloc, "binary")
+        .long("binary")
+        .action(ArgAction::SetTrue)
+        .help(
+            "Takes items from all sources, and prints them, as eight bytes each in place of text; needs --stream=bare",
+        )
+}
+
 // How many items a channel retains at most.
 fn room<'a>(alloc: Global) -> Arg<'a>
     ensures rule { rule_of result ≡ number (codes "room") LEAST_ROOM MOST_ROOM (codes "4096") }
@@ -122,7 +137,7 @@ fn and<'a>(
     }
 }
 
-/// The command line: `kahnrun --stream[=bare] [--input NAME=FILE].. [--room N] [--explain] NET [INPUTS]`.
+/// The command line: `kahnrun --stream[=bare] [--input NAME=FILE].. [--binary] [--room N] [--explain] NET [INPUTS]`.
 pub(crate) fn command<'a>(alloc: Global) -> Result<Command<'a>, AllocError>
     ensures { IfOk result (λ c. app_of c ≡ kahnrun_stream) }
 {
@@ -134,7 +149,8 @@ pub(crate) fn command<'a>(alloc: Global) -> Result<Command<'a>, AllocError>
     let with_inputs = and(with_net, inputs(alloc));
     let with_stream = and(with_inputs, stream(alloc));
     let with_input = and(with_stream, input(alloc));
-    let with_room = and(with_input, room(alloc));
+    let with_binary = and(with_input, binary(alloc));
+    let with_room = and(with_binary, room(alloc));
     and(with_room, explain(alloc))
 }
 
@@ -155,6 +171,25 @@ pub(crate) fn without_form(alloc: Global, value: &str) -> Error
 {
     match told(alloc, value) {
         Ok(error) => error,
+        Err(error) => error.into(),
+    }
+}
+
+/// The error of a command line with `--binary` and no `--stream=bare`.
+pub(crate) fn binary_named(alloc: Global) -> Error
+    // Its kind, or want of memory.
+    ensures { HasKind (kind.MissingRequiredArgument ∷ []) result }
+{
+    match command(alloc) {
+        Ok(mut command) => {
+            match command.error(
+                ErrorKind::MissingRequiredArgument,
+                "--binary prints no names of outputs, and --stream=bare was not given",
+            ) {
+                Ok(error) => error,
+                Err(error) => error.into(),
+            }
+        }
         Err(error) => error.into(),
     }
 }

@@ -1,6 +1,6 @@
 //! What the words of the streaming mode ask for.
 
-ghost use Rattle.std.specs.Prelude.{◌≡◌, ◌⊎◌, ◌∷◌, [], IfErr, IfOk, List, MatchResult, codes, map, option_map, string_bytes};
+ghost use Rattle.std.specs.Prelude.{◌≡◌, ◌⊎◌, ◌∷◌, [], IfErr, IfOk, List, MatchResult, codes, map, option_map, string_bytes, true};
 ghost use Rattle.std.specs.List.{AllZip, Any};
 ghost use Rattle.clap.specs.Words.{HasKind, Text, fault_of, first_value, found_of, kind_of, matches_of, one_text, rows_of};
 ghost use Rattle.clap.specs.declared.error.kind.ErrorKind.TheVariants as kind;
@@ -8,7 +8,7 @@ ghost use Rattle.stream_words.specs.CommandLine.{kahnrun_stream};
 ghost use Rattle.stream_words.specs.Asked.{IsNumber, IsSource, IsSourceFault, IsStreamAsked, IsStreamRefusal, IsWithoutForm, values_of};
 ghost use Rattle.stream_words.specs.FlagWords as spec;
 
-use crate::command::{LEAST_ROOM, MOST_ROOM, command, without_form};
+use crate::command::{LEAST_ROOM, MOST_ROOM, binary_named, command, without_form};
 use crate::flags::{asks_for_bare, given_words};
 use crate::sources::{InputSource, SourceFault, sources_of};
 use clap::{ArgMatches, Error};
@@ -26,6 +26,8 @@ pub struct StreamOptions {
     pub sources: Vec<InputSource>,
     /// The items of the one output are printed alone. Else each has its output's name before it.
     pub bare: bool,
+    /// Items come and leave as eight bytes each. Else they are decimal text.
+    pub binary: bool,
     /// How many items a channel retains at most at first, from `LEAST_ROOM` to `MOST_ROOM`.
     pub room: u64,
     /// Where a text is refused, a second line says at which column, and in words.
@@ -85,6 +87,7 @@ fn options_of(
         inputs: inputs_given(alloc, matches)?,
         sources,
         bare,
+        binary: matches.get_flag("binary"),
         room: room_given(matches)?,
         explain: matches.get_flag("explain"),
     })
@@ -123,7 +126,8 @@ fn options_by(alloc: Global, words: &[&str], bare: bool) -> Result<StreamOptions
     ensures asked { IfOk result (IsStreamAsked (matches_of kahnrun_stream (map (λ word. word.now) words.now))) }
     ensures bare { IfOk result (λ options. options.bare ≡ bare) }
     ensures right { IfOk result (λ _. fault_of kahnrun_stream (map (λ word. word.now) words.now) ≡ []) }
-    ensures refused { IfErr result (IsStreamRefusal (map (λ word. word.now) words.now)) }
+    ensures together { IfOk result (λ options. options.binary ≡ true → bare ≡ true) }
+    ensures refused { IfErr result (IsStreamRefusal bare (map (λ word. word.now) words.now)) }
 {
     let matches = match matches_by(alloc, words) {
         Ok(matches) => matches,
@@ -133,10 +137,14 @@ fn options_by(alloc: Global, words: &[&str], bare: bool) -> Result<StreamOptions
         Ok(sources) => sources,
         Err(fault) => return Err(fault_error(alloc, fault)),
     };
-    match options_of(alloc, &matches, sources, bare) {
-        Ok(options) => Ok(options),
-        Err(_) => Err(no_memory()),
+    let options = match options_of(alloc, &matches, sources, bare) {
+        Ok(options) => options,
+        Err(_) => return Err(no_memory()),
+    };
+    if options.binary && !bare {
+        return Err(binary_named(alloc));
     }
+    Ok(options)
 }
 
 /// What these words ask for, of which the first is the program's name. Refuses by `clap`'s error, whose text is for the user: also where
@@ -146,10 +154,13 @@ pub fn stream_options<S: AsStr>(alloc: Global, words: &[S]) -> Result<StreamOpti
     ensures asked { IfOk result (IsStreamAsked (matches_of kahnrun_stream (spec.given_words (map S.text words.now)))) }
     // Items are printed alone exactly where one of the words is `--stream=bare`, before a `--`.
     ensures bare { IfOk result (λ options. options.bare ≡ spec.asks_for_bare (map S.text words.now)) }
+    // Items are bytes only where they are printed alone.
+    ensures together { IfOk result (λ options. options.binary ≡ true → options.bare ≡ true) }
     // Nothing is wrong with words that are taken.
     ensures right { IfOk result (λ _. fault_of kahnrun_stream (spec.given_words (map S.text words.now)) ≡ []) }
-    // Words are refused for what is wrong with them, for a value of `--input` that has no form NAME=FILE, or for want of memory.
-    ensures refused { IfErr result (IsStreamRefusal (spec.given_words (map S.text words.now))) }
+    // Words are refused for what is wrong with them, for a value of `--input` that has no form NAME=FILE, for `--binary` without
+    // `--stream=bare`, or for want of memory.
+    ensures refused { IfErr result (IsStreamRefusal (spec.asks_for_bare (map S.text words.now)) (spec.given_words (map S.text words.now))) }
 {
     match given_words(alloc, words) {
         Ok(given) => options_by(alloc, given.as_slice(), asks_for_bare(words)),

@@ -10,7 +10,7 @@ pub loop-place-init : goal.loop-place-init
 loop-place-init g c = record {
   prepares = prepares_nothing (IsOpeningOf c.args.sources.now) (g.H.Host.asked c.args.host.now);
   count = count_replicate _ MAX_CHANNELS _ c.in-Ok.ensures;
-  stand = none_stand g.H.Host.source_number _ _ MAX_CHANNELS c.in-Ok.ensures;
+  stand = none_stand c.args.form g.H.Host.source_number _ _ MAX_CHANNELS c.in-Ok.ensures;
   opened = λ k number one below. absurd (omega (arith, below));
 }
 
@@ -35,7 +35,7 @@ loop-place-preserved g c =
       prepares = prepares_then _ _ _ c.loop-place.invariant.prepares
           (prepares_by (IsOpeningAt _) (IsOpeningOf c.args.sources.now) _ _ (λ r is. (c.loop-place.place, _, here, is)) c.open_port.ensures.prepares);
       count = count_set _ _ _ ∙ c.loop-place.invariant.count;
-      stand = rw (c.from.ensures) (stand_set g.H.Host.source_number _ _ c.loop-place.ports.items _ _ c.open_port.ensures.prepares c.loop-place.invariant.stand
+      stand = rw (c.from.ensures) (stand_set c.args.form g.H.Host.source_number _ _ c.loop-place.ports.items _ _ c.open_port.ensures.prepares c.loop-place.invariant.stand
           c.in-Ok-open_port.ensures.port);
       opened = rw (c.from.ensures) (opened_next c.loop-place.place c.args.sources.now c.args.numbers.now c.loop-place.ports.items _ _ _ _ _
           c.open_port.ensures.prepares.later (search rules) here there c.in-Ok-open_port.ensures.opened c.loop-place.invariant.opened);

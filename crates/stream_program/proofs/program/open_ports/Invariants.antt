@@ -10,6 +10,6 @@ abbrev pub invariant-loop-place : goal.invariant-loop-place
 invariant-loop-place g l = record {
   prepares : IsPreparing (IsOpeningOf l.sources) (g.H.Host.asked l.fn.host) (g.H.Host.asked l.host);
   count : length l.ports.items ≡ MAX_CHANNELS;
-  stand : PortsStand g.H.Host.source_number (g.H.Host.asked l.host) l.ports.items;
+  stand : PortsStand l.form g.H.Host.source_number (g.H.Host.asked l.host) l.ports.items;
   opened : AreOpenedBelow l.place l.sources l.numbers l.ports.items (g.H.Host.asked l.host);
 }

@@ -16,16 +16,16 @@ returns-clause-right g c =
     let spoken = subst (λ (net : Net). option_map (λ names. names.now) c.spoken_names.result ≡ spoken_names c.args.options.now.bare net.channel_names.items)
     c.deref.ensures c.spoken_names.ensures in
     ∥∥₁_map c.run_streams.ensures.asked (λ on.
-    said_by c.args.options.now c.args.network.now.net.value (world_on c.args.begun.live) (world_on c.run_streams.new.live) _ _ _
-    on.later c.requires.net_read c.requires.first c.requires.net spoken c.run_streams.ensures.right)
+    said_by c.args.options.now c.args.network.now.net.value (world_on c.args.begun.live) (world_on c.run_streams.new.live) _ _ _ _
+    on.later c.requires.net_read c.requires.first c.requires.net c.form_of.ensures spoken c.run_streams.ensures.right)
 
 pub returns-clause-ended : goal.returns-clause-ended
 returns-clause-ended g c =
     let spoken = subst (λ (net : Net). option_map (λ names. names.now) c.spoken_names.result ≡ spoken_names c.args.options.now.bare net.channel_names.items)
     c.deref.ensures c.spoken_names.ensures in
-    ended_by c.args.options.now c.args.network.now.net.value (world_on c.args.begun.live) (world_on c.run_streams.new.live) _
+    ended_by c.args.options.now c.args.network.now.net.value (world_on c.args.begun.live) (world_on c.run_streams.new.live) _ _
     c.args.begun.ports.items _ _ c.run_streams.result.0 (∥∥₁_map c.run_streams.ensures.asked (λ on. on.later)) c.requires.net_read
-    c.requires.first c.requires.net spoken c.requires.opened c.run_streams.ensures.ended c.run_streams.ensures.all
+    c.requires.first c.requires.net c.form_of.ensures spoken c.requires.opened c.run_streams.ensures.ended c.run_streams.ensures.all
 
 pub returns-clause-cause : goal.returns-clause-cause
 returns-clause-cause g c =

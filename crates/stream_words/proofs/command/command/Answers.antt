@@ -32,6 +32,9 @@ returns c =
     (c.and-with_stream.ensures c.stream.ensures.here) in
     let input =
     next app_of c.and-with_stream.result c.and-with_input.result _ _ _ c.input.ensures.rule stream (c.and-with_input.ensures c.input.ensures.here) in
+    let binary =
+    next app_of c.and-with_input.result c.and-with_binary.result _ _ _ c.binary.ensures.rule input
+    (c.and-with_binary.ensures c.binary.ensures.here) in
     let room =
-    next app_of c.and-with_input.result c.and-with_room.result _ _ _ c.room.ensures.rule input (c.and-with_room.ensures c.room.ensures.here) in
+    next app_of c.and-with_binary.result c.and-with_room.result _ _ _ c.room.ensures.rule binary (c.and-with_room.ensures c.room.ensures.here) in
     next app_of c.and-with_room.result c.and.result _ _ _ c.explain.ensures.rule room (c.and.ensures c.explain.ensures.here)

@@ -18,9 +18,14 @@ returns-clause-asked c = λ sources.
       room =
           subst (λ (t : Option Text). IsNumber LEAST_ROOM MOST_ROOM t c.in_ok-room_given.field-0) (one (codes "room"))
           c.in_ok-room_given.ensures;
+      binary = record {
+        set = λ is_set. c.get_flag.ensures.value (one (codes "binary") ∙ is_set);
+        not_set = λ is_not. c.get_flag.ensures.other (one (codes "binary") ∙ is_not);
+        absent = λ no_text. c.get_flag.ensures.none (one (codes "binary") ∙ no_text);
+      };
       explain = record {
-        set = λ is_set. c.get_flag.ensures.value (one (codes "explain") ∙ is_set);
-        not_set = λ is_not. c.get_flag.ensures.other (one (codes "explain") ∙ is_not);
-        absent = λ no_text. c.get_flag.ensures.none (one (codes "explain") ∙ no_text);
+        set = λ is_set. c.get_flag-2.ensures.value (one (codes "explain") ∙ is_set);
+        not_set = λ is_not. c.get_flag-2.ensures.other (one (codes "explain") ∙ is_not);
+        absent = λ no_text. c.get_flag-2.ensures.none (one (codes "explain") ∙ no_text);
       };
     }

@@ -13,7 +13,7 @@ invariant_of-self-in-Ok g c =
       spoken = said_all _ _ _ _ _ asked c.clear.ensures.items c.args.self.now.spoken;
       asked_on = asked_more _ _ _ _ asked (said _ _ refl) c.args.self.now.asked_on;
       given = c.args.self.now.given;
-      stand = stand_said _ _ _ _ _ _ asked c.args.self.now.stand;
+      stand = stand_said _ _ _ _ _ _ _ asked c.args.self.now.stand;
     }
 
 pub invariant_of-self-in-Err : goal.invariant_of-self-in-Err
@@ -24,5 +24,5 @@ invariant_of-self-in-Err g c =
       spoken = said_nothing _ _ _ _ _ _ asked c.args.self.now.spoken;
       asked_on = asked_more _ _ _ _ asked (said _ _ refl) c.args.self.now.asked_on;
       given = c.args.self.now.given;
-      stand = stand_said _ _ _ _ _ _ asked c.args.self.now.stand;
+      stand = stand_said _ _ _ _ _ _ _ asked c.args.self.now.stand;
     }
