@@ -21,11 +21,16 @@ fn words<R: Env + AllocGlobal>(rt: &R) -> io::Result<Vec<String>> {
     Ok(env::args(rt)?.collect(rt.alloc())?)
 }
 
-/// What the program does where the command line is refused, also where that asks for help.
+/// What the program does for want of memory.
+fn no_memory(rt: &HostRuntime) -> u8 {
+    let _ = rt.stderr().write_all(b"no memory\n");
+    FAILED
+}
+
+/// What it does where the command line is refused, also where that asks for help.
 fn print_refusal(rt: &HostRuntime, error: &Error) -> u8 {
     if let ErrorKind::OutOfMemory = error.kind() {
-        let _ = rt.stderr().write_all(b"no memory\n");
-        return FAILED;
+        return no_memory(rt);
     }
     let _ = error.print(rt);
     REFUSED
@@ -46,11 +51,20 @@ fn status_by_words(rt: HostRuntime, alloc: Global, words: &[String]) -> u8 {
 /// else, or are no text, nothing is done.
 pub fn status_on_host(rt: HostRuntime) -> Option<u8> {
     let alloc = rt.alloc();
-    let Ok(words) = words(&rt) else {
-        return None;
-    };
-    if !asks_for_status(words.as_slice()) {
-        return None;
+    match words(&rt) {
+        Ok(words) => {
+            if asks_for_status(words.as_slice()) {
+                Some(status_by_words(rt, alloc, words.as_slice()))
+            } else {
+                None
+            }
+        }
+        Err(error) => {
+            if let io::ErrorKind::OutOfMemory = error.kind() {
+                Some(no_memory(&rt))
+            } else {
+                None
+            }
+        }
     }
-    Some(status_by_words(rt, alloc, words.as_slice()))
 }
