@@ -1,5 +1,5 @@
 -- Histories of approximations, where nothing is left to be put.
-use Rattle.std.proofs.Common.{◌≡◌, ◌⊎◌, inl, inr, ℕ, zero, suc, ◌≤◌, ℤ, List, [], length, Some, refl, sym, ap, ◌∙◌, arith}
+use Rattle.std.proofs.Common.{◌<◌, ◌∷◌, take, ◌≡◌, ◌⊎◌, inl, inr, ℕ, zero, suc, ◌≤◌, ℤ, List, [], length, Some, refl, sym, ap, ◌∙◌, arith}
 use Rattle.std.specs.Prelude.{slice_get}
 use Rattle.std.proofs.lemmas.Bool.{cases_lt}
 use Rattle.std.proofs.lemmas.List.{ext_get_or, get_or_past}
@@ -8,13 +8,20 @@ use Rattle.kahn_net.specs.Approximations.{approximation, IsReached, next_history
 use Rattle.kahn_net.specs.Fits.{Fits}
 use Rattle.kahn_net.specs.Laws.Approximations.{approximations_grow, length-next_from, next_histories-at}
 use Rattle.kahn_net.specs.Laws.Fixpoints.{prefix_whole}
-use Rattle.kahn_net.specs.Laws.Prefixes.{prefix_item, prefix_trans}
+use Rattle.kahn_net.specs.Laws.Prefixes.{prefix_length, prefix_trans}
 use Rattle.kahn_net.specs.Streams.{history_of, IsPrefix}
 use Rattle.kahn_net.specs.Syntax.{Network}
 use Rattle.kahn_net.specs.Valid.{IsValid}
 use Rattle.kahn_net.specs.declared.program.Channel.{Channel}
 use Rattle.kahn_net.specs.declared.program.Port.{Port}
 use Rattle.kahn_net.specs.declared.program.Port.TheVariants.{Outside, Process}
+
+-- a beginning of a beginning
+take_take : (k m : ℕ) (xs : List ℤ) → k ≤ m → take k (take m xs) ≡ take k xs
+take_take zero m xs few = refl
+take_take (suc k) zero xs few = absurd (omega (arith, few))
+take_take (suc k) (suc m) [] few = refl
+take_take (suc k) (suc m) (x ∷ xs) few = ap (λ (rest : List ℤ). x ∷ rest) (take_take k m xs (omega (arith, few)))
 
 module _ (net : Network) (valid : IsValid net) (inputs : List (List ℤ)) (fits : Fits net inputs) where
   -- so many lists as there are channels
@@ -64,10 +71,48 @@ module _ (net : Network) (valid : IsValid net) (inputs : List (List ℤ)) (fits 
       by_port c channel (Process p) is from =
           prefix_whole _ _ ((approximations_grow net valid inputs fits n (suc n) (omega arith)).at c) (few c p channel is from)
 
-  -- two streams of one channel have the same item at a place that both have
-  pub same_item : (a b c k : ℕ) (v w : ℤ) (xs ys : List ℤ) → IsPrefix xs (history_of (approximation net inputs a) c)
-      → IsPrefix ys (history_of (approximation net inputs b) c) → slice_get xs k ≡ Some v → slice_get ys k ≡ Some w → v ≡ w
-  same_item a b c k v w xs ys one two here there = elim (one_begins a b c) [
-    | inl front ↦ let first = prefix_item xs _ k v (prefix_trans _ _ _ one front) here in let second = prefix_item ys _ k w two there in cc
-    | inr front ↦ let first = prefix_item xs _ k v one here in let second = prefix_item ys _ k w (prefix_trans _ _ _ two front) there in cc
+  -- so many items were put on each channel, as many as any approximation has there
+  module _ (ends : ℕ → ℕ)
+      (all : (n c p : ℕ) (channel : Channel) → slice_get net.channels c ≡ Some channel → channel.producer ≡ Process p
+      → length (history_of (approximation net inputs n) c) ≤ ends c) where
+    -- the approximation that has them all has the next one's
+    pub rests_there : (n : ℕ)
+        → ((c p : ℕ) (channel : Channel) → slice_get net.channels c ≡ Some channel → channel.producer ≡ Process p
+        → ends c ≤ length (history_of (approximation net inputs n) c))
+        → IsReached net inputs n
+    rests_there n most = at_rest n (λ c p channel is from.
+        let next = all (suc n) c p channel is from in let here = most c p channel is from in omega (arith, next, here))
+
+    -- a stream with all items is the whole history
+    pub whole_there : (m n c p : ℕ) (channel : Channel) (xs : List ℤ) → slice_get net.channels c ≡ Some channel → channel.producer ≡ Process p
+        → ends c ≤ length (history_of (approximation net inputs n) c) → IsPrefix xs (history_of (approximation net inputs m) c)
+        → length xs ≡ ends c → xs ≡ history_of (approximation net inputs n) c
+    whole_there m n c p channel xs is from most front count =
+        let few = all m c p channel is from in
+        let here = all n c p channel is from in
+        let same = prefix_whole xs _ front (omega (arith, few, count)) in
+        let long = ap (length {A = ℤ}) same in
+        same ∙ as_long m n c (omega (arith, long, count, here, most))
+
+    -- and there is no longer one
+    pub none_longer : (m c p : ℕ) (channel : Channel) (xs : List ℤ) → slice_get net.channels c ≡ Some channel → channel.producer ≡ Process p
+        → IsPrefix xs (history_of (approximation net inputs m) c) → ends c < length xs → ⊥
+    none_longer m c p channel xs is from front more =
+        let few = all m c p channel is from in
+        let short = prefix_length xs _ front in
+        omega (arith, few, short, more)
+
+  -- two streams of one channel are the same as far as both go
+  pub begin_alike : (a b c k : ℕ) (xs ys : List ℤ) → IsPrefix xs (history_of (approximation net inputs a) c)
+      → IsPrefix ys (history_of (approximation net inputs b) c) → k ≤ length xs → k ≤ length ys → take k xs ≡ take k ys
+  begin_alike a b c k xs ys one two few less = elim (one_begins a b c) [
+    | inl front ↦ first_of xs ys (history_of (approximation net inputs b) c) k (prefix_trans _ _ _ one front) two few less
+    | inr front ↦ first_of xs ys (history_of (approximation net inputs a) c) k one (prefix_trans _ _ _ two front) few less
   ]
+    where
+      begun : (zs whole : List ℤ) (k : ℕ) → IsPrefix zs whole → k ≤ length zs → take k zs ≡ take k whole
+      begun zs whole k front few = ap (take k) front ∙ take_take k (length zs) whole few
+
+      first_of : (xs ys whole : List ℤ) (k : ℕ) → IsPrefix xs whole → IsPrefix ys whole → k ≤ length xs → k ≤ length ys
+          → take k xs ≡ take k ys
+      first_of xs ys whole k one two few less = begun xs whole k one few ∙ sym (begun ys whole k two less)
