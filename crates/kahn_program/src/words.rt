@@ -65,6 +65,8 @@ To break packets, nodes and disks meanwhile:
   kahnrun --script examples/two_nodes.script examples/two_nodes.net examples/two_nodes.inputs
 To keep what left, and add what is missing after a kill:
   kahnrun --state numbers --items 4 examples/kahn_1974.net examples/kahn_1974.inputs
+To see how far that has come, also meanwhile (kahnrun --status --help says more):
+  kahnrun --status numbers
 To see where and why a text is refused:
   kahnrun --explain NET INPUTS
 To draw what happened in a run:
