@@ -1,6 +1,6 @@
 -- What the files of a folder hold, beside what the processes put that were run again.
-use Rattle.std.proofs.Common.{◌≡◌, ◌≢◌, ◌⊎◌, inl, inr, ℕ, ◌+◌, ◌≤◌, ◌<◌, ℤ, List, length, map, take, drop, min, get_or, zero, suc, [], ◌∷◌, Option, None, Bool, true, false, Some, refl, sym, ap, ◌∙◌, arith, subst}
-use Rattle.std.specs.Prelude.{slice_get, slice_index}
+use Rattle.std.proofs.Common.{◌≡◌, ◌⊎◌, inl, inr, ℕ, ◌≤◌, ◌<◌, ℤ, List, length, map, take, drop, min, get_or, zero, suc, [], ◌∷◌, None, Bool, true, Some, refl, sym, ap, ◌∙◌, arith, subst}
+use Rattle.std.specs.Prelude.{slice_get}
 use Rattle.std.proofs.Math.Logic.{∥∥₁_elim, ∥∥₁_map, ∥∥₁_prop}
 use Rattle.std.proofs.Props.{props}
 use Rattle.std.proofs.lemmas.Bool.{cases_lt}
@@ -16,7 +16,7 @@ use Rattle.kahn_net.specs.declared.program.Channel.{Channel}
 use Rattle.kahn_net.specs.declared.program.Port.{Port}
 use Rattle.kahn_net.specs.declared.program.Port.TheVariants.{Outside, Process}
 use Rattle.cobaltmidge.specs.Runs.{AreAll}
-use Rattle.protocol.specs.World.Common.{output_channels, OutputView}
+use Rattle.protocol.specs.World.Common.{output_channels}
 use Rattle.protocol.specs.World.Released.{IsStreamOf}
 use Rattle.protocol_laws.specs.World.OutputLaws.{channel_there, map_at}
 use Rattle.rerun.specs.Places.{AreMeant, IsPlace}
@@ -174,7 +174,7 @@ module _ (net : Network) (valid : IsValid net) (inputs : List (List ℤ)) (fits 
 
   whole_by : (n : ℕ) → AreMeant net inputs t n → IsAll net inputs t → AreSame kept outputs
       → length outputs ≡ length kept → AreAll net inputs (kept_streams kept) n
-  whole_by n meant every same long j c items at is =
+  whole_by n meant every same long j c items c_is is =
       let one = kept_there j items is in
       let output = output_there j one.0 one.1 in
       let by = made j one.0 one.1 in

@@ -1,3 +1,4 @@
 pub mod Histories
 pub mod Reading
+pub mod Places
 pub mod Judging

@@ -1,33 +1,30 @@
 // What files hold beside what the processes put.
 
-ghost use Rattle.std.specs.Prelude.{◌≡◌, ◌≤◌, ◌<◌, IfNone, IfOk, IfSome, IsTrue, Some, false, length, slice_get};
-ghost use Rattle.folder_status.specs.Endings.{AreRight, AreSame, BeginAlike, IsRight, IsShortAt, IsWrongAt, are_compared, compared_at};
-ghost use Rattle.folder_status.specs.Kept.{items_of};
+ghost use Rattle.std.specs.Prelude.{◌≡◌, ◌↔◌, IfNone, IfOk, IfSome, IsTrue, Some, length, slice_get};
+ghost use Rattle.folder_status.specs.Endings.{AreRight, AreSame, BeginAlike, IsRight, IsShortAt, IsWrongAt, are_compared};
 
 use crate::kept::KeptOutput;
 use cobaltmidge::{ListOutlet, Outlet, Output};
 use std::alloc::{AllocError, Global};
 
-// Whether these are the same as far as both go.
-fn begin_alike(kept: &[i64], taken: &[i64]) -> bool
-    ensures alike { IsTrue result → BeginAlike kept.now taken.now }
-    ensures other { result ≡ false → ¬ (BeginAlike kept.now taken.now) }
-{
-    let count = kept.len().min(taken.len());
-    kept[..count] == taken[..count]
-}
-
 // Whether these are the same.
 fn is_same(kept: &[i64], taken: &[i64]) -> bool
-    ensures { IsTrue result → kept.now ≡ taken.now }
+    ensures { IsTrue result ↔ (kept.now ≡ taken.now) }
 {
     kept == taken
 }
 
+// Whether these are the same as far as both go.
+fn begin_alike(kept: &[i64], taken: &[i64]) -> bool
+    ensures { IsTrue result ↔ BeginAlike kept.now taken.now }
+{
+    let count = kept.len().min(taken.len());
+    is_same(&kept[..count], &taken[..count])
+}
+
 // Whether a file's items are those that were put, where all was put (`all`) or not.
 fn is_right(one: &KeptOutput, output: &Output<ListOutlet>, all: bool) -> bool
-    ensures right { IsTrue result → IsRight all one.now output.now }
-    ensures wrong { result ≡ false → ¬ (IsRight all one.now output.now) }
+    ensures { IsTrue result ↔ IsRight all one.now output.now }
 {
     let kept = one.items.as_slice();
     let taken = output.outlet.items();
@@ -68,12 +65,19 @@ pub(crate) fn are_same(kept: &[KeptOutput], outputs: &[Output<ListOutlet>]) -> b
     true
 }
 
+// The output at this place, if there are so many.
+fn nth_of(outputs: &[Output<ListOutlet>], place: usize) -> Option<&Output<ListOutlet>>
+    ensures { IfSome result (λ one. slice_get outputs.now place ≡ Some one.now) }
+{
+    outputs.get(place)
+}
+
 /// The first file that lacks an item which was put.
 pub(crate) fn first_short(kept: &[KeptOutput], outputs: &[Output<ListOutlet>]) -> Option<usize>
     ensures { IfSome result (IsShortAt kept.now outputs.now) }
 {
     for (place, one) in kept.iter().enumerate() {
-        if let Some(output) = outputs.get(place) {
+        if let Some(output) = nth_of(outputs, place) {
             if (one.items.len() as u64) < output.outlet.len() {
                 return Some(place);
             }
