@@ -1,4 +1,5 @@
 pub mod Histories
-pub mod Reading
+pub mod Asked
+pub mod Held
 pub mod Places
 pub mod Judging

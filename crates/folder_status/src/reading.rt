@@ -1,14 +1,12 @@
 //! The files of a folder, read through a host.
 
-ghost use Rattle.std.specs.Prelude.{◌≡◌, ◌≤◌, ◌++◌, ◌∷◌, [], IfErr, IfOk, Ok, OnOk, IsTrue, codes, false, length, map, string_bytes};
+ghost use Rattle.std.specs.Prelude.{◌≡◌, ◌⊎◌, ◌++◌, IfErr, IfOk, Ok, map, string_bytes};
 ghost use Rattle.std.specs.List.{AllByRecursion};
 ghost use Rattle.host.specs.Requests.{Has, Read};
 ghost use Rattle.cobaltmidge.specs.Texts.{AreInputsOf, IsNetOf};
-ghost use Rattle.output_file.specs.Lines.{HoldsLines};
 ghost use Rattle.protocol.specs.Node.Common.{Fits, network_of};
-ghost use Rattle.protocol.specs.World.Common.{output_channels};
 ghost use Rattle.folder_status.specs.Causes.{AreNoInputs, IsCaused, IsNoNet, IsUnreadable};
-ghost use Rattle.folder_status.specs.Files.{IsOwnFile, OnlyReads, inputs_path, items_path, net_path};
+ghost use Rattle.folder_status.specs.Files.{IsOwnFile, OnlyReads, items_path};
 ghost use Rattle.folder_status.specs.Kept.{AreInputsRead, AreLinesOf, IsFileOf, IsNetRead, IsRead, name_of};
 ghost use Rattle.folder_status.specs.declared.fault.StatusFault.TheVariants.{NoMemory, OtherState};
 ghost use Rattle.cobaltmidge.specs.declared.error.Error.TheVariants as error;
@@ -122,8 +120,7 @@ fn not_text(alloc: Global, path: &String) -> StatusRefused
 // The network of a text.
 fn net_of(alloc: Global, path: &String, bytes: &Vec<u8>) -> Result<Network, StatusRefused>
     ensures net { IfOk result (λ network. IsNetOf bytes.now.items network.net.value) }
-    ensures other { IfErr result (λ refused. refused.fault ≡ OtherState → IsNoNet bytes.now.items) }
-    ensures faults { IfErr result (λ refused. ¬ (refused.fault ≡ OtherState) → refused.fault ≡ NoMemory) }
+    ensures cause { IfErr result (λ refused. (refused.fault ≡ NoMemory) ⊎ ((refused.fault ≡ OtherState) × IsNoNet bytes.now.items)) }
 {
     let Ok(text) = str::from_utf8(bytes.as_slice()) else {
         return Err(not_text(alloc, path));
@@ -143,8 +140,8 @@ fn inputs_of(
 ) -> Result<Inputs, StatusRefused>
     ensures inputs { IfOk result (AreInputsOf bytes.now.items network.now.net.value) }
     ensures fitting { IfOk result (Fits (network_of network.now.net.value.program)) }
-    ensures other { IfErr result (λ refused. refused.fault ≡ OtherState → AreNoInputs network.now.net.value bytes.now.items) }
-    ensures faults { IfErr result (λ refused. ¬ (refused.fault ≡ OtherState) → refused.fault ≡ NoMemory) }
+    ensures cause { IfErr result (λ refused. (refused.fault ≡ NoMemory)
+        ⊎ ((refused.fault ≡ OtherState) × AreNoInputs network.now.net.value bytes.now.items)) }
 {
     let Ok(text) = str::from_utf8(bytes.as_slice()) else {
         return Err(not_text(alloc, path));
