@@ -8,11 +8,10 @@ use Rattle.host.specs.declared.fault.HostFault.TheVariants as host
 use Rattle.net_text.specs.Names.{NameTree}
 use Rattle.protocol.specs.Node.Common.{Net}
 use Rattle.station.specs.declared.output.Output.{Output}
-use Rattle.folder_status.specs.Causes.{AreNoInputs, bad_line, IsCaused, IsNoNet, IsUnreadable, missing, no_inputs, no_net, of_unread}
+use Rattle.folder_status.specs.Causes.{AreNoInputs, bad_line, IsCaused, IsNoNet, IsTextCause, IsUnreadable, missing, no_inputs, no_net, of_unread}
 use Rattle.folder_status.specs.Files.{inputs_path, IsOwnFile, items_path, net_path, OnlyReads}
 use Rattle.folder_status.specs.Kept.{AreInputsRead, IsFileOf, IsNetRead}
 use Rattle.folder_status.specs.declared.fault.StatusFault.{StatusFault}
-use Rattle.folder_status.specs.declared.fault.StatusFault.TheVariants.{NoMemory, OtherState}
 use Rattle.folder_status.specs.declared.fault.StatusRefused.{StatusRefused}
 use Rattle.folder_status.specs.declared.kept.KeptOutput.{KeptOutput}
 use Rattle.folder_status.proofs.Asked.{had_still}
@@ -78,7 +77,7 @@ inputs_still folder net inputs old new only are = record { bytes = are.bytes; re
 -- ---- texts that are refused
 
 pub no_net_by : {T : Type 0} (folder path bytes : List ℕ) (e : List Request) (result : Result T StatusRefused)
-    → path ≡ net_path folder → Has (Read path (Ok bytes)) e → IfErr result (λ refused. (refused.fault ≡ NoMemory) ⊎ ((refused.fault ≡ OtherState) × IsNoNet bytes))
+    → path ≡ net_path folder → Has (Read path (Ok bytes)) e → IfErr result (λ refused. IsTextCause (IsNoNet bytes) refused.fault)
     → IfErr result (λ refused. IsCaused folder e refused.fault)
 no_net_by {T} folder path bytes e (Ok x) same had is = tt
 no_net_by {T} folder path bytes e (Err refused) same had (inl memory) = subst (IsCaused folder e) (sym memory) tt
@@ -87,7 +86,7 @@ no_net_by {T} folder path bytes e (Err refused) same had (inr bad) =
 
 pub no_inputs_by : {T : Type 0} (folder path bytes : List ℕ) (net : Net) (e : List Request) (result : Result T StatusRefused)
     → path ≡ inputs_path folder → IsNetRead folder net e → Has (Read path (Ok bytes)) e
-    → IfErr result (λ refused. (refused.fault ≡ NoMemory) ⊎ ((refused.fault ≡ OtherState) × AreNoInputs net bytes))
+    → IfErr result (λ refused. IsTextCause (AreNoInputs net bytes) refused.fault)
     → IfErr result (λ refused. IsCaused folder e refused.fault)
 no_inputs_by {T} folder path bytes net e (Ok x) same net_read had is = tt
 no_inputs_by {T} folder path bytes net e (Err refused) same net_read had (inl memory) = subst (IsCaused folder e) (sym memory) tt

@@ -15,7 +15,6 @@ use Rattle.kahn_net.specs.Valid.{IsValid}
 use Rattle.kahn_net.specs.declared.program.Channel.{Channel}
 use Rattle.kahn_net.specs.declared.program.Port.{Port}
 use Rattle.kahn_net.specs.declared.program.Port.TheVariants.{Outside, Process}
-use Rattle.cobaltmidge.specs.Runs.{AreAll}
 use Rattle.protocol.specs.World.Common.{output_channels}
 use Rattle.protocol.specs.World.Released.{IsStreamOf}
 use Rattle.protocol_laws.specs.World.OutputLaws.{channel_there, map_at}
@@ -26,7 +25,7 @@ use Rattle.resuming.specs.CatchingUp.{HasTakenAll, HaveTakenAll}
 use Rattle.retained.specs.LogState.{log_end}
 use Rattle.station.specs.OutputView.{output_view, outputs_view}
 use Rattle.station.specs.declared.output.Output.{Output}
-use Rattle.folder_status.specs.Endings.{are_compared, AreRight, AreSame, AreStreams, BeginAlike, compared_at, HasOther, IsMissed, IsRight, IsShortAt, IsWrongAt}
+use Rattle.folder_status.specs.Endings.{are_compared, AreAll, AreRight, AreSame, AreStreams, BeginAlike, compared_at, HasOther, IsMissed, IsRight, IsShortAt, IsWrongAt}
 use Rattle.folder_status.specs.Kept.{items_of, kept_streams}
 use Rattle.folder_status.specs.declared.kept.KeptOutput.{KeptOutput}
 use Rattle.folder_status.proofs.Histories.{begin_alike, none_longer, rests_there, whole_there}

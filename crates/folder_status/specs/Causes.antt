@@ -1,13 +1,17 @@
 -- Why nothing is told of a folder, by what stands in the host's log.
 use Rattle.std.specs.Prelude.{◌≡◌, ◌⊎◌, ℕ, ℤ, List, Some, Ok, Err, codes, IsUtf8, slice_get}
-use Rattle.cobaltmidge.specs.Texts.{IsTextOfInputs, IsTextOfNet}
 use Rattle.host.specs.Requests.{Request, Has, Read}
+use Rattle.net_check.specs.declared.fault.NetFault.{NetFault}
+use Rattle.net_check.specs.declared.fault.NetFault.TheVariants as net_fault
+use Rattle.net_text.specs.declared.fault.TextFault.{TextFault}
+use Rattle.net_text.specs.declared.fault.TextFault.TheVariants as text_fault
 use Rattle.host.specs.declared.fault.HostFault.{HostFault}
 use Rattle.host.specs.declared.fault.HostFault.TheVariants as host
 use Rattle.output_file.specs.Lines.{HasBadLine}
 use Rattle.protocol.specs.Node.Common.{Net, network_of}
 use Rattle.protocol.specs.World.Released.{IsStreamOf}
 use Rattle.folder_status.specs.Files.{inputs_path, IsOwnFile, items_path, net_path}
+use Rattle.folder_status.specs.Texts.{IsTextOfInputs, IsTextOfNet}
 use Rattle.folder_status.specs.Kept.{IsNetRead, IsRead}
 use Rattle.folder_status.specs.declared.fault.StatusFault.{StatusFault}
 use Rattle.folder_status.specs.declared.fault.StatusFault.TheVariants.{NoMemory, OtherState, ItemDiffers, Unread}
@@ -50,6 +54,30 @@ IsNoNet bytes = (¬ (IsUtf8 bytes)) ⊎ (¬ (IsTextOfNet bytes))
 
 abbrev pub AreNoInputs : Net → List ℕ → Type 0
 AreNoInputs net bytes = (¬ (IsUtf8 bytes)) ⊎ (¬ (IsTextOfInputs net bytes))
+
+-- what a fault of a text comes to
+abbrev pub of_text_fault : TextFault → StatusFault
+of_text_fault text_fault.NoMemory = NoMemory
+of_text_fault (text_fault.BadToken line) = OtherState
+of_text_fault (text_fault.Unexpected line) = OtherState
+of_text_fault (text_fault.NumberRange line) = OtherState
+of_text_fault (text_fault.TooLong line) = OtherState
+
+abbrev pub of_net_fault : NetFault → StatusFault
+of_net_fault net_fault.NoMemory = NoMemory
+of_net_fault net_fault.MissingInput = OtherState
+of_net_fault (net_fault.TwiceNamed line) = OtherState
+of_net_fault (net_fault.UnknownName line) = OtherState
+of_net_fault (net_fault.TwoProducers line) = OtherState
+of_net_fault (net_fault.TwoConsumers line) = OtherState
+of_net_fault (net_fault.LoopWithoutGet line) = OtherState
+of_net_fault (net_fault.Limit line) = OtherState
+of_net_fault (net_fault.NoProducer line) = OtherState
+of_net_fault (net_fault.NoConsumer line) = OtherState
+
+-- a text isn't what it has to be, or memory is missing
+abbrev pub IsTextCause : Type 0 → StatusFault → Type 0
+IsTextCause P fault = (fault ≡ NoMemory) ⊎ ((fault ≡ OtherState) × P)
 
 -- What has the folder's name isn't the folder of a run, or is damaged.
 pub data IsOther (folder : List ℕ) (e : List Request) : Type 0 where

@@ -1,12 +1,13 @@
 -- How a folder's outputs stand beside what its network means.
-use Rattle.std.specs.Prelude.{◌≡◌, ◌≤◌, ◌<◌, ◌==◌, ◌+◌, ℕ, suc, ℤ, Bool, true, if◌then◌else◌, List, [], ◌∷◌, length, min, map, take, Some, slice_get, slice_index}
+use Rattle.std.specs.Prelude.{◌≡◌, ◌≤◌, ◌<◌, ◌==◌, ◌+◌, ℕ, suc, ℤ, Bool, true, false, if◌then◌else◌, List, [], ◌∷◌, length, min, map, take, Some, slice_get, slice_index}
 use Rattle.kahn_net.specs.Approximations.{approximation, IsReached}
 use Rattle.kahn_net.specs.Streams.{history_of, IsPrefix}
 use Rattle.kahn_net.specs.Syntax.{Network}
 use Rattle.kahn_net.specs.declared.program.Channel.{Channel}
-use Rattle.cobaltmidge.specs.Runs.{AreAll}
+use Rattle.kahn_net.specs.declared.program.Port.TheVariants.{Outside}
+use Rattle.protocol.specs.World.Common.{output_channels}
 use Rattle.protocol.specs.World.Released.{IsStreamOf}
-use Rattle.rerun.specs.Tables.{HasRerun, is_output, log_on, TableView}
+use Rattle.rerun.specs.Tables.{HasRerun, log_on, TableView}
 use Rattle.rerun.specs.declared.stopped.Stopped.{Stopped}
 use Rattle.resuming.specs.CatchingUp.{StoppedSince}
 use Rattle.retained.specs.LogState.{log_end}
@@ -15,6 +16,8 @@ use Rattle.folder_status.specs.Kept.{items_of, kept_streams}
 use Rattle.folder_status.specs.declared.ending.Ending.{Ending}
 use Rattle.folder_status.specs.declared.ending.Ending.TheVariants.{Complete, Partial, Unsettled}
 use Rattle.folder_status.specs.declared.kept.KeptOutput.{KeptOutput}
+use Rattle.folder_status.specs.declared.verdict.NoVerdict.{NoVerdict}
+use Rattle.folder_status.specs.declared.verdict.NoVerdict.TheVariants.{NoMemory, Differs}
 
 -- ---- how far the processes are run
 
@@ -42,7 +45,7 @@ pub record HasCome (net : Network) (inputs : List (List ℤ)) (kept : List KeptO
   pub stopped : Stopped
   pub rerun : ∥ HasRerun net inputs table ∥₁
   pub since : StoppedSince net inputs (limits_from kept inner 0 0 net.channels) table stopped
-  pub within : (c : ℕ) → is_output net.channels c ≡ true
+  pub within : (c : ℕ) (channel : Channel) → slice_get net.channels c ≡ Some channel → channel.consumer ≡ Outside
       → log_end (log_on table c) ≤ slice_index (limits_from kept inner 0 0 net.channels) c
   pub is : got ≡ table.got
 
@@ -106,6 +109,11 @@ pub record HasOther (net : Network) (inputs : List (List ℤ)) (kept : List Kept
   pub there : slice_get kept place ≡ Some output
   pub other : ¬ (IsStreamOf net inputs output.channel (items_of output))
 
+-- why there is no verdict: a file has other items
+abbrev pub is_differing : NoVerdict → Bool
+is_differing NoMemory = false
+is_differing (Differs place) = true
+
 -- Some output has a history of which its file has the first items alone.
 pub record IsMissed (net : Network) (inputs : List (List ℤ)) (kept : List KeptOutput) : Type 0 where
   pub n : ℕ
@@ -114,6 +122,11 @@ pub record IsMissed (net : Network) (inputs : List (List ℤ)) (kept : List Kept
   pub there : slice_get kept place ≡ Some output
   pub begins : IsPrefix (items_of output) (history_of (approximation net inputs n) output.channel)
   pub more : length (items_of output) < length (history_of (approximation net inputs n) output.channel)
+
+-- each of these streams, one for each output in order, is its channel's whole history in this approximation
+abbrev pub AreAll : Network → List (List ℤ) → List (List ℤ) → ℕ → Type 0
+AreAll net inputs streams n = (place channel : ℕ) (items : List ℤ) → slice_get (output_channels 0 net.channels) place ≡ Some channel
+    → slice_get streams place ≡ Some items → items ≡ history_of (approximation net inputs n) channel
 
 -- What is told: each file has all of its output's history in an approximation with which they come to rest; a file lacks items; or it isn't
 -- known whether one does.

@@ -1,12 +1,12 @@
 -- What was read of a folder.
 use Rattle.std.specs.Prelude.{◌≡◌, ℕ, ℤ, List, [], ◌++◌, length, map, Option, Some, None, Ok, slice_get}
 use Rattle.std.specs.List.{AllByRecursion}
-use Rattle.cobaltmidge.specs.Texts.{AreInputsOf, IsNetOf}
 use Rattle.host.specs.Requests.{Request, Has, Read}
 use Rattle.net_text.specs.Names.{NameTree}
 use Rattle.output_file.specs.Lines.{HoldsLines}
 use Rattle.protocol.specs.Node.Common.{Net, network_of}
 use Rattle.protocol.specs.World.Common.{output_channels}
+use Rattle.folder_status.specs.Texts.{AreInputsOf, IsNetOf}
 use Rattle.folder_status.specs.Files.{inputs_path, items_path, net_path}
 use Rattle.folder_status.specs.declared.kept.KeptOutput.{KeptOutput}
 

@@ -14,13 +14,14 @@ ghost use Rattle.folder_status.specs.Endings.{IsStopped, limits_from};
 use crate::comparing::first_short;
 use crate::kept::KeptOutput;
 use crate::limits::{MOST_MORE, list_limits};
-use cobaltmidge::{ListOutlet, Outlet, Output, list_outputs};
 use net_check::{Inputs, Net};
+use outlet::{ListOutlet, Outlet};
 use rerun::{Rerun, Stopped};
 use resuming::catch_up;
 use retained::MAX_LOG_ITEMS;
 use std::alloc::{AllocError, Global};
 use std::sync::Arc;
+use world::{Output, list_outputs};
 
 // So often the limits are raised, to `MOST_MORE`.
 const RAISES: u32 = 21;

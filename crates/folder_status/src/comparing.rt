@@ -4,8 +4,9 @@ ghost use Rattle.std.specs.Prelude.{◌≡◌, ◌↔◌, IfNone, IfOk, IfSome, 
 ghost use Rattle.folder_status.specs.Endings.{AreRight, AreSame, BeginAlike, IsRight, IsShortAt, IsWrongAt, are_compared};
 
 use crate::kept::KeptOutput;
-use cobaltmidge::{ListOutlet, Outlet, Output};
+use outlet::{ListOutlet, Outlet};
 use std::alloc::{AllocError, Global};
+use world::Output;
 
 // Whether these are the same.
 fn is_same(kept: &[i64], taken: &[i64]) -> bool

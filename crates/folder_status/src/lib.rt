@@ -13,6 +13,8 @@ mod limits;
 mod reading;
 mod status;
 mod text;
+mod texts;
+mod verdict;
 
 pub use ending::Ending;
 pub use fault::{StatusFault, StatusRefused};

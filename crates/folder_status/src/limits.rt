@@ -6,9 +6,9 @@ ghost use Rattle.folder_status.specs.declared.limits.TheConstants.{MOST_MORE};
 
 use crate::kept::KeptOutput;
 use ckpt_codec::MAX_RETAINED_ITEMS;
-use cobaltmidge::DEFAULT_ROOM;
 use kahn_net::Channel;
 use std::alloc::{AllocError, Global};
+use world::DEFAULT_ROOM;
 
 /// So many items more than its file holds an output is let have at most.
 pub const MOST_MORE: u64 = 1_048_576;

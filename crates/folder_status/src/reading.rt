@@ -1,31 +1,28 @@
 //! The files of a folder, read through a host.
 
-ghost use Rattle.std.specs.Prelude.{◌≡◌, ◌⊎◌, ◌++◌, IfErr, IfOk, Ok, map, string_bytes};
+ghost use Rattle.std.specs.Prelude.{◌≡◌, ◌++◌, IfErr, IfOk, Ok, map, string_bytes};
 ghost use Rattle.std.specs.List.{AllByRecursion};
 ghost use Rattle.host.specs.Requests.{Has, Read};
-ghost use Rattle.cobaltmidge.specs.Texts.{AreInputsOf, IsNetOf};
 ghost use Rattle.protocol.specs.Node.Common.{Fits, network_of};
-ghost use Rattle.folder_status.specs.Causes.{AreNoInputs, IsCaused, IsNoNet, IsUnreadable};
+ghost use Rattle.folder_status.specs.Causes.{IsCaused, IsUnreadable};
 ghost use Rattle.folder_status.specs.Files.{IsOwnFile, OnlyReads, items_path};
 ghost use Rattle.folder_status.specs.Kept.{AreInputsRead, AreLinesOf, IsFileOf, IsNetRead, IsRead, name_of};
-ghost use Rattle.folder_status.specs.declared.fault.StatusFault.TheVariants.{NoMemory, OtherState};
-ghost use Rattle.cobaltmidge.specs.declared.error.Error.TheVariants as error;
 
 use crate::fault::{StatusFault, StatusRefused, refused};
 use crate::kept::KeptOutput;
-use cobaltmidge::{Error, ListOutlet, Network, Output, list_outputs};
+use crate::texts::{inputs_of, net_of};
 use host::Host;
 use net_check::{Inputs, Net};
 use net_text::Name;
+use outlet::ListOutlet;
 use output_file::{HeldItems, LinesFault, read_items};
 use std::alloc::{AllocError, Global};
-use std::str;
-use std::sync::Arc;
+use world::{Output, list_outputs};
 
 /// What was read of a folder.
 #[derive(Drop)]
 pub struct FolderRead {
-    pub net: Arc<Net>,
+    pub net: Net,
     pub inputs: Inputs,
     /// What the file of each output held, in order of the channels.
     pub outputs: Vec<KeptOutput>,
@@ -94,72 +91,14 @@ fn with_path(
     format!(in alloc; "{path}: {words}")
 }
 
-// The refusal of a text of a folder, by what it is refused for.
-fn refused_text(alloc: Global, path: &String, error: Error) -> StatusRefused
-    ensures memory { error ≡ error.NoMemory → result.fault ≡ NoMemory }
-    ensures other { ¬ (error ≡ error.NoMemory) → result.fault ≡ OtherState }
-{
-    match error {
-        Error::NoMemory => refused(StatusFault::NoMemory, Err(AllocError)),
-        Error::NetText(_)
-        | Error::Net(_)
-        | Error::InputsText(_)
-        | Error::Inputs(_)
-        | Error::Script(_)
-        | Error::Run(_) => refused(StatusFault::OtherState, format!(in alloc; "{path}: {error}")),
-    }
-}
-
-// The refusal of a file that is no text.
-fn not_text(alloc: Global, path: &String) -> StatusRefused
-    ensures { result.fault ≡ OtherState }
-{
-    refused(StatusFault::OtherState, format!(in alloc; "{path}: not UTF-8"))
-}
-
-// The network of a text.
-fn net_of(alloc: Global, path: &String, bytes: &Vec<u8>) -> Result<Network, StatusRefused>
-    ensures net { IfOk result (λ network. IsNetOf bytes.now.items network.net.value) }
-    ensures cause { IfErr result (λ refused. (refused.fault ≡ NoMemory) ⊎ ((refused.fault ≡ OtherState) × IsNoNet bytes.now.items)) }
-{
-    let Ok(text) = str::from_utf8(bytes.as_slice()) else {
-        return Err(not_text(alloc, path));
-    };
-    match Network::parse(alloc, text) {
-        Ok(network) => Ok(network),
-        Err(error) => Err(refused_text(alloc, path, error)),
-    }
-}
-
-// The items of a text for a network's inputs.
-fn inputs_of(
-    alloc: Global,
-    path: &String,
-    network: &Network,
-    bytes: &Vec<u8>,
-) -> Result<Inputs, StatusRefused>
-    ensures inputs { IfOk result (AreInputsOf bytes.now.items network.now.net.value) }
-    ensures fitting { IfOk result (Fits (network_of network.now.net.value.program)) }
-    ensures cause { IfErr result (λ refused. (refused.fault ≡ NoMemory)
-        ⊎ ((refused.fault ≡ OtherState) × AreNoInputs network.now.net.value bytes.now.items)) }
-{
-    let Ok(text) = str::from_utf8(bytes.as_slice()) else {
-        return Err(not_text(alloc, path));
-    };
-    match network.inputs(alloc, text) {
-        Ok(inputs) => Ok(inputs),
-        Err(error) => Err(refused_text(alloc, path, error)),
-    }
-}
-
 // The network of a folder.
 fn read_net<H: Host>(
     host: &mut H,
     alloc: Global,
     folder: &String,
-) -> Result<Network, StatusRefused>
+) -> Result<Net, StatusRefused>
     ensures asked { OnlyReads (string_bytes folder.now) (H.asked host.old) (H.asked host.new) }
-    ensures net { IfOk result (λ network. IsNetRead (string_bytes folder.now) network.net.value (H.asked host.new)) }
+    ensures net { IfOk result (λ net. IsNetRead (string_bytes folder.now) net (H.asked host.new)) }
     ensures cause { IfErr result (λ refused. IsCaused (string_bytes folder.now) (H.asked host.new) refused.fault) }
 {
     let path = in_folder(alloc, folder, "/net")?;
@@ -172,17 +111,17 @@ fn read_inputs<H: Host>(
     host: &mut H,
     alloc: Global,
     folder: &String,
-    network: &Network,
+    net: &Net,
 ) -> Result<Inputs, StatusRefused>
-    requires { IsNetRead (string_bytes folder.now) network.now.net.value (H.asked host.old) }
+    requires { IsNetRead (string_bytes folder.now) net.now (H.asked host.old) }
     ensures asked { OnlyReads (string_bytes folder.now) (H.asked host.old) (H.asked host.new) }
-    ensures inputs { IfOk result (λ inputs. AreInputsRead (string_bytes folder.now) network.now.net.value inputs (H.asked host.new)) }
-    ensures fitting { IfOk result (Fits (network_of network.now.net.value.program)) }
+    ensures inputs { IfOk result (λ inputs. AreInputsRead (string_bytes folder.now) net.now inputs (H.asked host.new)) }
+    ensures fitting { IfOk result (Fits (network_of net.now.program)) }
     ensures cause { IfErr result (λ refused. IsCaused (string_bytes folder.now) (H.asked host.new) refused.fault) }
 {
     let path = in_folder(alloc, folder, "/inputs")?;
     let bytes = read_own(host, alloc, folder, &path)?;
-    inputs_of(alloc, &path, network, &bytes)
+    inputs_of(alloc, &path, net, &bytes)
 }
 
 // What bytes of a file of lines hold.
@@ -265,23 +204,17 @@ pub fn read_folder<H: Host>(
     // Nothing is asked of the host but to read the folder's own files.
     ensures asked { OnlyReads (string_bytes folder.now) (H.asked host.old) (H.asked host.new) }
     // The network, its inputs and the outputs' items are those of the bytes that were read.
-    ensures read { IfOk result (λ read. IsRead (string_bytes folder.now) (H.asked host.new) read.net.value read.inputs read.outputs.items) }
-    ensures fitting { IfOk result (λ read. Fits (network_of read.net.value.program) read.inputs) }
+    ensures read { IfOk result (λ read. IsRead (string_bytes folder.now) (H.asked host.new) read.net read.inputs read.outputs.items) }
+    ensures fitting { IfOk result (λ read. Fits (network_of read.net.program) read.inputs) }
     // Why it is refused stands in the log.
     ensures cause { IfErr result (λ refused. IsCaused (string_bytes folder.now) (H.asked host.new) refused.fault) }
 {
-    let network = read_net(host, alloc, folder)?;
-    let inputs = read_inputs(host, alloc, folder, &network)?;
-    let outputs = list_outputs(alloc, &network.net)?;
-    let kept = read_outputs(
-        host,
-        alloc,
-        folder,
-        &network.net.channel_names,
-        &outputs,
-    )?;
+    let net = read_net(host, alloc, folder)?;
+    let inputs = read_inputs(host, alloc, folder, &net)?;
+    let outputs = list_outputs(alloc, &net)?;
+    let kept = read_outputs(host, alloc, folder, &net.channel_names, &outputs)?;
     Ok(FolderRead {
-        net: network.net,
+        net,
         inputs,
         outputs: kept,
     })

@@ -13,15 +13,16 @@ ghost use Rattle.folder_status.specs.Kept.{IsRead};
 ghost use Rattle.folder_status.specs.declared.fault.StatusFault.TheVariants.{ItemDiffers, NoMemory};
 
 use crate::again::{Again, run_further, run_up_to};
-use crate::comparing::{are_same, difference_words, first_short, first_wrong, list_compared};
+use crate::comparing::difference_words;
 use crate::ending::Ending;
 use crate::fault::{StatusFault, StatusRefused, refused};
 use crate::kept::KeptOutput;
 use crate::limits::first_room;
 use crate::reading::{FolderRead, items_path, name_of, read_folder};
-use cobaltmidge::Outlet;
+use crate::verdict::{NoVerdict, Verdict, verdict};
 use host::Host;
 use net_check::{Inputs, Net};
+use outlet::Outlet;
 use std::alloc::{AllocError, Global};
 use std::sync::Arc;
 
@@ -45,17 +46,6 @@ struct Judged {
     got: Vec<u64>,
     compared: Vec<u64>,
     ending: Ending,
-}
-
-// Whether more will come, where the files are right.
-fn ending_of(again: &Again, kept: &[KeptOutput], all: bool) -> Ending {
-    if first_short(kept, &again.outputs).is_some() {
-        return Ending::Partial;
-    }
-    if all && are_same(kept, &again.outputs) {
-        return Ending::Complete;
-    }
-    Ending::Unsettled
 }
 
 // The refusal of a file that has other items.
@@ -114,15 +104,15 @@ fn judge(
     let again = run_up_to(alloc, net, inputs, kept, room)?;
     let got = Vec::from_slice(alloc, again.rerun.got())?;
     let again = run_further(alloc, again, kept, room)?;
-    let all = again.has_all();
-    if let Some(place) = first_wrong(kept, &again.outputs, all) {
-        return Err(differs(alloc, folder, net, &again, kept, place));
+    match verdict(alloc, &again, kept) {
+        Ok(Verdict { compared, ending }) => Ok(Judged {
+            got,
+            compared,
+            ending,
+        }),
+        Err(NoVerdict::NoMemory) => Err(StatusRefused::from(AllocError)),
+        Err(NoVerdict::Differs { place }) => Err(differs(alloc, folder, net, &again, kept, place)),
     }
-    Ok(Judged {
-        got,
-        compared: list_compared(alloc, kept, &again.outputs)?,
-        ending: ending_of(&again, kept, all),
-    })
 }
 
 /// What the folder of this name holds, and how far its run has come. The processes of its network are run again, alone and without nodes, until
@@ -158,6 +148,7 @@ pub fn status_of<H: Host>(
         inputs,
         outputs,
     } = read_folder(host, alloc, folder)?;
+    let net = Arc::new(alloc, net)?;
     let inputs = Arc::new(alloc, inputs)?;
     let judged = judge(alloc, folder, &net, &inputs, &outputs)?;
     Ok(FolderStatus {

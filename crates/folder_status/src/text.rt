@@ -9,11 +9,11 @@ use crate::ending::Ending;
 use crate::kept::KeptOutput;
 use crate::reading::name_of;
 use crate::status::FolderStatus;
-use cobaltmidge::node_count;
 use kahn_net::{Channel, History, Port};
 use net_check::Net;
 use net_text::Name;
 use std::alloc::{AllocError, Global};
+use world::node_count;
 
 // Adds a word, a colon and a number.
 fn add_number(text: &mut String, word: &str, number: u64) -> Result<(), AllocError>
