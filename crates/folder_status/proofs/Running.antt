@@ -1,22 +1,26 @@
 -- Processes that were run again, and what their outputs took.
-use Rattle.std.proofs.Common.{◌≡◌, ◌∙◌, ℕ, zero, suc, ◌≤◌, Bool, true, ℤ, List, [], ◌∷◌, length, map, max, replicate, Some, refl, sym, subst, ap, arith}
+use Rattle.std.proofs.Common.{◌≡◌, ◌∙◌, ℕ, zero, suc, ◌≤◌, Bool, true, false, Result, Ok, Err, ℤ, List, [], ◌∷◌, length, map, max, replicate, Some, refl, sym, subst, ap, arith}
 use Rattle.std.specs.List.{AllByRecursion}
-use Rattle.std.specs.Prelude.{slice_get, slice_index, slice_index_or}
+use Rattle.std.specs.Prelude.{slice_get, slice_index, slice_index_or, IfOk, IsTrue, not}
+use Rattle.std.proofs.Math.Logic.{∥∥₁_map}
 use Rattle.kahn_net.specs.Approximations.{approximation}
 use Rattle.kahn_net.specs.Laws.Prefixes.{prefix_nil}
 use Rattle.kahn_net.specs.Streams.{history_of}
 use Rattle.world.specs.OpeningWorld.{IsUnused}
 use Rattle.kahn_net.specs.Syntax.{Network}
 use Rattle.protocol.specs.World.Common.{output_channels, OutputView}
-use Rattle.rerun.specs.Tables.{first_table, HasRerun, KeepsLimits, log_on, no_log, TableView}
+use Rattle.rerun.specs.Tables.{first_table, HasRerun, IsAtRest, KeepsLimits, log_on, no_log, TableView}
+use Rattle.rerun.specs.Resting.{IsAll}
+use Rattle.rerun.specs.declared.stopped.Stopped.TheVariants.{Rests}
 use Rattle.rerun.specs.Whole.{inputs_in, net_in, table_in}
 use Rattle.rerun.specs.declared.stopped.Stopped.{Stopped}
 use Rattle.resuming.specs.CatchingUp.{HaveGoneOn, HaveTakenAll, StoppedSince}
 use Rattle.retained.specs.LogState.{log_end, LogState}
 use Rattle.station.specs.OutputView.{output_view, outputs_view}
 use Rattle.station.specs.declared.output.Output.{Output}
-use Rattle.folder_status.specs.Endings.{AreRight, AreSame, AreStreams, HasCome, HasOther, IsEnding, IsMissed, limits_from}
+use Rattle.folder_status.specs.Endings.{AreRight, AreSame, AreStreams, HasCome, HasOther, IsEnding, IsMissed, IsStopped, limits_from}
 use Rattle.folder_status.specs.declared.kept.KeptOutput.{KeptOutput}
+use Rattle.folder_status.specs.declared.again.Again.{Again}
 use Rattle.folder_status.proofs.Judging.{as_taken}
 
 -- what holds of a network and its inputs holds of the same ones
@@ -101,3 +105,22 @@ as_many f g xs ys all one other = sym (count g ys) ∙ (ap length other ∙ (sym
     count : {C : Type 0} (h : C → ℕ) (zs : List C) → length (map h zs) ≡ length zs
     count h [] = refl
     count h (z ∷ zs) = ap suc (count h zs)
+
+-- that processes which rest have put all that there is, where none is about to put
+pub all_by : (net : Network) (inputs : List (List ℤ)) (t : TableView) (stopped : Stopped) (waits : Bool) → IsStopped net inputs t stopped
+    → stopped ≡ Rests → (waits ≡ false → (limits : List ℕ) → IsAtRest net inputs limits t → IsAll net inputs t) → IsTrue (not waits)
+    → ∥ IsAll net inputs t ∥₁
+all_by net inputs t stopped true since is all said = absurd cc
+all_by net inputs t stopped false since is all said =
+    ∥∥₁_map since (λ s. all refl s.0 (subst (StoppedSince net inputs s.0 t) is s.1))
+
+-- the limits of a run that was made
+pub within_by : {E : Type 0} (result : Result Again E) (net : Network) (limits : List ℕ) (first : TableView) (kept : List KeptOutput) (room : ℕ)
+    → limits ≡ limits_from kept room 0 0 net.channels → first ≡ first_table net → IfOk result (λ a. net_in a.rerun ≡ net)
+    → IfOk result (λ a. KeepsLimits net limits first (table_in a.rerun))
+    → IfOk result (λ a. KeepsLimits (net_in a.rerun) (limits_from kept room 0 0 (net_in a.rerun).channels) (first_table (net_in a.rerun)) (table_in a.rerun))
+within_by {E} (Err e) net limits first kept room are begun same keeps = tt
+within_by {E} (Ok a) net limits first kept room are begun same keeps =
+    subst (λ (n : Network). KeepsLimits n (limits_from kept room 0 0 n.channels) (first_table n) (table_in a.rerun)) (sym same)
+    (subst (λ (l : List ℕ). KeepsLimits net l (first_table net) (table_in a.rerun)) are
+    (subst (λ (t : TableView). KeepsLimits net limits t (table_in a.rerun)) begun keeps))

@@ -4,5 +4,4 @@ pub mod Files
 pub mod Causes
 pub mod Kept
 pub mod Endings
-pub mod Status
 pub mod Lines

@@ -19,7 +19,7 @@ use crate::fault::{StatusFault, StatusRefused, refused};
 use crate::kept::KeptOutput;
 use crate::limits::first_room;
 use crate::reading::{FolderRead, items_path, name_of, read_folder};
-use crate::verdict::{NoVerdict, Verdict, verdict};
+use crate::verdict::{NoVerdict, Verdict, find_verdict};
 use host::Host;
 use net_check::{Inputs, Net};
 use outlet::Outlet;
@@ -104,7 +104,7 @@ fn judge(
     let again = run_up_to(alloc, net, inputs, kept, room)?;
     let got = Vec::from_slice(alloc, again.rerun.got())?;
     let again = run_further(alloc, again, kept, room)?;
-    match verdict(alloc, &again, kept) {
+    match find_verdict(alloc, &again, kept) {
         Ok(Verdict { compared, ending }) => Ok(Judged {
             got,
             compared,

@@ -45,17 +45,21 @@ fn ending_of(again: &Again, kept: &[KeptOutput], all: bool) -> Ending
     requires has { all ≡ true → ∥ IsAll (net_in again.now.rerun) (inputs_in again.now.rerun) (table_in again.now.rerun) ∥₁ }
     ensures { IsEnding (net_in again.now.rerun) (inputs_in again.now.rerun) kept.now result }
 {
-    if let Some(_) = first_short(kept, &again.outputs) {
-        return Ending::Partial;
+    again.rerun.place_law();
+    match first_short(kept, &again.outputs) {
+        Some(_) => Ending::Partial,
+        None => {
+            if all && are_same(kept, &again.outputs) {
+                Ending::Complete
+            } else {
+                Ending::Unsettled
+            }
+        }
     }
-    if all && are_same(kept, &again.outputs) {
-        return Ending::Complete;
-    }
-    Ending::Unsettled
 }
 
 /// What the processes tell of the files.
-pub(crate) fn verdict(
+pub(crate) fn find_verdict(
     alloc: Global,
     again: &Again,
     kept: &[KeptOutput],
@@ -67,11 +71,11 @@ pub(crate) fn verdict(
         → HasOther (net_in again.now.rerun) (inputs_in again.now.rerun) kept.now) }
 {
     let all = again.has_all();
-    if let Some(place) = first_wrong(kept, &again.outputs, all) {
-        return Err(NoVerdict::Differs { place });
+    match first_wrong(kept, &again.outputs, all) {
+        Some(place) => Err(NoVerdict::Differs { place }),
+        None => Ok(Verdict {
+            compared: list_compared(alloc, kept, &again.outputs)?,
+            ending: ending_of(again, kept, all),
+        }),
     }
-    Ok(Verdict {
-        compared: list_compared(alloc, kept, &again.outputs)?,
-        ending: ending_of(again, kept, all),
-    })
 }
