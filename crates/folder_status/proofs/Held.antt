@@ -6,11 +6,13 @@ use Rattle.host.specs.Requests.{Has, Read, Request}
 use Rattle.host.specs.declared.fault.HostFault.{HostFault}
 use Rattle.host.specs.declared.fault.HostFault.TheVariants as host
 use Rattle.net_text.specs.Names.{NameTree}
-use Rattle.protocol.specs.Node.Common.{Net}
+use Rattle.protocol.specs.Node.Common.{Net, network_of}
 use Rattle.station.specs.declared.output.Output.{Output}
 use Rattle.folder_status.specs.Causes.{AreNoInputs, bad_line, IsCaused, IsNoNet, IsTextCause, IsUnreadable, missing, no_inputs, no_net, of_unread}
 use Rattle.folder_status.specs.Files.{inputs_path, IsOwnFile, items_path, net_path, OnlyReads}
-use Rattle.folder_status.specs.Kept.{AreInputsRead, IsFileOf, IsNetRead}
+use Rattle.folder_status.specs.Endings.{HasOther}
+use Rattle.folder_status.specs.Kept.{AreInputsRead, IsFileOf, IsNetRead, IsRead}
+use Rattle.folder_status.specs.declared.fault.StatusFault.TheVariants.{NoMemory, OtherState, ItemDiffers, Unread}
 use Rattle.folder_status.specs.declared.fault.StatusFault.{StatusFault}
 use Rattle.folder_status.specs.declared.fault.StatusRefused.{StatusRefused}
 use Rattle.folder_status.specs.declared.kept.KeptOutput.{KeptOutput}
@@ -121,3 +123,18 @@ channel_more kept pushed one outputs i output push same less is before =
     ∙ (ap (λ (c : ℕ). map (λ (output : Output (List ℤ)). output.channel) (take i outputs) ++ c ∷ []) same
     ∙ (sym (one_output_more outputs i output less is)
     ∙ ap (λ (n : ℕ). map (λ (output : Output (List ℤ)). output.channel) (take n outputs)) (sym next)))))
+
+-- ---- items that differ
+
+-- a folder that was read and has other items
+pub differs_by : (folder : List ℕ) (e : List Request) (net : Net) (inputs : List (List ℤ)) (kept : List KeptOutput) (fault : StatusFault)
+    → IsRead folder e net inputs kept → (fault ≡ ItemDiffers → HasOther (network_of net.program) inputs kept)
+    → (¬ (fault ≡ ItemDiffers) → fault ≡ NoMemory) → IsCaused folder e fault
+differs_by folder e net inputs kept ItemDiffers read other faults =
+    let has = other refl in
+    record {
+      net = net; inputs = inputs; outputs = kept; output = has.output; place = has.place; read = read; there = has.there; other = has.other;
+    }
+differs_by folder e net inputs kept NoMemory read other faults = tt
+differs_by folder e net inputs kept OtherState read other faults = let same = faults (λ is. absurd cc) in absurd cc
+differs_by folder e net inputs kept Unread read other faults = let same = faults (λ is. absurd cc) in absurd cc

@@ -150,13 +150,15 @@ pub fn status_of<H: Host>(
     } = read_folder(host, alloc, folder)?;
     let net = Arc::new(alloc, net)?;
     let inputs = Arc::new(alloc, inputs)?;
-    let judged = judge(alloc, folder, &net, &inputs, &outputs)?;
-    Ok(FolderStatus {
-        net,
-        inputs,
-        got: judged.got,
-        outputs,
-        compared: judged.compared,
-        ending: judged.ending,
-    })
+    match judge(alloc, folder, &net, &inputs, &outputs) {
+        Ok(judged) => Ok(FolderStatus {
+            net,
+            inputs,
+            got: judged.got,
+            outputs,
+            compared: judged.compared,
+            ending: judged.ending,
+        }),
+        Err(refused) => Err(refused),
+    }
 }
