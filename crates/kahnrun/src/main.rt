@@ -9,13 +9,19 @@
 //! is written into a file, a line for each event. On a terminal a line says how far a run of more than a second has come, if it isn't to
 //! be `--quiet`.
 //!
+//! `kahnrun --status FOLDER` says what such a folder holds and how far its run has come, also while a run is at work there.
+//!
 //! The exit status is 0 where the last line is `complete`, 3 where it is `partial`, 2 where a text or the command line is
 //! refused (or help is asked for), and 1 for any other failure, as where a line can't be written.
 #![tactic(auto)]
 
+use status_program::status_on_host;
 use std::process::ExitCode;
 use stream_program::run_on_host;
 
 fn main(rt: HostRuntime) -> ExitCode {
-    ExitCode::from(run_on_host(&rt, rt))
+    ExitCode::from(match status_on_host(rt) {
+        Some(status) => status,
+        None => run_on_host(&rt, rt),
+    })
 }

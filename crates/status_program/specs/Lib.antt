@@ -1,0 +1,3 @@
+-- What the program tells of a folder.
+pub mod StatusWords
+pub mod Told
