@@ -2,8 +2,7 @@
 //! the inputs of the other, each node on a thread of its own (`--plain`: all on one), lets fail what the script says, and prints
 //! what each output released, and whether the run is complete. With `--approx` it runs nothing, and prints that approximation of
 //! each output's history, and whether it is a solution. With `--state` what left is kept in a folder too, and a further run with
-//! that folder goes on where this one ended, however it did: it begins anew, compares what leaves with what the folder has, and
-//! keeps only what is new.
+//! that folder goes on behind what it has.
 //!
 //! With `--explain` a second line says of a text that is refused at which column, and in words. With `--history` what happens in the run
 //! is written into a file, a line for each event. On a terminal a line says how far a run of more than a second has come, if it isn't to
