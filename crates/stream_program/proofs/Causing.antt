@@ -191,3 +191,7 @@ unopened_by sources other numbers given e failure one two is =
 
 pub opening_by : (sources other : List InputSource) (r : Request) → other ≡ sources → IsOpeningOf other r → IsOpeningOf sources r
 opening_by sources other r same is = subst (λ (s : List InputSource). IsOpeningOf s r) same is
+
+pub stop_as : {T : Type 0} (first : WorldView) (e : List Request) (result : Result T (Stopped PortFault)) (form asked : Form) → form ≡ asked
+    → IfErr result (IsStreamStop form first e) → IfErr result (IsStreamStop asked first e)
+stop_as {T} first e result form asked same is = subst (λ (f : Form). IfErr result (IsStreamStop f first e)) same is

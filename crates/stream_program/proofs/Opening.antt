@@ -147,3 +147,9 @@ pub opened_all : {S : Type 0} (place : ℕ) (sources : List InputSource) (number
 opened_all {S} place sources numbers ports e same all below = λ k number one here there.
     let within : k < length sources = slice_get_within sources k one here in
     below k number one (omega (arith, within, same, all)) here there
+
+-- ---- sources stand in the form that is asked for
+
+pub stand_as : {S : Type 0} (source_number : S → ℕ) (e : List Request) (ports : List (Option (Port S))) (form asked : Form) → form ≡ asked
+    → PortsStand form source_number e ports → PortsStand asked source_number e ports
+stand_as {S} source_number e ports form asked same stand = subst (λ (f : Form). PortsStand f source_number e ports) same stand

@@ -2,6 +2,7 @@ use Rattle.std.proofs.Common.{refl}
 use Rattle.stream_program.specs.Causes.{misasked, not_made, unopened}
 use Rattle.stream_program.specs.Streamed.{IsOpeningOf, IsRunFor, opens}
 use Rattle.stream_program.proofs.Causing.{are_opened_by, opening_by, unopened_by}
+use Rattle.stream_program.proofs.Opening.{stand_as}
 use Rattle.stream_program.proofs.Preparing.{inputs_read_still, net_read_still, prepares_by, prepares_then}
 use Rattle.stream_program.proofs.program.begin.Goals as goal
 
@@ -39,3 +40,8 @@ returns-clause-cause g c =
     (net_read_still _ _ _ _ c.open_ports.ensures.prepares.later (net_read_still _ _ _ _ c.first_inputs.ensures.prepares.later c.requires.net_read))
     refl c.in-Ok.ensures.each (unopened_by c.args.options.now.sources.items c.deref.result.now c.in-Ok.numbers.items c.deref-2.result.now _ _
     c.deref.ensures.value c.deref-2.ensures.value c.in-Err-open_ports.ensures.unread))
+
+pub returns-in-Ok-open_ports-clause-stand : goal.returns-in-Ok-open_ports-clause-stand
+returns-in-Ok-open_ports-clause-stand g c =
+    stand_as g.H.Host.source_number (g.H.Host.asked c.open_ports.new.host) c.in-Ok-open_ports.ports.items _ _ c.form_of.ensures
+    c.in-Ok-open_ports.ensures.stand
