@@ -9,7 +9,8 @@ use clap::{Arg, ArgAction, Command};
 use std::alloc::{AllocError, Global};
 use stream_words::VERSION;
 
-const ABOUT: &str = "Says what a folder of --state holds and how far its run has come, also while a run is at work there.";
+const ABOUT: &str =
+    "Says what a folder of --state holds and how far its run has come, also while a run is at work there.";
 
 // What stands behind the options.
 const AFTER_OPTIONS: &str = "\
@@ -50,7 +51,9 @@ fn explain<'a>(alloc: Global) -> Arg<'a>
     Arg::new(alloc, "explain")
         .long("explain")
         .action(ArgAction::SetTrue)
-        .help("Says which file the folder is refused for, and why; a terminal has that without being asked")
+        .help(
+            "Says which file the folder is refused for, and why; a terminal has that without being asked",
+        )
 }
 
 // A command line, with one argument more.

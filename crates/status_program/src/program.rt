@@ -36,12 +36,7 @@ fn tell_words<H: Host>(host: &mut H, words: Option<String>)
 }
 
 // Says what a folder holds, and gives the exit status: 1 where it can't be said.
-fn say<H: Host>(
-    alloc: Global,
-    host: &mut H,
-    options: &StatusOptions,
-    status: &FolderStatus,
-) -> u8
+fn say<H: Host>(alloc: Global, host: &mut H, options: &StatusOptions, status: &FolderStatus) -> u8
     requires { IsStatus (string_bytes options.now.folder) (H.asked host.old) status.now }
     ensures asked { IsAllAsked (string_bytes options.now.folder) (H.asked host.old) (H.asked host.new) }
     ensures status { result ≤ 3 }
