@@ -133,7 +133,14 @@ pub differs_by : (folder : List ℕ) (e : List Request) (net : Net) (inputs : Li
 differs_by folder e net inputs kept ItemDiffers read other faults =
     let has = other refl in
     record {
-      net = net; inputs = inputs; outputs = kept; output = has.output; place = has.place; read = read; there = has.there; other = has.other;
+      net = net;
+      inputs = inputs;
+      outputs = kept;
+      output = has.output;
+      place = has.place;
+      read = read;
+      there = has.there;
+      other = has.other;
     }
 differs_by folder e net inputs kept NoMemory read other faults = tt
 differs_by folder e net inputs kept OtherState read other faults = let same = faults (λ is. absurd cc) in absurd cc

@@ -76,7 +76,11 @@ fn words_of(
 ) -> Result<String, AllocError> {
     match (kept.get(place), again.outputs.get(place)) {
         (Some(one), Some(output)) => {
-            let path = items_path(alloc, folder, name_of(&net.channel_names, usize::from(one.channel)))?;
+            let path = items_path(
+                alloc,
+                folder,
+                name_of(&net.channel_names, usize::from(one.channel)),
+            )?;
             difference_words(alloc, &path, one, output.outlet.items())
         }
         _ => String::from_str(alloc, folder.as_str()),
