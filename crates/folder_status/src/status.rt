@@ -1,11 +1,9 @@
 //! What a folder holds, and how far its run has come.
 
 ghost use Rattle.std.specs.Prelude.{◌≡◌, ◌≢◌, IfErr, IfOk, map, string_bytes};
-ghost use Rattle.host.specs.Requests.{Request};
 ghost use Rattle.kahn_net.specs.Fits.{Fits};
 ghost use Rattle.kahn_net.specs.Syntax.{network_of};
 ghost use Rattle.protocol.specs.World.Common.{output_channels};
-ghost use Rattle.rerun.specs.Whole.{inputs_in, net_in};
 ghost use Rattle.folder_status.specs.Causes.{IsCaused};
 ghost use Rattle.folder_status.specs.Endings.{AreStreams, HasCome, HasOther, IsEnding};
 ghost use Rattle.folder_status.specs.Files.{OnlyReads};
