@@ -1,7 +1,7 @@
 -- What was read of a folder is so still, and why a file of it isn't read.
-use Rattle.std.proofs.Common.{◌≡◌, ◌⊎◌, ◌∙◌, inl, inr, ℕ, zero, suc, ◌+◌, ◌<◌, ℤ, List, [], ◌∷◌, ◌++◌, get_or, length, map, take, refl, sym, subst, ap, arith, Result, Ok, Err}
+use Rattle.std.proofs.Common.{◌≡◌, ◌∙◌, inl, inr, ℕ, zero, suc, ◌+◌, ◌<◌, ℤ, List, [], ◌∷◌, ◌++◌, get_or, length, map, take, refl, sym, subst, ap, arith, Result, Ok, Err}
 use Rattle.std.specs.List.{AllByRecursion}
-use Rattle.std.specs.Prelude.{IfErr, string_bytes}
+use Rattle.std.specs.Prelude.{IfErr}
 use Rattle.host.specs.Requests.{Has, Read, Request}
 use Rattle.host.specs.declared.fault.HostFault.{HostFault}
 use Rattle.host.specs.declared.fault.HostFault.TheVariants as host
@@ -133,7 +133,14 @@ pub differs_by : (folder : List ℕ) (e : List Request) (net : Net) (inputs : Li
 differs_by folder e net inputs kept ItemDiffers read other faults =
     let has = other refl in
     record {
-      net = net; inputs = inputs; outputs = kept; output = has.output; place = has.place; read = read; there = has.there; other = has.other;
+      net = net;
+      inputs = inputs;
+      outputs = kept;
+      output = has.output;
+      place = has.place;
+      read = read;
+      there = has.there;
+      other = has.other;
     }
 differs_by folder e net inputs kept NoMemory read other faults = tt
 differs_by folder e net inputs kept OtherState read other faults = let same = faults (λ is. absurd cc) in absurd cc

@@ -1,5 +1,5 @@
 -- Processes that were run again, and what their outputs took.
-use Rattle.std.proofs.Common.{◌≡◌, ◌∙◌, ℕ, zero, suc, ◌≤◌, Bool, true, false, Result, Ok, Err, ℤ, List, [], ◌∷◌, length, map, max, replicate, Some, refl, sym, subst, ap, arith}
+use Rattle.std.proofs.Common.{◌≡◌, ◌∙◌, ℕ, zero, suc, Bool, true, false, Result, Ok, Err, ℤ, List, [], ◌∷◌, length, map, replicate, Some, refl, sym, subst, ap, arith}
 use Rattle.std.specs.List.{AllByRecursion}
 use Rattle.std.specs.Prelude.{slice_get, slice_index, slice_index_or, IfOk, IsTrue, not}
 use Rattle.std.proofs.Math.Logic.{∥∥₁_map}
@@ -12,13 +12,13 @@ use Rattle.protocol.specs.World.Common.{output_channels, OutputView}
 use Rattle.rerun.specs.Tables.{first_table, HasRerun, IsAtRest, KeepsLimits, log_on, no_log, TableView}
 use Rattle.rerun.specs.Resting.{IsAll}
 use Rattle.rerun.specs.declared.stopped.Stopped.TheVariants.{Rests}
-use Rattle.rerun.specs.Whole.{inputs_in, net_in, table_in}
+use Rattle.rerun.specs.Whole.{net_in, table_in}
 use Rattle.rerun.specs.declared.stopped.Stopped.{Stopped}
 use Rattle.resuming.specs.CatchingUp.{HaveGoneOn, HaveTakenAll, StoppedSince}
-use Rattle.retained.specs.LogState.{log_end, LogState}
+use Rattle.retained.specs.LogState.{log_end}
 use Rattle.station.specs.OutputView.{output_view, outputs_view}
 use Rattle.station.specs.declared.output.Output.{Output}
-use Rattle.folder_status.specs.Endings.{AreRight, AreSame, AreStreams, HasCome, HasOther, IsEnding, IsMissed, IsStopped, limits_from}
+use Rattle.folder_status.specs.Endings.{HasCome, IsStopped, limits_from}
 use Rattle.folder_status.specs.declared.kept.KeptOutput.{KeptOutput}
 use Rattle.folder_status.specs.declared.again.Again.{Again}
 use Rattle.folder_status.proofs.Judging.{as_taken}

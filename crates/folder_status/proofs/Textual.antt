@@ -1,13 +1,11 @@
 -- Why texts are refused.
-use Rattle.std.proofs.Common.{◌≡◌, ◌⊎◌, inl, inr, ℕ, List, refl, sym, subst, Result, Ok, Err}
-use Rattle.std.specs.Prelude.{IfErr}
+use Rattle.std.proofs.Common.{◌≡◌, inl, inr, refl, sym, subst}
 use Rattle.net_check.specs.declared.fault.NetFault.{NetFault}
 use Rattle.net_check.specs.declared.fault.NetFault.TheVariants as net_fault
 use Rattle.net_text.specs.declared.fault.TextFault.{TextFault}
 use Rattle.net_text.specs.declared.fault.TextFault.TheVariants as text_fault
 use Rattle.folder_status.specs.Causes.{IsTextCause, of_net_fault, of_text_fault}
 use Rattle.folder_status.specs.declared.fault.StatusFault.{StatusFault}
-use Rattle.folder_status.specs.declared.fault.StatusRefused.{StatusRefused}
 
 -- what would only be refused for want of memory isn't so
 by_text : (P : Type 0) (fault : TextFault) → (P → fault ≡ text_fault.NoMemory) → IsTextCause (¬ P) (of_text_fault fault)
@@ -38,14 +36,3 @@ text_refused P fault told same only = subst (IsTextCause (¬ P)) (sym same) (by_
 pub net_refused : (P : Type 0) (fault : NetFault) (told : StatusFault) → told ≡ of_net_fault fault → (P → fault ≡ net_fault.NoMemory)
     → IsTextCause (¬ P) told
 net_refused P fault told same only = subst (IsTextCause (¬ P)) (sym same) (by_net P fault only)
-
-in_right : (Q P : Type 0) (fault : StatusFault) → IsTextCause P fault → IsTextCause (Q ⊎ P) fault
-in_right Q P fault (inl memory) = inl memory
-in_right Q P fault (inr other) = inr (other.0, inr other.1)
-
--- a text that is refused is none, and so are its bytes
-pub bytes_refused : {T : Type 0} (Q : Type 0) (P : List ℕ → Type 0) (text bytes : List ℕ) (result : Result T StatusRefused) → text ≡ bytes
-    → IfErr result (λ refused. IsTextCause (¬ (P text)) refused.fault) → IfErr result (λ refused. IsTextCause (Q ⊎ (¬ (P bytes))) refused.fault)
-bytes_refused {T} Q P text bytes (Ok x) same is = tt
-bytes_refused {T} Q P text bytes (Err refused) same is =
-    in_right Q (¬ (P bytes)) refused.fault (subst (λ (t : List ℕ). IsTextCause (¬ (P t)) refused.fault) same is)

@@ -1,5 +1,5 @@
 -- What was read of a folder.
-use Rattle.std.specs.Prelude.{◌≡◌, ℕ, ℤ, List, [], ◌++◌, length, map, Option, Some, None, Ok, slice_get}
+use Rattle.std.specs.Prelude.{◌≡◌, ℕ, ℤ, List, [], length, map, Option, Some, None, Ok, slice_get}
 use Rattle.std.specs.List.{AllByRecursion}
 use Rattle.host.specs.Requests.{Request, Has, Read}
 use Rattle.net_text.specs.Names.{NameTree}

@@ -1,5 +1,5 @@
 -- What the texts of a folder stand for.
-use Rattle.std.specs.Prelude.{◌≡◌, ℕ, ℤ, List}
+use Rattle.std.specs.Prelude.{ℕ, ℤ, List}
 use Rattle.kahn_net.specs.Syntax.{Network, network_of}
 use Rattle.kahn_net.specs.Valid.{IsValid}
 use Rattle.net_text.specs.Grammar.{IsTextOf}

@@ -1,6 +1,6 @@
 // The processes of a folder's network, run again.
 
-ghost use Rattle.std.specs.Prelude.{◌≡◌, ◌≤◌, IfOk, IsTrue, map};
+ghost use Rattle.std.specs.Prelude.{◌≡◌, IfOk, IsTrue, map};
 ghost use Rattle.kahn_net.specs.Fits.{Fits};
 ghost use Rattle.kahn_net.specs.Syntax.{network_of};
 ghost use Rattle.protocol.specs.World.Common.{output_channels};
@@ -100,7 +100,9 @@ impl Again {
         match self.stopped {
             Stopped::Reached | Stopped::Sweeps => true,
             Stopped::Rests => {
-                !self.rerun.is_to_put() || (has_met_all(kept, &self.outputs) && first_short(kept, &self.outputs).is_some())
+                !self.rerun.is_to_put()
+                    || (has_met_all(kept, &self.outputs)
+                        && first_short(kept, &self.outputs).is_some())
             }
         }
     }
@@ -133,10 +135,14 @@ pub(crate) fn run_further(
     let mut more = 1;
     for _ in 0..RAISES {
         let inner = room.saturating_mul(more).min(MAX_LOG_ITEMS as u64);
-        let limits = list_limits(alloc, &again.rerun.net().program.channels, kept, inner, more)?;
-        let Again {
-            rerun, outputs, ..
-        } = again;
+        let limits = list_limits(
+            alloc,
+            &again.rerun.net().program.channels,
+            kept,
+            inner,
+            more,
+        )?;
+        let Again { rerun, outputs, .. } = again;
         again = go_on(alloc, rerun, outputs, &limits)?;
         if again.tells_all(kept) {
             break;

@@ -115,11 +115,15 @@ pub(crate) fn difference_words(
         match taken.get(place) {
             Some(item) => {
                 if *item != *held {
-                    return format!(in alloc; "{path}: line {line} is {held}, but the item of this run is {item}");
+                    return format!(in alloc;
+                        "{path}: line {line} is {held}, but the item of this run is {item}"
+                    );
                 }
             }
             None => {
-                return format!(in alloc; "{path}: line {line} is {held}, but a run has no more items");
+                return format!(in alloc;
+                    "{path}: line {line} is {held}, but a run has no more items"
+                );
             }
         }
     }

@@ -73,10 +73,7 @@ fn read_own<H: Host>(
         Ok(bytes) => Ok(bytes),
         Err(fault) => {
             let words = host.words(alloc);
-            Err(refused(
-                StatusFault::of_unread(fault),
-                with_path(alloc, path, words),
-            ))
+            Err(refused(StatusFault::of_unread(fault), with_path(alloc, path, words)))
         }
     }
 }
@@ -92,11 +89,7 @@ fn with_path(
 }
 
 // The network of a folder.
-fn read_net<H: Host>(
-    host: &mut H,
-    alloc: Global,
-    folder: &String,
-) -> Result<Net, StatusRefused>
+fn read_net<H: Host>(host: &mut H, alloc: Global, folder: &String) -> Result<Net, StatusRefused>
     ensures asked { OnlyReads (string_bytes folder.now) (H.asked host.old) (H.asked host.new) }
     ensures net { IfOk result (λ net. IsNetRead (string_bytes folder.now) net (H.asked host.new)) }
     ensures cause { IfErr result (λ refused. IsCaused (string_bytes folder.now) (H.asked host.new) refused.fault) }
@@ -137,7 +130,10 @@ fn kept_of(
 {
     match read_items(alloc, bytes.as_slice()) {
         Ok(held) => {
-            let HeldItems { items, bytes: lines } = held;
+            let HeldItems {
+                items,
+                bytes: lines,
+            } = held;
             let cut_off = (bytes.len() as u64).saturating_sub(lines);
             Ok(KeptOutput {
                 channel,

@@ -1,11 +1,9 @@
 //! What a folder holds, and how far its run has come.
 
 ghost use Rattle.std.specs.Prelude.{◌≡◌, ◌≢◌, IfErr, IfOk, map, string_bytes};
-ghost use Rattle.host.specs.Requests.{Request};
 ghost use Rattle.kahn_net.specs.Fits.{Fits};
 ghost use Rattle.kahn_net.specs.Syntax.{network_of};
 ghost use Rattle.protocol.specs.World.Common.{output_channels};
-ghost use Rattle.rerun.specs.Whole.{inputs_in, net_in};
 ghost use Rattle.folder_status.specs.Causes.{IsCaused};
 ghost use Rattle.folder_status.specs.Endings.{AreStreams, HasCome, HasOther, IsEnding};
 ghost use Rattle.folder_status.specs.Files.{OnlyReads};
@@ -76,7 +74,11 @@ fn words_of(
 ) -> Result<String, AllocError> {
     match (kept.get(place), again.outputs.get(place)) {
         (Some(one), Some(output)) => {
-            let path = items_path(alloc, folder, name_of(&net.channel_names, usize::from(one.channel)))?;
+            let path = items_path(
+                alloc,
+                folder,
+                name_of(&net.channel_names, usize::from(one.channel)),
+            )?;
             difference_words(alloc, &path, one, output.outlet.items())
         }
         _ => String::from_str(alloc, folder.as_str()),

@@ -2,7 +2,7 @@
 
 ghost use Rattle.std.specs.Prelude.{◌≡◌, ◌++◌, IfOk, OnOk, length, slice_index, string_bytes};
 ghost use Rattle.kahn_net.specs.Streams.{history_of};
-ghost use Rattle.folder_status.specs.Kept.{items_of, name_of};
+ghost use Rattle.folder_status.specs.Kept.{name_of};
 ghost use Rattle.folder_status.specs.Lines.{compared_words, cut_words, input_line, input_lines, net_lines, number_line, output_line, output_lines, status_text, verdict};
 
 use crate::ending::Ending;

@@ -23,7 +23,10 @@ fn refused_text(alloc: Global, path: &String, fault: TextFault) -> StatusRefused
         | TextFault::Unexpected { .. }
         | TextFault::NumberRange { .. }
         | TextFault::TooLong { .. } => {
-            refused(StatusFault::OtherState, format!(in alloc; "{path}: {fault}"))
+            refused(
+                StatusFault::OtherState,
+                format!(in alloc; "{path}: {fault}"),
+            )
         }
     }
 }
@@ -43,7 +46,10 @@ fn refused_net(alloc: Global, path: &String, fault: NetFault) -> StatusRefused
         | NetFault::NoProducer { .. }
         | NetFault::NoConsumer { .. }
         | NetFault::MissingInput => {
-            refused(StatusFault::OtherState, format!(in alloc; "{path}: {fault}"))
+            refused(
+                StatusFault::OtherState,
+                format!(in alloc; "{path}: {fault}"),
+            )
         }
     }
 }
@@ -52,7 +58,10 @@ fn refused_net(alloc: Global, path: &String, fault: NetFault) -> StatusRefused
 fn not_text(alloc: Global, path: &String) -> StatusRefused
     ensures { result.fault ≡ OtherState }
 {
-    refused(StatusFault::OtherState, format!(in alloc; "{path}: not UTF-8"))
+    refused(
+        StatusFault::OtherState,
+        format!(in alloc; "{path}: not UTF-8"),
+    )
 }
 
 // The network of a text.

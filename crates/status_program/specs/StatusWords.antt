@@ -1,5 +1,5 @@
 -- Which words of a command line ask what a folder holds, and what they ask for.
-use Rattle.std.specs.Prelude.{◌≡◌, Bool, true, List, [], ◌∷◌, ◌==◌, Some, codes, drop, string_bytes}
+use Rattle.std.specs.Prelude.{◌≡◌, Bool, List, ◌==◌, Some, codes, drop, string_bytes}
 use Rattle.std.specs.List.{before_first}
 use Rattle.std.specs.Str.{bytes_eq}
 use Rattle.clap.specs.Words.{App, first_of, new_app, new_rule, one_of, Row, Rule, Text, with_rule}

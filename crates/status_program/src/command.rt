@@ -1,7 +1,7 @@
 //! The command line that asks what a folder holds, as `clap` is told of it.
 
 ghost use Rattle.std.specs.Prelude.{◌≡◌, IfOk, IsOkAnd, codes, false};
-ghost use Rattle.clap.specs.Words.{app_of, new_rule, rule_of, with_rule};
+ghost use Rattle.clap.specs.Words.{app_of, rule_of, with_rule};
 ghost use Rattle.stream_words.specs.CommandLine.{flag, required};
 ghost use Rattle.status_program.specs.StatusWords.{kahnrun_status, valued};
 

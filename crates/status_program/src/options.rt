@@ -1,6 +1,6 @@
 //! What the words of a command line ask for that asks what a folder holds.
 
-ghost use Rattle.std.specs.Prelude.{◌≡◌, [], IfErr, IfOk, map};
+ghost use Rattle.std.specs.Prelude.{IfErr, IfOk, map};
 ghost use Rattle.clap.specs.Words.{HasKind, fault_of, found_of, matches_of, rows_of};
 ghost use Rattle.status_program.specs.StatusWords.{IsStatusAsked, kahnrun_status};
 

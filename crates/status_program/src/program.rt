@@ -1,8 +1,7 @@
 //! The whole program over its host.
 
-ghost use Rattle.std.specs.Prelude.{◌≡◌, ◌≤◌, ◌⊎◌, string_bytes};
+ghost use Rattle.std.specs.Prelude.{◌≡◌, ◌≤◌, string_bytes};
 ghost use Rattle.folder_status.specs.Causes.{IsCaused};
-ghost use Rattle.folder_status.specs.Files.{OnlyReads};
 ghost use Rattle.status_program.specs.Told.{HasFailed, HasTold, IsAllAsked, IsStatus, MayTell, status_of_ending};
 
 use crate::options::StatusOptions;

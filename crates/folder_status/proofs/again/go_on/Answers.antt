@@ -15,6 +15,9 @@ invariant_of-result c =
       listed = listed_still (net_in old) (net_in now) c.args.outputs.items outputs c.in-Ok.ensures.net made.gone_on c.requires.listed;
       taken = at_same (λ net inputs. HaveTakenAll net inputs (table_in now) (outputs_view as_taken outputs)) (net_in old) (net_in now)
           (inputs_in old) (inputs_in now) c.in-Ok.ensures.net c.in-Ok.ensures.inputs made.taken;
-      since = ∣ (c.args.limits.now, at_same (λ net inputs. StoppedSince net inputs c.args.limits.now (table_in now) c.in-Ok.caught.stopped)
-          (net_in old) (net_in now) (inputs_in old) (inputs_in now) c.in-Ok.ensures.net c.in-Ok.ensures.inputs made.since) ∣₁;
+      since = ∣ (
+        c.args.limits.now,
+        at_same (λ net inputs. StoppedSince net inputs c.args.limits.now (table_in now) c.in-Ok.caught.stopped)
+            (net_in old) (net_in now) (inputs_in old) (inputs_in now) c.in-Ok.ensures.net c.in-Ok.ensures.inputs made.since,
+      ) ∣₁;
     }

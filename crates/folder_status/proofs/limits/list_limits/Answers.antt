@@ -1,4 +1,4 @@
-use Rattle.std.proofs.Common.{◌≡◌, ◌∙◌, ◌++◌, ◌∷◌, [], ap, List, ℕ}
+use Rattle.std.proofs.Common.{◌∙◌, ◌++◌, ◌∷◌, [], ap, ℕ}
 use Rattle.folder_status.proofs.Places.{one_limit_more}
 use Rattle.folder_status.proofs.limits.list_limits.Goals as goal
 

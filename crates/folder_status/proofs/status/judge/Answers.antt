@@ -1,5 +1,5 @@
-use Rattle.std.proofs.Common.{◌≡◌, ◌∙◌, ℤ, List, refl, sym}
-use Rattle.kahn_net.specs.Syntax.{Network, network_of}
+use Rattle.std.proofs.Common.{◌∙◌, refl, sym}
+use Rattle.kahn_net.specs.Syntax.{network_of}
 use Rattle.rerun.specs.Tables.{first_table}
 use Rattle.rerun.specs.Whole.{inputs_in, net_in, table_in}
 use Rattle.folder_status.specs.Endings.{AreStreams, HasCome}

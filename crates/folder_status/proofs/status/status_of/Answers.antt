@@ -1,7 +1,6 @@
-use Rattle.std.proofs.Common.{rules, List, subst, sym}
+use Rattle.std.proofs.Common.{rules, subst, sym}
 use Rattle.std.specs.Prelude.{string_bytes}
 use Rattle.folder_status.specs.Kept.{IsRead}
-use Rattle.folder_status.specs.declared.kept.KeptOutput.{KeptOutput}
 use Rattle.folder_status.proofs.Held.{differs_by}
 use Rattle.folder_status.proofs.status.status_of.Goals as goal
 

@@ -16,6 +16,6 @@ returns-in-Err-bind-clause-cause c =
     let net = c.args.net.now in
     net_refused (IsTextOfInputs net c.args.text.now) c.in-Err-bind.fault _ c.refused_net.ensures
     (λ good. let bound =
-        subst (λ (lines : List InputTree). Binds net.channel_names.items (network_of net.program) lines good.lists)
-        (sym (c.in-Ok.ensures.only good.lines good.text)) good.bound in
-        c.in-Err-bind.ensures.accepted good.lists bound)
+    subst (λ (lines : List InputTree). Binds net.channel_names.items (network_of net.program) lines good.lists)
+    (sym (c.in-Ok.ensures.only good.lines good.text)) good.bound in
+    c.in-Err-bind.ensures.accepted good.lists bound)

@@ -13,6 +13,6 @@ pub returns-in-Err-check-clause-cause : goal.returns-in-Err-check-clause-cause
 returns-in-Err-check-clause-cause c =
     net_refused (IsTextOfNet c.args.text.now) c.in-Err-check.fault _ c.refused_net.ensures
     (λ good. let resolved =
-        subst (λ (tree : List DeclarationTree). Resolves tree good.channels good.processes good.network)
-        (sym (c.in-Ok.ensures.only good.tree good.text)) good.resolved in
-        c.in-Err-check.ensures.accepted good.channels good.processes good.network resolved good.valid)
+    subst (λ (tree : List DeclarationTree). Resolves tree good.channels good.processes good.network)
+    (sym (c.in-Ok.ensures.only good.tree good.text)) good.resolved in
+    c.in-Err-check.ensures.accepted good.channels good.processes good.network resolved good.valid)
