@@ -10,7 +10,7 @@ use Rattle.stream_program.proofs.Preparing.{run_by_streams, ended_by, said_by}
 use Rattle.stream_program.proofs.program.run.Goals as goal
 
 pub run_streams-requires-clause-stand : goal.run_streams-requires-clause-stand
-run_streams-requires-clause-stand g c = λ lifetimes.
+run_streams-requires-clause-stand g c κs within =
     stand_as g.H.Host.source_number (g.H.Host.asked c.args.host) c.args.begun.ports.items _ _ (sym c.form_of.ensures) c.requires.stand
 
 pub returns-clause-asked : goal.returns-clause-asked
