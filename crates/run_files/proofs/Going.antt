@@ -8,7 +8,7 @@ use Rattle.std.specs.declared.string.String.{String}
 use Rattle.host.specs.Requests.{Locked, MadeFile, Opened, Placed, Read, Renamed, Unlocked, Used, Wrote}
 use Rattle.host.specs.Requests.{Request, Has, HasUnder, Later, Each, IsHeld, IsFree}
 use Rattle.run_files.specs.Leftovers.{AreGone, no_path}
-use Rattle.run_files.specs.Rules.{rule, GoesOn, GoesWith, Given, HasSameTexts, IfAsked, IsApart, IsElsewhere, IsOutside, IsReady, WasReadIf, WereRead}
+use Rattle.run_files.specs.Rules.{rule, AreJudged, AreRead, GoesOn, GoesWith, Given, HasGrown, HasSameTexts, IfAsked, IsApart, IsElsewhere, IsOutside, IsReady, WasReadIf, WereRead}
 use Rattle.host.specs.declared.fault.HostFault.{HostFault}
 use Rattle.host.specs.declared.line_file.LineFile.{Ghosts as FileWords}
 use Rattle.output_file.specs.Output.{asked_of}
@@ -91,6 +91,19 @@ module _ (accepts : Given → Type 0) (o : Wanted) where
     script = script_later o.script t.script old new later read.script;
   }
 
+  pub texts_later : (t : Given) (old new : List Request) → Later old new → AreRead o t old → AreRead o t new
+  texts_later t old new later read = record { net = later _ read.net; inputs = later _ read.inputs }
+
+  pub judged_later : (judges : Given → Type 0) (net inputs : List ℕ) (old new : List Request) → Later old new
+      → AreJudged judges o net inputs old → AreJudged judges o net inputs new
+  judged_later judges net inputs old new later judged = record {
+    given = judged.given;
+    read = texts_later judged.given old new later judged.read;
+    net_text = judged.net_text;
+    inputs_text = judged.inputs_text;
+    judged = judged.judged;
+  }
+
   asked_later : (name : Option (List ℕ)) (P : List ℕ → List Request → Type 0) (old new : List Request)
       → ((n : List ℕ) → P n old → P n new) → IfAsked name P old → IfAsked name P new
   asked_later None P old new more h = tt
@@ -139,6 +152,34 @@ module _ (accepts : Given → Type 0) (o : Wanted) where
     same_net = goes.under folder _ same.same_net;
     same_inputs = goes.under folder _ same.same_inputs;
   }
+
+  pub grown_goes : {made : List ℕ → Type 0} (folder inputs : List ℕ) (old new : List Request) → GoesWith made accepts o old new
+      → HasGrown accepts o folder inputs old → HasGrown accepts o folder inputs new
+  grown_goes folder inputs old new goes grown = record {
+    given = grown.given;
+    kept = grown.kept;
+    read = texts_later grown.given old new goes.later grown.read;
+    text = grown.text;
+    accepted = grown.accepted;
+    held = goes.held folder grown.held;
+    same_net = goes.under folder _ grown.same_net;
+    other_inputs = goes.under folder _ grown.other_inputs;
+  }
+
+  pub judged_goes : {made : List ℕ → Type 0} (judges : Given → Type 0) (net inputs : List ℕ) (old new : List Request)
+      → GoesWith made accepts o old new → AreJudged judges o net inputs old → AreJudged judges o net inputs new
+  judged_goes judges net inputs old new goes judged = judged_later judges net inputs old new goes.later judged
+
+  -- the texts for which a judge judges were read
+  pub judged_net : (judges : Given → Type 0) (net inputs : List ℕ) (e : List Request) → AreJudged judges o net inputs e
+      → Has (Read o.net (Ok net)) e
+  judged_net judges net inputs e judged =
+      let P : List ℕ → Type 0 = λ text. Has (Read o.net (Ok text)) e in subst P judged.net_text judged.read.net
+
+  pub judged_inputs : (judges : Given → Type 0) (net inputs : List ℕ) (e : List Request) → AreJudged judges o net inputs e
+      → Has (Read o.inputs (Ok inputs)) e
+  judged_inputs judges net inputs e judged =
+      let P : List ℕ → Type 0 = λ text. Has (Read o.inputs (Ok text)) e in subst P judged.inputs_text judged.read.inputs
 
 pub some_is : {A : Type 0} (x y : A) → Some x ≡ Some y → x ≡ y
 some_is x y same = cc

@@ -8,6 +8,7 @@ use Rattle.host.specs.declared.fault.HostFault.TheVariants as host
 use Rattle.host.specs.declared.host.Standing.TheVariants.{Folder}
 use Rattle.output_file.specs.Lines.{HasBadLine}
 use Rattle.run_files.specs.Places.{is_within}
+use Rattle.run_files.specs.Rules.{AreRead, Given, grown_from}
 use Rattle.run_files.specs.Wanted.{Wanted}
 use Rattle.run_files.specs.declared.happened.TheConstants.{LAST_NAME}
 use Rattle.run_files.specs.declared.fault.FilesFault.{FilesFault}
@@ -22,6 +23,10 @@ IsTaken host.NoMemory = ⊥
 IsTaken host.NotThere = ⊥
 IsTaken host.InUse = ⊥
 IsTaken host.Other = ⊥
+
+-- the name of the folder's text of inputs
+abbrev pub IsInputsName : Wanted → List ℕ → Type 0
+IsInputsName o path = (folder : List ℕ) × (o.state ≡ Some folder) × (path ≡ folder ++ codes "/inputs")
 
 -- a request about the folder or a file of it that the host didn't do, for another reason than that nothing stands there, that something
 -- does, or that another run is at work
@@ -41,7 +46,7 @@ IsUndone o (Wrote path bytes (Err fault)) = Unit {0}
 IsUndone o (Wrote path bytes (Ok done)) = ⊥
 IsUndone o (Synced path (Err fault)) = Unit {0}
 IsUndone o (Synced path (Ok done)) = ⊥
-IsUndone o (Renamed from to (Err fault)) = (o.state ≡ Some to) × ¬ (IsTaken fault)
+IsUndone o (Renamed from to (Err fault)) = ((o.state ≡ Some to) × ¬ (IsTaken fault)) ⊎ IsInputsName o to
 IsUndone o (Renamed from to (Ok done)) = ⊥
 IsUndone o (RemovedFile path answer) = ⊥
 IsUndone o (RemovedFolder path answer) = ⊥
@@ -102,6 +107,11 @@ abbrev pub AreFilesTaken : List Request → Type 0
 AreFilesTaken e = (stem : List ℕ)
     × ((nth : ℕ) → nth ≤ LAST_NAME → Has (MadeFile (tried_name stem (codes "new") nth) (Err host.IsThere)) e)
 
+-- under each name that is tried for a text that is to take the place of the folder's something stands
+abbrev pub AreTextsTaken : List Request → Type 0
+AreTextsTaken e = (stem : List ℕ)
+    × ((nth : ℕ) → nth ≤ LAST_NAME → Has (MadeFile (tried_name stem (codes "making") nth) (Err host.IsThere)) e)
+
 -- such a request stands in the log
 abbrev pub HasSuch : (Request → Type 0) → List Request → Type 0
 HasSuch P e = (r : Request) × Has r e × P r
@@ -112,20 +122,40 @@ pub data IsTextOf : Wanted → List ℕ → List ℕ → Type 0 where
   inputs : {o : Wanted} → IsTextOf o (codes "/inputs") o.inputs
 
 -- What stands under the folder's name is no folder of this run's texts, or is damaged.
-pub data IsOther (o : Wanted) (folder : List ℕ) (e : List Request) : Type 0 where
+pub data IsOther (accepts : Given → Type 0) (o : Wanted) (folder : List ℕ) (e : List Request) : Type 0 where
   -- something that is no folder
-  no_folder : Has (Looked (folder ++ codes "/net") (Err host.NoFolder)) e → IsOther o folder e
+  no_folder : Has (Looked (folder ++ codes "/net") (Err host.NoFolder)) e → IsOther accepts o folder e
   -- a folder without the file `net`, under whose name no new one could be put
-  taken : (making : List ℕ) (fault : HostFault) → Has (Renamed making folder (Err fault)) e → IsTaken fault → IsOther o folder e
-  -- a text that isn't the run's
-  other_text : (tail path bytes text : List ℕ) → IsTextOf o tail path → Has (Read (folder ++ tail) (Ok bytes)) e → Has (Read path (Ok text)) e
-      → bytes ≢ text → IsOther o folder e
+  taken : (making : List ℕ) (fault : HostFault) → Has (Renamed making folder (Err fault)) e → IsTaken fault → IsOther accepts o folder e
+  -- a text of a network that isn't the run's
+  other_net : (bytes text : List ℕ) → Has (Read (folder ++ codes "/net") (Ok bytes)) e → Has (Read o.net (Ok text)) e → bytes ≢ text
+      → IsOther accepts o folder e
+  -- a text of inputs that isn't the run's, and from which that hasn't grown
+  other_inputs : (given : Given) (bytes : List ℕ) → AreRead o given e → Has (Read (folder ++ codes "/inputs") (Ok bytes)) e
+      → bytes ≢ given.inputs → ¬ (accepts (grown_from bytes given)) → IsOther accepts o folder e
+  -- a text of inputs that isn't the run's, though the host said that this was put in its place
+  unreplaced : (making bytes text : List ℕ) → Has (Renamed making (folder ++ codes "/inputs") (Ok tt)) e
+      → Has (Read (folder ++ codes "/inputs") (Ok bytes)) e → Has (Read o.inputs (Ok text)) e → bytes ≢ text → IsOther accepts o folder e
   -- a text or the file of an output that isn't there
-  no_text : (tail path : List ℕ) → IsTextOf o tail path → Has (Read (folder ++ tail) (Err host.NotThere)) e → IsOther o folder e
-  no_lines : (name : List ℕ) (waits : Bool) → Has (Opened folder name waits (Err host.NotThere)) e → IsOther o folder e
+  no_text : (tail path : List ℕ) → IsTextOf o tail path → Has (Read (folder ++ tail) (Err host.NotThere)) e → IsOther accepts o folder e
+  no_lines : (name : List ℕ) (waits : Bool) → Has (Opened folder name waits (Err host.NotThere)) e → IsOther accepts o folder e
   -- the file of an output of which a line is no item's
   bad_line : (name bytes : List ℕ) (waits : Bool) (line : ℕ) → Has (Opened folder name waits (Ok bytes)) e → HasBadLine bytes line
-      → IsOther o folder e
+      → IsOther accepts o folder e
+
+-- Why a file isn't read. One that isn't there is missing in the folder.
+abbrev pub IsUnreadBy : List ℕ → List Request → FilesFault → Type 0
+IsUnreadBy path e NoMemory = Unit {0}
+IsUnreadBy path e OtherState = Has (Read path (Err host.NotThere)) e
+IsUnreadBy path e Failed = (fault : HostFault) × Has (Read path (Err fault)) e × (fault ≢ host.NotThere)
+IsUnreadBy path e InUse = ⊥
+IsUnreadBy path e Unwritten = ⊥
+IsUnreadBy path e Astray = ⊥
+
+-- Why a file doesn't hold this text: it isn't read, or what was read differs.
+abbrev pub IsUnlike : List ℕ → List ℕ → List Request → FilesFault → Type 0
+IsUnlike path text e told =
+    IsUnreadBy path e told ⊎ ((told ≡ OtherState) × ((bytes : List ℕ) × Has (Read path (Ok bytes)) e × (bytes ≢ text)))
 
 -- the host didn't give a folder that was made this name, since something stands under it
 abbrev pub IsTakenBy : List ℕ → List ℕ → List Request → Type 0
@@ -156,10 +186,10 @@ pub data IsUnwritable (o : Wanted) (name : List ℕ) (e : List Request) : Type 0
 
 -- What stands in the log where a run is refused for its files. For want of memory nothing can be said. That a file came back under another
 -- name than it was opened by is a fault of the program.
-abbrev pub IsCaused : Wanted → List Request → FilesFault → Type 0
-IsCaused o e NoMemory = Unit {0}
-IsCaused o e InUse = (folder : List ℕ) × (o.state ≡ Some folder) × IsBusy folder e
-IsCaused o e OtherState = (folder : List ℕ) × (o.state ≡ Some folder) × IsOther o folder e
-IsCaused o e Failed = HasSuch (IsUndone o) e ⊎ AreFoldersTaken e
-IsCaused o e Unwritten = (name : List ℕ) × (o.history ≡ Some name) × IsUnwritable o name e
-IsCaused o e Astray = Unit {0}
+abbrev pub IsCaused : (Given → Type 0) → Wanted → List Request → FilesFault → Type 0
+IsCaused accepts o e NoMemory = Unit {0}
+IsCaused accepts o e InUse = (folder : List ℕ) × (o.state ≡ Some folder) × IsBusy folder e
+IsCaused accepts o e OtherState = (folder : List ℕ) × (o.state ≡ Some folder) × IsOther accepts o folder e
+IsCaused accepts o e Failed = HasSuch (IsUndone o) e ⊎ (AreFoldersTaken e ⊎ AreTextsTaken e)
+IsCaused accepts o e Unwritten = (name : List ℕ) × (o.history ≡ Some name) × IsUnwritable o name e
+IsCaused accepts o e Astray = Unit {0}

@@ -12,6 +12,12 @@ pub record Given : Type 0 where
   pub net : List ℕ
   pub inputs : List ℕ
   pub script : Option (List ℕ)
+  -- another text of inputs, where the run's folder has one
+  pub kept : Option (List ℕ)
+
+-- these texts, of a run whose folder has this text of inputs
+abbrev pub grown_from : List ℕ → Given → Given
+grown_from kept given = record given { kept = Some kept }
 
 -- the script was read, if one is asked for
 abbrev pub WasReadIf : Option (List ℕ) → Option (List ℕ) → List Request → Type 0
@@ -25,6 +31,11 @@ pub record WereRead (o : Wanted) (t : Given) (e : List Request) : Type 0 where
   pub net : Has (Read o.net (Ok t.net)) e
   pub inputs : Has (Read o.inputs (Ok t.inputs)) e
   pub script : WasReadIf o.script t.script e
+
+-- the texts of the network and of its inputs were read, of the files that are asked for
+pub record AreRead (o : Wanted) (t : Given) (e : List Request) : Type 0 where
+  pub net : Has (Read o.net (Ok t.net)) e
+  pub inputs : Has (Read o.inputs (Ok t.inputs)) e
 
 -- the file of this name stands at another place than this one
 abbrev pub IsElsewhere : List ℕ → List ℕ → List Request → Type 0
@@ -48,6 +59,14 @@ pub record IsApart (o : Wanted) (name : List ℕ) (e : List Request) : Type 0 wh
   pub script : IfAsked o.script (IsElsewhere place) e
   pub state : IfAsked o.state (IsOutside place) e
 
+-- These two texts, the network's and its inputs', were read, and it is they for which a judge judges.
+pub record AreJudged (judges : Given → Type 0) (o : Wanted) (net inputs : List ℕ) (e : List Request) : Type 0 where
+  pub given : Given
+  pub read : AreRead o given e
+  pub net_text : given.net ≡ net
+  pub inputs_text : given.inputs ≡ inputs
+  pub judged : judges given
+
 -- Before anything is made, written or locked all texts were read and are accepted, and the names that are written were told apart.
 pub record IsReady (accepts : Given → Type 0) (o : Wanted) (e : List Request) : Type 0 where
   pub given : Given
@@ -64,6 +83,26 @@ pub record HasSameTexts (o : Wanted) (folder : List ℕ) (e : List Request) : Ty
   pub same_net : HasUnder folder (Read (folder ++ codes "/net") (Ok net)) e
   pub same_inputs : HasUnder folder (Read (folder ++ codes "/inputs") (Ok inputs)) e
 
+-- The folder, whose lock is held, has the text of the run's network, and one of inputs from which the run's text of inputs, this one, has grown.
+pub record HasGrown (accepts : Given → Type 0) (o : Wanted) (folder inputs : List ℕ) (e : List Request) : Type 0 where
+  pub given : Given
+  pub kept : List ℕ
+  pub read : AreRead o given e
+  pub text : given.inputs ≡ inputs
+  pub accepted : accepts (grown_from kept given)
+  pub held : IsHeld folder e
+  pub same_net : HasUnder folder (Read (folder ++ codes "/net") (Ok given.net)) e
+  pub other_inputs : HasUnder folder (Read (folder ++ codes "/inputs") (Ok kept)) e
+
+-- A file that this run made, and to which it wrote its text of inputs, gets the name of the one in such a folder.
+pub record IsReplacement (accepts : Given → Type 0) (o : Wanted) (from to : List ℕ) (e : List Request) : Type 0 where
+  pub folder : List ℕ
+  pub inputs : List ℕ
+  pub grown : HasGrown accepts o folder inputs e
+  pub made : Has (MadeFile from (Ok tt)) e
+  pub wrote : Has (Wrote from inputs (Ok tt)) e
+  pub named : to ≡ folder ++ codes "/inputs"
+
 -- What stands before a request.
 abbrev pub rule : (Given → Type 0) → Wanted → Request → List Request → Type 0
 rule accepts o (Read path answer) e = Unit {0}
@@ -78,10 +117,12 @@ rule accepts o (OpenedDevice path answer) e =
 rule accepts o (Wrote path bytes answer) e =
     IsReady accepts o e × (Has (MadeFile path (Ok tt)) e ⊎ Has (OpenedDevice path (Ok tt)) e)
 rule accepts o (Synced path answer) e = IsReady accepts o e
--- only what this run made, and a file only to the name of what happens, a folder only to that of the folder
+-- only what this run made: a file only to the name of what happens, or to that of the folder's text of inputs where it takes the place of one
+-- from which it has grown; a folder only to that of the folder
 rule accepts o (Renamed from to answer) e =
     IsReady accepts o e
-    × ((Has (MadeFile from (Ok tt)) e × (o.history ≡ Some to)) ⊎ (Has (MadeFolder from (Ok tt)) e × (o.state ≡ Some to)))
+    × ((Has (MadeFile from (Ok tt)) e × (o.history ≡ Some to))
+    ⊎ ((Has (MadeFolder from (Ok tt)) e × (o.state ≡ Some to)) ⊎ IsReplacement accepts o from to e))
 rule accepts o (RemovedFile path answer) e = Has (MadeFile path (Ok tt)) e
 rule accepts o (RemovedFolder path answer) e = Has (MadeFolder path (Ok tt)) e
 rule accepts o (Locked folder answer) e = IsReady accepts o e × IsFree e × (o.state ≡ Some folder)

@@ -5,7 +5,7 @@ ghost use Rattle.host.specs.Requests.{Opened, Cut, Used, Said, Told};
 ghost use Rattle.run_files.specs.Leftovers.{AreGone, IsIn, IsNamed};
 ghost use Rattle.run_files.specs.Making.{IsNotMade};
 ghost use Rattle.run_files.specs.Removing.{IsFileRemoved, IsFolderRemoved};
-ghost use Rattle.run_files.specs.Rules.{GoesOn, GoesWith, HasSameTexts, IsReady};
+ghost use Rattle.run_files.specs.Rules.{GoesOn, GoesWith, HasSameTexts, IsReady, IsReplacement};
 ghost use Rattle.run_files.specs.Wanted.{wanted_of};
 
 use crate::names::{Judge, Names};
@@ -163,6 +163,23 @@ pub fn rename_file<H: Host, J: Judge>(
     requires ready { IsReady J.accepts (wanted_of names.now) (H.asked host.old) }
     requires made { Has (MadeFile (string_bytes from.now) (Ok tt)) (H.asked host.old) }
     requires wanted { (wanted_of names.now).history ≡ Some (string_bytes to.now) }
+    ensures goes { GoesOn J.accepts (wanted_of names.now) (H.asked host.old) (H.asked host.new) }
+    ensures renamed { OnOk result (Has (Renamed (string_bytes from.now) (string_bytes to.now) (Ok tt)) (H.asked host.new)) }
+    ensures gone { OnOk result (AreGone (IsNamed (Some (string_bytes from.now))) (H.asked host.new)) }
+    ensures fault { IfErr result (λ fault. Has (Renamed (string_bytes from.now) (string_bytes to.now) (Err fault)) (H.asked host.new)) }
+{
+    host.rename(from, to)
+}
+
+/// Gives a file that was made the name of the folder's text of inputs, from which the run's has grown.
+pub fn rename_text<H: Host, J: Judge>(
+    host: &mut H,
+    names: &Names,
+    from: &String,
+    to: &String,
+) -> Result<(), HostFault>
+    requires ready { IsReady J.accepts (wanted_of names.now) (H.asked host.old) }
+    requires grown { IsReplacement J.accepts (wanted_of names.now) (string_bytes from.now) (string_bytes to.now) (H.asked host.old) }
     ensures goes { GoesOn J.accepts (wanted_of names.now) (H.asked host.old) (H.asked host.new) }
     ensures renamed { OnOk result (Has (Renamed (string_bytes from.now) (string_bytes to.now) (Ok tt)) (H.asked host.new)) }
     ensures gone { OnOk result (AreGone (IsNamed (Some (string_bytes from.now))) (H.asked host.new)) }

@@ -1,14 +1,15 @@
 // The folder in which what left outlasts the run: the texts of the network and of the inputs, a file of lines for each output, and a file
 // whose lock says that a run is at work.
 ghost use Rattle.std.specs.Prelude.{◌≡◌, ◌≢◌, ◌⊎◌, ◌<◌, ◌≤◌, ◌++◌, [], ◌∷◌, ℕ, List, IfOk, IfErr, IfSome, IfNone, OnOk, OnErr, IsTrue, Ok, Err, Some, false, codes, drop, length, map, slice_get, string_bytes};
-ghost use Rattle.host.specs.Requests.{Each, Has, HasUnder, IsFree, IsHeld, Later, MadeFolder, Opened, Read, Renamed, Used};
+ghost use Rattle.host.specs.Requests.{Each, Has, HasUnder, IsFree, IsHeld, Later, MadeFile, MadeFolder, Opened, Read, Renamed, Used};
 ghost use Rattle.output_file.specs.Lines.{HoldsLines};
 ghost use Rattle.output_file.specs.Output.{asked_of};
 ghost use Rattle.run_files.specs.Opening.{AreMade, AreHeldAs, AreOpened, AreUsed, IsCutTo, IsNewFolder, opened_names, path_in, paths_in};
 ghost use Rattle.run_files.specs.Leftovers.{AreGone, IsFirst, IsIn, IsNamed, LeavesNothing};
 ghost use Rattle.run_files.specs.Removing.{AreRemoved, IsCleared, IsFolderRemoved};
-ghost use Rattle.run_files.specs.Rules.{GoesOn, GoesWith, HasSameTexts, IsReady, rule};
-ghost use Rattle.run_files.specs.Causes.{IsCaused, IsTaken, IsTextOf, IsTakenBy, IsUnreadable, tried_name};
+ghost use Rattle.run_files.specs.Making.{IsUnmade};
+ghost use Rattle.run_files.specs.Rules.{AreJudged, GoesOn, GoesWith, HasGrown, HasSameTexts, IsReady, rule};
+ghost use Rattle.run_files.specs.Causes.{IsCaused, IsTaken, IsTakenBy, IsUnlike, IsUnreadBy, IsUnreadable, tried_name};
 ghost use Rattle.run_files.specs.Faults.{or_memory};
 ghost use Rattle.host.specs.declared.fault.HostFault.TheVariants as host_fault;
 ghost use Rattle.run_files.specs.Syncing.{AreSyncedIf};
@@ -16,8 +17,8 @@ ghost use Rattle.run_files.specs.Wanted.{wanted_of};
 ghost use Rattle.run_files.specs.declared.fault.FilesFault.TheVariants.{Astray, OtherState};
 
 use crate::asking::{
-    cut, look, make_file, make_folder, open_lines, read, remove_file, remove_folder, rename_folder,
-    sync, take_back,
+    cut, look, make as make_new, make_file, make_folder, open_lines, read, remove_file,
+    remove_folder, rename_folder, rename_text, sync, take_back, write,
 };
 use crate::fault::{FilesFault, Refused, is_there};
 use crate::happened::{LAST_NAME, fresh_name};
@@ -76,44 +77,57 @@ fn is_same(bytes: &Vec<u8>, text: &Vec<u8>) -> bool
     bytes.as_slice() == text.as_slice()
 }
 
+// What a file of the folder holds, whose lock is held.
+fn read_held<H: Host, J: Judge>(
+    host: &mut H,
+    alloc: Global,
+    names: &Names,
+    folder: &String,
+    path: &String,
+) -> Result<Vec<u8>, Refused>
+    requires held { IsHeld (string_bytes folder.now) (H.asked host.old) }
+    ensures goes { GoesOn J.accepts (wanted_of names.now) (H.asked host.old) (H.asked host.new) }
+    ensures read { IfOk result (λ bytes. HasUnder (string_bytes folder.now) (Read (string_bytes path.now) (Ok bytes.items)) (H.asked host.new)) }
+    ensures has { IfOk result (λ bytes. Has (Read (string_bytes path.now) (Ok bytes.items)) (H.asked host.new)) }
+    ensures cause { IfErr result (λ refused. IsUnreadBy (string_bytes path.now) (H.asked host.new) refused.fault) }
+{
+    let _ = folder;
+    match read::<H, J>(host, names, path) {
+        Ok(bytes) => Ok(bytes),
+        Err(fault) => {
+            let refusal = FilesFault::of_missing(fault);
+            Err(refused_by(host, alloc, refusal, fault, path))
+        }
+    }
+}
+
+// The refusal of a folder of which this file holds another text.
+fn differs(alloc: Global, path: &String, bytes: &Vec<u8>, text: &Vec<u8>) -> Refused
+    ensures { result.fault ≡ OtherState }
+{
+    refused(FilesFault::OtherState, other_text(alloc, path, bytes, text))
+}
+
 // Refuses unless a file of the folder holds exactly this text.
 fn compare<H: Host, J: Judge>(
     host: &mut H,
     alloc: Global,
     names: &Names,
     folder: &String,
-    tail: &str,
+    path: &String,
     text: &Vec<u8>,
 ) -> Result<(), Refused>
     requires held { IsHeld (string_bytes folder.now) (H.asked host.old) }
-    requires wanted { (wanted_of names.now).state ≡ Some (string_bytes folder.now) }
-    requires text { (path : List ℕ) × IsTextOf (wanted_of names.now) tail.now path
-        × Has (Read path (Ok text.now.items)) (H.asked host.old) }
     ensures goes { GoesOn J.accepts (wanted_of names.now) (H.asked host.old) (H.asked host.new) }
-    ensures same { OnOk result (HasUnder (string_bytes folder.now)
-        (Read (string_bytes folder.now ++ tail.now) (Ok text.now.items)) (H.asked host.new)) }
+    ensures same { OnOk result (HasUnder (string_bytes folder.now) (Read (string_bytes path.now) (Ok text.now.items)) (H.asked host.new)) }
     // A folder is told to be another run's only where this file of it holds another text, or isn't there.
-    ensures other { IfErr result (λ refused. refused.fault ≡ OtherState
-        → ((bytes : List ℕ) × Has (Read (string_bytes folder.now ++ tail.now) (Ok bytes)) (H.asked host.new) × (bytes ≢ text.now.items))
-        ⊎ Has (Read (string_bytes folder.now ++ tail.now) (Err host_fault.NotThere)) (H.asked host.new)) }
-    ensures cause { IfErr result (λ refused. IsCaused (wanted_of names.now) (H.asked host.new) refused.fault) }
+    ensures cause { IfErr result (λ refused. IsUnlike (string_bytes path.now) text.now.items (H.asked host.new) refused.fault) }
 {
-    let Ok(path) = in_folder(alloc, folder, tail) else {
-        return Err(no_memory());
-    };
-    match read::<H, J>(host, names, &path) {
-        Ok(bytes) => if is_same(&bytes, text) {
-            Ok(())
-        } else {
-            Err(refused(
-                FilesFault::OtherState,
-                other_text(alloc, &path, &bytes, text),
-            ))
-        },
-        Err(fault) => {
-            let refusal = FilesFault::of_missing(fault);
-            Err(refused_by(host, alloc, refusal, fault, &path))
-        }
+    let bytes = read_held::<H, J>(host, alloc, names, folder, path)?;
+    if is_same(&bytes, text) {
+        Ok(())
+    } else {
+        Err(differs(alloc, path, &bytes, text))
     }
 }
 
@@ -150,7 +164,7 @@ fn make_nth<H: Host, J: Judge>(
     ensures failed { IfErr result (λ refused. GoesOn J.accepts (wanted_of names.now) (H.asked host.old) (H.asked host.new)) }
     ensures made { IfOk result (λ made. IfSome made (λ making. Has (MadeFolder (string_bytes making) (Ok tt)) (H.asked host.new))) }
     ensures taken { IfOk result (λ made. IfNone made (Has (MadeFolder (tried_name stem.now (codes "making") nth) (Err host_fault.IsThere)) (H.asked host.new))) }
-    ensures cause { IfErr result (λ refused. IsCaused (wanted_of names.now) (H.asked host.new) refused.fault) }
+    ensures cause { IfErr result (λ refused. IsCaused J.accepts (wanted_of names.now) (H.asked host.new) refused.fault) }
 {
     let making = fresh_name(alloc, stem, "making", nth)?;
     match make_folder::<H, J>(host, names, &making) {
@@ -174,7 +188,7 @@ fn make_beside<H: Host, J: Judge>(
     ensures goes { IfOk result (λ making. GoesWith (IsNamed (Some (string_bytes making))) J.accepts (wanted_of names.now) (H.asked host.old) (H.asked host.new)) }
     ensures failed { IfErr result (λ refused. GoesOn J.accepts (wanted_of names.now) (H.asked host.old) (H.asked host.new)) }
     ensures made { IfOk result (λ making. Has (MadeFolder (string_bytes making) (Ok tt)) (H.asked host.new)) }
-    ensures cause { IfErr result (λ refused. IsCaused (wanted_of names.now) (H.asked host.new) refused.fault) }
+    ensures cause { IfErr result (λ refused. IsCaused J.accepts (wanted_of names.now) (H.asked host.new) refused.fault) }
 {
     let stem = folder.as_str().trim_end_matches('/');
     for nth in 0..LAST_NAME + 1 {
@@ -234,7 +248,7 @@ fn fill<H: Host, J: Judge>(
     ensures goes { GoesWith (IsFirst result.0 paths.now) J.accepts (wanted_of names.now) (H.asked host.old) (H.asked host.new) }
     ensures made { AreMade result.0 paths.now (H.asked host.new) }
     ensures all { IfNone result.1 (length paths.now ≤ result.0) }
-    ensures cause { IfSome result.1 (λ refused. IsCaused (wanted_of names.now) (H.asked host.new) refused.fault) }
+    ensures cause { IfSome result.1 (λ refused. IsCaused J.accepts (wanted_of names.now) (H.asked host.new) refused.fault) }
 {
     let nothing = Vec::new(alloc);
     let mut made = 0;
@@ -283,7 +297,7 @@ fn settle<H: Host, J: Judge>(
     requires { IsReady J.accepts (wanted_of names.now) (H.asked host.old) }
     ensures goes { GoesOn J.accepts (wanted_of names.now) (H.asked host.old) (H.asked host.new) }
     ensures synced { OnOk result (AreSyncedIf names.now.sync (map string_bytes paths.now) (H.asked host.new)) }
-    ensures cause { IfErr result (λ refused. IsCaused (wanted_of names.now) (H.asked host.new) refused.fault) }
+    ensures cause { IfErr result (λ refused. IsCaused J.accepts (wanted_of names.now) (H.asked host.new) refused.fault) }
 {
     if !names.sync {
         return Ok(());
@@ -306,7 +320,7 @@ fn settle_one<H: Host, J: Judge>(
     requires { IsReady J.accepts (wanted_of names.now) (H.asked host.old) }
     ensures goes { GoesOn J.accepts (wanted_of names.now) (H.asked host.old) (H.asked host.new) }
     ensures synced { OnOk result (AreSyncedIf names.now.sync (string_bytes path.now ∷ []) (H.asked host.new)) }
-    ensures cause { IfErr result (λ refused. IsCaused (wanted_of names.now) (H.asked host.new) refused.fault) }
+    ensures cause { IfErr result (λ refused. IsCaused J.accepts (wanted_of names.now) (H.asked host.new) refused.fault) }
 {
     if !names.sync {
         return Ok(());
@@ -357,7 +371,7 @@ fn give_name<H: Host, J: Judge>(
     ensures gone { IfOk result (λ named. IsTrue named → AreGone (IsIn (string_bytes making.now)) (H.asked host.new)) }
     ensures taken { IfOk result (λ named. named ≡ false → IsTakenBy (string_bytes making.now) (string_bytes folder.now) (H.asked host.new)) }
     ensures synced { IfOk result (λ named. AreSyncedIf names.now.sync (map string_bytes paths.now ++ string_bytes making.now ∷ []) (H.asked host.new)) }
-    ensures cause { IfErr result (λ refused. IsCaused (wanted_of names.now) (H.asked host.new) refused.fault) }
+    ensures cause { IfErr result (λ refused. IsCaused J.accepts (wanted_of names.now) (H.asked host.new) refused.fault) }
 {
     settle::<H, J>(host, alloc, names, paths)?;
     settle_one::<H, J>(host, alloc, names, making)?;
@@ -391,7 +405,7 @@ fn fill_and_name<H: Host, J: Judge>(
         → Has (Renamed (string_bytes making.now) (string_bytes folder.now) (Ok tt)) (H.asked host.new)) }
     ensures taken { IfOk result.1 (λ named. named ≡ false → IsTakenBy (string_bytes making.now) (string_bytes folder.now) (H.asked host.new)) }
     ensures all { IfOk result.1 (λ named. length paths.now ≤ result.0) }
-    ensures cause { IfErr result.1 (λ refused. IsCaused (wanted_of names.now) (H.asked host.new) refused.fault) }
+    ensures cause { IfErr result.1 (λ refused. IsCaused J.accepts (wanted_of names.now) (H.asked host.new) refused.fault) }
 {
     let (made, failed) = fill::<H, J>(host, alloc, names, paths, texts);
     match failed {
@@ -419,7 +433,7 @@ fn make<H: Host, J: Judge>(
     ensures named { IfOk result (λ named. IsTrue named → IsNewFolder (string_bytes folder.now) (map string_bytes outputs.now) (H.asked host.new)) }
     ensures taken { IfOk result (λ named. named ≡ false → (making : List ℕ) × IsTakenBy making (string_bytes folder.now) (H.asked host.new)) }
     ensures cleared { IfOk result (λ named. named ≡ false → IsCleared (map string_bytes outputs.now) (H.asked host.new)) }
-    ensures cause { IfErr result (λ refused. IsCaused (wanted_of names.now) (H.asked host.new) refused.fault) }
+    ensures cause { IfErr result (λ refused. IsCaused J.accepts (wanted_of names.now) (H.asked host.new) refused.fault) }
 {
     let making = make_beside::<H, J>(host, alloc, names, folder)?;
     let paths = match paths_of(alloc, &making, outputs) {
@@ -453,7 +467,7 @@ fn is_made<H: Host, J: Judge>(
 ) -> Result<bool, Refused>
     requires wanted { (wanted_of names.now).state ≡ Some (string_bytes folder.now) }
     ensures goes { GoesOn J.accepts (wanted_of names.now) (H.asked host.old) (H.asked host.new) }
-    ensures cause { IfErr result (λ refused. IsCaused (wanted_of names.now) (H.asked host.new) refused.fault) }
+    ensures cause { IfErr result (λ refused. IsCaused J.accepts (wanted_of names.now) (H.asked host.new) refused.fault) }
 {
     let path = in_folder(alloc, folder, "/net")?;
     match look::<H, J>(host, names, &path) {
@@ -481,7 +495,7 @@ fn make_if_missing<H: Host, J: Judge>(
     requires ready { IsReady J.accepts (wanted_of names.now) (H.asked host.old) }
     requires wanted { (wanted_of names.now).state ≡ Some (string_bytes folder.now) }
     ensures goes { GoesOn J.accepts (wanted_of names.now) (H.asked host.old) (H.asked host.new) }
-    ensures cause { IfErr result (λ refused. IsCaused (wanted_of names.now) (H.asked host.new) refused.fault) }
+    ensures cause { IfErr result (λ refused. IsCaused J.accepts (wanted_of names.now) (H.asked host.new) refused.fault) }
 {
     if is_made::<H, J>(host, alloc, names, folder)? {
         return Ok(());
@@ -536,7 +550,7 @@ fn cut_tail<H: Host, J: Judge>(
     ensures cut { OnOk result (IsCutTo (string_bytes name.now) len (length bytes.now.items) (H.asked host.new)) }
     ensures name { H.Lines.name_of file.new ≡ H.Lines.name_of file.old }
     ensures same { H.Lines.asked file.new ≡ H.Lines.asked file.old }
-    ensures cause { IfErr result (λ refused. IsCaused (wanted_of names.now) (H.asked host.new) refused.fault) }
+    ensures cause { IfErr result (λ refused. IsCaused J.accepts (wanted_of names.now) (H.asked host.new) refused.fault) }
 {
     if bytes.len() as u64 <= len {
         return Ok(());
@@ -567,7 +581,7 @@ fn open_one<H: Host, J: Judge>(
     ensures named { IfOk result (λ one. H.Lines.name_of one.0.file ≡ string_bytes name.now) }
     ensures lines { IfOk result (λ one. HoldsLines one.1.value.items one.0.held.items.items (drop one.0.held.bytes one.1.value.items)) }
     ensures cut { IfOk result (λ one. IsCutTo (string_bytes name.now) one.0.held.bytes (length one.1.value.items) (H.asked host.new)) }
-    ensures cause { IfErr result (λ refused. IsCaused (wanted_of names.now) (H.asked host.new) refused.fault) }
+    ensures cause { IfErr result (λ refused. IsCaused J.accepts (wanted_of names.now) (H.asked host.new) refused.fault) }
 {
     let path = file_in(alloc, folder, name)?;
     let (mut file, bytes) = match open_lines::<H, J>(host, names, lock, folder, name) {
@@ -602,7 +616,7 @@ fn open_each<H: Host, J: Judge>(
     ensures opened { IfOk result (λ all. AreOpened names.now.sync (string_bytes folder.now) all.1.items (H.asked host.new)) }
     ensures named { IfOk result (λ all. opened_names all.1.items ≡ map string_bytes outputs.items) }
     ensures files { IfOk result (λ all. AreHeldAs all.1.items all.0.items (H.asked host.new)) }
-    ensures cause { IfErr result (λ refused. IsCaused (wanted_of names.now) (H.asked host.new) refused.fault) }
+    ensures cause { IfErr result (λ refused. IsCaused J.accepts (wanted_of names.now) (H.asked host.new) refused.fault) }
 {
     let mut files = Vec::with_capacity(alloc, outputs.len())?;
     let mut opened = Vec::with_capacity(alloc, outputs.len())?;
@@ -614,12 +628,190 @@ fn open_each<H: Host, J: Judge>(
     Ok((files, opened))
 }
 
-// What is done under the lock before an output's file is opened: the texts are compared, and what was found is synced where that is asked
-// for.
+// A file of the nth name for a text that is to take the place of the folder's. None where something stands there.
+fn make_text_nth<H: Host, J: Judge>(
+    host: &mut H,
+    alloc: Global,
+    names: &Names,
+    stem: &str,
+    nth: u64,
+) -> Result<Option<(String, H::File)>, Refused>
+    requires { IsReady J.accepts (wanted_of names.now) (H.asked host.old) }
+    ensures goes { IfOk result (λ made. IfSome made (λ one. GoesWith (IsNamed (Some (string_bytes one.0))) J.accepts (wanted_of names.now) (H.asked host.old) (H.asked host.new))) }
+    ensures unmade { IfOk result (λ made. IfNone made (GoesOn J.accepts (wanted_of names.now) (H.asked host.old) (H.asked host.new))) }
+    ensures failed { IfErr result (λ refused. GoesOn J.accepts (wanted_of names.now) (H.asked host.old) (H.asked host.new)) }
+    ensures made { IfOk result (λ made. IfSome made (λ one. Has (MadeFile (string_bytes one.0) (Ok tt)) (H.asked host.new))) }
+    ensures path { IfOk result (λ made. IfSome made (λ one. H.path_of one.1 ≡ string_bytes one.0)) }
+    ensures taken { IfOk result (λ made. IfNone made (Has (MadeFile (tried_name stem.now (codes "making") nth) (Err host_fault.IsThere)) (H.asked host.new))) }
+    ensures cause { IfErr result (λ refused. IsUnmade (H.asked host.new) refused.fault) }
+{
+    let making = fresh_name(alloc, stem, "making", nth)?;
+    match make_new::<H, J>(host, names, &making) {
+        Ok(file) => Ok(Some((making, file))),
+        Err(fault) => if is_there(fault) {
+            Ok(None)
+        } else {
+            Err(refused_by(host, alloc, FilesFault::Failed, fault, &making))
+        },
+    }
+}
+
+// A file where nothing stands, beside the folder's text of inputs. An older one that was left there stays.
+fn make_text<H: Host, J: Judge>(
+    host: &mut H,
+    alloc: Global,
+    names: &Names,
+    path: &String,
+) -> Result<(String, H::File), Refused>
+    requires { IsReady J.accepts (wanted_of names.now) (H.asked host.old) }
+    ensures goes { IfOk result (λ one. GoesWith (IsNamed (Some (string_bytes one.0))) J.accepts (wanted_of names.now) (H.asked host.old) (H.asked host.new)) }
+    ensures failed { IfErr result (λ refused. GoesOn J.accepts (wanted_of names.now) (H.asked host.old) (H.asked host.new)) }
+    ensures made { IfOk result (λ one. Has (MadeFile (string_bytes one.0) (Ok tt)) (H.asked host.new)) }
+    ensures path { IfOk result (λ one. H.path_of one.1 ≡ string_bytes one.0) }
+    // It gives up only where each name is taken, or one isn't made for another reason.
+    ensures cause { IfErr result (λ refused. IsUnmade (H.asked host.new) refused.fault) }
+{
+    let stem = path.as_str();
+    for nth in 0..LAST_NAME + 1 {
+        if let Some(made) = make_text_nth::<H, J>(host, alloc, names, stem, nth)? {
+            return Ok(made);
+        }
+    }
+    Err(refused_at(
+        alloc,
+        FilesFault::Failed,
+        path,
+        ".making: too many files of this name are left",
+    ))
+}
+
+// Writes the run's text of inputs to a file that was made, and puts it in the place of the folder's.
+fn write_and_replace<H: Host, J: Judge>(
+    host: &mut H,
+    alloc: Global,
+    names: &Names,
+    folder: &String,
+    path: &String,
+    making: &String,
+    file: &mut H::File,
+    text: &Vec<u8>,
+) -> Result<(), Refused>
+    requires ready { IsReady J.accepts (wanted_of names.now) (H.asked host.old) }
+    requires wanted { (wanted_of names.now).state ≡ Some (string_bytes folder.now) }
+    requires grown { HasGrown J.accepts (wanted_of names.now) (string_bytes folder.now) text.now.items (H.asked host.old) }
+    requires named { string_bytes path.now ≡ string_bytes folder.now ++ codes "/inputs" }
+    requires made { Has (MadeFile (string_bytes making.now) (Ok tt)) (H.asked host.old) }
+    requires file { H.path_of file.old ≡ string_bytes making.now }
+    ensures goes { GoesOn J.accepts (wanted_of names.now) (H.asked host.old) (H.asked host.new) }
+    ensures renamed { OnOk result (Has (Renamed (string_bytes making.now) (string_bytes path.now) (Ok tt)) (H.asked host.new)) }
+    ensures gone { OnOk result (AreGone (IsNamed (Some (string_bytes making.now))) (H.asked host.new)) }
+    // Where that is asked for, it stands on the disk before it has the name.
+    ensures synced { OnOk result (AreSyncedIf names.now.sync (string_bytes making.now ∷ []) (H.asked host.new)) }
+    ensures cause { IfErr result (λ refused. IsCaused J.accepts (wanted_of names.now) (H.asked host.new) refused.fault) }
+{
+    let _ = folder;
+    if let Err(fault) = write::<H, J>(host, names, file, text) {
+        return Err(refused_by(host, alloc, FilesFault::Failed, fault, making));
+    }
+    settle_one::<H, J>(host, alloc, names, making)?;
+    match rename_text::<H, J>(host, names, making, path) {
+        Ok(()) => Ok(()),
+        Err(fault) => Err(refused_by(host, alloc, FilesFault::Failed, fault, path)),
+    }
+}
+
+// Puts the run's text of inputs in the place of the folder's, from which it has grown. Where that fails, what was made is taken away.
+fn replace_text<H: Host, J: Judge>(
+    host: &mut H,
+    alloc: Global,
+    names: &Names,
+    folder: &String,
+    path: &String,
+    text: &Vec<u8>,
+) -> Result<(), Refused>
+    requires ready { IsReady J.accepts (wanted_of names.now) (H.asked host.old) }
+    requires wanted { (wanted_of names.now).state ≡ Some (string_bytes folder.now) }
+    requires grown { HasGrown J.accepts (wanted_of names.now) (string_bytes folder.now) text.now.items (H.asked host.old) }
+    requires named { string_bytes path.now ≡ string_bytes folder.now ++ codes "/inputs" }
+    ensures goes { GoesOn J.accepts (wanted_of names.now) (H.asked host.old) (H.asked host.new) }
+    ensures renamed { OnOk result ((making : List ℕ) × Has (Renamed making (string_bytes path.now) (Ok tt)) (H.asked host.new)) }
+    ensures cause { IfErr result (λ refused. IsCaused J.accepts (wanted_of names.now) (H.asked host.new) refused.fault) }
+{
+    let (making, mut file) = make_text::<H, J>(host, alloc, names, path)?;
+    let replaced = write_and_replace::<H, J>(
+        host, alloc, names, folder, path, &making, &mut file, text,
+    );
+    match replaced {
+        Ok(()) => Ok(()),
+        Err(refused) => {
+            remove_file::<H, J>(host, names, &making);
+            Err(refused)
+        }
+    }
+}
+
+// Compares the folder's text of inputs with the run's. One from which the run's has grown is replaced by it.
+fn compare_or_replace<H: Host, J: Judge>(
+    host: &mut H,
+    alloc: Global,
+    names: &Names,
+    judge: &J,
+    folder: &String,
+    path: &String,
+    texts: FolderTexts<'_>,
+) -> Result<(), Refused>
+    requires ready { IsReady J.accepts (wanted_of names.now) (H.asked host.old) }
+    requires wanted { (wanted_of names.now).state ≡ Some (string_bytes folder.now) }
+    requires held { IsHeld (string_bytes folder.now) (H.asked host.old) }
+    requires judged { AreJudged (J.judges judge.now) (wanted_of names.now) texts.net.now.items texts.inputs.now.items (H.asked host.old) }
+    requires net { HasUnder (string_bytes folder.now) (Read (string_bytes folder.now ++ codes "/net") (Ok texts.net.now.items)) (H.asked host.old) }
+    requires named { string_bytes path.now ≡ string_bytes folder.now ++ codes "/inputs" }
+    ensures goes { GoesOn J.accepts (wanted_of names.now) (H.asked host.old) (H.asked host.new) }
+    ensures same { OnOk result (HasUnder (string_bytes folder.now) (Read (string_bytes path.now) (Ok texts.entry.inputs.now.items)) (H.asked host.new)) }
+    // Nothing is told to be another run's from which the run's inputs have grown.
+    ensures cause { IfErr result (λ refused. IsCaused J.accepts (wanted_of names.now) (H.asked host.new) refused.fault) }
+{
+    let kept = read_held::<H, J>(host, alloc, names, folder, path)?;
+    if is_same(&kept, texts.inputs) {
+        return Ok(());
+    }
+    if judge.has_grown(alloc, &kept)? {
+        replace_text::<H, J>(host, alloc, names, folder, path, texts.inputs)?;
+        return compare::<H, J>(host, alloc, names, folder, path, texts.inputs);
+    }
+    Err(differs(alloc, path, &kept, texts.inputs))
+}
+
+// Compares both texts of the folder with the run's. A text of inputs from which the run's has grown is replaced by it.
+fn compare_texts<H: Host, J: Judge>(
+    host: &mut H,
+    alloc: Global,
+    names: &Names,
+    judge: &J,
+    folder: &String,
+    texts: FolderTexts<'_>,
+) -> Result<(), Refused>
+    requires ready { IsReady J.accepts (wanted_of names.now) (H.asked host.old) }
+    requires wanted { (wanted_of names.now).state ≡ Some (string_bytes folder.now) }
+    requires held { IsHeld (string_bytes folder.now) (H.asked host.old) }
+    requires judged { AreJudged (J.judges judge.now) (wanted_of names.now) texts.net.now.items texts.inputs.now.items (H.asked host.old) }
+    ensures goes { GoesOn J.accepts (wanted_of names.now) (H.asked host.old) (H.asked host.new) }
+    ensures same { OnOk result (HasSameTexts (wanted_of names.now) (string_bytes folder.now) (H.asked host.new)) }
+    ensures cause { IfErr result (λ refused. IsCaused J.accepts (wanted_of names.now) (H.asked host.new) refused.fault) }
+{
+    let net = in_folder(alloc, folder, "/net")?;
+    compare::<H, J>(host, alloc, names, folder, &net, texts.net)?;
+    let inputs = in_folder(alloc, folder, "/inputs")?;
+    compare_or_replace::<H, J>(host, alloc, names, judge, folder, &inputs, texts)
+}
+
+// What is done under the lock before an output's file is opened: the texts are compared, that of the inputs is replaced where the run's has
+// grown from it, and what was found is synced where that is asked for.
 fn check_and_settle<H: Host, J: Judge>(
     host: &mut H,
     alloc: Global,
     names: &Names,
+    judge: &J,
     folder: &String,
     texts: FolderTexts<'_>,
     outputs: &[String],
@@ -627,16 +819,14 @@ fn check_and_settle<H: Host, J: Judge>(
     requires ready { IsReady J.accepts (wanted_of names.now) (H.asked host.old) }
     requires wanted { (wanted_of names.now).state ≡ Some (string_bytes folder.now) }
     requires held { IsHeld (string_bytes folder.now) (H.asked host.old) }
-    requires net { Has (Read (wanted_of names.now).net (Ok texts.net.now.items)) (H.asked host.old) }
-    requires inputs { Has (Read (wanted_of names.now).inputs (Ok texts.inputs.now.items)) (H.asked host.old) }
+    requires judged { AreJudged (J.judges judge.now) (wanted_of names.now) texts.net.now.items texts.inputs.now.items (H.asked host.old) }
     ensures goes { GoesOn J.accepts (wanted_of names.now) (H.asked host.old) (H.asked host.new) }
     ensures same { OnOk result (HasSameTexts (wanted_of names.now) (string_bytes folder.now) (H.asked host.new)) }
     ensures synced { OnOk result (AreSyncedIf names.now.sync
         (paths_in (string_bytes folder.now) (map string_bytes outputs.now) ++ string_bytes folder.now ∷ []) (H.asked host.new)) }
-    ensures cause { IfErr result (λ refused. IsCaused (wanted_of names.now) (H.asked host.new) refused.fault) }
+    ensures cause { IfErr result (λ refused. IsCaused J.accepts (wanted_of names.now) (H.asked host.new) refused.fault) }
 {
-    compare::<H, J>(host, alloc, names, folder, "/net", texts.net)?;
-    compare::<H, J>(host, alloc, names, folder, "/inputs", texts.inputs)?;
+    compare_texts::<H, J>(host, alloc, names, judge, folder, texts)?;
     let paths = paths_of(alloc, folder, outputs)?;
     settle::<H, J>(host, alloc, names, &paths)?;
     settle_one::<H, J>(host, alloc, names, folder)?;
@@ -649,6 +839,7 @@ fn open_locked<H: Host, J: Judge>(
     host: &mut H,
     alloc: Global,
     names: &Names,
+    judge: &J,
     lock: &H::Lock,
     folder: &String,
     texts: FolderTexts<'_>,
@@ -658,17 +849,16 @@ fn open_locked<H: Host, J: Judge>(
     requires wanted { (wanted_of names.now).state ≡ Some (string_bytes folder.now) }
     requires lock { H.folder_of lock.now ≡ string_bytes folder.now }
     requires held { IsHeld (string_bytes folder.now) (H.asked host.old) }
-    requires net { Has (Read (wanted_of names.now).net (Ok texts.net.now.items)) (H.asked host.old) }
-    requires inputs { Has (Read (wanted_of names.now).inputs (Ok texts.inputs.now.items)) (H.asked host.old) }
+    requires judged { AreJudged (J.judges judge.now) (wanted_of names.now) texts.net.now.items texts.inputs.now.items (H.asked host.old) }
     ensures goes { GoesOn J.accepts (wanted_of names.now) (H.asked host.old) (H.asked host.new) }
     ensures opened { IfOk result (λ all. AreOpened names.now.sync (string_bytes folder.now) all.1.items (H.asked host.new)) }
     ensures named { IfOk result (λ all. opened_names all.1.items ≡ map string_bytes outputs.items) }
     ensures files { IfOk result (λ all. AreHeldAs all.1.items all.0.items (H.asked host.new)) }
     ensures synced { IfOk result (λ all. AreSyncedIf names.now.sync
         (paths_in (string_bytes folder.now) (map string_bytes outputs.items) ++ string_bytes folder.now ∷ []) (H.asked host.new)) }
-    ensures cause { IfErr result (λ refused. IsCaused (wanted_of names.now) (H.asked host.new) refused.fault) }
+    ensures cause { IfErr result (λ refused. IsCaused J.accepts (wanted_of names.now) (H.asked host.new) refused.fault) }
 {
-    check_and_settle::<H, J>(host, alloc, names, folder, texts, &outputs)?;
+    check_and_settle::<H, J>(host, alloc, names, judge, folder, texts, &outputs)?;
     open_each::<H, J>(host, alloc, names, lock, folder, outputs)
 }
 
@@ -687,12 +877,14 @@ fn not_locked<H: Host>(host: &H, alloc: Global, fault: HostFault, folder: &Strin
 }
 
 /// The folder of this name, which is made where it isn't there; `outputs` are the names of its outputs' files, in order of the channels. It is
-/// refused, and what it holds stays, where another run is at work in it, and where it is another network's, has other inputs or is damaged. A
-/// line that was cut off is no damage: what stands of it is taken off.
+/// refused, and what it holds stays, where another run is at work in it, and where it is another network's, has other inputs or is damaged. Where
+/// the run's inputs have grown from those that it has, as `judge` says, its text of inputs is replaced by the run's before any output's file is
+/// opened. A line that was cut off is no damage: what stands of it is taken off.
 pub fn open_folder<H: Host, J: Judge>(
     host: &mut H,
     alloc: Global,
     names: &Names,
+    judge: &J,
     folder: &String,
     texts: FolderTexts<'_>,
     outputs: Vec<String>,
@@ -700,8 +892,7 @@ pub fn open_folder<H: Host, J: Judge>(
     requires free { IsFree (H.asked host.old) }
     requires ready { IsReady J.accepts (wanted_of names.now) (H.asked host.old) }
     requires wanted { (wanted_of names.now).state ≡ Some (string_bytes folder.now) }
-    requires net { Has (Read (wanted_of names.now).net (Ok texts.net.now.items)) (H.asked host.old) }
-    requires inputs { Has (Read (wanted_of names.now).inputs (Ok texts.inputs.now.items)) (H.asked host.old) }
+    requires judged { AreJudged (J.judges judge.now) (wanted_of names.now) texts.net.now.items texts.inputs.now.items (H.asked host.old) }
     ensures rules { Each (rule J.accepts (wanted_of names.now)) (H.asked host.old) → Each (rule J.accepts (wanted_of names.now)) (H.asked host.new) }
     ensures later { Later (H.asked host.old) (H.asked host.new) }
     // Nothing is left that it made and didn't use.
@@ -718,14 +909,14 @@ pub fn open_folder<H: Host, J: Judge>(
         (paths_in (string_bytes folder.now) (map string_bytes outputs.items) ++ string_bytes folder.now ∷ []) (H.asked host.new)) }
     ensures err { OnErr result (IsFree (H.asked host.new)) }
     // Why it is refused stands in the log.
-    ensures cause { IfErr result (λ refused. IsCaused (wanted_of names.now) (H.asked host.new) refused.fault) }
+    ensures cause { IfErr result (λ refused. IsCaused J.accepts (wanted_of names.now) (H.asked host.new) refused.fault) }
 {
     make_if_missing::<H, J>(host, alloc, names, folder, texts, outputs.as_slice())?;
     let lock = match host.lock(folder) {
         Ok(lock) => lock,
         Err(fault) => return Err(not_locked(host, alloc, fault, folder)),
     };
-    match open_locked::<H, J>(host, alloc, names, &lock, folder, texts, outputs) {
+    match open_locked::<H, J>(host, alloc, names, judge, &lock, folder, texts, outputs) {
         Ok((files, opened)) => Ok(OpenFolder {
             lock,
             files,

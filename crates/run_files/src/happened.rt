@@ -79,7 +79,7 @@ fn make_nth<H: Host, J: Judge>(
     ensures open { IfOk result (λ made. IfSome made (λ history. IsOpenFor (string_bytes path.now) (option_map string_bytes history.made)
         (H.path_of history.file) (H.asked host.new))) }
     ensures taken { IfOk result (λ made. IfNone made (Has (MadeFile (tried_name stem.now (codes "new") nth) (Err host_fault.IsThere)) (H.asked host.new))) }
-    ensures cause { IfErr result (λ refused. IsCaused (wanted_of names.now) (H.asked host.new) refused.fault) }
+    ensures cause { IfErr result (λ refused. IsCaused J.accepts (wanted_of names.now) (H.asked host.new) refused.fault) }
 {
     let _ = path;
     let made = fresh_name(alloc, stem, "new", nth)?;
@@ -109,7 +109,7 @@ fn make_beside<H: Host, J: Judge>(
     ensures failed { IfErr result (λ refused. GoesOn J.accepts (wanted_of names.now) (H.asked host.old) (H.asked host.new)) }
     ensures open { IfOk result (λ history. IsOpenFor (string_bytes path.now) (option_map string_bytes history.made)
         (H.path_of history.file) (H.asked host.new)) }
-    ensures cause { IfErr result (λ refused. IsCaused (wanted_of names.now) (H.asked host.new) refused.fault) }
+    ensures cause { IfErr result (λ refused. IsCaused J.accepts (wanted_of names.now) (H.asked host.new) refused.fault) }
 {
     let stem = path.as_str().trim_end_matches('/');
     for nth in 0..LAST_NAME + 1 {
@@ -139,7 +139,7 @@ fn open_device<H: Host, J: Judge>(
     ensures goes { GoesOn J.accepts (wanted_of names.now) (H.asked host.old) (H.asked host.new) }
     ensures open { IfOk result (λ history. IsOpenFor (string_bytes path.now) (option_map string_bytes history.made)
         (H.path_of history.file) (H.asked host.new)) }
-    ensures cause { IfErr result (λ refused. IsCaused (wanted_of names.now) (H.asked host.new) refused.fault) }
+    ensures cause { IfErr result (λ refused. IsCaused J.accepts (wanted_of names.now) (H.asked host.new) refused.fault) }
 {
     match host.open_device(path) {
         Ok(file) => Ok(HistoryFile { file, made: None }),
@@ -160,7 +160,7 @@ pub fn open_history<H: Host, J: Judge>(
     ensures failed { IfErr result (λ refused. GoesOn J.accepts (wanted_of names.now) (H.asked host.old) (H.asked host.new)) }
     ensures open { IfOk result (λ history. IsOpenFor (string_bytes path.now) (option_map string_bytes history.made)
         (H.path_of history.file) (H.asked host.new)) }
-    ensures cause { IfErr result (λ refused. IsCaused (wanted_of names.now) (H.asked host.new) refused.fault) }
+    ensures cause { IfErr result (λ refused. IsCaused J.accepts (wanted_of names.now) (H.asked host.new) refused.fault) }
 {
     match look::<H, J>(host, names, path) {
         Ok(Standing::Device) => open_device::<H, J>(host, alloc, names, path),
@@ -220,7 +220,7 @@ pub fn finish_history<H: Host, J: Judge>(
     ensures goes { GoesOn J.accepts (wanted_of names.now) (H.asked host.old) (H.asked host.new) }
     ensures written { OnOk result (IsWrittenTo (string_bytes path.now) bytes.now.items (H.asked host.new)) }
     ensures gone { AreGone (IsNamed (option_map string_bytes history.made)) (H.asked host.new) }
-    ensures cause { IfErr result (λ refused. IsCaused (wanted_of names.now) (H.asked host.new) refused.fault) }
+    ensures cause { IfErr result (λ refused. IsCaused J.accepts (wanted_of names.now) (H.asked host.new) refused.fault) }
 {
     if let Err(fault) = write::<H, J>(host, names, &mut history.file, bytes) {
         let refusal = refused_by(host, alloc, FilesFault::Unwritten, fault, path);

@@ -59,7 +59,7 @@ fn differ<H: Host, J: Judge>(
     requires read { IsRead (wanted_of names.now) (string_bytes name.now) }
     ensures goes { GoesOn J.accepts (wanted_of names.now) (H.asked host.old) (H.asked host.new) }
     ensures apart { OnOk result (IsElsewhere (string_bytes at.now) (string_bytes name.now) (H.asked host.new)) }
-    ensures cause { IfErr result (λ refused. IsCaused (wanted_of names.now) (H.asked host.new) refused.fault) }
+    ensures cause { IfErr result (λ refused. IsCaused J.accepts (wanted_of names.now) (H.asked host.new) refused.fault) }
 {
     match place::<H, J>(host, names, name) {
         Ok(other) => if is_same(&other, at) {
@@ -83,7 +83,7 @@ fn differ_from_script<H: Host, J: Judge>(
     requires placed { Has (Placed (string_bytes history.now) (Ok (string_bytes at.now))) (H.asked host.old) }
     ensures goes { GoesOn J.accepts (wanted_of names.now) (H.asked host.old) (H.asked host.new) }
     ensures apart { OnOk result (IfAsked (option_map string_bytes names.now.script) (IsElsewhere (string_bytes at.now)) (H.asked host.new)) }
-    ensures cause { IfErr result (λ refused. IsCaused (wanted_of names.now) (H.asked host.new) refused.fault) }
+    ensures cause { IfErr result (λ refused. IsCaused J.accepts (wanted_of names.now) (H.asked host.new) refused.fault) }
 {
     match &names.script {
         Some(script) => differ::<H, J>(host, alloc, names, history, at, script),
@@ -105,7 +105,7 @@ fn stay_outside<H: Host, J: Judge>(
     requires state { (wanted_of names.now).state ≡ Some (string_bytes folder.now) }
     ensures goes { GoesOn J.accepts (wanted_of names.now) (H.asked host.old) (H.asked host.new) }
     ensures apart { OnOk result (IsOutside (string_bytes at.now) (string_bytes folder.now) (H.asked host.new)) }
-    ensures cause { IfErr result (λ refused. IsCaused (wanted_of names.now) (H.asked host.new) refused.fault) }
+    ensures cause { IfErr result (λ refused. IsCaused J.accepts (wanted_of names.now) (H.asked host.new) refused.fault) }
 {
     match place::<H, J>(host, names, folder) {
         Ok(other) => if is_within(other.as_bytes(), at.as_bytes()) {
@@ -132,7 +132,7 @@ fn stay_outside_if_asked<H: Host, J: Judge>(
     requires placed { Has (Placed (string_bytes history.now) (Ok (string_bytes at.now))) (H.asked host.old) }
     ensures goes { GoesOn J.accepts (wanted_of names.now) (H.asked host.old) (H.asked host.new) }
     ensures apart { OnOk result (IfAsked (option_map string_bytes names.now.state) (IsOutside (string_bytes at.now)) (H.asked host.new)) }
-    ensures cause { IfErr result (λ refused. IsCaused (wanted_of names.now) (H.asked host.new) refused.fault) }
+    ensures cause { IfErr result (λ refused. IsCaused J.accepts (wanted_of names.now) (H.asked host.new) refused.fault) }
 {
     match &names.state {
         Some(folder) => stay_outside::<H, J>(host, alloc, names, history, at, folder),
@@ -150,7 +150,7 @@ fn is_apart<H: Host, J: Judge>(
     requires wanted { (wanted_of names.now).history ≡ Some (string_bytes name.now) }
     ensures goes { GoesOn J.accepts (wanted_of names.now) (H.asked host.old) (H.asked host.new) }
     ensures apart { OnOk result (IsApart (wanted_of names.now) (string_bytes name.now) (H.asked host.new)) }
-    ensures cause { IfErr result (λ refused. IsCaused (wanted_of names.now) (H.asked host.new) refused.fault) }
+    ensures cause { IfErr result (λ refused. IsCaused J.accepts (wanted_of names.now) (H.asked host.new) refused.fault) }
 {
     let at = match place::<H, J>(host, names, name) {
         Ok(at) => at,
@@ -171,7 +171,7 @@ pub fn tell_apart<H: Host, J: Judge>(
 ) -> Result<(), Refused>
     ensures goes { GoesOn J.accepts (wanted_of names.now) (H.asked host.old) (H.asked host.new) }
     ensures apart { OnOk result (IfAsked (wanted_of names.now).history (IsApart (wanted_of names.now)) (H.asked host.new)) }
-    ensures cause { IfErr result (λ refused. IsCaused (wanted_of names.now) (H.asked host.new) refused.fault) }
+    ensures cause { IfErr result (λ refused. IsCaused J.accepts (wanted_of names.now) (H.asked host.new) refused.fault) }
 {
     match &names.history {
         Some(name) => is_apart::<H, J>(host, alloc, names, name),

@@ -2,65 +2,41 @@ use Rattle.std.proofs.Common.{ap, subst, ◌∙◌, List, map, string_bytes}
 use Rattle.std.specs.declared.alloc.Global.{Global}
 use Rattle.std.specs.declared.string.String.{String}
 use Rattle.run_files.specs.Syncing.{AreSyncedIf}
-use Rattle.run_files.specs.Rules.{HasSameTexts}
-use Rattle.run_files.specs.Wanted.{wanted_of}
-use Rattle.run_files.proofs.Going.{goes_then, in_any, ready_goes, synced_both, synced_later}
-use Rattle.run_files.specs.Causes.{inputs, net}
+use Rattle.run_files.proofs.Going.{goes_then, in_any, ready_goes, same_goes, synced_both, synced_later}
 use Rattle.run_files.proofs.folder.check_and_settle.Goals as goal
 
-pub compare-requires-2-clause-held : goal.compare-requires-2-clause-held
-compare-requires-2-clause-held g c κs within = c.compare.ensures.goes.held _ c.requires.held
-
-pub returns-in_err-compare-2-clause-goes : goal.returns-in_err-compare-2-clause-goes
-returns-in_err-compare-2-clause-goes g c = goes_then _ _ _ _ _ c.compare.ensures.goes c.compare-2.ensures.goes
-
 pub returns-in_err-paths-clause-goes : goal.returns-in_err-paths-clause-goes
-returns-in_err-paths-clause-goes g c = goes_then _ _ _ _ _ c.compare.ensures.goes c.compare-2.ensures.goes
+returns-in_err-paths-clause-goes g c = c.compare_texts.ensures.goes
 
 pub settle-requires-after_bounds : goal.settle-requires-after_bounds
-settle-requires-after_bounds g c κs within = ready_goes _ _ _ _ (goes_then _ _ _ _ _ c.compare.ensures.goes c.compare-2.ensures.goes) c.requires.ready
+settle-requires-after_bounds g c κs within = ready_goes _ _ _ _ c.compare_texts.ensures.goes c.requires.ready
 
 pub returns-in_err-settle-clause-goes : goal.returns-in_err-settle-clause-goes
 returns-in_err-settle-clause-goes g c =
-    goes_then _ _ _ _ _ (goes_then _ _ _ _ _ c.compare.ensures.goes c.compare-2.ensures.goes) c.settle.ensures.goes
+    goes_then _ _ _ _ _ c.compare_texts.ensures.goes c.settle.ensures.goes
 
 pub settle_one-requires-after_bounds : goal.settle_one-requires-after_bounds
-settle_one-requires-after_bounds g c κs within = ready_goes _ _ _ _ (goes_then _ _ _ _ _ (goes_then _ _ _ _ _ c.compare.ensures.goes c.compare-2.ensures.goes) c.settle.ensures.goes) c.requires.ready
+settle_one-requires-after_bounds g c κs within = ready_goes _ _ _ _ (goes_then _ _ _ _ _ c.compare_texts.ensures.goes c.settle.ensures.goes) c.requires.ready
 
 pub returns-in_err-settle_one-clause-goes : goal.returns-in_err-settle_one-clause-goes
 returns-in_err-settle_one-clause-goes g c =
-    goes_then _ _ _ _ _ (goes_then _ _ _ _ _ (goes_then _ _ _ _ _ c.compare.ensures.goes c.compare-2.ensures.goes) c.settle.ensures.goes) c.settle_one.ensures.goes
+    goes_then _ _ _ _ _ (goes_then _ _ _ _ _ c.compare_texts.ensures.goes c.settle.ensures.goes) c.settle_one.ensures.goes
 
 pub returns-in_err-home-clause-goes : goal.returns-in_err-home-clause-goes
 returns-in_err-home-clause-goes g c =
-    goes_then _ _ _ _ _ (goes_then _ _ _ _ _ (goes_then _ _ _ _ _ c.compare.ensures.goes c.compare-2.ensures.goes) c.settle.ensures.goes) c.settle_one.ensures.goes
+    goes_then _ _ _ _ _ (goes_then _ _ _ _ _ c.compare_texts.ensures.goes c.settle.ensures.goes) c.settle_one.ensures.goes
 
 pub settle_one-requires-2-after_bounds : goal.settle_one-requires-2-after_bounds
-settle_one-requires-2-after_bounds g c κs within = ready_goes _ _ _ _ (goes_then _ _ _ _ _ (goes_then _ _ _ _ _ (goes_then _ _ _ _ _ c.compare.ensures.goes c.compare-2.ensures.goes) c.settle.ensures.goes) c.settle_one.ensures.goes) c.requires.ready
-
-pub compare-requires-clause-text : goal.compare-requires-clause-text
-compare-requires-clause-text g c κs within = ((wanted_of c.args.names.now).net, net, c.requires.net)
-
-pub compare-requires-2-clause-text : goal.compare-requires-2-clause-text
-compare-requires-2-clause-text g c κs within = ((wanted_of c.args.names.now).inputs, inputs, c.compare.ensures.goes.later _ c.requires.inputs)
+settle_one-requires-2-after_bounds g c κs within = ready_goes _ _ _ _ (goes_then _ _ _ _ _ (goes_then _ _ _ _ _ c.compare_texts.ensures.goes c.settle.ensures.goes) c.settle_one.ensures.goes) c.requires.ready
 
 pub returns-clause-goes : goal.returns-clause-goes
 returns-clause-goes g c =
-    goes_then _ _ _ _ _ (goes_then _ _ _ _ _ (goes_then _ _ _ _ _ (goes_then _ _ _ _ _ c.compare.ensures.goes c.compare-2.ensures.goes) c.settle.ensures.goes) c.settle_one.ensures.goes) c.settle_one-2.ensures.goes
+    goes_then _ _ _ _ _ (goes_then _ _ _ _ _ (goes_then _ _ _ _ _ c.compare_texts.ensures.goes c.settle.ensures.goes) c.settle_one.ensures.goes) c.settle_one-2.ensures.goes
 
 pub returns-clause-same : goal.returns-clause-same
-returns-clause-same g c = in_any _ _ (λ done.
-    let settled = goes_then _ _ _ _ _ c.settle.ensures.goes (goes_then _ _ _ _ _ c.settle_one.ensures.goes c.settle_one-2.ensures.goes) in
-    let compared = goes_then _ _ _ _ _ c.compare-2.ensures.goes settled in
-    let texts : HasSameTexts (wanted_of c.args.names.now) (string_bytes c.args.folder.now) (g.H.Host.asked c.settle_one-2.new.host) = record {
-      net = c.args.texts.net.now.items;
-      inputs = c.args.texts.inputs.now.items;
-      net_read = compared.later _ (c.compare.ensures.goes.later _ c.requires.net);
-      inputs_read = compared.later _ (c.compare.ensures.goes.later _ c.requires.inputs);
-      same_net = compared.under _ _ c.in_ok-compare.ensures.same;
-      same_inputs = settled.under _ _ c.in_ok-compare-2.ensures.same;
-    } in
-    texts)
+returns-clause-same g c = in_any _ _ (λ done. same_goes _ _ _ _ _
+    (goes_then _ _ _ _ _ c.settle.ensures.goes (goes_then _ _ _ _ _ c.settle_one.ensures.goes c.settle_one-2.ensures.goes))
+    c.in_ok-compare_texts.ensures.same)
 
 pub returns-clause-synced : goal.returns-clause-synced
 returns-clause-synced g c = in_any _ _ (λ done. synced_both _ _ _ _

@@ -32,4 +32,4 @@ pub loop-path-init : goal.loop-path-init
 loop-path-init g c = record { goes = goes_more _ _ _ _ _ (goes_still _ _ _); count = refl; made = tt }
 
 pub returns-in-Err-clause-cause : goal.returns-in-Err-clause-cause
-returns-in-Err-clause-cause g c = unmade_by _ _ _ _ _ _ c.refused_by.ensures c.in-Err.ensures.fault
+returns-in-Err-clause-cause g c = unmade_by _ _ _ _ _ _ _ c.refused_by.ensures c.in-Err.ensures.fault

@@ -73,7 +73,7 @@ returns-in-Ok-false-clause-taken g c = λ is.
 
 pub returns-clause-cause : goal.returns-clause-cause
 returns-clause-cause g c =
-    caused_later _ _ _ c.clear-in-Err-named.ensures.goes.later _ (of_error _ _ _ c.in-Err-named.is c.fill_and_name-made.ensures.cause)
+    caused_later _ _ _ _ c.clear-in-Err-named.ensures.goes.later _ (of_error _ _ _ c.in-Err-named.is c.fill_and_name-made.ensures.cause)
 
 pub returns-in-Ok-false-clause-named : goal.returns-in-Ok-false-clause-named
 returns-in-Ok-false-clause-named g c = grind (arith, elements)

@@ -36,5 +36,5 @@ returns-clause-goes g c =
 pub returns-clause-cause : goal.returns-clause-cause
 returns-clause-cause g c =
     let there = c.in_ok-make.ensures.taken c.if-branch-2.false in
-    caused_as _ _ _ OtherState c.refused_at.ensures
+    caused_as _ _ _ _ OtherState c.refused_at.ensures
     (string_bytes c.args.folder.now, c.requires.wanted, taken there.0 there.1.0 (c.is_made-2.ensures.goes.later _ there.1.1) there.1.2)

@@ -1,4 +1,4 @@
-use Rattle.run_files.proofs.Going.{free_still, held_now, later_by, ready_goes, ready_later, rules_by, rules_unlocked}
+use Rattle.run_files.proofs.Going.{free_still, held_now, judged_goes, judged_later, later_by, ready_goes, ready_later, rules_by, rules_unlocked}
 use Rattle.run_files.proofs.Caused.{caused_later, unlocked_by}
 use Rattle.std.proofs.Common.{refl, string_bytes}
 use Rattle.run_files.proofs.Left.{left_by_goes, left_by_one}
@@ -20,7 +20,7 @@ returns-in-Err g c = record {
   named = tt;
   files = tt;
   synced = tt;
-  cause = unlocked_by _ _ (string_bytes c.args.folder.now) _ c.in-Err.fault _ c.requires.wanted c.in-Err.ensures.asked c.not_locked.ensures.busy
+  cause = unlocked_by _ _ _ (string_bytes c.args.folder.now) _ c.in-Err.fault _ c.requires.wanted c.in-Err.ensures.asked c.not_locked.ensures.busy
       c.not_locked.ensures.failed;
   err = free_still _ _ _ _ c.in-Err.ensures.asked (c.make_if_missing.ensures.goes.free c.requires.free);
 }
@@ -28,11 +28,9 @@ returns-in-Err g c = record {
 pub open_locked-requires-clause-ready : goal.open_locked-requires-clause-ready
 open_locked-requires-clause-ready g c κs within = ready_later _ _ _ _ (later_by _ _ _ c.in-Ok.ensures.asked) (ready_goes _ _ _ _ c.make_if_missing.ensures.goes c.requires.ready)
 
-pub open_locked-requires-clause-net : goal.open_locked-requires-clause-net
-open_locked-requires-clause-net g c κs within = later_by _ _ _ c.in-Ok.ensures.asked _ (c.make_if_missing.ensures.goes.later _ c.requires.net)
-
-pub open_locked-requires-clause-inputs : goal.open_locked-requires-clause-inputs
-open_locked-requires-clause-inputs g c κs within = later_by _ _ _ c.in-Ok.ensures.asked _ (c.make_if_missing.ensures.goes.later _ c.requires.inputs)
+pub open_locked-requires-clause-judged : goal.open_locked-requires-clause-judged
+open_locked-requires-clause-judged g c κs within =
+    judged_later _ _ _ _ _ _ _ (later_by _ _ _ c.in-Ok.ensures.asked) (judged_goes _ _ _ _ _ _ _ c.make_if_missing.ensures.goes c.requires.judged)
 
 pub returns-in-Ok-open_locked-clause-rules : goal.returns-in-Ok-open_locked-clause-rules
 returns-in-Ok-open_locked-clause-rules g c each = c.open_locked.ensures.goes.rules (rules_by _ _ _ _ _ c.in-Ok.ensures.asked ((ready_goes _ _ _ _ c.make_if_missing.ensures.goes c.requires.ready), c.make_if_missing.ensures.goes.free c.requires.free, c.requires.wanted) (c.make_if_missing.ensures.goes.rules each))
@@ -67,7 +65,7 @@ returns-in-Err-open_locked-clause-cleared g c path left =
     (left_by_goes _ _ _ _ c.open_locked.ensures.goes path (left_by_one _ _ _ c.unlock.ensures refl path left)))
 
 pub returns-in-Err-open_locked-clause-cause : goal.returns-in-Err-open_locked-clause-cause
-returns-in-Err-open_locked-clause-cause g c = caused_later _ _ _ (later_by _ _ _ c.unlock.ensures) _ c.in-Err-open_locked.ensures.cause
+returns-in-Err-open_locked-clause-cause g c = caused_later _ _ _ _ (later_by _ _ _ c.unlock.ensures) _ c.in-Err-open_locked.ensures.cause
 
 pub returns-in-Err-open_locked-clause-err : goal.returns-in-Err-open_locked-clause-err
 returns-in-Err-open_locked-clause-err g c = grind (arith, elements)

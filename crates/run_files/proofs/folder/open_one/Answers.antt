@@ -25,13 +25,13 @@ returns-clause-opened g c =
 
 pub returns-in-Err-clause-cause : goal.returns-in-Err-clause-cause
 returns-in-Err-clause-cause g c =
-    unopened_by _ _ (string_bytes c.args.folder.now) (string_bytes c.args.name.now) c.args.names.now.sync _ _ _ c.refused_by.ensures
+    unopened_by _ _ _ (string_bytes c.args.folder.now) (string_bytes c.args.name.now) c.args.names.now.sync _ _ _ c.refused_by.ensures
     c.of_missing-refusal.ensures c.requires.wanted c.in-Err.ensures.fault
 
 pub returns-in_err-held-clause-cause : goal.returns-in_err-held-clause-cause
 returns-in_err-held-clause-cause g c =
     let p = err_from_is_err_and c.from_residual-in_err-held.result c.from_residual-in_err-held.ensures.1 in
-    rw (p.1, p.2) (by_bytes _ _ (string_bytes c.args.folder.now) (string_bytes c.args.name.now) _ c.args.names.now.sync _ c.requires.wanted
+    rw (p.1, p.2) (by_bytes _ _ _ (string_bytes c.args.folder.now) (string_bytes c.args.name.now) _ c.args.names.now.sync _ c.requires.wanted
     c.in-Ok.ensures.opened c.in_err-held.ensures.cause)
 
 pub returns-clause-cut : goal.returns-clause-cut

@@ -25,7 +25,7 @@ pub returns-clause-synced : goal.returns-clause-synced
 returns-clause-synced g c = synced_if _ _ _ (first_all IsSynced _ _ _ c.loop-path.invariant.synced (omega (arith, c.loop-path-test.false)))
 
 pub returns-in-Err-clause-cause : goal.returns-in-Err-clause-cause
-returns-in-Err-clause-cause g c = failed_by _ _ _ _ _ c.refused_by.ensures c.in-Err.ensures.fault tt
+returns-in-Err-clause-cause g c = failed_by _ _ _ _ _ _ c.refused_by.ensures c.in-Err.ensures.fault tt
 
 pub returns-then-not-names-clause-goes : goal.returns-then-not-names-clause-goes
 returns-then-not-names-clause-goes g c = grind (arith, elements)

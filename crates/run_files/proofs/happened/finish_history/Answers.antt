@@ -32,9 +32,9 @@ returns-clause-written g c =
 
 pub returns-in-Err-clause-cause : goal.returns-in-Err-clause-cause
 returns-in-Err-clause-cause g c =
-    caused_later _ _ _ c.drop_history.ensures.goes.later _ (unwritten_by _ _ _ _ _ _ c.refused_by-refusal.ensures c.requires.wanted c.in-Err.ensures.fault tt)
+    caused_later _ _ _ _ c.drop_history.ensures.goes.later _ (unwritten_by _ _ _ _ _ _ _ c.refused_by-refusal.ensures c.requires.wanted c.in-Err.ensures.fault tt)
 
 pub returns-in-Err-rename-clause-cause : goal.returns-in-Err-rename-clause-cause
 returns-in-Err-rename-clause-cause g c =
-    caused_later _ _ _ c.drop_history-in-Err-rename.ensures.goes.later _
-    (unwritten_by _ _ _ _ _ _ c.refused_by-refusal-in-Err-rename.ensures c.requires.wanted c.in-Err-rename.ensures.fault.1 refl)
+    caused_later _ _ _ _ c.drop_history-in-Err-rename.ensures.goes.later _
+    (unwritten_by _ _ _ _ _ _ _ c.refused_by-refusal-in-Err-rename.ensures c.requires.wanted c.in-Err-rename.ensures.fault.1 refl)

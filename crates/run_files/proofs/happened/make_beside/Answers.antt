@@ -41,7 +41,7 @@ pub returns-clause-cause : goal.returns-clause-cause
 returns-clause-cause g c =
     let all : (k : ℕ) → k ≤ LAST_NAME → Has (MadeFile (tried_name c.trim_end_matches-stem.result.now (codes "new") k) (Err host.IsThere))
     (g.H.Host.asked c.loop-nth.host) = λ k within. c.loop-nth.invariant.taken k (omega (arith, within, c.loop-nth-test.false)) in
-    caused_as _ _ _ Unwritten c.refused_at.ensures (_, c.requires.wanted, all_taken (c.trim_end_matches-stem.result.now, all))
+    caused_as _ _ _ _ Unwritten c.refused_at.ensures (_, c.requires.wanted, all_taken (c.trim_end_matches-stem.result.now, all))
 
 pub returns-in-Some-clause-open : goal.returns-in-Some-clause-open
 returns-in-Some-clause-open g c = grind (arith, elements)

@@ -7,7 +7,7 @@ use Rattle.run_files.proofs.happened.open_device.Goals as goal
 
 pub returns-in-Err-clause-cause : goal.returns-in-Err-clause-cause
 returns-in-Err-clause-cause g c =
-    unwritten_by _ _ _ _ _ (OpenedDevice (string_bytes c.args.path.now) (Err c.in-Err.fault)) c.refused_by.ensures c.requires.wanted
+    unwritten_by _ _ _ _ _ _ (OpenedDevice (string_bytes c.args.path.now) (Err c.in-Err.fault)) c.refused_by.ensures c.requires.wanted
     (subst (λ e. Has (OpenedDevice (string_bytes c.args.path.now) (Err c.in-Err.fault)) e) (sym c.in-Err.ensures.asked) (inl refl)) refl
 
 pub returns-in-Ok-clause-goes : goal.returns-in-Ok-clause-goes

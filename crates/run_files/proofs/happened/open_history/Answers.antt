@@ -32,7 +32,7 @@ returns-in-Ok-File-clause-failed g c = err_as _ _ _ (λ refused goes. goes_then 
 pub returns-in-Ok-Folder-clause-cause : goal.returns-in-Ok-Folder-clause-cause
 returns-in-Ok-Folder-clause-cause g c =
     let looked : Has (Looked (string_bytes c.args.path.now) (Ok Folder)) (g.H.Host.asked c.look.new.host) = search rules in
-    caused_as _ _ _ Unwritten c.refused_at.ensures (string_bytes c.args.path.now, c.requires.wanted, is_folder looked)
+    caused_as _ _ _ _ Unwritten c.refused_at.ensures (string_bytes c.args.path.now, c.requires.wanted, is_folder looked)
 
 pub returns-in-Err-clause-cause : goal.returns-in-Err-clause-cause
-returns-in-Err-clause-cause g c = unwritten_by _ _ _ _ _ _ c.refused_by.ensures c.requires.wanted c.in-Err.ensures.fault refl
+returns-in-Err-clause-cause g c = unwritten_by _ _ _ _ _ _ _ c.refused_by.ensures c.requires.wanted c.in-Err.ensures.fault refl

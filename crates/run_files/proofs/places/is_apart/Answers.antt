@@ -28,7 +28,7 @@ returns-clause-apart g c =
     c.stay_outside_if_asked.ensures.goes c.in_ok-stay_outside_if_asked.ensures.apart
 
 pub returns-in-Err-clause-cause : goal.returns-in-Err-clause-cause
-returns-in-Err-clause-cause g c = unwritten_by _ _ _ _ _ _ c.refused_by.ensures c.requires.wanted c.in-Err.ensures.fault tt
+returns-in-Err-clause-cause g c = unwritten_by _ _ _ _ _ _ _ c.refused_by.ensures c.requires.wanted c.in-Err.ensures.fault tt
 
 pub differ-requires-2-clause-placed : goal.differ-requires-2-clause-placed
 differ-requires-2-clause-placed g c κs within = c.differ.ensures.goes.later _ c.in-Ok.ensures.placed

@@ -10,7 +10,7 @@ use Rattle.run_files.proofs.places.stay_outside.Goals as goal
 pub returns-then-is_within-clause-cause : goal.returns-then-is_within-clause-cause
 returns-then-is_within-clause-cause g c =
     let within : is_within (string_bytes c.in-Ok.other) (string_bytes c.args.at.now) ≡ true = search rules in
-    caused_as _ _ _ Unwritten c.refused.ensures (
+    caused_as _ _ _ _ Unwritten c.refused.ensures (
       string_bytes c.args.history.now,
       c.requires.wanted,
       in_folder (string_bytes c.args.folder.now) (string_bytes c.args.at.now) (string_bytes c.in-Ok.other) c.requires.state
@@ -18,7 +18,7 @@ returns-then-is_within-clause-cause g c =
     )
 
 pub returns-clause-cause : goal.returns-clause-cause
-returns-clause-cause g c = failed_by _ _ _ _ _ c.refused_by.ensures c.in-Err.ensures.fault c.requires.state
+returns-clause-cause g c = failed_by _ _ _ _ _ _ c.refused_by.ensures c.in-Err.ensures.fault c.requires.state
 
 pub returns-in-Ok-clause-apart : goal.returns-in-Ok-clause-apart
 returns-in-Ok-clause-apart g c = grind (arith, elements)
