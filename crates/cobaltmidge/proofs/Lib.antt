@@ -11,3 +11,4 @@ mod Naming
 mod Given
 pub mod Kept
 pub mod InFolder
+pub mod OneMeaning

@@ -11,6 +11,7 @@ mod explaining;
 mod fault;
 mod finished;
 mod going_on;
+mod grown;
 mod items;
 mod kept_outlets;
 mod kept_run;

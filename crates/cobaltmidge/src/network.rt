@@ -61,7 +61,7 @@ fn net_of_text(alloc: Global, text: &str) -> Result<Net, Error>
 }
 
 /// The items of a text for a network's inputs.
-fn inputs_of_text(alloc: Global, text: &str, net: &Net) -> Result<Inputs, Error>
+pub(crate) fn inputs_of_text(alloc: Global, text: &str, net: &Net) -> Result<Inputs, Error>
     ensures inputs { IfOk result (AreInputsOf text.now net.now) }
     ensures fitting { IfOk result (Fits (network_of net.now.program)) }
     ensures err { IfErr result (IsInputsError net.now text.now) }

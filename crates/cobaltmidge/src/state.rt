@@ -202,7 +202,8 @@ fn run_locked<'a, H: Host, R: Threads + Wait + Sync>(
 impl<'a> Run<'a> {
     /// Runs it, and keeps what leaves in this folder, which is made where it isn't there. A later run over the folder goes on with it: it
     /// compares the first items with those of its files, and adds what comes behind them. The folder is refused where another run is at work
-    /// in it, and where it is of other texts.
+    /// in it, and where it is of other texts. Where the run's inputs have grown from those of the folder's text, each list by items at its end,
+    /// the folder is this run's, and its text is replaced before anything is added to a file of it.
     ///
     /// The run's network and inputs are those of the texts, which were read by these names (`read_texts`).
     pub fn state<H: Host, R: Threads + Wait + Sync>(
@@ -254,7 +255,20 @@ impl<'a> Run<'a> {
             net: &texts.net,
             inputs: &texts.inputs,
         };
-        let open = open_folder::<H, Accepted>(host, alloc, names, folder, folder_texts, outputs)?;
+        let network = self.network;
+        let judge = Accepted {
+            net: &network.net,
+            inputs: &self.inputs,
+        };
+        let open = open_folder::<H, Accepted>(
+            host,
+            alloc,
+            names,
+            &judge,
+            folder,
+            folder_texts,
+            outputs,
+        )?;
         let OpenFolder {
             lock,
             files,

@@ -10,22 +10,33 @@ ghost use Rattle.cobaltmidge.specs.Accepting.{IsAccepted};
 ghost use Rattle.cobaltmidge.specs.KeptStreams.{IsInputsStop, IsNetStop, IsTextsCause};
 ghost use Rattle.cobaltmidge.specs.Texts.{AreInputsOf, IsNetOf};
 
+use crate::grown::have_grown_from;
 use crate::network::Network;
 use crate::state_error::{StateError, StateFault};
 use host::Host;
-use net_check::Inputs;
+use net_check::{Inputs, Net};
 use run_files::{Judge, Names, read, tell_apart};
-use std::alloc::Global;
+use std::alloc::{AllocError, Global};
 use std::str;
 
 /// What a run accepts: the text of a network, that of its inputs, and where a script is asked for that of a script for its nodes.
-#[derive(Drop)]
-pub struct Accepted;
+/// Where a run's folder has another text of inputs, this network's inputs have to have grown from it.
+#[derive(Clone, Copy)]
+pub struct Accepted<'a> {
+    pub net: &'a Net,
+    pub inputs: &'a Inputs,
+}
 
-impl Judge for Accepted {
-    ghost use Rattle.cobaltmidge.specs.Accepting.{IsAccepted};
+impl<'a> Judge for Accepted<'a> {
+    ghost use Rattle.cobaltmidge.specs.Accepting.{AreTextsOf, IsAccepted};
 
     ghost accepts = { IsAccepted };
+
+    ghost judges = { λ judge given. AreTextsOf judge.net.now judge.inputs.now given };
+
+    fn has_grown(&self, alloc: Global, kept: &Vec<u8>) -> Result<bool, AllocError> {
+        have_grown_from(alloc, self.net, self.inputs, kept)
+    }
 }
 
 /// The texts of a run, as they were read: a folder in which what left is kept has a copy of each.

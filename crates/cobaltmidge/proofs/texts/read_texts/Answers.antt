@@ -24,7 +24,7 @@ returns-clause-ready g c =
     let read_net = c.tell_apart.ensures.goes.later _ (c.read_bytes-2.ensures.goes.later _ c.in_ok-net.ensures.read) in
     let read_inputs = c.tell_apart.ensures.goes.later _ c.in_ok-inputs.ensures.read in
     record {
-      given = record { net = c.in_ok-net.net.items; inputs = c.in_ok-inputs.inputs.items; script = None };
+      given = record { net = c.in_ok-net.net.items; inputs = c.in_ok-inputs.inputs.items; script = None; kept = None };
       read = record { net = read_net; inputs = read_inputs; script = no_script _ _ c.requires };
       accepted = record {
         net = c.in_ok-network.network.net.value;
@@ -32,6 +32,7 @@ returns-clause-ready g c =
         of_net = c.in_ok-network.ensures.net;
         of_inputs = c.in_ok-items.ensures.inputs;
         of_script = tt;
+        of_kept = tt;
       };
       apart = c.in_ok-tell_apart.ensures.apart;
     }

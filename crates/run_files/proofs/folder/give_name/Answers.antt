@@ -1,7 +1,7 @@
 use Rattle.run_files.proofs.Going.{goes_then, has_goes, ready_goes, synced_both, synced_later}
 use Rattle.run_files.proofs.Caused.{failed_by}
 use Rattle.std.proofs.lemmas.Grind.{elements}
-use Rattle.std.proofs.Common.{arith}
+use Rattle.std.proofs.Common.{arith, inl}
 use Rattle.run_files.proofs.folder.give_name.Goals as goal
 
 pub settle_one-requires-after_bounds : goal.settle_one-requires-after_bounds
@@ -43,7 +43,7 @@ pub returns-then-is_taken-clause-taken : goal.returns-then-is_taken-clause-taken
 returns-then-is_taken-clause-taken g c = λ is. (c.in-Err.fault, c.in-Err.ensures.fault, c.is_taken.ensures.taken c.if-is_taken.true)
 
 pub returns-else-is_taken-clause-cause : goal.returns-else-is_taken-clause-cause
-returns-else-is_taken-clause-cause g c = failed_by _ _ _ _ _ _ c.refused_by.ensures c.in-Err.ensures.fault (c.requires.wanted, c.is_taken.ensures.free c.if-is_taken.false)
+returns-else-is_taken-clause-cause g c = failed_by _ _ _ _ _ _ c.refused_by.ensures c.in-Err.ensures.fault (inl (c.requires.wanted, c.is_taken.ensures.free c.if-is_taken.false))
 
 pub returns-then-is_taken-clause-renamed : goal.returns-then-is_taken-clause-renamed
 returns-then-is_taken-clause-renamed g c = grind (arith, elements)

@@ -1,4 +1,4 @@
-use Rattle.std.proofs.Common.{rules, inr, ℕ, ◌≤◌, Err, arith, codes}
+use Rattle.std.proofs.Common.{rules, inl, inr, ℕ, ◌≤◌, Err, arith, codes}
 use Rattle.host.specs.Requests.{Has, MadeFolder}
 use Rattle.host.specs.declared.fault.HostFault.TheVariants as host
 use Rattle.run_files.specs.Causes.{tried_name}
@@ -41,7 +41,7 @@ pub returns-clause-cause : goal.returns-clause-cause
 returns-clause-cause g c =
     let all : (k : ℕ) → k ≤ LAST_NAME → Has (MadeFolder (tried_name c.trim_end_matches-stem.result.now (codes "making") k) (Err host.IsThere))
     (g.H.Host.asked c.loop-nth.host) = λ k within. c.loop-nth.invariant.taken k (omega (arith, within, c.loop-nth-test.false)) in
-    caused_as _ _ _ _ Failed c.refused_at.ensures (inr (c.trim_end_matches-stem.result.now, all))
+    caused_as _ _ _ _ Failed c.refused_at.ensures (inr (inl (c.trim_end_matches-stem.result.now, all)))
 
 pub returns-in-Some-clause-made : goal.returns-in-Some-clause-made
 returns-in-Some-clause-made g c = grind (arith, elements)

@@ -30,7 +30,7 @@ open_locked-requires-clause-ready g c κs within = ready_later _ _ _ _ (later_by
 
 pub open_locked-requires-clause-judged : goal.open_locked-requires-clause-judged
 open_locked-requires-clause-judged g c κs within =
-    judged_later _ _ _ _ _ _ _ (later_by _ _ _ c.in-Ok.ensures.asked) (judged_goes _ _ _ _ _ _ _ c.make_if_missing.ensures.goes c.requires.judged)
+    judged_later g.J.Judge.accepts _ _ _ _ _ _ (later_by _ _ _ c.in-Ok.ensures.asked) (judged_goes _ _ _ _ _ _ _ c.make_if_missing.ensures.goes c.requires.judged)
 
 pub returns-in-Ok-open_locked-clause-rules : goal.returns-in-Ok-open_locked-clause-rules
 returns-in-Ok-open_locked-clause-rules g c each = c.open_locked.ensures.goes.rules (rules_by _ _ _ _ _ c.in-Ok.ensures.asked ((ready_goes _ _ _ _ c.make_if_missing.ensures.goes c.requires.ready), c.make_if_missing.ensures.goes.free c.requires.free, c.requires.wanted) (c.make_if_missing.ensures.goes.rules each))

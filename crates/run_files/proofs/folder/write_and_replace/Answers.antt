@@ -1,7 +1,7 @@
 use Rattle.std.proofs.Common.{inr, subst, Ok, List, ℕ}
 use Rattle.host.specs.Requests.{Has, Wrote}
 use Rattle.run_files.proofs.Caused.{failed_by}
-use Rattle.run_files.proofs.Going.{goes_then, grown_goes, has_goes, in_any, ready_goes, synced_later}
+use Rattle.run_files.proofs.Going.{goes_then, grown_goes, has_goes, ready_goes, synced_later}
 use Rattle.run_files.proofs.folder.write_and_replace.Goals as goal
 
 pub returns-in-Err-clause-cause : goal.returns-in-Err-clause-cause
