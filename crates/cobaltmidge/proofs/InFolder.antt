@@ -16,6 +16,7 @@ use Rattle.run_files.proofs.Caused.{caused_later}
 use Rattle.run_files.specs.Causes.{IsCaused}
 use Rattle.protocol.specs.Node.Common.{Network}
 use Rattle.replay.specs.declared.kept.ScriptedEvent.{ScriptedEvent}
+use Rattle.cobaltmidge.specs.Accepting.{IsAccepted}
 use Rattle.cobaltmidge.specs.KeptOutlets.{AreInFiles, held_counts, IsAtFault, IsPutFault, IsRunStop}
 use Rattle.cobaltmidge.specs.KeptRuns.{IsKeptRun}
 use Rattle.cobaltmidge.specs.KeptStreams.{AllHeld, AreKept, AreKeptIn, HasKeepFault, HeldSoMany, IsStateCause}
@@ -167,7 +168,7 @@ module _ {F : Type 0} {file : FileWords F} (counted : Bool) (o : Wanted) (folder
   stop_in_log opened outlets (Unread fault) were used stop = absurd stop
   stop_in_log opened outlets NotText were used stop = absurd stop
   stop_in_log opened outlets (Refused error) were used stop = stop
-  stop_in_log opened outlets (Files fault) were used stop = subst (IsCaused o e) (sym stop) tt
+  stop_in_log opened outlets (Files fault) were used stop = subst (IsCaused IsAccepted o e) (sym stop) tt
   stop_in_log opened outlets (Kept fault) were used (inl put) = fault_in_log o folder e opened outlets fault were used put
   stop_in_log opened outlets (Kept NoMemory) were used (inr files) = tt
   stop_in_log opened outlets (Kept Astray) were used (inr files) = tt
@@ -186,7 +187,7 @@ pub cause_later : (counted : Bool) (o : Wanted) (a b : List Request) (fault : St
 cause_later counted o a b (Unread fault) later why = absurd why
 cause_later counted o a b NotText later why = absurd why
 cause_later counted o a b (Refused error) later why = why
-cause_later counted o a b (Files fault) later why = caused_later o a b later fault why
+cause_later counted o a b (Files fault) later why = caused_later IsAccepted o a b later fault why
 cause_later counted o a b (Kept fault) later why = keep_fault_later o a b fault later why
 
 -- a run whose files held so much, and whose streams are kept, by one account is such a run by another

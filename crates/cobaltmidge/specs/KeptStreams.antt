@@ -12,6 +12,7 @@ use Rattle.run_files.specs.Syncing.{AreSyncedIf}
 use Rattle.run_files.specs.Wanted.{Wanted}
 use Rattle.run_files.specs.declared.fault.FilesFault.{FilesFault}
 use Rattle.protocol.specs.Node.Common.{Net}
+use Rattle.cobaltmidge.specs.Accepting.{IsAccepted}
 use Rattle.cobaltmidge.specs.Errors.{IsRunError}
 use Rattle.cobaltmidge.specs.Texts.{IsInputsError, IsNetError, IsNetOf}
 use Rattle.cobaltmidge.specs.declared.error.Error.{Error}
@@ -62,7 +63,7 @@ abbrev pub IsStateCause : Bool → Wanted → List Request → StateFault → Ty
 IsStateCause counted o e (Unread fault) = ⊥
 IsStateCause counted o e NotText = ⊥
 IsStateCause counted o e (Refused error) = IsRunError counted error
-IsStateCause counted o e (Files fault) = IsCaused o e fault
+IsStateCause counted o e (Files fault) = IsCaused IsAccepted o e fault
 IsStateCause counted o e (Kept fault) = HasKeepFault o e fault
 
 -- a text that isn't UTF-8, or is refused
@@ -88,4 +89,4 @@ pub data IsTextsCause : Wanted → List Request → StateFault → Type 0 where
       → IsTextsCause o e fault
   inputs_stop : {o : Wanted} {e : List Request} {fault : StateFault} (net_bytes bytes : List ℕ) (net : Net) → Has (Read o.net (Ok net_bytes)) e
       → IsNetOf net_bytes net → Has (Read o.inputs (Ok bytes)) e → IsInputsStop net bytes fault → IsTextsCause o e fault
-  files_refused : {o : Wanted} {e : List Request} (fault : FilesFault) → IsCaused o e fault → IsTextsCause o e (Files fault)
+  files_refused : {o : Wanted} {e : List Request} (fault : FilesFault) → IsCaused IsAccepted o e fault → IsTextsCause o e (Files fault)

@@ -4,6 +4,7 @@ use Rattle.std.specs.Prelude.{IfErr, OnOk}
 use Rattle.host.specs.Answers.{Answer}
 use Rattle.host.specs.declared.fault.HostFault.{HostFault}
 use Rattle.kahn_program.specs.Failures.{failure_line}
+use Rattle.cobaltmidge.specs.Accepting.{IsAccepted}
 use Rattle.cobaltmidge.specs.Texts.{AreInputsOf, IsNetOf}
 use Rattle.run_files.specs.Causes.{IsCaused}
 use Rattle.run_files.specs.declared.fault.FilesFault.{FilesFault}
@@ -49,12 +50,12 @@ stopped_later failed other o a b (Unreadable source) later more h = absurd h
 stopped_later failed other o a b (Approximation number) later more h = absurd h
 stopped_later failed other o a b NoMemory later more h = tt
 stopped_later failed other o a b (State number) later more (inl h) = inl (more number h)
-stopped_later failed other o a b (State number) later more (inr (inl h)) = inr (inl (h.0, caused_later o a b later files.OtherState h.1))
+stopped_later failed other o a b (State number) later more (inr (inl h)) = inr (inl (h.0, caused_later IsAccepted o a b later files.OtherState h.1))
 stopped_later failed other o a b (State number) later more (inr (inr (inl h))) =
-    inr (inr (inl (h.0, caused_later o a b later files.Failed h.1)))
+    inr (inr (inl (h.0, caused_later IsAccepted o a b later files.Failed h.1)))
 stopped_later failed other o a b (State number) later more (inr (inr (inr h))) = inr (inr (inr h))
-stopped_later failed other o a b InUse later more h = caused_later o a b later files.InUse h
-stopped_later failed other o a b Unwritten later more h = caused_later o a b later files.Unwritten h
+stopped_later failed other o a b InUse later more h = caused_later IsAccepted o a b later files.InUse h
+stopped_later failed other o a b Unwritten later more h = caused_later IsAccepted o a b later files.Unwritten h
 stopped_later failed other o a b (Other number) later more h = h
 
 pub file_fault_later : (o : Wanted) (a b : List Request) → Later a b → (number : ℕ) → HasFileFault o a number → HasFileFault o b number
@@ -63,7 +64,7 @@ file_fault_later o a b later number (inr (inl h)) = inr (inl (h.0, (h.1.0, h.1.1
 file_fault_later o a b later number (inr (inr h)) = inr (inr h)
 
 -- a refusal of the files
-files_stop : (failed : ℕ → Type 0) (o : Wanted) (e : List Request) (fault : FilesFault) → IsCaused o e fault
+files_stop : (failed : ℕ → Type 0) (o : Wanted) (e : List Request) (fault : FilesFault) → IsCaused IsAccepted o e fault
     → IsStopped failed o e (failure_of fault)
 files_stop failed o e files.NoMemory h = tt
 files_stop failed o e files.InUse h = h
@@ -73,7 +74,7 @@ files_stop failed o e files.Unwritten h = h
 files_stop failed o e files.Astray h = inr (inr (inr refl))
 
 pub stopped_by_files : (failed : ℕ → Type 0) (o : Wanted) (e : List Request) (failure : Failure) (fault : FilesFault)
-    → failure ≡ failure_of fault → IsCaused o e fault → IsStopped failed o e failure
+    → failure ≡ failure_of fault → IsCaused IsAccepted o e fault → IsStopped failed o e failure
 stopped_by_files failed o e failure fault is h = subst (IsStopped failed o e) (sym is) (files_stop failed o e fault h)
 
 -- a failure of the run itself

@@ -1,5 +1,6 @@
 -- Why the program over its host ends without a report.
 use Rattle.std.specs.Prelude.{◌≡◌, ◌⊎◌, ℕ, ℤ, Bool, true, List, Option, Some, None, Ok, Err}
+use Rattle.cobaltmidge.specs.Accepting.{IsAccepted}
 use Rattle.cobaltmidge.specs.Texts.{AreInputsOf, IsNetOf}
 use Rattle.host.specs.Answers.{Answer}
 use Rattle.host.specs.LineRequests as lines
@@ -43,10 +44,10 @@ IsStopped failed o e (Approximation number) = ⊥
 IsStopped failed o e NoMemory = Unit {0}
 IsStopped failed o e (State number) =
     failed number
-    ⊎ (((number ≡ OTHER_STATE) × IsCaused o e files.OtherState)
-    ⊎ (((number ≡ FILE_FAILED) × IsCaused o e files.Failed) ⊎ (number ≡ ASTRAY)))
-IsStopped failed o e InUse = IsCaused o e files.InUse
-IsStopped failed o e Unwritten = IsCaused o e files.Unwritten
+    ⊎ (((number ≡ OTHER_STATE) × IsCaused IsAccepted o e files.OtherState)
+    ⊎ (((number ≡ FILE_FAILED) × IsCaused IsAccepted o e files.Failed) ⊎ (number ≡ ASTRAY)))
+IsStopped failed o e InUse = IsCaused IsAccepted o e files.InUse
+IsStopped failed o e Unwritten = IsCaused IsAccepted o e files.Unwritten
 IsStopped failed o e (Other number) = (counted : Bool) × IsStoreFailure counted (Other number)
 
 -- A file of the folder failed: an item of the run differs from one that it held (81), or a put to it did (82). Or the files came back

@@ -77,6 +77,7 @@ given_of texts = record {
   net = texts.net.items;
   inputs = texts.inputs.items;
   script = option_map (λ (script : Vec ℕ Global). script.items) texts.script;
+  kept = None;
 }
 
 -- What is to be said is the report of a run of the texts that were read, or of an approximation, and tells `complete` or not. Where a folder is

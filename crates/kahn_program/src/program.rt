@@ -504,6 +504,8 @@ fn run_kept<H: Host, P: RunWatch + TurnWatch + Sync, R: Threads + Wait + Sync>(
     requires ready { IsReady IsAccepted (wanted_of names.now) (H.asked host.old) }
     requires wanted { (wanted_of names.now).state ≡ Some (string_bytes folder.now) }
     requires read { WereRead (wanted_of names.now) (given_of texts.now) (H.asked host.old) }
+    requires net { IsNetOf texts.now.net.items asked.net }
+    requires inputs { AreInputsOf texts.now.inputs.items asked.net asked.inputs }
     requires fitting { Fits (network_of asked.net.program) asked.inputs }
     ensures keeps { Keeps (wanted_of names.now) (H.asked host.old) (H.asked host.new) }
     ensures report { IfOk result (λ report. IsReport
@@ -521,7 +523,12 @@ fn run_kept<H: Host, P: RunWatch + TurnWatch + Sync, R: Threads + Wait + Sync>(
         net: &texts.net,
         inputs: &texts.inputs,
     };
-    let open = open_folder::<H, Accepted>(host, alloc, names, folder, folder_texts, outputs)?;
+    let judge = Accepted {
+        net: &asked.net,
+        inputs: &asked.inputs,
+    };
+    let open =
+        open_folder::<H, Accepted>(host, alloc, names, &judge, folder, folder_texts, outputs)?;
     let OpenFolder {
         lock,
         files,
@@ -571,6 +578,8 @@ fn run_asked<H: Host, P: RunWatch + TurnWatch + Sync, R: Threads + Wait + Sync>(
     requires free { IsFree (H.asked host.old) }
     requires read { WereRead (wanted_of names.now) (given_of all.texts) (H.asked host.old) }
     requires accepted { IsAccepted (given_of all.texts) }
+    requires net { IsNetOf all.texts.net.items all.net }
+    requires inputs { AreInputsOf all.texts.inputs.items all.net all.inputs }
     requires fitting { Fits (network_of all.net.program) all.inputs }
     requires wanted { wanted_of names.now ≡ asked_files options.now }
     ensures keeps { Keeps (wanted_of names.now) (H.asked host.old) (H.asked host.new) }

@@ -21,7 +21,7 @@ use Rattle.cobaltmidge.proofs.state.run_locked.Goals as goal
 pub returns-in_err-give_back-clause-cause : goal.returns-in_err-give_back-clause-cause
 returns-in_err-give_back-clause-cause g c =
     let p = err_from_is_err_and c.from_residual.result c.from_residual.ensures.1 in
-    rw (p.1, p.2) (caused_as _ _ _ Astray c.in_err-give_back.ensures.cause tt)
+    rw (p.1, p.2) (caused_as _ _ _ _ Astray c.in_err-give_back.ensures.cause tt)
 
 pub returns-clause-run : goal.returns-clause-run
 returns-clause-run g c =

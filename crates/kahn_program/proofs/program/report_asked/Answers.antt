@@ -13,6 +13,7 @@ run_asked-requires-clause-accepted g c κs within = record {
   of_net = c.in_ok-all.ensures.net;
   of_inputs = c.in_ok-all.ensures.inputs;
   of_script = script_accepted _ _ _ _ _ c.in_ok-all.ensures.read.script c.in_ok-all.ensures.lines;
+  of_kept = tt;
 }
 
 pub returns-in_default-clause-keeps : goal.returns-in_default-clause-keeps

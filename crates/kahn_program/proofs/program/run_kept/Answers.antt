@@ -1,4 +1,4 @@
-use Rattle.std.proofs.Common.{string_bytes, ap, ◌∙◌, List}
+use Rattle.std.proofs.Common.{string_bytes, ap, ◌∙◌, List, None, refl}
 use Rattle.run_files.specs.Opening.{opened_names}
 use Rattle.run_files.specs.declared.held_file.OpenedName.{OpenedName}
 use Rattle.cobaltmidge.proofs.InFolder.{kept_as}
@@ -16,6 +16,15 @@ use Rattle.kahn_program.proofs.Causes.{file_fault_later, stopped_by_files, stopp
 use Rattle.std.proofs.lemmas.Grind.{elements}
 use Rattle.std.proofs.Common.{arith}
 use Rattle.kahn_program.proofs.program.run_kept.Goals as goal
+
+pub open_folder-requires-clause-judged : goal.open_folder-requires-clause-judged
+open_folder-requires-clause-judged g c κs within = record {
+  given = record { net = c.args.texts.now.net.items; inputs = c.args.texts.now.inputs.items; script = None; kept = None };
+  read = record { net = c.requires.read.net; inputs = c.requires.read.inputs };
+  net_text = refl;
+  inputs_text = refl;
+  judged = record { of_net = c.requires.net; of_inputs = c.requires.inputs; of_script = tt };
+}
 
 pub run_locked-requires-clause-ready : goal.run_locked-requires-clause-ready
 run_locked-requires-clause-ready g c κs within = ready_later _ _ _ _ c.open_folder.ensures.later c.requires.ready

@@ -68,7 +68,7 @@ returns-clause-report g c =
 pub returns-in_err-give_back-clause-cause : goal.returns-in_err-give_back-clause-cause
 returns-in_err-give_back-clause-cause g c =
     let p = err_from_is_err_and c.from_residual.result c.from_residual.ensures.1 in
-    rw p.1 (stopped_by_files _ _ _ _ _ p.2 (caused_as _ _ _ Astray c.in_err-give_back.ensures.cause tt))
+    rw p.1 (stopped_by_files _ _ _ _ _ p.2 (caused_as _ _ _ _ Astray c.in_err-give_back.ensures.cause tt))
 
 pub returns-clause-cause : goal.returns-clause-cause
 returns-clause-cause g c =
