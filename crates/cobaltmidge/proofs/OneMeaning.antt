@@ -1,8 +1,7 @@
 -- Texts mean one thing: of two networks of one text the same channels are inputs, and a text gives these one list each.
-use Rattle.std.proofs.Common.{◌≡◌, ◌≢◌, ◌+◌, ◌<◌, ◌≤◌, ◌∙◌, inl, inr, refl, sym, ap, subst, arith, ℕ, ℤ, List, [], ◌∷◌, length, slice_get, Option, Some, Ok, Result}
+use Rattle.std.proofs.Common.{◌≡◌, ◌≢◌, ◌+◌, ◌<◌, ◌≤◌, ◌∙◌, inl, inr, refl, sym, ap, subst, arith, Bool, true, false, ℕ, ℤ, List, [], ◌∷◌, length, slice_get, Option, Some, Ok, Result}
 use Rattle.std.proofs.lemmas.List.{length-map}
 use Rattle.std.specs.Option.{unwrap_or}
-use Rattle.std.specs.Prelude.{IsUtf8}
 use Rattle.std.proofs.lemmas.Option.{get_or_from_slice_get, slice_get_cases, slice_get_past, unwrap_or-slice_get}
 use Rattle.net_text.specs.InputLines.{IsInputsText, lines_of}
 use Rattle.net_text.specs.Names.{NameTree}
@@ -23,7 +22,7 @@ use Rattle.kahn_net.specs.Streams.{ArePrefixes, IsPrefix, history_of}
 use Rattle.net_check.specs.declared.net.Net.{Net}
 use Rattle.run_files.specs.Rules.{Given, grown_from}
 use Rattle.cobaltmidge.specs.Accepting.{AreTextsOf, HaveGrownFrom, IsAccepted}
-use Rattle.cobaltmidge.specs.Texts.{AreInputsOf, IsNetOf, IsTextOfInputs}
+use Rattle.cobaltmidge.specs.Texts.{AreInputsOf, IsNetOf}
 use Rattle.kahn_net.specs.declared.program.Channel.{Channel}
 use Rattle.kahn_net.specs.declared.program.Port.{Port}
 use Rattle.kahn_net.specs.declared.program.Port.TheVariants.{Outside, Process}
@@ -217,16 +216,14 @@ not_beside net inputs given kept are changed accepted =
     })
 
 -- inputs that were found not to have grown from what a text gives haven't grown from that text
-pub none_longer : (net_text kept : List ℕ) (net : Net) (found inputs : List (List ℤ)) → IsNetOf net_text net → AreInputsOf kept net found
-    → ¬ (ArePrefixes found inputs) → ¬ (HaveGrownFrom net inputs kept)
-none_longer net_text kept net found inputs is are shorter grown =
-    shorter (record {
+pub none_longer : (net_text kept : List ℕ) (net : Net) (found inputs a b : List (List ℤ)) (result : Bool) → IsNetOf net_text net
+    → AreInputsOf kept net found → a ≡ found → b ≡ inputs → result ≡ false → (ArePrefixes a b → result ≡ true)
+    → ¬ (HaveGrownFrom net inputs kept)
+none_longer net_text kept net found inputs a b result is are same other no yes grown =
+    let longer : ArePrefixes found inputs = record {
       at = λ c. (let P : List ℤ → Type 0 = λ part. IsPrefix part (history_of inputs c) in
       subst P (inputs_are net_text kept net grown.before found is grown.of_kept are c) (grown.longer.at c));
-    })
-
--- a text that gives no inputs is none from which they have grown
-pub no_text : (kept : List ℕ) (net : Net) (inputs : List (List ℤ)) → (IsUtf8 kept → ¬ (IsTextOfInputs net kept))
-    → ¬ (HaveGrownFrom net inputs kept)
-no_text kept net inputs none grown =
-    none grown.utf8 (record { lines = grown.of_kept.lines; lists = grown.before; text = grown.of_kept.text; bound = grown.of_kept.bound })
+    } in
+    let P : List (List ℤ) → Type 0 = λ part. ArePrefixes part inputs in
+    let Q : List (List ℤ) → Type 0 = λ whole. ArePrefixes a whole in
+    let has = yes (subst Q (sym other) (subst P (sym same) longer)) in absurd (cc)

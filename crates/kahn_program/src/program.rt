@@ -527,8 +527,15 @@ fn run_kept<H: Host, P: RunWatch + TurnWatch + Sync, R: Threads + Wait + Sync>(
         net: &asked.net,
         inputs: &asked.inputs,
     };
-    let open =
-        open_folder::<H, Accepted>(host, alloc, names, &judge, folder, folder_texts, outputs)?;
+    let open = open_folder::<H, Accepted>(
+        host,
+        alloc,
+        names,
+        &judge,
+        folder,
+        folder_texts,
+        outputs,
+    )?;
     let OpenFolder {
         lock,
         files,

@@ -1,4 +1,4 @@
-use Rattle.std.proofs.Common.{true, ◌∙◌, ◌++◌, ◌∷◌, [], ap, subst, string_bytes, ℕ, ℤ, List, Some}
+use Rattle.std.proofs.Common.{true, ◌∙◌, ◌++◌, ◌∷◌, [], ap, subst, string_bytes, ℕ, ℤ, List, None, Some, refl, rules}
 use Rattle.std.proofs.Math.Logic.{∥∥₁_map}
 use Rattle.std.proofs.lemmas.Result.{IfErr-weaker, IfOk-weaker}
 use Rattle.protocol.specs.Node.Common.{Net, network_of}
@@ -111,3 +111,12 @@ run_locked-kept-requires-clause-opened g c = grind (arith, elements)
 
 pub run_locked-kept-requires-clause-files : goal.run_locked-kept-requires-clause-files
 run_locked-kept-requires-clause-files g c κs within = grind (arith, elements)
+
+pub open_folder-requires-clause-judged : goal.open_folder-requires-clause-judged
+open_folder-requires-clause-judged g c κs within = record {
+  given = record { net = c.args.texts.now.net.items; inputs = c.args.texts.now.inputs.items; script = None; kept = None };
+  read = record { net = c.requires.net_read; inputs = c.requires.inputs_read };
+  net_text = refl;
+  inputs_text = refl;
+  judged = record { of_net = search rules; of_inputs = search rules; of_script = tt };
+}
