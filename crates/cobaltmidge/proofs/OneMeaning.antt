@@ -222,7 +222,7 @@ pub none_longer : (net_text kept : List ℕ) (net : Net) (found inputs a b : Lis
 none_longer net_text kept net found inputs a b result is are same other no yes grown =
     let longer : ArePrefixes found inputs = record {
       at = λ c. (let P : List ℤ → Type 0 = λ part. IsPrefix part (history_of inputs c) in
-      subst P (inputs_are net_text kept net grown.before found is grown.of_kept are c) (grown.longer.at c));
+          subst P (inputs_are net_text kept net grown.before found is grown.of_kept are c) (grown.longer.at c));
     } in
     let P : List (List ℤ) → Type 0 = λ part. ArePrefixes part inputs in
     let Q : List (List ℤ) → Type 0 = λ whole. ArePrefixes a whole in

@@ -2,10 +2,8 @@ use Rattle.std.proofs.Common.{rules, inl, ℕ, ◌≤◌, Err, arith, codes}
 use Rattle.host.specs.Requests.{Has, MadeFile}
 use Rattle.host.specs.declared.fault.HostFault.TheVariants as host
 use Rattle.run_files.specs.Causes.{tried_name}
-
 use Rattle.run_files.specs.Rules.{GoesOn}
 use Rattle.run_files.specs.Wanted.{wanted_of}
-
 use Rattle.run_files.specs.declared.happened.TheConstants.{LAST_NAME}
 use Rattle.run_files.proofs.Caused.{taken_more, unmade_told}
 use Rattle.run_files.proofs.Going.{goes_still, goes_then, goes_with, of_none, ready_goes}
