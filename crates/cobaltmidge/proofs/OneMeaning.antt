@@ -219,11 +219,11 @@ not_beside net inputs given kept are changed accepted =
 pub none_longer : (net_text kept : List ℕ) (net : Net) (found inputs a b : List (List ℤ)) (result : Bool) → IsNetOf net_text net
     → AreInputsOf kept net found → a ≡ found → b ≡ inputs → result ≡ false → (ArePrefixes a b → result ≡ true)
     → ¬ (HaveGrownFrom net inputs kept)
-none_longer net_text kept net found inputs a b result is are same other no yes grown =
+none_longer net_text kept net found inputs a b result is are same other is_false begins grown =
     let longer : ArePrefixes found inputs = record {
       at = λ c. (let P : List ℤ → Type 0 = λ part. IsPrefix part (history_of inputs c) in
           subst P (inputs_are net_text kept net grown.before found is grown.of_kept are c) (grown.longer.at c));
     } in
     let P : List (List ℤ) → Type 0 = λ part. ArePrefixes part inputs in
     let Q : List (List ℤ) → Type 0 = λ whole. ArePrefixes a whole in
-    let has = yes (subst Q (sym other) (subst P (sym same) longer)) in absurd (cc)
+    let has = begins (subst Q (sym other) (subst P (sym same) longer)) in absurd (cc)
