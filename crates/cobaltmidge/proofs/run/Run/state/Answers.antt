@@ -1,4 +1,4 @@
-use Rattle.std.proofs.Common.{true, ◌∙◌, ◌++◌, ◌∷◌, [], ap, subst, string_bytes, ℕ, ℤ, List, None, Some, refl, rules}
+use Rattle.std.proofs.Common.{true, ◌∙◌, ◌++◌, ◌∷◌, [], ap, subst, string_bytes, ℕ, ℤ, List, None, Some, refl, sym}
 use Rattle.std.proofs.Math.Logic.{∥∥₁_map}
 use Rattle.std.proofs.lemmas.Result.{IfErr-weaker, IfOk-weaker}
 use Rattle.protocol.specs.Node.Common.{Net, network_of}
@@ -12,6 +12,7 @@ use Rattle.cobaltmidge.specs.FileNames.{file_names}
 use Rattle.cobaltmidge.specs.KeptRuns.{IsKeptRun, IsKeptWhereRefused}
 use Rattle.cobaltmidge.specs.KeptStreams.{AllHeld, AreKept, AreKeptIn, IsStateCause}
 use Rattle.cobaltmidge.specs.Names.{script_of}
+use Rattle.cobaltmidge.specs.Texts.{AreInputsOf, IsNetOf}
 use Rattle.cobaltmidge.specs.declared.kept_run.KeptRun.{KeptRun}
 use Rattle.cobaltmidge.specs.declared.state_error.StateError.{StateError}
 use Rattle.cobaltmidge.proofs.InFolder.{cause_later, held_as, kept_as, kept_run_maps}
@@ -118,5 +119,10 @@ open_folder-requires-clause-judged g c κs within = record {
   read = record { net = c.requires.net_read; inputs = c.requires.inputs_read };
   net_text = refl;
   inputs_text = refl;
-  judged = record { of_net = search rules; of_inputs = search rules; of_script = tt };
+  judged = record {
+    of_net = subst (λ (net : Net). IsNetOf c.args.texts.now.net.items net) (sym c.deref-2.ensures) c.requires.net;
+    of_inputs = subst (λ (net : Net). AreInputsOf c.args.texts.now.inputs.items net c.args.self.inputs) (sym c.deref-2.ensures)
+        c.requires.inputs;
+    of_script = tt;
+  };
 }
