@@ -16,9 +16,10 @@ use crate::output::Output;
 use crate::picking::has_more;
 use crate::quiet::have_all_left;
 use crate::station::Station;
+use arrived::Arrived;
 use kahn_net::MAX_COUNT;
 use layout::{consumer_node, producer_node};
-use net_check::{Inputs, Net};
+use net_check::Net;
 use node::{Mode, NodeState, Running};
 use outlet::Outlet;
 use protocol::{Inbox, MAX_INBOX_ITEMS, Outbox, Rooms};
@@ -191,11 +192,11 @@ impl<C: SlotCell, O: Outlet> Station<C, O> {
     pub fn is_still(
         &self,
         net: &Net,
-        inputs: &Inputs,
+        inputs: &Arrived,
         rooms: &Rooms,
         stations: &[Station<C, O>],
     ) -> bool
-        ensures { result ≡ is_still (network_of net.now.program) inputs.now rooms.now
+        ensures { result ≡ is_still (network_of net.now.program) inputs.now.came rooms.now
             (map (station_view O.taken O.failures) stations.now)
             (station_view O.taken O.failures self.now) }
     {

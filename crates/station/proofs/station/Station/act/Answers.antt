@@ -48,7 +48,7 @@ install-requires g c = λ out.
     let net = c.args.lent.now.net.now.value in
     let was = station_view g.O.Outlet.taken g.O.Outlet.failures c.args.self.now in
     let done = done_view c.in-Install.done in
-    takes_turn (network_of net.program) c.args.lent.now.inputs.now.value net.valid c.requires.sure.fits was c.requires.sound.inv
+    takes_turn (network_of net.program) c.args.lent.now.inputs.now.came net.valid c.requires.sure.fits was c.requires.sound.inv
     done c.in-Install.done.turn out
 
 pub start-requires : goal.start-requires
@@ -56,9 +56,9 @@ start-requires g c =
     let net = c.args.lent.now.net.now.value in
     let was = station_view g.O.Outlet.taken g.O.Outlet.failures c.args.self.now in
     record {
-      like = like_now (network_of net.program) c.args.lent.now.inputs.now.value net.valid c.requires.sure.fits was
+      like = like_now (network_of net.program) c.args.lent.now.inputs.now.came net.valid c.requires.sure.fits was
           c.requires.sound.inv;
-      allowed = start_allowed (network_of net.program) c.args.lent.now.inputs.now.value net.valid was c.requires.sound.inv
+      allowed = start_allowed (network_of net.program) c.args.lent.now.inputs.now.came net.valid was c.requires.sound.inv
           c.requires.sound.named c.requires.sound.below c.requires.sound.joined;
     }
 
@@ -75,7 +75,7 @@ decide-requires g c =
         few = omega (arith, few, listed);
         bounded = c.requires.sound.inv.kept.bounded;
       };
-      allowed = decide_allowed net c.args.lent.now.inputs.now.value c.args.lent.now.net.now.value.valid was c.requires.sound.inv
+      allowed = decide_allowed net c.args.lent.now.inputs.now.came c.args.lent.now.net.now.value.valid was c.requires.sound.inv
           c.requires.sound.named c.requires.sound.below c.requires.sound.joined;
     }
 
@@ -86,7 +86,7 @@ deliver-requires g c =
     let setting = setting_by c.args.lent.now (traffic_of c.args.wire.now) in
     record {
       to = subst (λ (e : EventView). event_node e < NODES) (deed_seen c.in-Plain.is c.in-ByNode.is c.in-Deliver.is) c.requires.node;
-      like = like_now (network_of net.program) c.args.lent.now.inputs.now.value net.valid c.requires.sure.fits was
+      like = like_now (network_of net.program) c.args.lent.now.inputs.now.came net.valid c.requires.sure.fits was
           c.requires.sound.inv;
       listed = c.requires.sound.joined.kept.listed;
       bounded = c.requires.sound.inv.kept.bounded;
@@ -100,14 +100,14 @@ pub release-requires : goal.release-requires
 release-requires g c =
     let net = network_of c.args.lent.now.net.now.value.program in
     let was = station_view g.O.Outlet.taken g.O.Outlet.failures c.args.self.now in
-    λ place outlet next there. next_there net c.args.lent.now.inputs.now.value was c.args.lent.now.round place outlet
+    λ place outlet next there. next_there net c.args.lent.now.inputs.now.came was c.args.lent.now.round place outlet
     c.requires.sound.inv next there
 
 pub send-requires : goal.send-requires
 send-requires g c =
     let net = c.args.lent.now.net.now.value in
     let was = station_view g.O.Outlet.taken g.O.Outlet.failures c.args.self.now in
-    station_writable (network_of net.program) c.args.lent.now.inputs.now.value net.valid was c.requires.sound.inv
+    station_writable (network_of net.program) c.args.lent.now.inputs.now.came net.valid was c.requires.sound.inv
     c.requires.sound.named c.requires.sound.below c.requires.sound.joined
 
 -- ---- how it came out

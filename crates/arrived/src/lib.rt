@@ -1,0 +1,2 @@
+//! What has come on the inputs of a world.
+#![tactic(auto)]
