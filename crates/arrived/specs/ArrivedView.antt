@@ -1,5 +1,5 @@
 -- What clauses see of a network's inputs of which items were let go of: all that came, and how many of them are gone.
-use Rattle.std.specs.Prelude.{◌≡◌, ℕ, ℤ, ◌<◌, ◌≤◌, List, ◌++◌, length, map, drop, replicate, reverse, slice_index_or, slice_set}
+use Rattle.std.specs.Prelude.{◌≡◌, ℕ, ℤ, ◌<◌, ◌≤◌, List, ◌++◌, length, map, drop, replicate, reverse, slice_index_or}
 use Rattle.kahn_net.specs.Streams.{history_of}
 use Rattle.kahn_net.specs.declared.limits.TheConstants.{MAX_COUNT}
 use Rattle.sector_disk.specs.Past.{states_of}
@@ -9,6 +9,10 @@ use Rattle.sector_disk.specs.declared.past.Past.{Past}
 pub record ListView : Type 0 where
   pub came : List ℤ
   pub base : ℕ
+
+-- an input on which this came, with nothing let go of
+abbrev pub began : List ℤ → ListView
+began history = record { came = history; base = 0 }
 
 -- each input, by its channel's number
 pub record ArrivedView : Type 0 where

@@ -3,7 +3,7 @@ ghost use Rattle.std.specs.Prelude.{◌≡◌, ◌+◌, ◌<◌, ◌≤◌, ◌+
 ghost use Rattle.kahn_net.specs.Fits.{AreCounted};
 ghost use Rattle.kahn_net.specs.Streams.{history_of};
 ghost use Rattle.kahn_net.specs.declared.limits.TheConstants.{MAX_COUNT};
-ghost use Rattle.arrived.specs.ArrivedView.{base_of, none_gone, MayLetGo};
+ghost use Rattle.arrived.specs.ArrivedView.{base_of, began, none_gone, MayLetGo};
 
 use crate::list::ArrivedList;
 use kahn_net::History;
@@ -32,7 +32,7 @@ impl Model for Arrived {
 // Each of these lists, with nothing let go of.
 fn list_each(alloc: Global, histories: Vec<History>) -> Result<Vec<ArrivedList>, AllocError>
     requires { AreCounted histories.items }
-    ensures { IfOk result (λ lists. lists.items ≡ map (λ history. record { came = history; base = 0 }) histories.items) }
+    ensures { IfOk result (λ lists. lists.items ≡ map began histories.items) }
 {
     let mut lists = Vec::with_capacity(alloc, histories.len())?;
     for history in histories {

@@ -3,6 +3,7 @@ ghost use Rattle.std.specs.Prelude.{◌≡◌, ◌+◌, ◌<◌, ◌≤◌, ◌+
 ghost use Rattle.std.specs.VecDeque.{deque_len, deque_capacity};
 ghost use Rattle.kahn_net.specs.declared.limits.TheConstants.{MAX_COUNT};
 ghost use Rattle.sector_disk.specs.Past.{states_of};
+ghost use Rattle.arrived.specs.ArrivedView.{began};
 
 use kahn_net::History;
 use sector_disk::Past;
@@ -64,7 +65,7 @@ impl ArrivedList {
     /// An input on which this came. No item is copied.
     pub(crate) fn from_history(history: History) -> ArrivedList
         requires { length history ≤ MAX_COUNT }
-        ensures { result ≡ record { came = history; base = 0 } }
+        ensures { result ≡ began history }
     {
         let first = Snapshot::of(&history);
         ArrivedList {

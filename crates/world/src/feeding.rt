@@ -67,8 +67,8 @@ pub(crate) fn none_closed() -> ClosedInputs
     [false; MAX_CHANNELS]
 }
 
-// Whether a channel is an input: its items come from outside.
-fn is_input(net: &Net, number: usize) -> bool
+/// Whether a channel is an input: its items come from outside.
+pub(crate) fn is_input(net: &Net, number: usize) -> bool
     ensures { result ≡ is_input (network_of net.now.program) number }
 {
     match net.program.channels.get(number) {
