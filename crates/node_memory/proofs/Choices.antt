@@ -16,7 +16,9 @@ use Rattle.proc_step.specs.declared.next.NextAct.{NextAct}
 use Rattle.protocol.specs.declared.links.Inbox.{Inbox}
 use Rattle.turns.specs.Turns.{least_from}
 use Rattle.protocol.specs.Node.Choosing.{has_item, has_room, can_go, next_at, is_ready, ready_process, ready_processes}
-use Rattle.protocol.specs.Node.Choosing.{process_at}
+use Rattle.protocol.specs.Node.Choosing.{process_at, job_of, job_up_to, may_grant, next_process}
+use Rattle.protocol.specs.Node.Common.{RunningNode}
+use Rattle.protocol.specs.Node.Granting.{job_for}
 use Rattle.node_memory.specs.AtHand.{StandsIn}
 use Rattle.node_memory.proofs.Searching.{IsSearched, all_searched}
 
@@ -157,6 +159,20 @@ chosen_place net inputs share image inboxes None (Some saved) is = absurd (cc)
 chosen_place net inputs share image inboxes (Some number) (Some saved) is =
     place_found (λ (one : SavedProcessView). (one.number == number) && is_ready net inputs share image inboxes one)
     image.processes saved.now (sym is)
+
+-- the job of the process that is chosen is the node's next one
+job_if : (net : Network) (inputs : List (List ℤ)) (share : ℕ → ℕ) (node : RunningNode) (saved : SavedProcessView)
+    (chosen : Option SavedProcessView) (may : Bool) → Some saved ≡ cond may chosen None
+    → job_of net inputs share node (Some saved) ≡ cond may (job_of net inputs share node chosen) None
+job_if net inputs share node saved chosen true is = ap (job_of net inputs share node) is
+job_if net inputs share node saved chosen false is = absurd (cc)
+
+pub job_chosen : (net : Network) (inputs : List (List ℤ)) (share : ℕ → ℕ) (node : RunningNode) (saved : SavedProcessView)
+    → Some saved ≡ cond (may_grant node) (next_process net inputs share node.current node.inboxes node.last) None
+    → Some (job_for share net inputs node.current node.inboxes saved.number saved.standing node.version)
+    ≡ job_up_to net inputs share node
+job_chosen net inputs share node saved is =
+    job_if net inputs share node saved (next_process net inputs share node.current node.inboxes node.last) (may_grant node) is
 
 -- all were looked at, of those of an image
 module _ (program : Program) (inputs : List (List ℤ)) (share : ℕ → ℕ) (image : ImageView) (inboxes : List Inbox)
