@@ -41,7 +41,7 @@ fn note_grant(turns: &mut RoundTurns, granted: Option<Arc<Job>>, round: u64) -> 
 impl<C: SlotCell, O: Outlet> Station<C, O> {
     /// Grants a job, where channels have the rooms that are lent.
     pub(crate) fn grant(&mut self, lent: &Lent) -> Result<Reply, AllocError>
-        requires at_hand { AreAtHandNow (net_lent lent.now).channels (bases_lent lent.now) (view_of self.old.node).mode }
+        requires { AreAtHandNow (net_lent lent.now).channels (bases_lent lent.now) (view_of self.old.node).mode }
         ensures outputs { outlet_views O.taken O.failures self.new.outputs.items
             ≡ outlet_views O.taken O.failures self.old.outputs.items }
         ensures cell { self.new.node.store ≡ self.old.node.store }
