@@ -19,4 +19,4 @@ pub returns-in_default-clause-state : goal.returns-in_default-clause-state
 returns-in_default-clause-state g c = grind (arith, elements)
 
 pub grant-requires : goal.grant-requires
-grant-requires g c = c.requires _ (ap mode_view c.in-Running.is)
+grant-requires g c = record { at_hand = c.requires.at_hand _ (ap mode_view c.in-Running.is) }
