@@ -24,7 +24,6 @@ pub mod Sending
 pub mod Needs
 pub mod Beginning
 pub mod Answering
-pub mod AtHand
 pub mod Collecting
 pub mod Verdicts
 pub mod GoingBack

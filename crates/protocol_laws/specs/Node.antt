@@ -6,7 +6,6 @@ pub mod ReachedLaws
 pub mod PlaceLaws
 pub mod LogLaws
 pub mod AtHandLaws
-pub mod AtHandLaws
 pub mod CountLaws
 pub mod InnerLaws
 pub mod PoppingLaws
