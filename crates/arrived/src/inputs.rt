@@ -13,9 +13,15 @@ use std::marker::Model;
 
 /// What came on a network's inputs: one list for each channel number, empty where the channel is no input. Clauses see whole
 /// lists, and memory has of each what wasn't let go of.
-#[derive(Drop)]
 pub struct Arrived {
     lists: Vec<ArrivedList>,
+}
+
+// Written out, since each crate above would go through a derived one again.
+impl Drop for Arrived {
+    fn drop(self) {
+        let Self { lists } = self;
+    }
 }
 
 impl Model for Arrived {

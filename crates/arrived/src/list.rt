@@ -15,12 +15,23 @@ use std::snapshot::Snapshot;
 /// One input: clauses see all that came on it, and memory has the items from the position `base` on.
 ///
 /// What it began with and what came later take no memory: each is read in proofs alone.
-#[derive(Drop)]
 pub(crate) struct ArrivedList {
     first: Snapshot<History>,
     later: Past<i64>,
     base: u64,
     items: VecDeque<i64>,
+}
+
+// Written out, since each crate above would go through a derived one again.
+impl Drop for ArrivedList {
+    fn drop(self) {
+        let Self {
+            first,
+            later,
+            base,
+            items,
+        } = self;
+    }
 }
 
 impl Model for ArrivedList {
