@@ -65,9 +65,6 @@ pub fn open_world<O: Outlet>(
     ensures err { (threads : Bool) → IfErr result (λ unfinished. IsRunFault threads unfinished.fault) }
     ensures handed_back { IfErr result (λ unfinished. HasOutputs outputs.items unfinished.left) }
 {
-    let Ok(inputs) = Arc::new(alloc, inputs) else {
-        return Err(unbegun(outputs, RunFault::NoMemory));
-    };
     let Ok(share) = Arc::try_clone(net) else {
         return Err(unbegun(outputs, RunFault::NoMemory));
     };

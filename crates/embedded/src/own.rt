@@ -18,6 +18,9 @@ use std::sync::Arc;
 const NET: &str = "kahn 1; input i; output total; output same;
 process sum on 0 { var a; var v; loop { v = get i; a = a + v; put a to total; put v to same; } }";
 
+/// What comes in.
+const INPUTS: &str = "i: 1 2 3";
+
 /// The sectors of the disk.
 pub const SECTORS: usize = 401;
 
@@ -76,10 +79,9 @@ fn own_outputs(alloc: Global, net: &Net, weakness: Weakness) -> anyhow::Result<V
 pub fn open(alloc: Global, weakness: Weakness) -> anyhow::Result<OwnWorld> {
     let network = Network::parse(alloc, NET)?;
     anyhow::ensure!(node_count(&network.net) == 1, "several nodes");
-    let inputs = network.inputs(alloc, "i: 1 2 3")?;
+    let inputs = network.inputs(alloc, INPUTS)?;
     let outputs = own_outputs(alloc, &network.net, weakness)?;
     let disks = one_disk(alloc)?;
-    let inputs = Arc::new(alloc, inputs)?;
     match World::new(alloc, network.net, inputs, disks, outputs) {
         Ok(world) => Ok(world),
         Err(refused) => Err(refused.fault.into()),
@@ -109,7 +111,7 @@ pub fn step(alloc: Global, world: &mut OwnWorld) -> anyhow::Result<Reply> {
 /// The world that is opened over what another one of its network leaves.
 pub fn reopen(alloc: Global, world: OwnWorld) -> anyhow::Result<OwnWorld> {
     let net = Arc::clone(world.net())?;
-    let inputs = Arc::clone(world.inputs())?;
+    let inputs = Network::parse(alloc, NET)?.inputs(alloc, INPUTS)?;
     let (disks, outputs) = world.close(alloc)?;
     match World::open(alloc, net, inputs, disks, outputs) {
         Ok(again) => Ok(again),

@@ -41,6 +41,14 @@ impl History {
         History { items }
     }
 
+    /// The items, moved.
+    pub fn into_vec(self) -> Vec<i64>
+        ensures { result.items ≡ self }
+    {
+        let Self { items } = self;
+        items
+    }
+
     pub fn as_slice(&self) -> &[i64]
         ensures { result.now ≡ self.now }
     {

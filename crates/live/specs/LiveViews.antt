@@ -2,16 +2,15 @@
 use Rattle.gate_cell.specs.declared.cell.StableCell.{Ghosts as CellWords}
 use Rattle.slot_cell.specs.declared.slot_cell.SlotCell.{Ghosts as SlotWords}
 use Rattle.outlet.specs.declared.outlet.Outlet.{Ghosts as OutletWords}
-use Rattle.std.specs.Prelude.{ℕ, Bool, List, option_map, replicate, slice_index_or}
+use Rattle.std.specs.Prelude.{ℕ, ℤ, Bool, List, option_map, replicate, slice_index_or}
 use Rattle.std.specs.declared.alloc.Global.{Global}
 use Rattle.std.specs.declared.sync.Arc.{Arc}
 use Rattle.kahn_net.specs.declared.limits.TheConstants.{MAX_CHANNELS}
-use Rattle.net_check.specs.declared.inputs.Inputs.{Inputs}
 use Rattle.protocol.specs.Node.Common.{Net, RecordView}
 use Rattle.protocol.specs.World.Common.{WorldView}
 use Rattle.station.specs.declared.station.Station.{Station}
 use Rattle.world.specs.Events.{shared_view}
-use Rattle.world.specs.WholeView.{closed_in, inputs_in, net_in, nodes_in, rooms_in, stations_in, world_of}
+use Rattle.world.specs.WholeView.{bases_in, closed_in, inputs_in, net_in, nodes_in, rooms_in, stations_in, world_of}
 use Rattle.live.specs.Steps.{LiveView}
 use Rattle.live.specs.declared.live.Live.{Live}
 
@@ -23,8 +22,12 @@ module _ {C O : Type 0} {cell : CellWords C} {slots : SlotWords C} {outlet : Out
   abbrev pub net_on : Live C O slots cell outlet → Arc Net Global
   net_on live = net_in live.world
 
-  abbrev pub inputs_on : Live C O slots cell outlet → Arc Inputs Global
+  abbrev pub inputs_on : Live C O slots cell outlet → List (List ℤ)
   inputs_on live = inputs_in live.world
+
+  -- how many items of each were let go of
+  abbrev pub bases_on : Live C O slots cell outlet → List ℕ
+  bases_on live = bases_in live.world
 
   abbrev pub closed_on : Live C O slots cell outlet → List Bool
   closed_on live = closed_in live.world

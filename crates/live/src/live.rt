@@ -1,9 +1,11 @@
 //! A network at work.
-ghost use Rattle.std.specs.Prelude.{◌≡◌, ◌+◌, ◌≤◌, if◌then◌else◌, true, false, is_some, length, IfErr, IfOk, None, OnErr, OnOk, option_map, slice_get, slice_set};
+ghost use Rattle.std.specs.Prelude.{◌≡◌, ◌+◌, ◌≤◌, if◌then◌else◌, true, false, is_some, length, max, IfErr, IfOk, None, OnErr, OnOk, option_map, slice_get, slice_set};
+ghost use Rattle.arrived.specs.ArrivedView.{base_of};
 ghost use Rattle.growing.specs.LaterInputs.{fed, with_inputs};
 ghost use Rattle.growing.specs.WhateverComes.{HasGoneOn};
 ghost use Rattle.protocol.specs.Node.Common.{MAX_NODES, network_of};
 ghost use Rattle.protocol.specs.World.Common.{released_of};
+ghost use Rattle.protocol.specs.World.Still.{kept_for_good};
 ghost use Rattle.station.specs.ReplyView.{answer_view};
 ghost use Rattle.world.specs.Applied.{IsApplied};
 ghost use Rattle.protocol.specs.World.Quiet.{are_quiet, AreWhole};
@@ -11,7 +13,7 @@ ghost use Rattle.world.specs.Events.{event_view, reply_view, shared_view};
 ghost use Rattle.world.specs.Feeding.{feed_refusal, is_input, told_by};
 ghost use Rattle.world.specs.declared.feeding.FeedFault.TheVariants.{NoInput};
 ghost use Rattle.world.specs.WholeView.{closed_in, rooms_in, world_of};
-ghost use Rattle.live.specs.LiveViews.{closed_on, inputs_on, live_view, net_on, nodes_on, none_taken, rooms_on, stations_on, taken_of, world_on};
+ghost use Rattle.live.specs.LiveViews.{bases_on, closed_on, inputs_on, live_view, net_on, nodes_on, none_taken, rooms_on, stations_on, taken_of, world_on};
 ghost use Rattle.live.specs.Steps.{granted_job, next_node, ArePart, IsAdvance, IsLiveStep, IsTurn};
 ghost use Rattle.live.specs.declared.live.Pause.TheVariants.{Rests};
 
@@ -124,23 +126,30 @@ impl<C: SlotCell, O: Outlet> Live<C, O> {
         }
     }
 
-    /// More has come on an input, as `World::feed` takes it. It may be called at any time, also while a job is out.
+    /// More has come on an input, as `World::feed` takes it. It may be called at any time, also while a job is out. What a checkpoint that stands
+    /// has got of this input takes no memory any more.
     pub fn feed(&mut self, alloc: Global, input: u8, items: &[i64]) -> Result<(), FeedFault>
         // The items stand behind those that had come, and nothing else is changed.
         ensures fed { OnOk result (world_on self.new
             ≡ with_inputs (fed input items.now (world_on self.old).inputs) (world_on self.old)) }
         ensures unchanged { OnErr result (world_on self.new ≡ world_on self.old) }
         ensures accepted { OnOk result (feed_refusal (network_of (net_on self.old).value.program) (closed_on self.old)
-            (inputs_on self.old).value input (length items.now) ≡ None) }
+            (inputs_on self.old) input (length items.now) ≡ None) }
         ensures refused { IfErr result (λ fault. feed_refusal (network_of (net_on self.old).value.program)
-            (closed_on self.old) (inputs_on self.old).value input (length items.now) ≡ told_by fault) }
+            (closed_on self.old) (inputs_on self.old) input (length items.now) ≡ told_by fault) }
+        // What the node that gets them keeps for good is let go of.
+        ensures gone { OnOk result (bases_on self.new ≡ slice_set (bases_on self.old) input
+            (max (base_of (bases_on self.old) input)
+            (kept_for_good (network_of (net_on self.old).value.program) (world_on self.old).stations input))) }
         // What has left is right on the inputs that there are now, and begins with what had left.
         ensures gone_on { HasGoneOn (world_on self.old) (world_on self.new) }
         ensures same { (self.new.node ≡ self.old.node) × (self.new.out ≡ self.old.out)
             × (self.new.taken ≡ self.old.taken) × (closed_on self.new ≡ closed_on self.old)
             × (stations_on self.new ≡ stations_on self.old) }
     {
-        self.world.feed(alloc, input, items)
+        self.world.feed(alloc, input, items)?;
+        self.world.let_go(input);
+        Ok(())
     }
 
     /// Nothing comes on an input any more, as `World::close_input` has it. Refuses a channel that is no input (11).

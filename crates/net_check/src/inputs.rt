@@ -74,6 +74,15 @@ impl Inputs {
         })
     }
 
+    /// The list of each channel, moved.
+    pub fn into_lists(self) -> Vec<History>
+        ensures lists { result.items ≡ self }
+        ensures counted { AreCounted result.items }
+    {
+        let Self { lists } = self;
+        lists
+    }
+
     /// The list of each channel.
     pub fn as_slice(&self) -> &[History]
         ensures { result.now ≡ self.now }

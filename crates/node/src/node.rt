@@ -13,6 +13,7 @@ ghost use Rattle.node.specs.Said.{MayBeDecided};
 ghost use Rattle.node_memory.specs.Handing.{IsHandedTo};
 ghost use Rattle.node_memory.specs.JobView.{job_view, shared_view};
 ghost use Rattle.node.specs.NodeView.{mode_view};
+ghost use Rattle.protocol.specs.Node.AtHand.{AreAtHandNow};
 ghost use Rattle.protocol.specs.Node.Opening.{running_from};
 ghost use Rattle.protocol.specs.Node.Plans.{LeavesCell};
 ghost use Rattle.node.specs.Putting.{IsPutEvent};
@@ -27,11 +28,12 @@ use crate::plan::{Prospect, carry_out};
 use crate::preparing::{arm, recount};
 use crate::recover::{come_back, crash};
 use crate::state::NodeState;
+use arrived::Arrived;
 use ckpt_store::Store;
 use datagram::{Packet, PacketFault, read_packet};
 use kahn_net::Channel;
 use layout::names_right;
-use net_check::{Inputs, Net};
+use net_check::Net;
 use outlet::{Outlet, OutletFault};
 use proc_step::{Done, Job};
 use protocol::{Outcome, Rooms};
@@ -109,9 +111,9 @@ impl<C: SlotCell> Node<C> {
     }
 
     /// Whether a job can be granted now, where channels have these rooms.
-    pub fn has_job(&self, net: &Net, inputs: &Inputs, rooms: &Rooms) -> bool
+    pub fn has_job(&self, net: &Net, inputs: &Arrived, rooms: &Rooms) -> bool
         ensures { result ≡ is_some
-            (node_job (network_of net.now.program) inputs.now rooms.now (view_of self.now)) }
+            (node_job (network_of net.now.program) inputs.now.came rooms.now (view_of self.now)) }
     {
         let Ok(kept) = self.store.record() else {
             return false;
@@ -131,13 +133,14 @@ impl<C: SlotCell> Node<C> {
         &mut self,
         alloc: Global,
         net: &Arc<Net>,
-        inputs: &Inputs,
+        inputs: &Arrived,
         rooms: &Rooms,
     ) -> Result<Option<Arc<Job>>, AllocError>
+        requires at_hand { AreAtHandNow (network_of net.now.value.program).channels inputs.now.bases (view_of self.old).mode }
         ensures job { IfOk result (λ job. option_map shared_view job
-            ≡ node_job (network_of net.now.value.program) inputs.now rooms.now (view_of self.old)) }
+            ≡ node_job (network_of net.now.value.program) inputs.now.came rooms.now (view_of self.old)) }
         ensures state { IfOk result (λ job. view_of self.new
-            ≡ with_grant (node_job (network_of net.now.value.program) inputs.now rooms.now
+            ≡ with_grant (node_job (network_of net.now.value.program) inputs.now.came rooms.now
             (view_of self.old)) (view_of self.old)) }
         ensures err { OnErr result (view_of self.new ≡ view_of self.old) }
         ensures same { (self.new.store ≡ self.old.store) × (self.new.number ≡ self.old.number) }

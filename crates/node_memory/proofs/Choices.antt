@@ -1,5 +1,5 @@
 -- Which process goes on next.
-use Rattle.std.proofs.Common.{◌≡◌, ℕ, ◌<◌, ◌≤◌, Bool, true, false, ◌&&◌, List, ℤ, [], ◌∷◌, map, length, get_or, Option}
+use Rattle.std.proofs.Common.{◌≡◌, ℕ, suc, ◌<◌, ◌≤◌, Bool, true, false, ◌&&◌, List, ℤ, [], ◌∷◌, map, length, get_or, Option}
 use Rattle.std.proofs.Common.{Some, None, refl, sym, ap, subst, ◌∙◌, Bor, drop, option_map, arith}
 use Rattle.std.specs.Prelude.{◌==◌, slice_get, find, cond, IfSome, option_copied}
 use Rattle.std.proofs.lemmas.Option.{slice_get_within}
@@ -16,7 +16,10 @@ use Rattle.proc_step.specs.declared.next.NextAct.{NextAct}
 use Rattle.protocol.specs.declared.links.Inbox.{Inbox}
 use Rattle.turns.specs.Turns.{least_from}
 use Rattle.protocol.specs.Node.Choosing.{has_item, has_room, can_go, next_at, is_ready, ready_process, ready_processes}
-use Rattle.protocol.specs.Node.Choosing.{process_at}
+use Rattle.protocol.specs.Node.Choosing.{process_at, job_of, job_up_to, may_grant, next_process}
+use Rattle.protocol.specs.Node.Common.{RunningNode}
+use Rattle.protocol.specs.Node.Granting.{job_for}
+use Rattle.node_memory.specs.AtHand.{StandsIn}
 use Rattle.node_memory.proofs.Searching.{IsSearched, all_searched}
 
 -- the code of a process, as it was looked up
@@ -134,6 +137,42 @@ chosen_there program inputs share image inboxes number None is = tt
 chosen_there program inputs share image inboxes None (Some saved) is = absurd (cc)
 chosen_there program inputs share image inboxes (Some number) (Some saved) is =
     ready_there program inputs share image inboxes number saved.now (sym is)
+
+-- what is found stands at some place
+at_place : {A : Type 0} (y x : A) (ys : List A) (later : Option A) (b : Bool) → cond b (Some y) later ≡ Some x
+    → (later ≡ Some x → (k : ℕ) × (slice_get ys k ≡ Some x)) → (k : ℕ) × (slice_get (y ∷ ys) k ≡ Some x)
+at_place y x ys later true is there = (0, is)
+at_place y x ys later false is there = let found = there is in (suc found.0, found.1)
+
+place_found : {A : Type 0} (p : A → Bool) (xs : List A) (x : A) → find p xs ≡ Some x
+    → (k : ℕ) × (slice_get xs k ≡ Some x)
+place_found p [] x is = absurd (cc)
+place_found p (y ∷ xs) x is = at_place y x xs (find p xs) (p y) is (place_found p xs x)
+
+-- the process that is chosen stands in the image
+pub chosen_place : (net : Network) (inputs : List (List ℤ)) (share : ℕ → ℕ) (image : ImageView) (inboxes : List Inbox)
+    (number : Option ℕ) (found : Option (Bor SavedProcessView))
+    → option_copied found ≡ process_at net inputs share image inboxes number
+    → IfSome found (λ saved. StandsIn image saved.now)
+chosen_place net inputs share image inboxes number None is = tt
+chosen_place net inputs share image inboxes None (Some saved) is = absurd (cc)
+chosen_place net inputs share image inboxes (Some number) (Some saved) is =
+    place_found (λ (one : SavedProcessView). (one.number == number) && is_ready net inputs share image inboxes one)
+    image.processes saved.now (sym is)
+
+-- the job of the process that is chosen is the node's next one
+job_if : (net : Network) (inputs : List (List ℤ)) (share : ℕ → ℕ) (node : RunningNode) (saved : SavedProcessView)
+    (chosen : Option SavedProcessView) (may : Bool) → Some saved ≡ cond may chosen None
+    → job_of net inputs share node (Some saved) ≡ cond may (job_of net inputs share node chosen) None
+job_if net inputs share node saved chosen true is = ap (job_of net inputs share node) is
+job_if net inputs share node saved chosen false is = absurd (cc)
+
+pub job_chosen : (net : Network) (inputs : List (List ℤ)) (share : ℕ → ℕ) (node : RunningNode) (saved : SavedProcessView)
+    → Some saved ≡ cond (may_grant node) (next_process net inputs share node.current node.inboxes node.last) None
+    → Some (job_for share net inputs node.current node.inboxes saved.number saved.standing node.version)
+    ≡ job_up_to net inputs share node
+job_chosen net inputs share node saved is =
+    job_if net inputs share node saved (next_process net inputs share node.current node.inboxes node.last) (may_grant node) is
 
 -- all were looked at, of those of an image
 module _ (program : Program) (inputs : List (List ℤ)) (share : ℕ → ℕ) (image : ImageView) (inboxes : List Inbox)

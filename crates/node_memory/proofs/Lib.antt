@@ -1,5 +1,5 @@
+mod AtHand
 mod Handing
-mod Slices
 mod Dues
 mod Installs
 mod Pops

@@ -1,3 +1,4 @@
+pub mod AtHand
 pub mod Handing
 pub mod JobView
 pub mod RunningView

@@ -4,12 +4,14 @@ ghost use Rattle.protocol.specs.Node.Common.{network_of, log_at, received_at, se
 ghost use Rattle.protocol.specs.Node.Common.{MAX_CHANNELS};
 ghost use Rattle.protocol.specs.Node.Choosing.{has_item, has_room, is_ready, ready_processes, process_at, next_process};
 ghost use Rattle.protocol.specs.Node.Sharing.{share_in};
+ghost use Rattle.node_memory.specs.AtHand.{StandsIn};
 ghost use Rattle.node_memory.specs.Searching.{ComesFirst};
 ghost use Rattle.turns.specs.Turns.{least_from};
 
 use crate::granting::{inbox_log, places};
 use crate::sharing::share_in;
-use kahn_net::{Channel, History, Port};
+use arrived::Arrived;
+use kahn_net::{Channel, Port};
 use net_check::Net;
 use proc_step::{NextAct, next_act};
 use protocol::{Inbox, Rooms};
@@ -43,21 +45,18 @@ fn comes_next(end: Option<&End>, inboxes: &[Inbox], channel: u8) -> bool
 // Whether a next item of this channel is at hand.
 pub(crate) fn has_item(
     channels: &[Channel],
-    inputs: &[History],
+    inputs: &Arrived,
     image: &Image,
     inboxes: &[Inbox],
     channel: usize,
 ) -> bool
     requires { length channels.now ≤ MAX_CHANNELS }
     ensures { result
-        ≡ has_item inputs.now image.now inboxes.now channel (slice_get channels.now channel) }
+        ≡ has_item inputs.now.came image.now inboxes.now channel (slice_get channels.now channel) }
 {
     match channels.get(channel) {
         Some(ends) => match ends.producer {
-            Port::Outside => match inputs.get(channel) {
-                Some(input) => image.received(channel as u8) < input.len() as u64,
-                None => false,
-            },
+            Port::Outside => image.received(channel as u8) < inputs.count(channel),
             Port::Process(_) => comes_next(image.end(channel as u8), inboxes, channel as u8),
         },
         None => false,
@@ -85,7 +84,7 @@ pub(crate) fn has_room(
 // Whether a process can go on.
 fn is_ready(
     net: &Net,
-    inputs: &[History],
+    inputs: &Arrived,
     rooms: &Rooms,
     share: usize,
     image: &Image,
@@ -93,7 +92,7 @@ fn is_ready(
     saved: &SavedProcess,
 ) -> bool
     ensures { result
-        ≡ is_ready (network_of net.now.program) inputs.now (share_in rooms.now share) image.now inboxes.now saved.now }
+        ≡ is_ready (network_of net.now.program) inputs.now.came (share_in rooms.now share) image.now inboxes.now saved.now }
 {
     match net.program.processes.get(usize::from(saved.number)) {
         Some(_) => match next_act(net, usize::from(saved.number), &saved.state) {
@@ -117,7 +116,7 @@ fn is_ready(
 // Whether a process comes first so far: from this number on, before the one found, and ready.
 fn comes_first(
     net: &Net,
-    inputs: &[History],
+    inputs: &Arrived,
     rooms: &Rooms,
     share: usize,
     image: &Image,
@@ -127,7 +126,7 @@ fn comes_first(
     saved: &SavedProcess,
 ) -> bool
     ensures { IsTrue result ↔ ComesFirst
-        (is_ready (network_of net.now.program) inputs.now (share_in rooms.now share) image.now inboxes.now)
+        (is_ready (network_of net.now.program) inputs.now.came (share_in rooms.now share) image.now inboxes.now)
         start (option_copied found.entry) saved.now }
 {
     if usize::from(saved.number) < start {
@@ -145,7 +144,7 @@ fn comes_first(
 // behind the one that is found.
 fn ready_from<'a>(
     net: &Net,
-    inputs: &[History],
+    inputs: &Arrived,
     rooms: &Rooms,
     share: usize,
     image: &'a Image,
@@ -153,10 +152,10 @@ fn ready_from<'a>(
     start: usize,
 ) -> Option<&'a SavedProcess>
     ensures process { let net = network_of net.now.program in
-        option_copied result ≡ process_at net inputs.now (share_in rooms.now share) image.now inboxes.now
-        (least_from start (ready_processes net inputs.now (share_in rooms.now share) image.now inboxes.now)) }
+        option_copied result ≡ process_at net inputs.now.came (share_in rooms.now share) image.now inboxes.now
+        (least_from start (ready_processes net inputs.now.came (share_in rooms.now share) image.now inboxes.now)) }
     ensures number { option_map (λ saved. saved.number) (option_copied result)
-        ≡ least_from start (ready_processes (network_of net.now.program) inputs.now (share_in rooms.now share) image.now inboxes.now) }
+        ≡ least_from start (ready_processes (network_of net.now.program) inputs.now.came (share_in rooms.now share) image.now inboxes.now) }
 {
     let mut found: Option<&SavedProcess> = None;
     for saved in &image.processes {
@@ -173,7 +172,7 @@ fn ready_from<'a>(
 // each channel has places up to its room and to this share.
 pub(crate) fn next_process<'a>(
     net: &Net,
-    inputs: &[History],
+    inputs: &Arrived,
     rooms: &Rooms,
     share: usize,
     image: &'a Image,
@@ -181,9 +180,10 @@ pub(crate) fn next_process<'a>(
     last: Option<u8>,
 ) -> Option<&'a SavedProcess>
     ensures chosen { option_copied result
-        ≡ next_process (network_of net.now.program) inputs.now (share_in rooms.now share) image.now inboxes.now last }
+        ≡ next_process (network_of net.now.program) inputs.now.came (share_in rooms.now share) image.now inboxes.now last }
     ensures there { IfSome result
         (λ saved. saved.now.number < length net.now.program.processes.items) }
+    ensures place { IfSome result (λ saved. StandsIn image.now saved.now) }
 {
     match ready_from(net, inputs, rooms, share, image, inboxes, start_after(last)) {
         Some(saved) => Some(saved),

@@ -1,14 +1,16 @@
 // The job that a process of a node is given.
-ghost use Rattle.std.specs.Prelude.{◌≡◌, ◌≤◌, ◌<◌, IfOk, length, take, drop, option_copied};
+ghost use Rattle.std.specs.Prelude.{◌≡◌, ◌≤◌, ◌<◌, IfOk, length, option_copied};
 ghost use Rattle.protocol.specs.Node.Common.{network_of, inbox_log, is_process, next_in_log, next_items, items_from};
 ghost use Rattle.protocol.specs.Node.Common.{room_from, source_of, MAX_CHANNELS};
+ghost use Rattle.node_memory.specs.AtHand.{IsAtHandOf, IsAtHandFor};
 ghost use Rattle.node_memory.specs.JobView.{job_view};
 ghost use Rattle.protocol.specs.Node.Granting.{room_in, job_for};
 ghost use Rattle.protocol.specs.Node.Sharing.{share_in};
 
 use crate::sharing::share_in;
+use arrived::Arrived;
 use kahn_net::{Channel, History, MAX_COUNT, Port};
-use net_check::{Inputs, Net};
+use net_check::Net;
 use proc_step::Job;
 use protocol::{Inbox, MAX_JOB_ITEMS, Rooms};
 use record::{Image, SavedProcess};
@@ -24,14 +26,6 @@ pub(crate) fn is_at(port: Port, process: usize) -> bool
         Port::Outside => false,
         Port::Process(number) => process == number,
     }
-}
-
-// The items that come next after so many, at most as many as a job may have.
-fn next_of(items: &[i64], received: u64) -> &[i64]
-    ensures { result.now ≡ take MAX_JOB_ITEMS (drop received items.now) }
-{
-    let rest = &items[(received as usize).min(items.len())..];
-    &rest[..MAX_JOB_ITEMS.min(rest.len())]
 }
 
 // A copy of the items of a log that come next behind so many, at most as many as a job may have.
@@ -69,23 +63,23 @@ fn source<'a>(image: &'a Image, inboxes: &'a [Inbox], channel: u8) -> Option<&'a
 // A copy of the items that are at hand of a channel whose items come from there.
 fn copy_next(
     alloc: Global,
-    inputs: &[History],
+    inputs: &Arrived,
     image: &Image,
     inboxes: &[Inbox],
     channel: u8,
     producer: Port,
 ) -> Result<History, AllocError>
+    requires at_hand { IsAtHandOf inputs.now.bases image.now channel producer }
     ensures { IfOk result
-        (λ items. items ≡ next_items inputs.now image.now inboxes.now channel producer) }
+        (λ items. items ≡ next_items inputs.now.came image.now inboxes.now channel producer) }
 {
     match producer {
-        Port::Outside => match inputs.get(usize::from(channel)) {
-            Some(input) => Ok(History::from_vec(Vec::from_slice(
-                alloc,
-                next_of(input.as_slice(), image.received(channel)),
-            )?)),
-            None => Ok(History::new(alloc)),
-        },
+        Port::Outside => inputs.copy_since(
+            alloc,
+            usize::from(channel),
+            image.received(channel),
+            MAX_JOB_ITEMS,
+        ),
         Port::Process(_) => copy_logged(
             alloc,
             source(image, inboxes, channel),
@@ -98,14 +92,15 @@ fn copy_next(
 fn copy_items(
     alloc: Global,
     channels: &[Channel],
-    inputs: &[History],
+    inputs: &Arrived,
     image: &Image,
     inboxes: &[Inbox],
     process: usize,
 ) -> Result<Vec<History>, AllocError>
-    requires { length channels.now ≤ MAX_CHANNELS }
+    requires few { length channels.now ≤ MAX_CHANNELS }
+    requires at_hand { IsAtHandFor channels.now inputs.now.bases image.now process }
     ensures { IfOk result (λ items. items.items
-        ≡ items_from inputs.now image.now inboxes.now process 0 channels.now) }
+        ≡ items_from inputs.now.came image.now inboxes.now process 0 channels.now) }
 {
     let mut items = Vec::with_capacity(alloc, channels.len())?;
     for (number, channel) in channels.iter().enumerate() {
@@ -168,15 +163,16 @@ pub(crate) fn make_job(
     rooms: &Rooms,
     share: usize,
     net: &Arc<Net>,
-    inputs: &Inputs,
+    inputs: &Arrived,
     image: &Image,
     inboxes: &[Inbox],
     saved: &SavedProcess,
     version: u64,
 ) -> Result<Job, AllocError>
-    requires { saved.now.number < length net.now.value.program.processes.items }
+    requires there { saved.now.number < length net.now.value.program.processes.items }
+    requires at_hand { IsAtHandFor net.now.value.program.channels.items inputs.now.bases image.now saved.now.number }
     ensures { IfOk result (λ job. job_view job
-        ≡ job_for (share_in rooms.now share) (network_of net.now.value.program) inputs.now image.now inboxes.now
+        ≡ job_for (share_in rooms.now share) (network_of net.now.value.program) inputs.now.came image.now inboxes.now
         saved.now.number saved.now.standing version) }
 {
     let process = usize::from(saved.number);
@@ -188,7 +184,7 @@ pub(crate) fn make_job(
         items: copy_items(
             alloc,
             &net.program.channels,
-            inputs.as_slice(),
+            inputs,
             image,
             inboxes,
             process,

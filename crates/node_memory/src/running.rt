@@ -3,8 +3,10 @@ ghost use Rattle.protocol.specs.Node.Common.{MAX_COUNT, network_of, standing_of,
 ghost use Rattle.protocol.specs.Node.Common.{hearing_covered, hearing, noting_undone, IsRestorable, Runs};
 ghost use Rattle.protocol.specs.Node.Common.{turn_packets, HasNext, cut_at, log_of, ImageTakes};
 ghost use Rattle.std.specs.Prelude.{◌≡◌, ◌↔◌, ◌<◌, ◌≤◌, if◌then◌else◌, length, IfOk, IfSome, IsErrOf, IsTrue, None, OnErr, OnOk, Some, is_some, option_copied, option_map};
+ghost use Rattle.protocol.specs.Node.AtHand.{AreAtHand};
 ghost use Rattle.protocol.specs.Node.Choosing.{next_process};
 ghost use Rattle.protocol.specs.Node.GoingBack.{set_back_from};
+ghost use Rattle.node_memory.specs.AtHand.{StandsIn};
 ghost use Rattle.node_memory.specs.Handing.{IsHandedTo};
 ghost use Rattle.protocol.specs.Node.Installing.{IsTaken};
 ghost use Rattle.protocol.specs.Node.Sharing.{share_in};
@@ -18,10 +20,11 @@ use crate::installing::install_from;
 use crate::sending::{add_all_answers, add_all_outgoing, add_all_undone};
 use crate::sharing::share_of;
 use crate::telling::{add_live_asks, add_verdicts};
+use arrived::Arrived;
 use datagram::{Body, Packet};
 use decide_core::Initiator;
 use kahn_net::{Channel, MAX_COUNT};
-use net_check::{Inputs, Net};
+use net_check::Net;
 use outlet::{Outlet, OutletFault, release};
 use proc_step::{Done, Job};
 use protocol::{Inbox, Outbox, Rooms};
@@ -91,7 +94,7 @@ impl Running {
     fn next_process(
         &self,
         net: &Net,
-        inputs: &Inputs,
+        inputs: &Arrived,
         rooms: &Rooms,
         share: usize,
         kept: &Record,
@@ -99,17 +102,18 @@ impl Running {
     ) -> Option<&SavedProcess>
         ensures chosen { option_copied result ≡ (
             let node = running_node kept.now version (running_view self.now) in
-            if may_grant node then next_process (network_of net.now.program) inputs.now (share_in rooms.now share)
+            if may_grant node then next_process (network_of net.now.program) inputs.now.came (share_in rooms.now share)
             node.current node.inboxes node.last else None) }
         ensures there { IfSome result
             (λ saved. saved.now.number < length net.now.program.processes.items) }
+        ensures place { IfSome result (λ saved. StandsIn (running_view self.now).current saved.now) }
     {
         if !self.can_grant(kept, version) {
             return None;
         }
         next_process(
             net,
-            inputs.as_slice(),
+            inputs,
             rooms,
             share,
             &self.current,
@@ -122,12 +126,12 @@ impl Running {
     pub fn has_job(
         &self,
         net: &Net,
-        inputs: &Inputs,
+        inputs: &Arrived,
         rooms: &Rooms,
         kept: &Record,
         version: u64,
     ) -> bool
-        ensures { result ≡ is_some (next_job (network_of net.now.program) inputs.now rooms.now
+        ensures { result ≡ is_some (next_job (network_of net.now.program) inputs.now.came rooms.now
             (running_node kept.now version (running_view self.now))) }
     {
         let share = share_of(&self.current);
@@ -142,17 +146,19 @@ impl Running {
         &mut self,
         alloc: Global,
         net: &Arc<Net>,
-        inputs: &Inputs,
+        inputs: &Arrived,
         rooms: &Rooms,
         kept: &Record,
         version: u64,
     ) -> Result<Option<Arc<Job>>, AllocError>
+        requires at_hand { AreAtHand (network_of net.now.value.program).channels inputs.now.bases
+            (running_view self.old).current }
         // The process that is next in turn, with at most 64 items of each input, and room up to 64, no further than the channel's and than its share.
         ensures job { IfOk result (λ job. option_map shared_view job
-            ≡ next_job (network_of net.now.value.program) inputs.now rooms.now
+            ≡ next_job (network_of net.now.value.program) inputs.now.came rooms.now
             (running_node kept.now version (running_view self.old))) }
         ensures state { IfOk result (λ job. running_view self.new
-            ≡ granted (next_job (network_of net.now.value.program) inputs.now rooms.now
+            ≡ granted (next_job (network_of net.now.value.program) inputs.now.came rooms.now
             (running_node kept.now version (running_view self.old))) (running_view self.old)) }
         ensures err { OnErr result (running_view self.new ≡ running_view self.old) }
     {

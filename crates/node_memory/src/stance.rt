@@ -12,8 +12,9 @@ use crate::choosing::{has_item, has_room};
 use crate::granting::places;
 use crate::running::Running;
 use crate::sharing::share_of;
-use kahn_net::{Channel, History, MAX_COUNT};
-use net_check::{Inputs, Net};
+use arrived::Arrived;
+use kahn_net::{Channel, MAX_COUNT};
+use net_check::Net;
 use proc_step::{Job, NextAct, next_act};
 use protocol::{Inbox, Rooms, Stance};
 use record::{Image, SavedProcess};
@@ -58,7 +59,7 @@ fn stance_at_put(channels: &[Channel], rooms: &Rooms, image: &Image, channel: us
 // What a process comes to that does this next, in a network with these channels.
 fn stance_before(
     channels: &[Channel],
-    inputs: &[History],
+    inputs: &Arrived,
     rooms: &Rooms,
     image: &Image,
     inboxes: &[Inbox],
@@ -66,7 +67,7 @@ fn stance_before(
 ) -> Stance
     requires { length channels.now ≤ MAX_CHANNELS }
     ensures { (net : Network) → net.channels ≡ channels.now
-        → result ≡ stance_before net inputs.now rooms.now image.now inboxes.now (next_view act) }
+        → result ≡ stance_before net inputs.now.came rooms.now image.now inboxes.now (next_view act) }
 {
     match act {
         NextAct::Begin => Stance::GoesOn,
@@ -111,12 +112,12 @@ impl Running {
     fn stance_of(
         &self,
         net: &Net,
-        inputs: &Inputs,
+        inputs: &Arrived,
         rooms: &Rooms,
         version: u64,
         saved: &SavedProcess,
     ) -> Stance
-        ensures { (kept : RecordView) → result ≡ stance_in (network_of net.now.program) inputs.now rooms.now
+        ensures { (kept : RecordView) → result ≡ stance_in (network_of net.now.program) inputs.now.came rooms.now
             (running_node kept version (running_view self.now)) saved.now }
     {
         if is_of(usize::from(saved.number), self.out.as_ref()) {
@@ -124,7 +125,7 @@ impl Running {
         } else if version < MAX_COUNT {
             stance_before(
                 &net.program.channels,
-                inputs.as_slice(),
+                inputs,
                 rooms,
                 &self.current,
                 &self.inboxes,
@@ -140,13 +141,13 @@ impl Running {
     pub fn stance(
         &self,
         net: &Net,
-        inputs: &Inputs,
+        inputs: &Arrived,
         rooms: &Rooms,
         version: u64,
         process: usize,
     ) -> Stance
         // What the node keeps for good plays no part.
-        ensures { (kept : RecordView) → result ≡ own_stance (network_of net.now.program) inputs.now rooms.now process
+        ensures { (kept : RecordView) → result ≡ own_stance (network_of net.now.program) inputs.now.came rooms.now process
             (running_node kept version (running_view self.now)) }
     {
         match process_of(&self.current, process) {

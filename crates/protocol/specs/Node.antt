@@ -7,6 +7,7 @@ pub mod Plans
 pub mod ArmedRestarts
 pub mod Sharing
 pub mod Stances
+pub mod AtHand
 pub mod Granting
 pub mod Popping
 pub mod Installing

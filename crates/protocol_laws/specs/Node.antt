@@ -5,6 +5,7 @@ pub mod NumberedLaws
 pub mod ReachedLaws
 pub mod PlaceLaws
 pub mod LogLaws
+pub mod AtHandLaws
 pub mod CountLaws
 pub mod InnerLaws
 pub mod PoppingLaws

@@ -28,6 +28,7 @@ pub mod QuietLaws
 pub mod ShownLaws
 pub mod ReleasedLaws
 pub mod ClosedLaws
+pub mod LetGoLaws
 pub mod LineLaws
 pub mod CoordinationLaws
 pub mod FlightLaws

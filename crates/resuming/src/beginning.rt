@@ -52,7 +52,7 @@ pub fn resume<D: Disk, O: Outlet>(
     // And then the outputs are the same.
     ensures handed_back { IfErr result (λ refused. refused.outputs.items ≡ outputs.items) }
 {
-    let (Ok(net), Ok(inputs)) = (Arc::try_clone(rerun.net()), Arc::try_clone(rerun.inputs())) else {
+    let (Ok(net), Ok(inputs)) = (Arc::try_clone(rerun.net()), rerun.inputs().copy(alloc)) else {
         return Err(NotResumed {
             outputs,
             fault: StoreFault::NoMemory,

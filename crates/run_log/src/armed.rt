@@ -5,7 +5,7 @@ ghost use Rattle.protocol.specs.World.Common.{event_node, IsGrantedAt, has_happe
 ghost use Rattle.replay.specs.Armed.{ArmCrash, EndsWith, IsArmedStep, OfWorld, armed_at_first, crash_after, deliveries_after, delivered_to, has_come, one_more};
 ghost use Rattle.replay.specs.Plain.{run_view};
 ghost use Rattle.world.specs.Events.{event_view, is_idle, reply_view};
-ghost use Rattle.world.specs.WholeView.{capacities_in, inputs_in, net_in, nodes_in, rooms_in, world_of};
+ghost use Rattle.world.specs.WholeView.{arrived_in, capacities_in, net_in, nodes_in, rooms_in, world_of};
 ghost use Rattle.world.specs.WorldView.{capacities, rooms};
 
 use crate::armed_crashes::ArmedCrashes;
@@ -114,7 +114,7 @@ fn end<C: SlotCell, O: Outlet>(
         (world_of world.old) (reply_view result) (world_of world.new) }
     ensures rooms { rooms_in world.new ≡ rooms_in world.old }
     ensures capacities { capacities_in world.new ≡ capacities_in world.old }
-    ensures same { (net_in world.new ≡ net_in world.old) × (inputs_in world.new ≡ inputs_in world.old) }
+    ensures same { (net_in world.new ≡ net_in world.old) × (arrived_in world.new ≡ arrived_in world.old) }
 {
     let Some(crash) = crash else {
         return said;
@@ -177,7 +177,7 @@ impl<C: SlotCell, O: Outlet> ArmedWorld<C, O> {
         ensures same_capacities { capacities_in self.new.world
             ≡ capacities_in self.old.world }
         ensures same { (net_in self.new.world ≡ net_in self.old.world)
-            × (inputs_in self.new.world ≡ inputs_in self.old.world) }
+            × (arrived_in self.new.world ≡ arrived_in self.old.world) }
         ensures refused { OnErr result (armed_view self.new ≡ armed_view self.old) }
     {
         let ArmedWorld {
@@ -206,7 +206,7 @@ impl<C: SlotCell, O: Outlet> ArmedWorld<C, O> {
         ensures same_capacities { capacities_in self.new.world
             ≡ capacities_in self.old.world }
         ensures same { (net_in self.new.world ≡ net_in self.old.world)
-            × (inputs_in self.new.world ≡ inputs_in self.old.world) }
+            × (arrived_in self.new.world ≡ arrived_in self.old.world) }
         ensures refused { OnErr result (armed_view self.new ≡ armed_view self.old) }
         ensures handed_back { IfErr result (λ refused. refused.event ≡ event) }
     {
@@ -237,7 +237,7 @@ impl<C: SlotCell, O: Outlet> ArmedWorld<C, O> {
         ensures same_capacities { capacities_in self.new.world
             ≡ capacities_in self.old.world }
         ensures same { (net_in self.new.world ≡ net_in self.old.world)
-            × (inputs_in self.new.world ≡ inputs_in self.old.world) }
+            × (arrived_in self.new.world ≡ arrived_in self.old.world) }
         ensures refused { OnErr result (armed_view self.new ≡ armed_view self.old) }
     {
         let event = self.world.pick(node);
@@ -268,7 +268,7 @@ impl<C: SlotCell, O: Outlet> ArmedWorld<C, O> {
         ensures same_capacities { capacities_in self.new.world
             ≡ capacities_in self.old.world }
         ensures same { (net_in self.new.world ≡ net_in self.old.world)
-            × (inputs_in self.new.world ≡ inputs_in self.old.world) }
+            × (arrived_in self.new.world ≡ arrived_in self.old.world) }
         ensures refused { OnErr result (armed_view self.new ≡ armed_view self.old) }
     {
         match event {

@@ -1,5 +1,5 @@
 -- What an event is lent, as data.
-use Rattle.std.specs.Prelude.{ℤ, List}
+use Rattle.std.specs.Prelude.{ℕ, ℤ, List}
 use Rattle.protocol.specs.Node.Common.{Network, network_of}
 use Rattle.protocol.specs.World.Common.{Setting, Traffic}
 use Rattle.protocol.specs.World.Steps.{setting_in}
@@ -11,7 +11,11 @@ net_lent lent = network_of lent.net.now.value.program
 
 -- the inputs
 abbrev pub inputs_lent : Lent → List (List ℤ)
-inputs_lent lent = lent.inputs.now.value
+inputs_lent lent = lent.inputs.now.came
+
+-- how many items of each input were let go of
+abbrev pub bases_lent : Lent → List ℕ
+bases_lent lent = lent.inputs.now.bases
 
 -- what an event finds around its station, with this in flight
 abbrev pub setting_by : Lent → Traffic → Setting

@@ -8,7 +8,8 @@ ghost use Rattle.station.specs.Coming.{ComesBy, ComesOut, HasCome};
 ghost use Rattle.station.specs.EventView.{event_view};
 ghost use Rattle.protocol.specs.World.Replies.{LeavesCells, TakesMemory};
 ghost use Rattle.protocol.specs.declared.reply.Reply.TheVariants.{Down};
-ghost use Rattle.station.specs.Lending.{net_lent, setting_by};
+ghost use Rattle.protocol.specs.Node.AtHand.{HasGot};
+ghost use Rattle.station.specs.Lending.{bases_lent, net_lent, setting_by};
 ghost use Rattle.station.specs.ReplyView.{answer_view, reply_view};
 ghost use Rattle.station.specs.StationView.{outlet_views};
 ghost use Rattle.protocol.specs.World.Steps.{idle_plan, send_plan};
@@ -80,6 +81,9 @@ impl<C: SlotCell, O: Outlet> Station<C, O> {
         requires sound { IsSoundStation (setting_by lent.now (traffic_of wire.old))
             (station_view O.taken O.failures self.old) }
         requires node { event_node (event_view event.now) < NODES }
+        // Of each input its node has got for good what was let go of.
+        requires got { HasGot (net_lent lent.now) (view_of self.old.node).kept.node (bases_lent lent.now)
+            (view_of self.old.node).kept.permanent }
         // Either the cell isn't touched, or nothing leaves, and a crash at any moment leaves the record of before or the next one.
         ensures moved { HasMoved C.moment C.left_since_whole (cell_in self.old.node.store)
             (cell_in self.new.node.store) (view_of self.old.node).kept

@@ -1,6 +1,7 @@
 //! What an event is lent.
 
-use net_check::{Inputs, Net};
+use arrived::Arrived;
+use net_check::Net;
 use protocol::Rooms;
 use std::alloc::Global;
 use std::sync::Arc;
@@ -10,7 +11,7 @@ use std::sync::Arc;
 pub struct Lent<'a> {
     pub alloc: Global,
     pub net: &'a Arc<Net>,
-    pub inputs: &'a Arc<Inputs>,
+    pub inputs: &'a Arrived,
     pub round: u64,
     /// How many items each channel retains at most, where its share of a record isn't less.
     pub rooms: &'a Rooms,

@@ -26,3 +26,4 @@ pub use lent::Lent;
 pub use node::{Mode, Node, NodeState, is_here, next_after, node_count, opening_record};
 pub use output::Output;
 pub use station::Station;
+pub use still::kept_for_good;

@@ -12,7 +12,8 @@ ghost use Rattle.station.specs.StationView.{station_view};
 use crate::event::Event;
 use crate::network::first_due;
 use crate::station::Station;
-use net_check::{Inputs, Net};
+use arrived::Arrived;
+use net_check::Net;
 use node::{Mode, NodeState, may_decide};
 use outlet::Outlet;
 use protocol::{Deed, MAX_GRANTS, Rooms};
@@ -68,9 +69,9 @@ impl<C: SlotCell, O: Outlet> Station<C, O> {
 
     // Whether a job is next where channels have these rooms: a process is ready, and fewer were granted in this round than
     // may be.
-    fn has_grant(&self, net: &Net, inputs: &Inputs, rooms: &Rooms, round: u64) -> bool
+    fn has_grant(&self, net: &Net, inputs: &Arrived, rooms: &Rooms, round: u64) -> bool
         ensures { result ≡ (nat_lt (turns_of round self.now.turns).granted MAX_GRANTS
-            && is_some (node_job (network_of net.now.program) inputs.now rooms.now
+            && is_some (node_job (network_of net.now.program) inputs.now.came rooms.now
             (view_of self.now.node))) }
     {
         self.turns.of(round).granted < MAX_GRANTS && self.node.has_job(net, inputs, rooms)
@@ -135,8 +136,8 @@ impl<C: SlotCell, O: Outlet> Station<C, O> {
     }
 
     // The event that is next for its node, where no packet is due to it.
-    fn pick_own(&self, net: &Net, inputs: &Inputs, rooms: &Rooms, nodes: usize, round: u64) -> Event
-        ensures { event_view result ≡ own_choice (network_of net.now.program) inputs.now rooms.now
+    fn pick_own(&self, net: &Net, inputs: &Arrived, rooms: &Rooms, nodes: usize, round: u64) -> Event
+        ensures { event_view result ≡ own_choice (network_of net.now.program) inputs.now.came rooms.now
             nodes round (station_view O.taken O.failures self.now) }
     {
         let number = self.node.number;
@@ -162,14 +163,14 @@ impl<C: SlotCell, O: Outlet> Station<C, O> {
     pub fn pick(
         &self,
         net: &Net,
-        inputs: &Inputs,
+        inputs: &Arrived,
         rooms: &Rooms,
         wire: &Wire,
         nodes: usize,
         round: u64,
     ) -> Event
         requires { self.now.node.number < NODES }
-        ensures { event_view result ≡ station_choice (network_of net.now.program) inputs.now rooms.now
+        ensures { event_view result ≡ station_choice (network_of net.now.program) inputs.now.came rooms.now
             (traffic_of wire.now) nodes round (station_view O.taken O.failures self.now) }
     {
         let node = self.node.number;

@@ -1,6 +1,6 @@
 // When nothing is left to do at a station.
 ghost use Rattle.std.specs.Prelude.{◌≡◌, ◌≤◌, length, map, slice_get};
-ghost use Rattle.protocol.specs.Node.Common.{history_of, network_of, running_of, MAX_CHANNELS};
+ghost use Rattle.protocol.specs.Node.Common.{network_of, running_of, MAX_CHANNELS};
 ghost use Rattle.node.specs.NodeOf.{view_of};
 ghost use Rattle.protocol.specs.World.Common.{outputs_of};
 ghost use Rattle.protocol.specs.World.Quiet.{sent_by, put_on_by, has_got_all, is_at_rest, are_at_rest, has_been_put, have_been_put, have_all_left, is_quiet_at};
@@ -9,23 +9,14 @@ ghost use Rattle.station.specs.StationView.{station_view};
 
 use crate::output::Output;
 use crate::station::Station;
-use kahn_net::{Channel, History, Port};
+use arrived::Arrived;
+use kahn_net::{Channel, Port};
 use net_check::Net;
 use node::Mode;
 use outlet::Outlet;
 use proc_step::{NextAct, next_act};
 use record::{Image, SavedProcess};
 use slot_cell::SlotCell;
-
-// How many items an input has; none where there is no such channel.
-fn count_of(inputs: &[History], channel: usize) -> usize
-    ensures { result ≡ length (history_of inputs.now channel) }
-{
-    match inputs.get(channel) {
-        Some(input) => input.len(),
-        None => 0,
-    }
-}
 
 impl<C: SlotCell, O: Outlet> Station<C, O> {
     // How many items its node has put on a channel by now; none where it doesn't run.
@@ -62,19 +53,19 @@ fn put_on_by<C: SlotCell, O: Outlet>(
 fn has_got_all<C: SlotCell, O: Outlet>(
     net: &Net,
     channels: &[Channel],
-    inputs: &[History],
+    inputs: &Arrived,
     stations: &[Station<C, O>],
     image: &Image,
     channel: usize,
 ) -> bool
     requires { length channels.now ≤ MAX_CHANNELS }
-    ensures { result ≡ has_got_all (network_of net.now.program) inputs.now
+    ensures { result ≡ has_got_all (network_of net.now.program) inputs.now.came
         (map (station_view O.taken O.failures) stations.now) image.now channel
         (slice_get channels.now channel) }
 {
     match channels.get(channel) {
         Some(ends) => match ends.producer {
-            Port::Outside => image.received(channel as u8) == count_of(inputs, channel) as u64,
+            Port::Outside => image.received(channel as u8) == inputs.count(channel),
             Port::Process(number) => {
                 image.received(channel as u8) == put_on_by(net, stations, channel as u8, number)
             }
@@ -86,12 +77,12 @@ fn has_got_all<C: SlotCell, O: Outlet>(
 // Whether a process can do nothing more: it has finished, or it gets from a channel of which every item was received.
 fn is_at_rest<C: SlotCell, O: Outlet>(
     net: &Net,
-    inputs: &[History],
+    inputs: &Arrived,
     stations: &[Station<C, O>],
     image: &Image,
     saved: &SavedProcess,
 ) -> bool
-    ensures { result ≡ is_at_rest (network_of net.now.program) inputs.now
+    ensures { result ≡ is_at_rest (network_of net.now.program) inputs.now.came
         (map (station_view O.taken O.failures) stations.now) image.now saved.now }
 {
     match net.program.processes.get(usize::from(saved.number)) {
@@ -115,11 +106,11 @@ fn is_at_rest<C: SlotCell, O: Outlet>(
 // Whether no process can do anything more.
 fn are_at_rest<C: SlotCell, O: Outlet>(
     net: &Net,
-    inputs: &[History],
+    inputs: &Arrived,
     stations: &[Station<C, O>],
     image: &Image,
 ) -> bool
-    ensures { result ≡ are_at_rest (network_of net.now.program) inputs.now
+    ensures { result ≡ are_at_rest (network_of net.now.program) inputs.now.came
         (map (station_view O.taken O.failures) stations.now) image.now image.now.processes }
 {
     for saved in &image.processes {
@@ -186,8 +177,8 @@ impl<C: SlotCell, O: Outlet> Station<C, O> {
     /// Whether nothing is left to do here, beside these stations: the node runs, no job is out, all that was put has left, no
     /// process can do more than it did, and nothing was received that wasn't put. What is known soonest comes first. Takes no
     /// memory.
-    pub fn is_complete(&self, net: &Net, inputs: &[History], stations: &[Station<C, O>]) -> bool
-        ensures { result ≡ is_quiet_at (network_of net.now.program) inputs.now
+    pub fn is_complete(&self, net: &Net, inputs: &Arrived, stations: &[Station<C, O>]) -> bool
+        ensures { result ≡ is_quiet_at (network_of net.now.program) inputs.now.came
             (map (station_view O.taken O.failures) stations.now)
             (running_of (view_of self.now.node))
             (outputs_of (outlet_views O.taken O.failures self.now.outputs.items)) }

@@ -11,8 +11,9 @@ ghost use Rattle.station.specs.StationView.{station_view};
 use crate::output::Output;
 use crate::station::Station;
 use crate::still::has_come_from;
+use arrived::Arrived;
 use layout::consumer_node;
-use net_check::{Inputs, Net};
+use net_check::Net;
 use node::{Mode, Running};
 use outlet::Outlet;
 use protocol::{Inbox, Outbox, Rooms, Stance};
@@ -157,12 +158,12 @@ impl<C: SlotCell, O: Outlet> Station<C, O> {
     pub fn stance(
         &self,
         net: &Net,
-        inputs: &Inputs,
+        inputs: &Arrived,
         rooms: &Rooms,
         stations: &[Station<C, O>],
         process: usize,
     ) -> Stance
-        ensures { result ≡ stance_at (network_of net.now.program) inputs.now rooms.now
+        ensures { result ≡ stance_at (network_of net.now.program) inputs.now.came rooms.now
             (map (station_view O.taken O.failures) stations.now) process
             (Some (station_view O.taken O.failures self.now)) }
     {

@@ -5,10 +5,12 @@ ghost use Rattle.protocol.specs.Node.Common.{network_of, running_node, running_o
 ghost use Rattle.node.specs.NodeOf.{view_of};
 ghost use Rattle.node.specs.NodeView.{node_view};
 ghost use Rattle.node.specs.Memory.{running_view};
+ghost use Rattle.kahn_net.specs.declared.program.Port.TheVariants.{Process};
+ghost use Rattle.protocol.specs.Node.Layout.{node_at};
 ghost use Rattle.protocol.specs.Node.Popping.{has_place};
 ghost use Rattle.protocol.specs.World.Common.{outputs_of};
 ghost use Rattle.protocol.specs.World.Quiet.{sent_at};
-ghost use Rattle.protocol.specs.World.Still.{has_come, has_come_from, has_let_go, is_settled_at, is_still, keeps_all, kept_at, kept_by};
+ghost use Rattle.protocol.specs.World.Still.{has_come, has_come_from, has_let_go, is_settled_at, is_still, keeps_all, kept_at, kept_by, kept_for_good, kept_from};
 ghost use Rattle.station.specs.StationView.{outlet_views};
 ghost use Rattle.station.specs.StationView.{station_view};
 
@@ -16,9 +18,10 @@ use crate::output::Output;
 use crate::picking::has_more;
 use crate::quiet::have_all_left;
 use crate::station::Station;
-use kahn_net::MAX_COUNT;
+use arrived::Arrived;
+use kahn_net::{MAX_COUNT, Port};
 use layout::{consumer_node, producer_node};
-use net_check::{Inputs, Net};
+use net_check::Net;
 use node::{Mode, NodeState, Running};
 use outlet::Outlet;
 use protocol::{Inbox, MAX_INBOX_ITEMS, Outbox, Rooms};
@@ -67,6 +70,40 @@ fn kept_at<C: SlotCell, O: Outlet>(stations: &[Station<C, O>], number: u8, chann
 {
     match stations.get(usize::from(number)) {
         Some(station) => station.kept(channel),
+        None => 0,
+    }
+}
+
+// How many items of a channel the node of a process keeps for good; none where there is no such process.
+fn kept_with<C: SlotCell, O: Outlet>(
+    net: &Net,
+    stations: &[Station<C, O>],
+    process: usize,
+    channel: u8,
+) -> u64
+    ensures { result ≡ kept_from (map (station_view O.taken O.failures) stations.now) channel
+        (node_at (network_of net.now.program) (Process process)) }
+{
+    match net.program.processes.get(process) {
+        Some(process) => kept_at(stations, process.node, channel),
+        None => 0,
+    }
+}
+
+/// How many items of a channel the node that gets them keeps for good; none where it doesn't run, or where no process gets them.
+pub fn kept_for_good<C: SlotCell, O: Outlet>(
+    net: &Net,
+    stations: &[Station<C, O>],
+    channel: u8,
+) -> u64
+    ensures { result ≡ kept_for_good (network_of net.now.program)
+        (map (station_view O.taken O.failures) stations.now) channel }
+{
+    match net.program.channels.get(usize::from(channel)) {
+        Some(ends) => match ends.consumer {
+            Port::Outside => 0,
+            Port::Process(process) => kept_with(net, stations, process, channel),
+        },
         None => 0,
     }
 }
@@ -191,11 +228,11 @@ impl<C: SlotCell, O: Outlet> Station<C, O> {
     pub fn is_still(
         &self,
         net: &Net,
-        inputs: &Inputs,
+        inputs: &Arrived,
         rooms: &Rooms,
         stations: &[Station<C, O>],
     ) -> bool
-        ensures { result ≡ is_still (network_of net.now.program) inputs.now rooms.now
+        ensures { result ≡ is_still (network_of net.now.program) inputs.now.came rooms.now
             (map (station_view O.taken O.failures) stations.now)
             (station_view O.taken O.failures self.now) }
     {

@@ -5,7 +5,8 @@ ghost use Rattle.node.specs.NodeOf.{view_of};
 ghost use Rattle.node.specs.Memory.{job_view, shared_view};
 ghost use Rattle.station.specs.DoneView.{done_view};
 ghost use Rattle.protocol.specs.World.Common.{grant_reply, turns_of, IsInstalled};
-ghost use Rattle.station.specs.Lending.{inputs_lent, net_lent};
+ghost use Rattle.protocol.specs.Node.AtHand.{AreAtHandNow};
+ghost use Rattle.station.specs.Lending.{bases_lent, inputs_lent, net_lent};
 ghost use Rattle.station.specs.ReplyView.{reply_view};
 ghost use Rattle.station.specs.StationView.{outlet_views};
 ghost use Rattle.protocol.specs.World.Turns.{count_grant};
@@ -40,6 +41,7 @@ fn note_grant(turns: &mut RoundTurns, granted: Option<Arc<Job>>, round: u64) -> 
 impl<C: SlotCell, O: Outlet> Station<C, O> {
     /// Grants a job, where channels have the rooms that are lent.
     pub(crate) fn grant(&mut self, lent: &Lent) -> Result<Reply, AllocError>
+        requires { AreAtHandNow (net_lent lent.now).channels (bases_lent lent.now) (view_of self.old.node).mode }
         ensures outputs { outlet_views O.taken O.failures self.new.outputs.items
             ≡ outlet_views O.taken O.failures self.old.outputs.items }
         ensures cell { self.new.node.store ≡ self.old.node.store }

@@ -53,12 +53,12 @@ CrashIsFound old new = (event : EventView) (answer : Option ReplyView) (lefts : 
 abbrev pub StopGoesOn : {D O : Type 0} {disk : DiskWords D} {cell : CellWords (SplitCell D disk)}
     {slots : SlotWords (SplitCell D disk)} {outlet : OutletWords O}
     → World (SplitCell D disk) O slots cell outlet → World (SplitCell D disk) O slots cell outlet → Type 0
-StopGoesOn {D} {O} old new = (net : Arc Net Global) (inputs : Arc Inputs Global) (outputs : List (Output O))
+StopGoesOn {D} {O} old new = (net : Arc Net Global) (inputs : List (List ℤ)) (outputs : List (Output O))
     → IsPermutation (all_outputs (stations_in old)) outputs
     → map (λ (output : Output O). output.channel) outputs
     ≡ output_channels 0 (network_of (net_in old).value.program).channels
     → network_of net.value.program ≡ network_of (net_in old).value.program
-    → AreLaterInputs (network_of (net_in old).value.program) (inputs_in old).value inputs.value
+    → AreLaterInputs (network_of (net_in old).value.program) (inputs_in old) inputs
     → IsReopened net inputs (disks_of (stations_in old)) outputs new
     → GoesOn (world_of old) (world_of new)
 
@@ -67,8 +67,8 @@ abbrev pub NewBegins : {D O : Type 0} {disk : DiskWords D} {cell : CellWords (Sp
     {slots : SlotWords (SplitCell D disk)} {outlet : OutletWords O} → World (SplitCell D disk) O slots cell outlet
     → Type 0
 NewBegins {D} {O} {outlet = outlet} world =
-    (net : Arc Net Global) (inputs : Arc Inputs Global) (versions : List ℕ) (disks : List D) (outputs : List (Output O))
-    → Fits (network_of net.value.program) inputs.value → length disks ≡ node_count (network_of net.value.program)
+    (net : Arc Net Global) (inputs : List (List ℤ)) (versions : List ℕ) (disks : List D) (outputs : List (Output O))
+    → Fits (network_of net.value.program) inputs → length disks ≡ node_count (network_of net.value.program)
     → map (λ (output : Output O). output.channel) outputs ≡ output_channels 0 (network_of net.value.program).channels
     → AllByRecursion (IsUnused outlet.taken) outputs → IsNew net inputs versions disks outputs world
     → Begins (world_of world)

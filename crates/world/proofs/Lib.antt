@@ -15,3 +15,4 @@ mod Held
 mod Collected
 mod Walks
 mod Fed
+mod LetGo

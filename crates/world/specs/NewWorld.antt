@@ -1,8 +1,7 @@
 -- What holds of a world that was just made, and of what comes back where none was.
-use Rattle.std.specs.Prelude.{◌≡◌, ◌⊎◌, ◌↔◌, ℕ, List, length, map}
+use Rattle.std.specs.Prelude.{◌≡◌, ◌⊎◌, ◌↔◌, ℕ, ℤ, List, length, map}
 use Rattle.std.specs.declared.alloc.Global.{Global}
 use Rattle.std.specs.declared.sync.Arc.{Arc}
-use Rattle.net_check.specs.declared.inputs.Inputs.{Inputs}
 use Rattle.sector_disk.specs.declared.disk.Disk.{Ghosts as DiskWords}
 use Rattle.gate_cell.specs.declared.cell.StableCell.{Ghosts as CellWords}
 use Rattle.slot_cell.specs.declared.slot_cell.SlotCell.{Ghosts as SlotWords}
@@ -16,7 +15,7 @@ use Rattle.station.specs.declared.output.Output.{Output}
 use Rattle.world.specs.OpeningWorld.{armed_on, calls_on, AreFormatted, AreHandedBack, AreVersionsFor, HaveOutlets}
 use Rattle.world.specs.OpeningWorld.{HaveRoom, IsWorldRefusal, LeaveOnlyRecords}
 use Rattle.world.specs.Feeding.{none_closed}
-use Rattle.world.specs.WholeView.{world_of}
+use Rattle.world.specs.WholeView.{first_inputs, world_of}
 use Rattle.world.specs.WorldView.{capacities}
 use Rattle.world.specs.declared.opening.OpeningRefused.{OpeningRefused}
 use Rattle.world.specs.declared.world.World.{World}
@@ -24,13 +23,13 @@ use Rattle.world.specs.declared.world.World.{World}
 -- The world was made on these disks, with these outputs. `versions` are those in which the disks are formatted; a node for which
 -- none is given has its disk in the one in which records are written.
 pub record IsNew {D O : Type 0} {disk : DiskWords D} {cell : CellWords (SplitCell D disk)} {slots : SlotWords (SplitCell D disk)}
-    {outlet : OutletWords O} (net : Arc Net Global) (inputs : Arc Inputs Global) (versions : List ℕ) (disks : List D)
+    {outlet : OutletWords O} (net : Arc Net Global) (inputs : List (List ℤ)) (versions : List ℕ) (disks : List D)
     (outputs : List (Output O)) (world : World (SplitCell D disk) O slots cell outlet) : Type 0 where
   -- It is the opening world of the network and the inputs, with the outlets that were given.
   pub opening : world_of world
-      ≡ opening_world (network_of net.value.program) inputs.value (map (λ (d : D). disk.failure_count d) disks)
+      ≡ opening_world (network_of net.value.program) inputs (map (λ (d : D). disk.failure_count d) disks)
       (outlet_views outlet.taken outlet.failures outputs)
-  pub same : (world.net ≡ net) × (world.inputs ≡ inputs)
+  pub same : (world.net ≡ net) × (world.inputs ≡ first_inputs inputs)
   -- None of its inputs is closed.
   pub fresh_inputs : world.closed ≡ none_closed
   pub outlets : HaveOutlets (network_of net.value.program) 0 outputs world.stations.items

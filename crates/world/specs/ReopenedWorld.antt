@@ -3,7 +3,6 @@ use Rattle.std.specs.Prelude.{◌≡◌, ℕ, ℤ, List, map}
 use Rattle.std.specs.List.{AllZip}
 use Rattle.std.specs.declared.alloc.Global.{Global}
 use Rattle.std.specs.declared.sync.Arc.{Arc}
-use Rattle.net_check.specs.declared.inputs.Inputs.{Inputs}
 use Rattle.sector_disk.specs.declared.disk.ArmedFault.{ArmedFault}
 use Rattle.sector_disk.specs.declared.disk.Disk.{Ghosts as DiskWords}
 use Rattle.gate_cell.specs.declared.cell.StableCell.{Ghosts as CellWords}
@@ -22,24 +21,24 @@ use Rattle.world.specs.Left.{AreLeft, records_on}
 use Rattle.world.specs.OpeningWorld.{armed_on, AreHandedBack, calls_on, HaveOutlets, LeavesOnlyRecord}
 use Rattle.world.specs.Reopening.{IsDiskAsLeft, world_again}
 use Rattle.world.specs.Feeding.{none_closed}
-use Rattle.world.specs.WholeView.{world_of}
+use Rattle.world.specs.WholeView.{first_inputs, world_of}
 use Rattle.world.specs.WorldView.{capacities}
 use Rattle.world.specs.declared.opening.OpeningRefused.{OpeningRefused}
 use Rattle.world.specs.declared.world.World.{World}
 
 -- The world was opened over what lies on these disks, with these outputs.
 pub record IsReopened {D O : Type 0} {disk : DiskWords D} {cell : CellWords (SplitCell D disk)} {slots : SlotWords (SplitCell D disk)}
-    {outlet : OutletWords O} (net : Arc Net Global) (inputs : Arc Inputs Global) (disks : List D)
+    {outlet : OutletWords O} (net : Arc Net Global) (inputs : List (List ℤ)) (disks : List D)
     (outputs : List (Output O)) (world : World (SplitCell D disk) O slots cell outlet) : Type 0 where
   -- It is this world: each node is down with the record that lies on its disk, and may be recovered in any round.
   pub opening : world_of world
-      ≡ world_again (network_of net.value.program) inputs.value (records_on disk.sector_count disk.content disks)
+      ≡ world_again (network_of net.value.program) inputs (records_on disk.sector_count disk.content disks)
       (map (λ (d : D). disk.failure_count d) disks) (outlet_views outlet.taken outlet.failures outputs)
   -- So it is a fresh world over these records and outputs, and what has left by it is what had left.
-  pub opens : OpensOver (network_of net.value.program) inputs.value (records_on disk.sector_count disk.content disks)
+  pub opens : OpensOver (network_of net.value.program) inputs (records_on disk.sector_count disk.content disks)
       (outputs_view outlet.taken outputs) (world_of world)
   pub same_left : outputs_left (world_of world) ≡ outputs_view outlet.taken outputs
-  pub same : (world.net ≡ net) × (world.inputs ≡ inputs)
+  pub same : (world.net ≡ net) × (world.inputs ≡ first_inputs inputs)
   -- None of its inputs is closed.
   pub fresh_inputs : world.closed ≡ none_closed
   pub outlets : HaveOutlets (network_of net.value.program) 0 outputs world.stations.items

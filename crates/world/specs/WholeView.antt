@@ -3,10 +3,10 @@ use Rattle.std.specs.List.{AllZip}
 use Rattle.gate_cell.specs.declared.cell.StableCell.{Ghosts as CellWords}
 use Rattle.slot_cell.specs.declared.slot_cell.SlotCell.{Ghosts as SlotWords}
 use Rattle.outlet.specs.declared.outlet.Outlet.{Ghosts as OutletWords}
-use Rattle.std.specs.Prelude.{ℕ, Bool, List, vec_len}
+use Rattle.std.specs.Prelude.{ℕ, ℤ, Bool, List, length, vec_len}
 use Rattle.std.specs.declared.alloc.Global.{Global}
 use Rattle.std.specs.declared.sync.Arc.{Arc}
-use Rattle.net_check.specs.declared.inputs.Inputs.{Inputs}
+use Rattle.arrived.specs.ArrivedView.{ArrivedView, none_gone}
 use Rattle.protocol.specs.Node.Common.{Net, RecordView}
 use Rattle.protocol.specs.World.Common.{WorldView, traffic_of}
 use Rattle.wire.specs.declared.wire.Wire.{Wire}
@@ -28,8 +28,21 @@ abbrev pub net_in : {C O : Type 0} {cell : CellWords C} {slots : SlotWords C} {o
 net_in world = world.net
 
 abbrev pub inputs_in : {C O : Type 0} {cell : CellWords C} {slots : SlotWords C} {outlet : OutletWords O}
-    → World C O slots cell outlet → Arc Inputs Global
-inputs_in world = world.inputs
+    → World C O slots cell outlet → List (List ℤ)
+inputs_in world = world.inputs.came
+
+-- what has come before anything was let go of
+abbrev pub first_inputs : List (List ℤ) → ArrivedView
+first_inputs inputs = record { came = inputs; bases = none_gone (length inputs) }
+
+-- how many items of each input were let go of, and all of that with the inputs
+abbrev pub bases_in : {C O : Type 0} {cell : CellWords C} {slots : SlotWords C} {outlet : OutletWords O}
+    → World C O slots cell outlet → List ℕ
+bases_in world = world.inputs.bases
+
+abbrev pub arrived_in : {C O : Type 0} {cell : CellWords C} {slots : SlotWords C} {outlet : OutletWords O}
+    → World C O slots cell outlet → ArrivedView
+arrived_in world = world.inputs
 
 abbrev pub stations_in : {C O : Type 0} {cell : CellWords C} {slots : SlotWords C} {outlet : OutletWords O}
     → World C O slots cell outlet → List (Station C O slots cell)

@@ -6,7 +6,7 @@ use Rattle.slot_cell.specs.declared.slot_cell.SlotCell.{Ghosts as SlotWords}
 use Rattle.station.specs.Nodes.{LeavesAsBefore}
 use Rattle.std.specs.declared.sync.Arc.{Arc}
 use Rattle.std.specs.declared.alloc.Global.{Global}
-use Rattle.net_check.specs.declared.inputs.Inputs.{Inputs}
+use Rattle.arrived.specs.ArrivedView.{ArrivedView}
 use Rattle.station.specs.OutputView.{outputs_view}
 use Rattle.protocol.specs.World.Common.{EventView, ReplyView, WorldView, Traffic}
 use Rattle.protocol.specs.World.Pairs.{HasGrown}
@@ -15,15 +15,15 @@ use Rattle.station.specs.declared.station.Station.{Station}
 use Rattle.station.specs.StationView.{station_view}
 use Rattle.station.specs.Leaving.{RestartsAsArmed, LeavesDeviceBy, LeavesWhatItFound}
 
--- a world by its parts: shares of its network and of the inputs, its stations, what is in flight, the round, and the
+-- a world by its parts: a share of its network, what came on its inputs, its stations, what is in flight, the round, and the
 -- rooms of channels
 abbrev pub world_view : {C O : Type 0} {cell : CellWords C} {slots : SlotWords C} → (O → List ℤ) → (O → ℕ)
     → Arc Net Global
-    → Arc Inputs Global → List (Station C O slots cell) → Traffic → ℕ → List ℕ → WorldView
+    → ArrivedView → List (Station C O slots cell) → Traffic → ℕ → List ℕ → WorldView
 world_view taken failures net inputs stations traffic round channel_rooms =
     record {
       net = network_of net.value.program;
-      inputs = inputs.value;
+      inputs = inputs.came;
       stations =
           map (station_view taken failures) stations;
       traffic = traffic;

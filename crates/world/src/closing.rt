@@ -84,7 +84,7 @@ impl<D: Disk, O: Outlet> World<SplitCell<D>, O> {
         // `World::open` takes them.
         ensures left { IfOk result
             (λ closed. AreLeft D.sector_count D.content D.may_leave O.taken
-            (network_of self.net.value.program) self.inputs.value closed.0.items closed.1.items) }
+            (network_of self.net.value.program) self.inputs.came closed.0.items closed.1.items) }
     {
         // There are no more outputs than channels.
         let most = self.net.program.channels.len();

@@ -6,16 +6,16 @@ ghost use Rattle.protocol.specs.Node.Common.{history_of, network_of};
 ghost use Rattle.protocol.specs.World.Common.{are_quiet, AreApproximated};
 ghost use Rattle.protocol.specs.World.Quiet.{AreWhole};
 ghost use Rattle.world.specs.Feeding.{AreClosed, feed_refusal, is_input, none_closed, number_of, told_by};
-ghost use Rattle.world.specs.WholeView.{closed_in, inputs_in, net_in, stations_in, wire_in, world_of};
+ghost use Rattle.world.specs.WholeView.{arrived_in, bases_in, closed_in, inputs_in, net_in, stations_in, wire_in, world_of};
 ghost use Rattle.world.specs.declared.feeding.FeedFault.TheVariants.{NoInput, NoMemory};
 
 use crate::world::World;
+use arrived::Arrived;
 use kahn_net::{MAX_CHANNELS, MAX_COUNT, Port};
-use net_check::{Inputs, Net};
+use net_check::Net;
 use outlet::Outlet;
 use slot_cell::SlotCell;
 use std::alloc::{AllocError, Global};
-use std::sync::Arc;
 use thiserror::Error;
 
 /// Why items didn't come on an input, or why it wasn't closed.
@@ -67,8 +67,8 @@ pub(crate) fn none_closed() -> ClosedInputs
     [false; MAX_CHANNELS]
 }
 
-// Whether a channel is an input: its items come from outside.
-fn is_input(net: &Net, number: usize) -> bool
+/// Whether a channel is an input: its items come from outside.
+pub(crate) fn is_input(net: &Net, number: usize) -> bool
     ensures { result ≡ is_input (network_of net.now.program) number }
 {
     match net.program.channels.get(number) {
@@ -84,12 +84,12 @@ fn is_input(net: &Net, number: usize) -> bool
 fn feed_refusal(
     net: &Net,
     closed: &ClosedInputs,
-    inputs: &Inputs,
+    inputs: &Arrived,
     input: u8,
     many: usize,
 ) -> Option<FeedFault>
-    requires each { length inputs.now ≡ length net.now.program.channels.items }
-    ensures { result ≡ feed_refusal (network_of net.now.program) closed.now inputs.now input many }
+    requires each { length inputs.now.came ≡ length net.now.program.channels.items }
+    ensures { result ≡ feed_refusal (network_of net.now.program) closed.now inputs.now.came input many }
 {
     let number = usize::from(input);
     if !is_input(net, number) {
@@ -98,32 +98,11 @@ fn feed_refusal(
     if closed[number] {
         return Some(FeedFault::Closed);
     }
-    let has = inputs.as_slice()[number].len() as u64;
+    let has = inputs.count(number);
     if has > MAX_COUNT || many as u64 > MAX_COUNT - has {
         return Some(FeedFault::Full);
     }
     None
-}
-
-// Adds items to one list. Where somebody else has a share of the lists, they are copied first.
-fn add_items(
-    alloc: Global,
-    inputs: &mut Arc<Inputs>,
-    input: u8,
-    items: &[i64],
-) -> Result<(), AllocError>
-    requires here { input < length inputs.old.value }
-    requires few { length (history_of inputs.old.value input) + length items.now ≤ MAX_COUNT }
-    ensures ok { OnOk result (inputs.new.value ≡ fed input items.now inputs.old.value) }
-    ensures err { OnErr result (inputs.new.value ≡ inputs.old.value) }
-{
-    if let Some(own) = Arc::get_mut(inputs) {
-        return own.append(usize::from(input), items);
-    }
-    let mut copy = inputs.copy(alloc)?;
-    copy.append(usize::from(input), items)?;
-    *inputs = Arc::new(alloc, copy)?;
-    Ok(())
 }
 
 impl<C: SlotCell, O: Outlet> World<C, O> {
@@ -131,25 +110,24 @@ impl<C: SlotCell, O: Outlet> World<C, O> {
     /// events, whatever is under way: jobs may be out, packets in flight, and nodes down or in doubt.
     ///
     /// Refuses a channel that is no input (11), an input that is closed (51), and items with which it would have more than
-    /// `MAX_COUNT` (50); and for want of memory (1). Then nothing is changed. The items are added in place, unless somebody
-    /// else has a share of the world's inputs: then all of them are copied first.
+    /// `MAX_COUNT` (50); and for want of memory (1). Then nothing is changed.
     pub fn feed(&mut self, alloc: Global, input: u8, items: &[i64]) -> Result<(), FeedFault>
         // They stand behind what had come on this input, and nothing else is changed.
         ensures fed { OnOk result (world_of self.new
             ≡ with_inputs (fed input items.now (world_of self.old).inputs) (world_of self.old)) }
         // So the inputs are later ones: what is right on them so far is right on them whatever comes.
         ensures later { OnOk result (AreLaterInputs (network_of (net_in self.old).value.program)
-            (inputs_in self.old).value (inputs_in self.new).value) }
-        ensures same { (net_in self.new ≡ net_in self.old) × (stations_in self.new ≡ stations_in self.old)
+            (inputs_in self.old) (inputs_in self.new)) }
+        ensures same { (net_in self.new ≡ net_in self.old) × (bases_in self.new ≡ bases_in self.old) × (stations_in self.new ≡ stations_in self.old)
             × (wire_in self.new ≡ wire_in self.old) × (closed_in self.new ≡ closed_in self.old) }
         ensures unchanged { OnErr result (world_of self.new ≡ world_of self.old) }
         // What has left is right on the inputs that there are now.
         ensures prefix { AreApproximated (world_of self.new) }
         // It refuses exactly what is said above, and for want of memory only what it would take else.
         ensures accepted { OnOk result (feed_refusal (network_of (net_in self.old).value.program) (closed_in self.old)
-            (inputs_in self.old).value input (length items.now) ≡ None) }
+            (inputs_in self.old) input (length items.now) ≡ None) }
         ensures refused { IfErr result (λ fault. feed_refusal (network_of (net_in self.old).value.program)
-            (closed_in self.old) (inputs_in self.old).value input (length items.now) ≡ told_by fault) }
+            (closed_in self.old) (inputs_in self.old) input (length items.now) ≡ told_by fault) }
     {
         if let Some(fault) = feed_refusal(
             &self.net,
@@ -160,7 +138,7 @@ impl<C: SlotCell, O: Outlet> World<C, O> {
         ) {
             return Err(fault);
         }
-        add_items(alloc, &mut self.inputs, input, items)?;
+        self.inputs.append(usize::from(input), items)?;
         Ok(())
     }
 
@@ -171,7 +149,7 @@ impl<C: SlotCell, O: Outlet> World<C, O> {
         ensures unchanged { OnErr result (closed_in self.new ≡ closed_in self.old) }
         // The world is the very same but for that.
         ensures same { (world_of self.new ≡ world_of self.old) × (net_in self.new ≡ net_in self.old)
-            × (inputs_in self.new ≡ inputs_in self.old) × (stations_in self.new ≡ stations_in self.old)
+            × (arrived_in self.new ≡ arrived_in self.old) × (stations_in self.new ≡ stations_in self.old)
             × (wire_in self.new ≡ wire_in self.old) }
         // Refused is exactly what is no input.
         ensures here { OnOk result (is_input (network_of (net_in self.old).value.program) input ≡ true) }

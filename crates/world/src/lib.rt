@@ -8,6 +8,7 @@
 mod closing;
 mod feeding;
 mod laws;
+mod letting_go;
 mod needs;
 mod opening;
 mod outputs;

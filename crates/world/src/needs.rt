@@ -6,11 +6,12 @@ ghost use Rattle.protocol.specs.World.RoomNeeds.{awaited, first_of_any, getter_o
 ghost use Rattle.protocol.specs.World.Stances.{stance_of};
 ghost use Rattle.turns.specs.Turns.{or_else};
 ghost use Rattle.station.specs.StationView.{station_view};
-ghost use Rattle.world.specs.WholeView.{closed_in, inputs_in, net_in, stations_in, wire_in, world_of};
+ghost use Rattle.world.specs.WholeView.{arrived_in, closed_in, net_in, stations_in, wire_in, world_of};
 
 use crate::world::World;
+use arrived::Arrived;
 use kahn_net::Port;
-use net_check::{Inputs, Net};
+use net_check::Net;
 use outlet::Outlet;
 use protocol::{Rooms, Stance};
 use slot_cell::SlotCell;
@@ -19,12 +20,12 @@ use station::Station;
 // How the process of this number stands.
 fn stance_of<C: SlotCell, O: Outlet>(
     net: &Net,
-    inputs: &Inputs,
+    inputs: &Arrived,
     rooms: &Rooms,
     stations: &[Station<C, O>],
     process: usize,
 ) -> Stance
-    ensures { result ≡ stance_of (network_of net.now.program) inputs.now rooms.now
+    ensures { result ≡ stance_of (network_of net.now.program) inputs.now.came rooms.now
         (map (station_view O.taken O.failures) stations.now) process }
 {
     match net.program.processes.get(process) {
@@ -103,14 +104,14 @@ fn held_or(stance: Stance, last: Option<usize>) -> Option<usize>
 // to it, up to the first that goes on.
 fn need_from<C: SlotCell, O: Outlet>(
     net: &Net,
-    inputs: &Inputs,
+    inputs: &Arrived,
     rooms: &Rooms,
     stations: &[Station<C, O>],
     process: usize,
 ) -> Option<usize>
-    ensures { result ≡ need_on (stance_of (network_of net.now.program) inputs.now rooms.now
+    ensures { result ≡ need_on (stance_of (network_of net.now.program) inputs.now.came rooms.now
         (map (station_view O.taken O.failures) stations.now))
-        (way_from (network_of net.now.program) (stance_of (network_of net.now.program) inputs.now rooms.now
+        (way_from (network_of net.now.program) (stance_of (network_of net.now.program) inputs.now.came rooms.now
         (map (station_view O.taken O.failures) stations.now)) process) }
 {
     let mut last = None;
@@ -154,13 +155,13 @@ fn has_process(net: &Net, node: u8, process: usize) -> bool
 // What is needed on the way from a process, if it is one of this node and is held for want of room.
 fn need_of<C: SlotCell, O: Outlet>(
     net: &Net,
-    inputs: &Inputs,
+    inputs: &Arrived,
     rooms: &Rooms,
     stations: &[Station<C, O>],
     node: u8,
     process: usize,
 ) -> Option<usize>
-    ensures { result ≡ need_of (network_of net.now.program) (stance_of (network_of net.now.program) inputs.now rooms.now
+    ensures { result ≡ need_of (network_of net.now.program) (stance_of (network_of net.now.program) inputs.now.came rooms.now
         (map (station_view O.taken O.failures) stations.now)) node process }
 {
     if has_process(net, node, process)
@@ -175,7 +176,7 @@ fn need_of<C: SlotCell, O: Outlet>(
 // The channel that is needed, as the first process of a node that shows one has it.
 fn first_need<C: SlotCell, O: Outlet>(
     net: &Net,
-    inputs: &Inputs,
+    inputs: &Arrived,
     rooms: &Rooms,
     stations: &[Station<C, O>],
     node: u8,
@@ -220,7 +221,7 @@ impl<C: SlotCell, O: Outlet> World<C, O> {
     pub fn widen_at(&mut self, channel: u8)
         // Its room is what differs, and nothing else.
         ensures set { world_of self.new ≡ widened_at channel (world_of self.old) }
-        ensures same { (net_in self.new ≡ net_in self.old) × (inputs_in self.new ≡ inputs_in self.old)
+        ensures same { (net_in self.new ≡ net_in self.old) × (arrived_in self.new ≡ arrived_in self.old)
             × (stations_in self.new ≡ stations_in self.old) × (wire_in self.new ≡ wire_in self.old) }
         ensures same_closed { closed_in self.new ≡ closed_in self.old }
     {

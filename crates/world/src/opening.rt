@@ -21,6 +21,7 @@ ghost use Rattle.kahn_net.specs.declared.limits.TheConstants.{MAX_NODES};
 
 use crate::feeding::none_closed;
 use crate::world::World;
+use arrived::Arrived;
 use ckpt_codec::{FIRST_VERSION, VERSION, spelled_image_length, write_header_in, write_image};
 use ckpt_store::{Store, StoreFault};
 use kahn_net::Port;
@@ -304,12 +305,12 @@ fn open_stations<D: Disk, O: Outlet>(
 fn open_world<D: Disk, O: Outlet>(
     alloc: Global,
     net: Arc<Net>,
-    inputs: Arc<Inputs>,
+    inputs: Inputs,
     disks: Vec<D>,
     outputs: Vec<Output<O>>,
     versions: &[u8],
 ) -> Result<World<SplitCell<D>, O>, OpeningRefused<D, O>>
-    requires fits { Fits (network_of net.value.program) inputs.value }
+    requires fits { Fits (network_of net.value.program) inputs }
     requires each { length disks.items ≡ node_count (network_of net.value.program) }
     requires listed { map (λ output. output.channel) outputs.items
         ≡ output_channels 0 (network_of net.value.program).channels }
@@ -322,7 +323,11 @@ fn open_world<D: Disk, O: Outlet>(
     let mut disks = disks;
     let mut outputs = outputs;
     let nodes = disks.len();
-    let (Ok(wire), Ok(mut stations)) = (Wire::new(alloc), Vec::with_capacity(alloc, nodes)) else {
+    let (Ok(inputs), Ok(wire), Ok(mut stations)) = (
+        Arrived::new(alloc, inputs),
+        Wire::new(alloc),
+        Vec::with_capacity(alloc, nodes),
+    ) else {
         return Err(OpeningRefused {
             disks,
             outputs,
@@ -366,11 +371,11 @@ impl<D: Disk, O: Outlet> World<SplitCell<D>, O> {
     pub fn new(
         alloc: Global,
         net: Arc<Net>,
-        inputs: Arc<Inputs>,
+        inputs: Inputs,
         disks: Vec<D>,
         outputs: Vec<Output<O>>,
     ) -> Result<World<SplitCell<D>, O>, OpeningRefused<D, O>>
-        requires fits { Fits (network_of net.value.program) inputs.value }
+        requires fits { Fits (network_of net.value.program) inputs }
         requires each { length disks.items ≡ node_count (network_of net.value.program) }
         requires listed { map (λ output. output.channel) outputs.items
             ≡ output_channels 0 (network_of net.value.program).channels }
@@ -393,12 +398,12 @@ impl<D: Disk, O: Outlet> World<SplitCell<D>, O> {
     pub fn new_from(
         alloc: Global,
         net: Arc<Net>,
-        inputs: Arc<Inputs>,
+        inputs: Inputs,
         disks: Vec<D>,
         outputs: Vec<Output<O>>,
         versions: &[u8],
     ) -> Result<World<SplitCell<D>, O>, OpeningRefused<D, O>>
-        requires fits { Fits (network_of net.value.program) inputs.value }
+        requires fits { Fits (network_of net.value.program) inputs }
         requires each { length disks.items ≡ node_count (network_of net.value.program) }
         requires listed { map (λ output. output.channel) outputs.items
             ≡ output_channels 0 (network_of net.value.program).channels }

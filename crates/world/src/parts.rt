@@ -3,10 +3,11 @@ ghost use Rattle.std.specs.Prelude.{◌≡◌, ◌<◌, ◌≤◌, false, None, 
 ghost use Rattle.std.specs.List.{position_from};
 ghost use Rattle.protocol.specs.World.Common.{flights_to, is_due};
 ghost use Rattle.wire.specs.declared.queue.TheConstants.{NODES};
-ghost use Rattle.world.specs.WholeView.{inputs_in, net_in, nodes_in, stations_in, world_of};
+ghost use Rattle.world.specs.WholeView.{arrived_in, net_in, nodes_in, stations_in, world_of};
 
 use crate::world::World;
-use net_check::{Inputs, Net};
+use arrived::Arrived;
+use net_check::Net;
 use outlet::Outlet;
 use slot_cell::SlotCell;
 use station::Station;
@@ -21,9 +22,9 @@ impl<C: SlotCell, O: Outlet> World<C, O> {
         &self.net
     }
 
-    /// The items of its inputs.
-    pub fn inputs(&self) -> &Arc<Inputs>
-        ensures { result.now ≡ inputs_in self.now }
+    /// What has come on its inputs.
+    pub fn inputs(&self) -> &Arrived
+        ensures { result.now ≡ arrived_in self.now }
     {
         &self.inputs
     }

@@ -16,7 +16,7 @@ impl<C: SlotCell, O: Outlet> World<C, O> {
     {
         match self.stations.get(usize::from(node)) {
             Some(station) => {
-                station.is_complete(&self.net, self.inputs.as_slice(), &self.stations)
+                station.is_complete(&self.net, &self.inputs, &self.stations)
             }
             None => true,
         }
@@ -31,7 +31,7 @@ impl<C: SlotCell, O: Outlet> World<C, O> {
         // is its channel's whole history there.
         ensures whole { IsTrue result → AreWhole (world_of self.now) }
     {
-        let inputs = self.inputs.as_slice();
+        let inputs = &self.inputs;
         for station in &self.stations {
             if !station.is_complete(&self.net, inputs, &self.stations) {
                 return false;

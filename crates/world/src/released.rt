@@ -11,6 +11,7 @@ use outlet::Outlet;
 use slot_cell::SlotCell;
 use station::Output;
 use std::alloc::AllocError;
+use std::snapshot::Snapshot;
 use std::sync::Arc;
 use stream_eq::Freed;
 
@@ -34,7 +35,7 @@ impl<C: SlotCell, O: Outlet> World<C, O> {
     pub fn released(&self, channel: u8) -> &[i64]
         ensures stream { result.now ≡ released_of channel (world_of self.now).stations }
         // They are a prefix of the channel's history, in one approximation of it on the inputs;
-        ensures prefix { IsStreamOf (network_of (net_in self.now).value.program) (inputs_in self.now).value
+        ensures prefix { IsStreamOf (network_of (net_in self.now).value.program) (inputs_in self.now)
             channel result.now }
         // and the permanent image of the node that puts there has put all of them.
         ensures covered { IsPutAtHome (network_of (net_in self.now).value.program)
@@ -43,17 +44,17 @@ impl<C: SlotCell, O: Outlet> World<C, O> {
         self.stream(channel)
     }
 
-    /// How many items have left by the output of this channel, with shares of the network and of its inputs: what another thread
+    /// How many items have left by the output of this channel, with a share of the network, on what has come: what another thread
     /// can be told of it. None has left by what is no output. Refuses for want of memory alone.
     pub fn freed(&self, channel: u8) -> Result<Freed, AllocError>
         ensures shared { IfOk result (λ freed. (freed.net.value ≡ (net_in self.now).value)
-            × (freed.inputs.value ≡ (inputs_in self.now).value)) }
+            × (freed.came.value.came ≡ (inputs_in self.now))) }
         ensures left { IfOk result (λ freed. (freed.output ≡ channel)
             × (freed.number ≡ length (released_of channel (world_of self.now).stations))) }
     {
         Ok(Freed {
             net: Arc::try_clone(&self.net)?,
-            inputs: Arc::try_clone(&self.inputs)?,
+            came: Snapshot::of(&self.inputs),
             output: channel,
             number: self.released(channel).len() as u64,
         })

@@ -14,6 +14,7 @@ ghost use Rattle.world.specs.Reopening.{IsReopenedNode, IsReopenedStation, IsReo
 use crate::feeding::none_closed;
 use crate::opening::{NotOpened, OpeningRefused, forget_failures, part_outputs};
 use crate::world::World;
+use arrived::Arrived;
 use ckpt_store::{Store, StoreFault};
 use net_check::{Inputs, Net};
 use outlet::Outlet;
@@ -175,22 +176,23 @@ impl<D: Disk, O: Outlet> World<SplitCell<D>, O> {
     pub fn open(
         alloc: Global,
         net: Arc<Net>,
-        inputs: Arc<Inputs>,
+        inputs: Inputs,
         disks: Vec<D>,
         outputs: Vec<Output<O>>,
     ) -> Result<World<SplitCell<D>, O>, OpeningRefused<D, O>>
         requires left { AreLeft D.sector_count D.content D.may_leave O.taken
-            (network_of net.value.program) inputs.value disks.items outputs.items }
+            (network_of net.value.program) inputs disks.items outputs.items }
         // All nodes are down with the records that lie there, and what has left is the same.
         ensures made { IfOk result (IsReopened net inputs disks.items outputs.items) }
         // Refused for no other reasons than those above, and then all that was given is back in its place, as it was.
         ensures refused { IfErr result (IsNotReopened D.sector_count D.content D.may_leave D.armed
-            D.failure_count O.taken (network_of net.value.program) inputs.value disks.items
+            D.failure_count O.taken (network_of net.value.program) inputs disks.items
             outputs.items) }
     {
         let mut disks = disks;
         let mut outputs = outputs;
-        let (Ok(wire), Ok(mut stations)) = (
+        let (Ok(inputs), Ok(wire), Ok(mut stations)) = (
+            Arrived::new(alloc, inputs),
             Wire::new(alloc),
             Vec::with_capacity(alloc, disks.len()),
         ) else {

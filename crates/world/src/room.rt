@@ -2,7 +2,7 @@
 ghost use Rattle.std.specs.Prelude.{◌≡◌, OnErr, OnOk, slice_index, slice_set};
 ghost use Rattle.protocol.specs.Node.Sharing.{IsRoom, even_rooms};
 ghost use Rattle.protocol.specs.World.Common.{with_rooms};
-ghost use Rattle.world.specs.WholeView.{closed_in, inputs_in, net_in, stations_in, wire_in, world_of};
+ghost use Rattle.world.specs.WholeView.{arrived_in, closed_in, net_in, stations_in, wire_in, world_of};
 
 use crate::world::World;
 use ckpt_codec::MAX_RETAINED_ITEMS;
@@ -49,7 +49,7 @@ impl<C: SlotCell, O: Outlet> World<C, O> {
         // The rooms are what differs, and nothing else.
         ensures set { OnOk result (world_of self.new ≡ with_rooms (even_rooms items) (world_of self.old)) }
         ensures unchanged { OnErr result (world_of self.new ≡ world_of self.old) }
-        ensures same { (net_in self.new ≡ net_in self.old) × (inputs_in self.new ≡ inputs_in self.old)
+        ensures same { (net_in self.new ≡ net_in self.old) × (arrived_in self.new ≡ arrived_in self.old)
             × (stations_in self.new ≡ stations_in self.old) × (wire_in self.new ≡ wire_in self.old) }
         ensures same_closed { closed_in self.new ≡ closed_in self.old }
         // Refused are exactly the numbers out of range.
@@ -67,7 +67,7 @@ impl<C: SlotCell, O: Outlet> World<C, O> {
         ensures set { OnOk result (world_of self.new
             ≡ with_rooms (slice_set (world_of self.old).rooms channel items) (world_of self.old)) }
         ensures unchanged { OnErr result (world_of self.new ≡ world_of self.old) }
-        ensures same { (net_in self.new ≡ net_in self.old) × (inputs_in self.new ≡ inputs_in self.old)
+        ensures same { (net_in self.new ≡ net_in self.old) × (arrived_in self.new ≡ arrived_in self.old)
             × (stations_in self.new ≡ stations_in self.old) × (wire_in self.new ≡ wire_in self.old) }
         ensures same_closed { closed_in self.new ≡ closed_in self.old }
         ensures within { OnOk result (IsRoom items) }

@@ -8,7 +8,8 @@ ghost use Rattle.world.specs.Stillness.{is_still_world};
 ghost use Rattle.world.specs.WholeView.{world_of};
 
 use crate::world::World;
-use net_check::{Inputs, Net};
+use arrived::Arrived;
+use net_check::Net;
 use outlet::Outlet;
 use protocol::Rooms;
 use slot_cell::SlotCell;
@@ -17,11 +18,11 @@ use station::Station;
 // Whether nothing is to be done at any of these stations.
 fn are_still<C: SlotCell, O: Outlet>(
     net: &Net,
-    inputs: &Inputs,
+    inputs: &Arrived,
     rooms: &Rooms,
     stations: &[Station<C, O>],
 ) -> bool
-    ensures { result ≡ list_all (is_still (network_of net.now.program) inputs.now rooms.now
+    ensures { result ≡ list_all (is_still (network_of net.now.program) inputs.now.came rooms.now
         (map (station_view O.taken O.failures) stations.now))
         (map (station_view O.taken O.failures) stations.now) }
 {

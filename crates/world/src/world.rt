@@ -12,7 +12,9 @@ ghost use Rattle.protocol.specs.World.Pairs.{AreSameElsewhere};
 ghost use Rattle.world.specs.Acting.{HasActed};
 ghost use Rattle.world.specs.RecoveryLine.{StaysInLine, KeepsLine, HasOneLine};
 ghost use Rattle.protocol.specs.World.Replies.{IsDropped, IsTooLarge, LeavesCells, TakesMemory};
-ghost use Rattle.station.specs.Lending.{inputs_lent, net_lent, setting_by};
+ghost use Rattle.protocol.specs.Node.AtHand.{HaveGot};
+ghost use Rattle.protocol.specs.World.RecoveryLine.{records_of};
+ghost use Rattle.station.specs.Lending.{bases_lent, inputs_lent, net_lent, setting_by};
 ghost use Rattle.station.specs.ReplyView.{answer_view, reply_view};
 ghost use Rattle.protocol.specs.declared.reply.Reply.TheVariants.{Down};
 ghost use Rattle.protocol.specs.World.Roomy.{HasFullRoom};
@@ -22,7 +24,8 @@ ghost use Rattle.station.specs.Leaving.{IsCellUnchanged};
 ghost use Rattle.station.specs.StationView.{station_view};
 
 use crate::feeding::ClosedInputs;
-use net_check::{Inputs, Net};
+use arrived::Arrived;
+use net_check::Net;
 use outlet::Outlet;
 use protocol::Rooms;
 use slot_cell::SlotCell;
@@ -31,7 +34,7 @@ use std::alloc::{AllocError, Global};
 use std::sync::Arc;
 use wire::Wire;
 
-/// A network that runs on its inputs: shares of both, its stations, one a node, by node number, the round, the room of each
+/// A network that runs on its inputs: a share of it, what has come on them, its stations, one a node, by node number, the round, the room of each
 /// channel, and which inputs are closed.
 ///
 /// Its type keeps that the inputs fit the network, that each station is of the node of its number, that the images of each
@@ -40,7 +43,7 @@ use wire::Wire;
 /// abstract machine of recovery lines led to it.
 pub struct World<C: SlotCell, O: Outlet> {
     pub(crate) net: Arc<Net>,
-    pub(crate) inputs: Arc<Inputs>,
+    pub(crate) inputs: Arrived,
     pub(crate) stations: Vec<Station<C, O>>,
     pub(crate) wire: Wire,
     pub(crate) round: u64,
@@ -50,6 +53,9 @@ pub struct World<C: SlotCell, O: Outlet> {
     pub(crate) closed: ClosedInputs,
     pub ghost sound: { WorldInvariant
         (world_view O.taken O.failures net inputs stations.items (traffic_of wire) round channel_rooms) },
+    /// What was let go of the permanent images have got.
+    pub ghost got: { HaveGot (network_of net.value.program) inputs.bases
+        (records_of (map (station_view O.taken O.failures) stations.items)) },
 }
 
 // Written out, since each crate above would go through a derived one again.
@@ -85,6 +91,8 @@ fn act_at<C: SlotCell, O: Outlet>(
     requires numbered { IsNumbered (map (station_view O.taken O.failures) stations.old.items) }
     requires count { length stations.old.items ≡ node_count (net_lent lent.now) }
     requires at { event_node (event_view event.now) ≡ number }
+    requires got { HaveGot (net_lent lent.now) (bases_lent lent.now)
+        (records_of (map (station_view O.taken O.failures) stations.old.items)) }
     ensures grown { AllZip (IsGrown O.taken) stations.old.items stations.new.items }
     ensures line { AllZip (StaysInLine O.taken O.failures
         (setting_by lent.now (traffic_of wire.old)) (event_view event.now))
@@ -143,7 +151,7 @@ fn round_after<C: SlotCell, O: Outlet>(reply: &Reply, round: u64, stations: &[St
 
 impl<C: SlotCell, O: Outlet> World<C, O> {
     ghost use Rattle.world.specs.Applied.{IsApplied};
-    ghost use Rattle.world.specs.WholeView.{HaveGrown, capacities_in, closed_in, inputs_in, net_in, rooms_in, stations_in, world_of};
+    ghost use Rattle.world.specs.WholeView.{HaveGrown, arrived_in, capacities_in, closed_in, net_in, rooms_in, stations_in, world_of};
 
     // Its stations. All else is gone.
     pub(crate) fn into_stations(self) -> Vec<Station<C, O>>
@@ -217,8 +225,8 @@ impl<C: SlotCell, O: Outlet> World<C, O> {
         // Each stream that has left is a prefix of its channel's history in one approximation on the inputs, the same
         // for all streams of the world.
         ensures prefix { AreApproximated (world_of self.new) }
-        // The network and its inputs stay.
-        ensures same { (net_in self.new ≡ net_in self.old) × (inputs_in self.new ≡ inputs_in self.old) }
+        // The network stays, and what has come on its inputs.
+        ensures same { (net_in self.new ≡ net_in self.old) × (arrived_in self.new ≡ arrived_in self.old) }
         // No input is closed by an event, and none is opened.
         ensures same_closed { closed_in self.new ≡ closed_in self.old }
         // It is a step of the world: what is answered, and what is there afterwards.

@@ -7,6 +7,7 @@ use Rattle.record.specs.Common.{base_of}
 use Rattle.ckpt_codec.specs.declared.lengths.TheConstants.{MAX_RETAINED_ITEMS}
 use Rattle.protocol.specs.Node.Addresses.{consumer_node, producer_node}
 use Rattle.protocol.specs.Node.Choosing.{node_job}
+use Rattle.protocol.specs.Node.Layout.{consumer_of}
 use Rattle.protocol.specs.Node.Modes.{is_none}
 use Rattle.protocol.specs.Node.NodeView.{RunningNode, running_of}
 use Rattle.protocol.specs.Node.Popping.{has_place}
@@ -38,6 +39,14 @@ kept_by channel (Some node) = received_of node.kept.permanent channel
 abbrev pub kept_at : ℕ → Option StationView → ℕ
 kept_at channel None = 0
 kept_at channel (Some station) = kept_by channel (running_of station.node)
+
+abbrev pub kept_from : List StationView → ℕ → Option ℕ → ℕ
+kept_from stations channel None = 0
+kept_from stations channel (Some node) = kept_at channel (slice_get stations node)
+
+-- how many items of a channel the node that gets them keeps for good: none, where it doesn't run, or no process gets them
+abbrev pub kept_for_good : Network → List StationView → ℕ → ℕ
+kept_for_good net stations channel = kept_from stations channel (consumer_of net (slice_get net.channels channel))
 
 -- the log of a channel to another node has let go of all that is kept for good there
 abbrev pub has_let_go : Network → List StationView → ImageView → Outbox → Bool

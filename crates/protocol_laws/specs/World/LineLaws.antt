@@ -1,9 +1,9 @@
 -- Laws of the recovery line: whatever records a crash leaves in an event, the line that follows from them is in order.
 -- It all follows from the run of the abstract machine that a world is.
-use Rattle.std.proofs.Common.{◌≡◌, ◌≢◌, inl, ℕ, zero, suc, ◌+◌, Bool, List, [], ◌∷◌, map}
+use Rattle.std.proofs.Common.{◌≡◌, ◌≢◌, ◌==◌, ◌⊎◌, inl, inr, ℕ, zero, suc, ◌+◌, Bool, true, false, List, [], ◌∷◌, map}
 use Rattle.std.proofs.Common.{Option, Some, None, refl, ap, ◌∙◌, arith}
 use Rattle.std.specs.Prelude.{slice_get, slice_set}
-use Rattle.std.proofs.lemmas.Bool.{eq-eqb, ne_eqb}
+use Rattle.std.proofs.lemmas.Bool.{eq-eqb, eqb-true, ne_eqb}
 use Rattle.protocol.specs.Node.Common.{RecordView, IsBehind}
 use Rattle.recovery_line.specs.Line.{NotBehind}
 use Rattle.protocol_laws.specs.Join.Leading.{set_itself}
@@ -16,7 +16,9 @@ use Rattle.protocol.specs.World.Common.{WorldView, plan_of, setting_of, IsSoundS
 use Rattle.protocol.specs.declared.event.Deed.TheVariants as event
 use Rattle.protocol.specs.World.RecoveryLine.{LinesFollow, next_for}
 use Rattle.protocol_laws.specs.World.DeedLaws.{deed_sound}
-use Rattle.protocol_laws.specs.World.KeptLaws.{step_kept}
+use Rattle.protocol.specs.Node.AtHand.{HasGotBy, HaveGot}
+use Rattle.protocol_laws.specs.Node.AtHandLaws.{got_later}
+use Rattle.protocol_laws.specs.World.KeptLaws.{next_node, step_kept}
 use Rattle.protocol_laws.specs.World.OrderLaws.{behind_itself}
 use Rattle.protocol_laws.specs.World.OutputLaws.{map_at}
 use Rattle.protocol_laws.specs.World.PlanLaws.{next_record_ahead}
@@ -232,6 +234,50 @@ act_kept world inv e came answer (Some room) (Some station) new there act =
     (kept_either (setting_of world) (world_sure world inv) e came answer room world.stations 0 (event_node e) station
     act.later (λ i other is. (let number = (inv.numbered i other is).0 in omega (arith, number))) (omega arith) there
     (world_station world inv (event_node e) station there) act.step)
+
+-- ---- what was let go of
+
+-- Whatever an event leaves of the records, of each station the one of before or the one that the event puts there: what their permanent images
+-- had got they have got still.
+got_either : (setting : Setting) (sure : IsSoundSetting setting) (e : EventView) (bases : List ℕ) (stations : List StationView)
+    (records : List RecordView)
+    → ((i : ℕ) (station : StationView) → slice_get stations i ≡ Some station → IsSoundStation setting station)
+    → AreEither (records_of stations) (map (next_for setting e) stations) records
+    → HaveGot setting.net bases (records_of stations) → HaveGot setting.net bases records
+got_either setting sure e bases [] [] sound either got = tt
+got_either setting sure e bases [] (r ∷ records) sound either got = absurd either
+got_either setting sure e bases (s ∷ stations) [] sound either got = absurd either
+got_either setting sure e bases (s ∷ stations) (r ∷ records) sound either got = (
+  got_now either.0,
+  got_either setting sure e bases stations records (λ i station is. sound (suc i) station is) either.1 got.1,
+)
+  where
+    next_got : HasGotBy setting.net bases (next_kept setting e s)
+    next_got =
+        rw (next_node setting sure e s (sound 0 s refl))
+        (got_later setting.net s.node.kept.node bases s.node.kept.permanent (next_kept setting e s).permanent
+        (next_ahead setting sure e s (sound 0 s refl)) got.0)
+
+    next_for_got : (own : Bool) → (s.number == event_node e) ≡ own → HasGotBy setting.net bases (next_for setting e s)
+    next_for_got true is = rw (own_next setting e s (eqb-true s.number (event_node e) (search (is)))) next_got
+    next_for_got false is = rw (other_next setting e s (λ same. (let so = eq-eqb s.number (event_node e) same in absurd (cc)))) got.0
+
+    got_now : (r ≡ s.node.kept) ⊎ (r ≡ next_for setting e s) → HasGotBy setting.net bases r
+    got_now (inl same) = rw same got.0
+    got_now (inr same) = rw same (next_for_got (s.number == event_node e) refl)
+
+-- An event lets no permanent image fall behind: it has got what was let go of, if the one before had.
+pub act_got : (bases : List ℕ) (rooms : List (RecordView → Bool)) (e : EventView) (came : Outcome) (world : WorldView)
+    (answer : ReplyView) (setting : Setting) (number : ℕ) (new : List StationView) → WorldInvariant world
+    → setting ≡ setting_of world → number ≡ event_node e
+    → IsAct setting number rooms e came world.stations answer new
+    → HaveGot world.net bases (records_of world.stations) → HaveGot world.net bases (records_of new)
+act_got bases rooms e came world answer setting number new inv same_setting same_number act got =
+    let acted = rw (same_setting, same_number) at act in
+    got_either (setting_of world) (world_sure world inv) e bases world.stations (records_of new)
+    (λ i station is. world_station world inv i station is)
+    (act_kept world inv e came answer (slice_get rooms (event_node e)) (slice_get world.stations (event_node e)) new
+    refl acted) got
 
 -- The line at the end of an event isn't behind the one before it.
 pub line_goes_on : (rooms : List (RecordView → Bool)) (e : EventView) (came : Outcome) (world : WorldView)

@@ -15,7 +15,7 @@ there program ps n again p same within is one =
 
 pub returns-in-Begin : goal.returns-in-Begin
 returns-in-Begin c =
-    ready_at c.args.net.now.program c.args.inputs.now (share_in c.args.rooms.now c.args.share) c.args.image.now c.args.inboxes.now
+    ready_at c.args.net.now.program c.args.inputs.now.came (share_in c.args.rooms.now c.args.share) c.args.image.now c.args.inboxes.now
     c.deref.result.now
     c.from.result c.saved.inside.number c.in-Some.field-0.now (standing_of c.saved.inside.state)
     _ c.next_act.result _
@@ -30,7 +30,7 @@ pub returns-in-Get : goal.returns-in-Get
 returns-in-Get c =
     item_on _ (network_of c.args.net.now.program) _ c.args.image.now c.args.inboxes.now _ _ c.has_item.ensures
     c.deref-in-Get.ensures.value
-    ∙ ready_at c.args.net.now.program c.args.inputs.now (share_in c.args.rooms.now c.args.share) c.args.image.now c.args.inboxes.now
+    ∙ ready_at c.args.net.now.program c.args.inputs.now.came (share_in c.args.rooms.now c.args.share) c.args.image.now c.args.inboxes.now
     c.deref.result.now
     c.from.result c.saved.inside.number c.in-Some.field-0.now (standing_of c.saved.inside.state)
     _ c.next_act.result _
@@ -45,7 +45,7 @@ pub returns-in-Put : goal.returns-in-Put
 returns-in-Put c =
     room_on _ (network_of c.args.net.now.program) (share_in c.args.rooms.now c.args.share) c.args.image.now _ _ c.has_room.ensures
     c.deref-in-Put.ensures.value
-    ∙ ready_at c.args.net.now.program c.args.inputs.now (share_in c.args.rooms.now c.args.share) c.args.image.now c.args.inboxes.now
+    ∙ ready_at c.args.net.now.program c.args.inputs.now.came (share_in c.args.rooms.now c.args.share) c.args.image.now c.args.inboxes.now
     c.deref.result.now
     c.from.result c.saved.inside.number c.in-Some.field-0.now (standing_of c.saved.inside.state)
     _ c.next_act.result _
@@ -58,7 +58,7 @@ returns-in-Put c =
 
 pub returns-in-Nothing : goal.returns-in-Nothing
 returns-in-Nothing c =
-    ready_at c.args.net.now.program c.args.inputs.now (share_in c.args.rooms.now c.args.share) c.args.image.now c.args.inboxes.now
+    ready_at c.args.net.now.program c.args.inputs.now.came (share_in c.args.rooms.now c.args.share) c.args.image.now c.args.inboxes.now
     c.deref.result.now
     c.from.result c.saved.inside.number c.in-Some.field-0.now (standing_of c.saved.inside.state)
     _ c.next_act.result _
@@ -71,7 +71,7 @@ returns-in-Nothing c =
 
 pub returns-in-None : goal.returns-in-None
 returns-in-None c =
-    not_ready (network_of c.args.net.now.program) c.args.inputs.now (share_in c.args.rooms.now c.args.share) c.args.image.now c.args.inboxes.now
+    not_ready (network_of c.args.net.now.program) c.args.inputs.now.came (share_in c.args.rooms.now c.args.share) c.args.image.now c.args.inboxes.now
     c.saved.inside.number (standing_of c.saved.inside.state) _
     (code_not_found c.args.net.now.program c.deref.result.now c.from.result c.saved.inside.number c.deref.ensures.value
     c.from.ensures c.in-None.ensures.lookup.3)

@@ -6,6 +6,6 @@ use Rattle.node_memory.proofs.stance.stance_before.Goals as goal
 
 pub returns-in-Put : goal.returns-in-Put
 returns-in-Put c =
-    λ net same. c.stance_at_put.ensures net c.args.inputs.now c.args.inboxes.now same
-    ∙ ap (λ (act : NextAct). stance_before net c.args.inputs.now c.args.rooms.now c.args.image.now c.args.inboxes.now
+    λ net same. c.stance_at_put.ensures net c.args.inputs.now.came c.args.inboxes.now same
+    ∙ ap (λ (act : NextAct). stance_before net c.args.inputs.now.came c.args.rooms.now c.args.image.now c.args.inboxes.now
     (next_view act)) (sym c.in-Put.is)

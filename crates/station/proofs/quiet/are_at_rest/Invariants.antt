@@ -8,5 +8,5 @@ use Rattle.station.proofs.quiet.are_at_rest.Given as goal
 abbrev pub invariant-loop-saved : goal.invariant-loop-saved
 invariant-loop-saved g l =
     let stations = map (station_view g.O.Outlet.taken g.O.Outlet.failures) l.stations in
-    are_at_rest (network_of l.net.program) l.inputs stations l.image (drop l.saved-index l.saved-items)
-    ≡ are_at_rest (network_of l.net.program) l.inputs stations l.image l.image.processes
+    are_at_rest (network_of l.net.program) l.inputs.came stations l.image (drop l.saved-index l.saved-items)
+    ≡ are_at_rest (network_of l.net.program) l.inputs.came stations l.image l.image.processes

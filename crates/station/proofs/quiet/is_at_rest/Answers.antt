@@ -17,7 +17,7 @@ there program ps n again p same within is one =
 
 pub returns-in-Begin : goal.returns-in-Begin
 returns-in-Begin g c =
-    rest_at c.args.net.now.program c.args.inputs.now
+    rest_at c.args.net.now.program c.args.inputs.now.came
     (map (station_view g.O.Outlet.taken g.O.Outlet.failures) c.args.stations.now) c.args.image.now
     c.deref.result.now c.from.result c.saved.inside.number c.in-Some.field-0.now (standing_of c.saved.inside.state)
     _ c.next_act.result _
@@ -32,7 +32,7 @@ pub returns-in-Get : goal.returns-in-Get
 returns-in-Get g c =
     got_of _ (network_of c.args.net.now.program) _ _ c.args.image.now _ _ c.has_got_all.ensures
     c.deref-in-Get.ensures.value
-    ∙ rest_at c.args.net.now.program c.args.inputs.now
+    ∙ rest_at c.args.net.now.program c.args.inputs.now.came
     (map (station_view g.O.Outlet.taken g.O.Outlet.failures) c.args.stations.now) c.args.image.now
     c.deref.result.now c.from.result c.saved.inside.number c.in-Some.field-0.now (standing_of c.saved.inside.state)
     _ c.next_act.result _
@@ -45,7 +45,7 @@ returns-in-Get g c =
 
 pub returns-in-Put : goal.returns-in-Put
 returns-in-Put g c =
-    rest_at c.args.net.now.program c.args.inputs.now
+    rest_at c.args.net.now.program c.args.inputs.now.came
     (map (station_view g.O.Outlet.taken g.O.Outlet.failures) c.args.stations.now) c.args.image.now
     c.deref.result.now c.from.result c.saved.inside.number c.in-Some.field-0.now (standing_of c.saved.inside.state)
     _ c.next_act.result _
@@ -58,7 +58,7 @@ returns-in-Put g c =
 
 pub returns-in-Nothing : goal.returns-in-Nothing
 returns-in-Nothing g c =
-    rest_at c.args.net.now.program c.args.inputs.now
+    rest_at c.args.net.now.program c.args.inputs.now.came
     (map (station_view g.O.Outlet.taken g.O.Outlet.failures) c.args.stations.now) c.args.image.now
     c.deref.result.now c.from.result c.saved.inside.number c.in-Some.field-0.now (standing_of c.saved.inside.state)
     _ c.next_act.result _
@@ -71,7 +71,7 @@ returns-in-Nothing g c =
 
 pub returns-in-None : goal.returns-in-None
 returns-in-None g c =
-    rest_past c.args.net.now.program c.args.inputs.now
+    rest_past c.args.net.now.program c.args.inputs.now.came
     (map (station_view g.O.Outlet.taken g.O.Outlet.failures) c.args.stations.now) c.args.image.now
     c.deref.result.now c.from.result c.saved.inside.number (standing_of c.saved.inside.state) _
     c.deref.ensures.value c.from.ensures c.in-None.ensures.lookup.3 c.saved.view_is

@@ -12,13 +12,13 @@ use Rattle.world.proofs.needs.need_from.Goals as goal
 pub loop-step-init : goal.loop-step-init
 loop-step-init g c =
     let net = network_of c.args.net.now.program in
-    not_walked net (stance_of net c.args.inputs.now c.args.rooms.now
+    not_walked net (stance_of net c.args.inputs.now.came c.args.rooms.now
     (map (station_view g.O.Outlet.taken g.O.Outlet.failures) c.args.stations.now)) c.args.process
 
 pub returns-then-is_going : goal.returns-then-is_going
 returns-then-is_going g c =
     let net = network_of c.args.net.now.program in
-    let stance = stance_of net c.args.inputs.now c.args.rooms.now
+    let stance = stance_of net c.args.inputs.now.came c.args.rooms.now
     (map (station_view g.O.Outlet.taken g.O.Outlet.failures) c.args.stations.now) in
     let processes = c.args.net.now.program.processes in
     walk_goes net stance c.args.process c.loop-step._step c.in-Some.process c.loop-step.last
@@ -30,7 +30,7 @@ returns-then-is_going g c =
 pub loop-step-preserved : goal.loop-step-preserved
 loop-step-preserved g c =
     let net = network_of c.args.net.now.program in
-    let stance = stance_of net c.args.inputs.now c.args.rooms.now
+    let stance = stance_of net c.args.inputs.now.came c.args.rooms.now
     (map (station_view g.O.Outlet.taken g.O.Outlet.failures) c.args.stations.now) in
     let processes = c.args.net.now.program.processes in
     let stands = c.stance_of-stance.ensures in
@@ -46,7 +46,7 @@ loop-step-preserved g c =
 pub returns-in-None : goal.returns-in-None
 returns-in-None g c =
     let net = network_of c.args.net.now.program in
-    let stance = stance_of net c.args.inputs.now c.args.rooms.now
+    let stance = stance_of net c.args.inputs.now.came c.args.rooms.now
     (map (station_view g.O.Outlet.taken g.O.Outlet.failures) c.args.stations.now) in
     walk_ended net stance c.args.process c.loop-step._step c.loop-step.last
     (subst (λ (o : Option ℕ). IsWalked net stance c.args.process c.loop-step._step o c.loop-step.last) c.in-None.is
@@ -55,7 +55,7 @@ returns-in-None g c =
 pub returns : goal.returns
 returns g c =
     let net = network_of c.args.net.now.program in
-    let stance = stance_of net c.args.inputs.now c.args.rooms.now
+    let stance = stance_of net c.args.inputs.now.came c.args.rooms.now
     (map (station_view g.O.Outlet.taken g.O.Outlet.failures) c.args.stations.now) in
     let processes = c.args.net.now.program.processes in
     walk_over net stance c.args.process c.loop-step._step c.loop-step.next c.loop-step.last

@@ -15,7 +15,7 @@ invariant_of-result g c = record {
   sound = opened_sound g.O.Outlet.taken g.O.Outlet.failures c.deref.result.now c.args.net.value c.args.versions.now c.args.disks.items
       c.args.outputs.items
       (map fresh c.args.outputs.items) c.open_stations.new.stations.items c.deref.ensures refl c.in-Ok.ensures.opened
-      c.args.inputs.value (traffic_of c.in-Ok-Ok.wire) c.even.result c.in-Ok-Ok.ensures c.even.ensures c.requires.fits c.requires.each
+      c.args.inputs (traffic_of c.in-Ok-Ok-Ok.wire) c.even.result c.in-Ok-Ok-Ok.ensures c.even.ensures c.requires.fits c.requires.each
       c.requires.listed
       c.requires.empty;
 }
@@ -34,15 +34,15 @@ returns-in-Ok-clause-made g c =
     c.deref.ensures refl c.in-Ok.ensures.opened in
     record {
       opening = opened_world taken failures c.deref.result.now c.args.net.value versions disks outputs
-          (map fresh outputs) stations c.deref.ensures refl c.in-Ok.ensures.opened c.args.inputs.value
-          (traffic_of c.in-Ok-Ok.wire) c.even.result c.in-Ok-Ok.ensures c.even.ensures;
+          (map fresh outputs) stations c.deref.ensures refl c.in-Ok.ensures.opened c.args.inputs
+          (traffic_of c.in-Ok-Ok-Ok.wire) c.even.result c.in-Ok-Ok-Ok.ensures c.even.ensures;
       same = (refl, refl);
       fresh_inputs = c.none_closed.ensures;
       outlets = opened_outlets taken failures net versions outputs 0 disks stations all;
       prefix = released_prefix _
           (opened_sound taken failures c.deref.result.now c.args.net.value versions disks outputs (map fresh outputs)
-          stations c.deref.ensures refl c.in-Ok.ensures.opened c.args.inputs.value (traffic_of c.in-Ok-Ok.wire)
-          c.even.result c.in-Ok-Ok.ensures c.even.ensures c.requires.fits c.requires.each c.requires.listed c.requires.empty);
+          stations c.deref.ensures refl c.in-Ok.ensures.opened c.args.inputs (traffic_of c.in-Ok-Ok-Ok.wire)
+          c.even.result c.in-Ok-Ok-Ok.ensures c.even.ensures c.requires.fits c.requires.each c.requires.listed c.requires.empty);
       left = opened_left taken failures net versions (map fresh outputs) 0 disks stations all;
       formatted = opened_versions taken failures net versions (map fresh outputs) 0 disks stations all;
       room = opened_rooms taken failures net versions (map fresh outputs) 0 disks stations all;

@@ -1,14 +1,15 @@
-use Rattle.std.proofs.Common.{rules, refl, ◌<◌, ◌≤◌, ◌∙◌, sym, subst, length, ℕ, arith}
+use Rattle.std.proofs.Common.{rules, refl, ◌<◌, ◌≤◌, ◌∙◌, sym, subst, length, map, ℕ, arith}
 use Rattle.std.specs.Prelude.{slice_set}
 use Rattle.std.proofs.lemmas.List.{length-map}
+use Rattle.protocol_laws.specs.Node.AtHandLaws.{got_at}
 use Rattle.protocol_laws.specs.Node.PlaceLaws.{nodes_few}
-use Rattle.protocol.specs.World.Common.{event_node, traffic_of}
+use Rattle.protocol.specs.World.Common.{event_node, records_of, StationView, traffic_of}
 use Rattle.station.specs.Lending.{setting_by}
 use Rattle.station.specs.ReplyView.{answer_view}
 use Rattle.std.proofs.lemmas.Option.{slice_get_read}
 use Rattle.protocol.specs.Node.Common.{network_of, fits_in, cell_in}
 use Rattle.station.specs.EventView.{event_view}
-use Rattle.protocol_laws.specs.World.OutputLaws.{set_keeps}
+use Rattle.protocol_laws.specs.World.OutputLaws.{map_at, set_keeps}
 use Rattle.protocol.specs.World.Pairs.{AreSameElsewhere}
 use Rattle.protocol_laws.specs.World.PairLaws.{elsewhere_set, on_err_map, pairs_refl, pairs_set}
 use Rattle.station.specs.StationView.{station_view}
@@ -30,25 +31,29 @@ act-requires g c =
     let within : c.args.number < length c.args.stations.now.items = search rules in
     record {
       sure = record { valid = net.valid; fits = c.requires.fits; traffic = c.requires.flying };
-      sound = sound_at view (network_of net.program) c.args.lent.now.inputs.now.value (traffic_of c.args.wire.now)
+      sound = sound_at view (network_of net.program) c.args.lent.now.inputs.now.came (traffic_of c.args.wire.now)
           c.args.stations.now.items c.args.number x c.args.lent.now.round
           c.args.lent.now.rooms.now (length-map c.args.stations.now.items view ∙ c.requires.count)
           c.requires.numbered c.requires.sound c.requires.joined within c.index_mut.ensures.value;
       node = omega (arith, few, count, at, within);
+      got = got_at (network_of net.program) c.args.lent.now.inputs.now.bases
+          (records_of (map view c.args.stations.now.items)) c.args.number (view x).node.kept c.requires.got
+          (map_at (λ (s : StationView). s.node.kept) (map view c.args.stations.now.items) c.args.number (view x)
+          (seen_at view c.args.stations.now.items c.args.number x within c.index_mut.ensures.value));
     }
 
 pub returns-then-number-len-clause-grown : goal.returns-then-number-len-clause-grown
 returns-then-number-len-clause-grown g c =
     all_still {cell = g.C.StableCell} {slots = g.C.SlotCell} g.O.Outlet.taken g.O.Outlet.failures
     g.met.C.SlotCell.only_now_whole
-    (network_of c.args.lent.now.net.now.value.program) c.args.lent.now.inputs.now.value c.args.stations.now.items c.requires.sound
+    (network_of c.args.lent.now.net.now.value.program) c.args.lent.now.inputs.now.came c.args.stations.now.items c.requires.sound
 
 pub returns-then-number-len-clause-line : goal.returns-then-number-len-clause-line
 returns-then-number-len-clause-line g c =
     let net = network_of c.args.lent.now.net.now.value.program in
     all_still_in_line {cell = g.C.StableCell} {slots = g.C.SlotCell} g.O.Outlet.taken g.O.Outlet.failures
     g.met.C.SlotCell.only_now_whole
-    net c.args.lent.now.inputs.now.value
+    net c.args.lent.now.inputs.now.came
     (setting_by c.args.lent.now (traffic_of c.args.wire.now)) (event_view c.args.event.now)
     c.args.stations.now.items
 
@@ -77,7 +82,7 @@ returns-clause-grown g c =
     (record { valid = net.valid; fits = c.requires.fits; traffic = c.requires.flying })
     (fits_in (g.C.SlotCell.slot_capacity (cell_in x.node.store))) (event_view c.args.event.now)
     c.args.stations.now.items c.args.number x _ _ c.act.result
-    (sound_at view (network_of net.program) c.args.lent.now.inputs.now.value (traffic_of c.args.wire.now)
+    (sound_at view (network_of net.program) c.args.lent.now.inputs.now.came (traffic_of c.args.wire.now)
     c.args.stations.now.items
     c.args.number x c.args.lent.now.round c.args.lent.now.rooms.now (length-map c.args.stations.now.items view ∙ c.requires.count)
     c.requires.numbered c.requires.sound c.requires.joined (search rules) c.index_mut.ensures.value)
@@ -97,7 +102,7 @@ returns-clause-line g c =
     (record { valid = net.valid; fits = c.requires.fits; traffic = c.requires.flying })
     (fits_in (g.C.SlotCell.slot_capacity (cell_in x.node.store))) (event_view c.args.event.now)
     c.args.stations.now.items c.args.number x _ _ c.act.result
-    (sound_at view (network_of net.program) c.args.lent.now.inputs.now.value (traffic_of c.args.wire.now)
+    (sound_at view (network_of net.program) c.args.lent.now.inputs.now.came (traffic_of c.args.wire.now)
     c.args.stations.now.items
     c.args.number x c.args.lent.now.round c.args.lent.now.rooms.now (length-map c.args.stations.now.items view ∙ c.requires.count)
     c.requires.numbered c.requires.sound c.requires.joined (search rules) c.index_mut.ensures.value)

@@ -12,7 +12,8 @@ use Rattle.protocol.specs.declared.event.Deed.{Deed}
 use Rattle.protocol.specs.declared.event.PlainEvent.{PlainEvent}
 use Rattle.protocol.specs.declared.event.PlainEvent.TheVariants as plain_is
 use Rattle.station.specs.ReplyView.{Reply}
-use Rattle.protocol.specs.Node.Common.{network_of, fits_in, cell_in, round_later, with_armed, node_job}
+use Rattle.protocol.specs.Node.Common.{network_of, fits_in, cell_in, round_later, running_in, running_node, with_armed, node_job}
+use Rattle.protocol_laws.specs.Node.AtHandLaws.{got_at_hand, got_later}
 use Rattle.protocol_laws.specs.Node.PlaceLaws.{nodes_few}
 use Rattle.protocol.specs.World.EventView.{plain_view}
 use Rattle.protocol.specs.declared.event.Deed.TheVariants as view
@@ -48,17 +49,28 @@ install-requires g c = λ out.
     let net = c.args.lent.now.net.now.value in
     let was = station_view g.O.Outlet.taken g.O.Outlet.failures c.args.self.now in
     let done = done_view c.in-Install.done in
-    takes_turn (network_of net.program) c.args.lent.now.inputs.now.value net.valid c.requires.sure.fits was c.requires.sound.inv
+    takes_turn (network_of net.program) c.args.lent.now.inputs.now.came net.valid c.requires.sure.fits was c.requires.sound.inv
     done c.in-Install.done.turn out
+
+-- what a process may still get is at hand: the permanent image has got what was let go of, and what the node has now isn't behind it
+pub grant-requires : goal.grant-requires
+grant-requires g c = λ running is.
+    let net = network_of c.args.lent.now.net.now.value.program in
+    let was = station_view g.O.Outlet.taken g.O.Outlet.failures c.args.self.now in
+    let runs = c.requires.sound.inv.runs (running_node was.node.kept was.node.version running)
+    (ap (running_in was.node.kept was.node.version) is) in
+    got_at_hand net was.node.kept.node c.args.lent.now.inputs.now.bases running.current runs.sound.kept.laid_out
+    (got_later net was.node.kept.node c.args.lent.now.inputs.now.bases was.node.kept.permanent running.current
+    runs.order.current_ahead c.requires.got)
 
 pub start-requires : goal.start-requires
 start-requires g c =
     let net = c.args.lent.now.net.now.value in
     let was = station_view g.O.Outlet.taken g.O.Outlet.failures c.args.self.now in
     record {
-      like = like_now (network_of net.program) c.args.lent.now.inputs.now.value net.valid c.requires.sure.fits was
+      like = like_now (network_of net.program) c.args.lent.now.inputs.now.came net.valid c.requires.sure.fits was
           c.requires.sound.inv;
-      allowed = start_allowed (network_of net.program) c.args.lent.now.inputs.now.value net.valid was c.requires.sound.inv
+      allowed = start_allowed (network_of net.program) c.args.lent.now.inputs.now.came net.valid was c.requires.sound.inv
           c.requires.sound.named c.requires.sound.below c.requires.sound.joined;
     }
 
@@ -75,7 +87,7 @@ decide-requires g c =
         few = omega (arith, few, listed);
         bounded = c.requires.sound.inv.kept.bounded;
       };
-      allowed = decide_allowed net c.args.lent.now.inputs.now.value c.args.lent.now.net.now.value.valid was c.requires.sound.inv
+      allowed = decide_allowed net c.args.lent.now.inputs.now.came c.args.lent.now.net.now.value.valid was c.requires.sound.inv
           c.requires.sound.named c.requires.sound.below c.requires.sound.joined;
     }
 
@@ -86,7 +98,7 @@ deliver-requires g c =
     let setting = setting_by c.args.lent.now (traffic_of c.args.wire.now) in
     record {
       to = subst (λ (e : EventView). event_node e < NODES) (deed_seen c.in-Plain.is c.in-ByNode.is c.in-Deliver.is) c.requires.node;
-      like = like_now (network_of net.program) c.args.lent.now.inputs.now.value net.valid c.requires.sure.fits was
+      like = like_now (network_of net.program) c.args.lent.now.inputs.now.came net.valid c.requires.sure.fits was
           c.requires.sound.inv;
       listed = c.requires.sound.joined.kept.listed;
       bounded = c.requires.sound.inv.kept.bounded;
@@ -100,14 +112,14 @@ pub release-requires : goal.release-requires
 release-requires g c =
     let net = network_of c.args.lent.now.net.now.value.program in
     let was = station_view g.O.Outlet.taken g.O.Outlet.failures c.args.self.now in
-    λ place outlet next there. next_there net c.args.lent.now.inputs.now.value was c.args.lent.now.round place outlet
+    λ place outlet next there. next_there net c.args.lent.now.inputs.now.came was c.args.lent.now.round place outlet
     c.requires.sound.inv next there
 
 pub send-requires : goal.send-requires
 send-requires g c =
     let net = c.args.lent.now.net.now.value in
     let was = station_view g.O.Outlet.taken g.O.Outlet.failures c.args.self.now in
-    station_writable (network_of net.program) c.args.lent.now.inputs.now.value net.valid was c.requires.sound.inv
+    station_writable (network_of net.program) c.args.lent.now.inputs.now.came net.valid was c.requires.sound.inv
     c.requires.sound.named c.requires.sound.below c.requires.sound.joined
 
 -- ---- how it came out

@@ -18,8 +18,6 @@ returns-clause-step g c =
     (next (inputs_lent c.args.lent.now))
     granted.granted
     (station_view g.O.Outlet.taken g.O.Outlet.failures was) _ _ _ _ _
-    (granted.ensures.job ∙ ap next c.deref.ensures) c.note_grant.ensures.reply
-    (granted.ensures.state
-    ∙ ap (λ (inputs : List (List ℤ)). with_grant (next inputs) (view_of was.node)) c.deref.ensures) c.grant.ensures.same.1
+    granted.ensures.job c.note_grant.ensures.reply granted.ensures.state c.grant.ensures.same.1
     (ap (λ (store : Store _ slots cell). cell.failure_count (cell_in store)) c.grant.ensures.same.0)
     c.note_grant.ensures.turns

@@ -12,7 +12,7 @@ use Rattle.world.proofs.reopening.World+SplitCell+D+O.open.Goals as goal
 pub reopen_stations-requires-clause-few : goal.reopen_stations-requires-clause-few
 reopen_stations-requires-clause-few g c =
     let few : length c.args.disks.items ≡ node_count (network_of c.args.net.value.program) =
-    left_few g.D.Disk g.O.Outlet.taken (network_of c.args.net.value.program) c.args.inputs.value c.args.disks.items
+    left_few g.D.Disk g.O.Outlet.taken (network_of c.args.net.value.program) c.args.inputs c.args.disks.items
     c.args.outputs.items c.requires.left in
     let long : vec_len c.args.disks ≡ length c.args.disks.items = search rules in
     subst (λ (n : Net). vec_len c.args.disks ≤ node_count (network_of n.program)) (sym c.deref.ensures)
@@ -20,14 +20,14 @@ reopen_stations-requires-clause-few g c =
 
 pub reopen_stations-requires-clause-own : goal.reopen_stations-requires-clause-own
 reopen_stations-requires-clause-own g c =
-    left_own g.D.Disk g.O.Outlet.taken (network_of c.args.net.value.program) c.args.inputs.value c.args.disks.items
+    left_own g.D.Disk g.O.Outlet.taken (network_of c.args.net.value.program) c.args.inputs c.args.disks.items
     c.args.outputs.items c.requires.left
 
 pub invariant_of-result : goal.invariant_of-result
 invariant_of-result g c = record {
   sound = (reopened_soundly g.O.Outlet.taken g.O.Outlet.failures c.deref.result.now c.args.net.value
-      c.args.inputs.value c.args.disks.items c.args.outputs.items (map fresh c.args.outputs.items)
-      c.reopen_stations.new.stations.items (traffic_of c.in-Ok-Ok.wire) c.even.result c.deref.ensures refl c.in-Ok-Ok.ensures
+      c.args.inputs c.args.disks.items c.args.outputs.items (map fresh c.args.outputs.items)
+      c.reopen_stations.new.stations.items (traffic_of c.in-Ok-Ok-Ok.wire) c.even.result c.deref.ensures refl c.in-Ok-Ok-Ok.ensures
       c.even.ensures c.in-Ok.ensures.opened c.requires.left).0;
 }
 
@@ -39,22 +39,22 @@ returns-in-Ok-clause-made g c =
     let disks = c.args.disks.items in
     let outputs = c.args.outputs.items in
     let stations = c.reopen_stations.new.stations.items in
-    let traffic = traffic_of c.in-Ok-Ok.wire in
+    let traffic = traffic_of c.in-Ok-Ok-Ok.wire in
     let all =
-    reopened_all taken failures c.deref.result.now c.args.net.value c.args.inputs.value disks outputs
-    (map fresh outputs) stations traffic c.even.result c.deref.ensures refl c.in-Ok-Ok.ensures c.even.ensures
+    reopened_all taken failures c.deref.result.now c.args.net.value c.args.inputs disks outputs
+    (map fresh outputs) stations traffic c.even.result c.deref.ensures refl c.in-Ok-Ok-Ok.ensures c.even.ensures
     c.in-Ok.ensures.opened in
     let sound =
-    reopened_soundly taken failures c.deref.result.now c.args.net.value c.args.inputs.value disks outputs
-    (map fresh outputs) stations traffic c.even.result c.deref.ensures refl c.in-Ok-Ok.ensures c.even.ensures
+    reopened_soundly taken failures c.deref.result.now c.args.net.value c.args.inputs disks outputs
+    (map fresh outputs) stations traffic c.even.result c.deref.ensures refl c.in-Ok-Ok-Ok.ensures c.even.ensures
     c.in-Ok.ensures.opened
     c.requires.left in
     record {
-      opening = reopened_world taken failures c.deref.result.now c.args.net.value c.args.inputs.value disks outputs
-          (map fresh outputs) stations traffic c.even.result c.deref.ensures refl c.in-Ok-Ok.ensures c.even.ensures
+      opening = reopened_world taken failures c.deref.result.now c.args.net.value c.args.inputs disks outputs
+          (map fresh outputs) stations traffic c.even.result c.deref.ensures refl c.in-Ok-Ok-Ok.ensures c.even.ensures
           c.in-Ok.ensures.opened;
-      opens = reopened_opens taken failures c.deref.result.now c.args.net.value c.args.inputs.value disks outputs
-          (map fresh outputs) stations traffic c.even.result c.deref.ensures refl c.in-Ok-Ok.ensures c.even.ensures
+      opens = reopened_opens taken failures c.deref.result.now c.args.net.value c.args.inputs disks outputs
+          (map fresh outputs) stations traffic c.even.result c.deref.ensures refl c.in-Ok-Ok-Ok.ensures c.even.ensures
           c.in-Ok.ensures.opened;
       same_left = sound.1;
       same = (refl, refl);
@@ -72,7 +72,7 @@ returns-in_default-clause-refused g c = record {
   why = tt;
   handed_back = none_opened g.D.Disk.sector_count g.D.Disk.failure_count c.args.disks.items c.args.disks.items refl;
   as_left = none_changed g.D.Disk c.args.disks.items c.args.disks.items
-      (left_own g.D.Disk g.O.Outlet.taken (network_of c.args.net.value.program) c.args.inputs.value
+      (left_own g.D.Disk g.O.Outlet.taken (network_of c.args.net.value.program) c.args.inputs
       c.args.disks.items c.args.outputs.items c.requires.left) refl;
   same_outputs = refl;
   left = c.requires.left;
@@ -84,7 +84,7 @@ returns-in-Err-clause-refused g c = record {
   handed_back = c.in-Err.ensures.handed_back;
   as_left = c.in-Err.ensures.as_left;
   same_outputs = c.in-Err.ensures.same_outputs;
-  left = left_again g.D.Disk g.O.Outlet.taken (network_of c.args.net.value.program) c.args.inputs.value
+  left = left_again g.D.Disk g.O.Outlet.taken (network_of c.args.net.value.program) c.args.inputs
       c.args.disks.items c.reopen_stations.new.disks.items c.args.outputs.items c.reopen_stations.new.outputs.items
       c.requires.left c.in-Err.ensures.as_left c.in-Err.ensures.same_outputs;
 }

@@ -19,7 +19,7 @@ returns-clause-whole g c is =
     quiet_is_whole (world_of now) now.sound
     (sym c.loop-station.invariant
     ∙ ap (λ (l : List (Station g.row.C.Denot g.row.O.Denot g.C.SlotCell g.C.StableCell)). list_all
-    (λ (station : StationView). is_quiet_at (network_of now.net.value.program) now.inputs.value
+    (λ (station : StationView). is_quiet_at (network_of now.net.value.program) now.inputs.came
     (map view now.stations.items) (running_of station.node) (outputs_of station.outlets)) (map view l))
     (drop_all c.loop-station.station-index c.deref-station-items.result.now c.loop-station-test.false))
 

@@ -12,7 +12,7 @@ abbrev pub invariant-loop-station : goal.invariant-loop-station
 invariant-loop-station g l =
     let O = g.O.Outlet in
     list_all
-    (λ (station : StationView). is_quiet_at (network_of l.self.net.value.program) l.self.inputs.value
+    (λ (station : StationView). is_quiet_at (network_of l.self.net.value.program) l.self.inputs.came
     (map (station_view O.taken O.failures) l.self.stations.items) (running_of station.node)
     (outputs_of station.outlets))
     (map (station_view O.taken O.failures) (drop l.station-index l.station-items))

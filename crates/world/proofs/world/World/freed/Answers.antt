@@ -2,7 +2,8 @@ use Rattle.std.proofs.Common.{rules, ◌≡◌, ℤ, List, length, sym, subst}
 use Rattle.std.proofs.Math.Logic.{∥∥₁_map}
 use Rattle.kahn_net.specs.Laws.Prefixes.{prefix_length}
 use Rattle.protocol.specs.Node.Common.{Net, HistoryReaches, approximation, history_of, network_of}
-use Rattle.world.specs.WholeView.{inputs_in, net_in}
+use Rattle.arrived.specs.ArrivedView.{ArrivedView}
+use Rattle.world.specs.WholeView.{arrived_in, inputs_in, net_in}
 use Rattle.std.proofs.lemmas.Grind.{elements}
 use Rattle.std.proofs.Common.{arith}
 use Rattle.world.proofs.world.World.freed.Goals as goal
@@ -13,17 +14,17 @@ invariant_of-result g c =
     let items = c.released.result.now in
     let channel = c.args.channel in
     let net : c.in_ok-try_clone.field-0.value ≡ (net_in c.args.self.now).value = grind (arith, elements) in
-    let inputs : c.in_ok-try_clone-2.field-0.value ≡ (inputs_in c.args.self.now).value = search rules in
+    let came : c.of.result.value ≡ arrived_in c.args.self.now = search rules in
     record {
       reached =
-          subst (λ (n : Net). HistoryReaches (network_of n.program) c.in_ok-try_clone-2.field-0.value channel (length items))
+          subst (λ (n : Net). HistoryReaches (network_of n.program) c.of.result.value.came channel (length items))
           (sym net)
-          (subst (λ (lists : List (List ℤ)). HistoryReaches (network_of (net_in c.args.self.now).value.program) lists channel
-          (length items)) (sym inputs)
+          (subst (λ (all : ArrivedView). HistoryReaches (network_of (net_in c.args.self.now).value.program) all.came channel
+          (length items)) (sym came)
           (∥∥₁_map c.released.ensures.prefix (λ come. (
             come.0,
             prefix_length items
-                (history_of (approximation (network_of (net_in c.args.self.now).value.program) (inputs_in c.args.self.now).value come.0) channel)
+                (history_of (approximation (network_of (net_in c.args.self.now).value.program) (inputs_in c.args.self.now) come.0) channel)
                 come.1,
           ))));
     }

@@ -8,6 +8,7 @@ use Rattle.protocol_laws.specs.World.PrefixLaws.{released_prefix}
 use Rattle.station.specs.ReplyView.{reply_view}
 use Rattle.protocol_laws.specs.World.DropLaws.{never_dropped}
 use Rattle.protocol_laws.specs.World.HomeLaws.{granted_at_home}
+use Rattle.protocol_laws.specs.World.LineLaws.{act_got}
 use Rattle.protocol_laws.specs.World.RoomLaws.{never_too_large, rooms_of}
 use Rattle.protocol.specs.declared.reply.Reply.TheVariants.{NotDue}
 use Rattle.protocol.specs.declared.outcome.Outcome.TheVariants as outcome
@@ -37,14 +38,20 @@ invariant_of-self g c =
           c.act_at.new.stations.items (traffic_of c.act_at.new.wire) c.round_after-self.result was.channel_rooms) was.sound
           (world_steps (rooms was.stations.items) (event_view c.args.event.now) (world_of was)
           (reply_view c.in-Ok.reply)
-          (setting_in (network_of was.net.value.program) was.inputs.value (traffic_of was.wire)
+          (setting_in (network_of was.net.value.program) was.inputs.came (traffic_of was.wire)
           was.round was.channel_rooms) c.from-number.result c.round_after-self.result
           (map view c.act_at.new.stations.items) (traffic_of c.act_at.new.wire)
-          (setting_is view (network_of was.net.value.program) was.inputs.value (traffic_of was.wire)
+          (setting_is view (network_of was.net.value.program) was.inputs.came (traffic_of was.wire)
           was.stations.items was.round was.channel_rooms) (c.from-number.ensures ∙ c.node.ensures) c.in-Ok.ensures.come
           (c.round_after-self.ensures
           ∙ ap (λ (l : List (Station g.row.C.Denot g.row.O.Denot g.C.SlotCell g.C.StableCell)). round_after
           (reply_view c.in-Ok.reply) was.round (map view l)) c.deref.ensures.value));
+      got = act_got was.inputs.bases (rooms was.stations.items) (event_view c.args.event.now) c.in-Ok.ensures.come.came
+          (world_of was) (reply_view c.in-Ok.reply)
+          (setting_in (network_of was.net.value.program) was.inputs.came (traffic_of was.wire) was.round was.channel_rooms)
+          c.from-number.result (map view c.act_at.new.stations.items) was.sound
+          (setting_is view (network_of was.net.value.program) was.inputs.came (traffic_of was.wire) was.stations.items was.round
+          was.channel_rooms) (c.from-number.ensures ∙ c.node.ensures) c.in-Ok.ensures.come.act was.got;
     }
 
 -- it is a step of the world, and keeps all that is promised of one
@@ -54,10 +61,10 @@ returns-in-Ok g c =
     let view = station_view {cell = g.C.StableCell} {slots = g.C.SlotCell} g.O.Outlet.taken g.O.Outlet.failures in
     let step =
     world_steps (rooms was.stations.items) (event_view c.args.event.now) (world_of was) (reply_view c.in-Ok.reply)
-    (setting_in (network_of was.net.value.program) was.inputs.value (traffic_of was.wire)
+    (setting_in (network_of was.net.value.program) was.inputs.came (traffic_of was.wire)
     was.round was.channel_rooms) c.from-number.result c.round_after-self.result
     (map view c.act_at.new.stations.items) (traffic_of c.act_at.new.wire)
-    (setting_is view (network_of was.net.value.program) was.inputs.value (traffic_of was.wire)
+    (setting_is view (network_of was.net.value.program) was.inputs.came (traffic_of was.wire)
     was.stations.items was.round was.channel_rooms) (c.from-number.ensures ∙ c.node.ensures) c.in-Ok.ensures.come
     (c.round_after-self.ensures
     ∙ ap (λ (l : List (Station g.row.C.Denot g.row.O.Denot g.C.SlotCell g.C.StableCell)). round_after
@@ -66,13 +73,13 @@ returns-in-Ok g c =
       grown = c.act_at.ensures.grown;
       step = step;
       line = keeps_line {cell = g.C.StableCell} {slots = g.C.SlotCell} g.O.Outlet.taken g.O.Outlet.failures
-          (setting_in (network_of was.net.value.program) was.inputs.value (traffic_of was.wire)
+          (setting_in (network_of was.net.value.program) was.inputs.came (traffic_of was.wire)
           was.round was.channel_rooms) (event_view c.args.event.now)
-          (network_of was.net.value.program) was.inputs.value was.stations.items c.act_at.new.stations.items was.round
+          (network_of was.net.value.program) was.inputs.came was.stations.items c.act_at.new.stations.items was.round
           was.channel_rooms
           (traffic_of was.wire) (rooms was.stations.items) c.in-Ok.ensures.come.came (reply_view c.in-Ok.reply)
           c.from-number.result was.sound
-          (setting_is view (network_of was.net.value.program) was.inputs.value (traffic_of was.wire)
+          (setting_is view (network_of was.net.value.program) was.inputs.came (traffic_of was.wire)
           was.stations.items was.round was.channel_rooms) (c.from-number.ensures ∙ c.node.ensures) c.in-Ok.ensures.come.act
           c.act_at.ensures.line;
       settled = one_line {cell = g.C.StableCell} {slots = g.C.SlotCell} g.O.Outlet.taken g.O.Outlet.failures
@@ -84,10 +91,10 @@ returns-in-Ok g c =
           c.act_at.new.stations.items (traffic_of c.act_at.new.wire) c.round_after-self.result was.channel_rooms) was.sound
           (world_steps (rooms was.stations.items) (event_view c.args.event.now) (world_of was)
           (reply_view c.in-Ok.reply)
-          (setting_in (network_of was.net.value.program) was.inputs.value (traffic_of was.wire)
+          (setting_in (network_of was.net.value.program) was.inputs.came (traffic_of was.wire)
           was.round was.channel_rooms) c.from-number.result c.round_after-self.result
           (map view c.act_at.new.stations.items) (traffic_of c.act_at.new.wire)
-          (setting_is view (network_of was.net.value.program) was.inputs.value (traffic_of was.wire)
+          (setting_is view (network_of was.net.value.program) was.inputs.came (traffic_of was.wire)
           was.stations.items was.round was.channel_rooms) (c.from-number.ensures ∙ c.node.ensures) c.in-Ok.ensures.come
           (c.round_after-self.ensures
           ∙ ap (λ (l : List (Station g.row.C.Denot g.row.O.Denot g.C.SlotCell g.C.StableCell)). round_after
@@ -102,10 +109,10 @@ returns-in-Ok g c =
           c.act_at.new.stations.items (traffic_of c.act_at.new.wire) c.round_after-self.result was.channel_rooms) was.sound
           (world_steps (rooms was.stations.items) (event_view c.args.event.now) (world_of was)
           (reply_view c.in-Ok.reply)
-          (setting_in (network_of was.net.value.program) was.inputs.value (traffic_of was.wire)
+          (setting_in (network_of was.net.value.program) was.inputs.came (traffic_of was.wire)
           was.round was.channel_rooms) c.from-number.result c.round_after-self.result
           (map view c.act_at.new.stations.items) (traffic_of c.act_at.new.wire)
-          (setting_is view (network_of was.net.value.program) was.inputs.value (traffic_of was.wire)
+          (setting_is view (network_of was.net.value.program) was.inputs.came (traffic_of was.wire)
           was.stations.items was.round was.channel_rooms) (c.from-number.ensures ∙ c.node.ensures) c.in-Ok.ensures.come
           (c.round_after-self.ensures
           ∙ ap (λ (l : List (Station g.row.C.Denot g.row.O.Denot g.C.SlotCell g.C.StableCell)). round_after
@@ -117,20 +124,20 @@ returns-in-Ok g c =
           ∙ (ap (map fits_in) c.in-Ok.ensures.same_capacities ∙ sym (rooms_of capacity c.args.self.now.stations.items));
       roomy = λ room.
           never_too_large (world_of was)
-          (setting_in (network_of was.net.value.program) was.inputs.value (traffic_of was.wire)
+          (setting_in (network_of was.net.value.program) was.inputs.came (traffic_of was.wire)
           was.round was.channel_rooms)
           (λ (station : Station g.row.C.Denot g.row.O.Denot g.C.SlotCell g.C.StableCell). g.C.SlotCell.slot_capacity
           (cell_in station.node.store)) was.stations.items c.from-number.result _ (event_view c.args.event.now)
           c.in-Ok.ensures.come.came (reply_view c.in-Ok.reply) (map view c.act_at.new.stations.items)
           was.sound
-          (setting_is view (network_of was.net.value.program) was.inputs.value (traffic_of was.wire)
+          (setting_is view (network_of was.net.value.program) was.inputs.came (traffic_of was.wire)
           was.stations.items was.round was.channel_rooms) (c.from-number.ensures ∙ c.node.ensures) room c.in-Ok.ensures.come.act;
       heard = never_dropped (world_of was)
-          (setting_in (network_of was.net.value.program) was.inputs.value (traffic_of was.wire)
+          (setting_in (network_of was.net.value.program) was.inputs.came (traffic_of was.wire)
           was.round was.channel_rooms) (rooms was.stations.items) c.from-number.result
           (event_view c.args.event.now) c.in-Ok.ensures.come.came
           (reply_view c.in-Ok.reply) (map view c.act_at.new.stations.items) was.sound
-          (setting_is view (network_of was.net.value.program) was.inputs.value (traffic_of was.wire)
+          (setting_is view (network_of was.net.value.program) was.inputs.came (traffic_of was.wire)
           was.stations.items was.round was.channel_rooms) (c.from-number.ensures ∙ c.node.ensures) c.in-Ok.ensures.come.act;
       home = granted_at_home (rooms c.args.self.now.stations.items) (event_view c.args.event.now)
           (world_of c.args.self.now)
@@ -155,12 +162,12 @@ returns-in-Err g c =
       grown = c.act_at.ensures.grown;
       step = tt;
       line = keeps_line {cell = g.C.StableCell} {slots = g.C.SlotCell} g.O.Outlet.taken g.O.Outlet.failures
-          (setting_in (network_of was.net.value.program) was.inputs.value (traffic_of was.wire)
+          (setting_in (network_of was.net.value.program) was.inputs.came (traffic_of was.wire)
           was.round was.channel_rooms) (event_view c.args.event.now)
-          (network_of was.net.value.program) was.inputs.value was.stations.items c.act_at.new.stations.items was.round
+          (network_of was.net.value.program) was.inputs.came was.stations.items c.act_at.new.stations.items was.round
           was.channel_rooms
           (traffic_of was.wire) [] outcome.NotDue NotDue c.from-number.result was.sound
-          (setting_is view (network_of was.net.value.program) was.inputs.value (traffic_of was.wire)
+          (setting_is view (network_of was.net.value.program) was.inputs.came (traffic_of was.wire)
           was.stations.items was.round was.channel_rooms) (c.from-number.ensures ∙ c.node.ensures)
           (refl, c.in-Err.ensures.refused.0)
           c.act_at.ensures.line;
@@ -169,7 +176,7 @@ returns-in-Err g c =
       coordinated = subst (λ (stations : List StationView). AreCoordinated (world_of was)
           (record {
             net = network_of was.net.value.program;
-            inputs = was.inputs.value;
+            inputs = was.inputs.came;
             stations = stations;
             traffic = traffic_of c.act_at.new.wire;
             round = was.round;
@@ -178,7 +185,7 @@ returns-in-Err g c =
           (subst (λ (traffic : Traffic). AreCoordinated (world_of was)
           (record {
             net = network_of was.net.value.program;
-            inputs = was.inputs.value;
+            inputs = was.inputs.came;
             stations = (world_of was).stations;
             traffic = traffic;
             round = was.round;
@@ -187,7 +194,7 @@ returns-in-Err g c =
       prefix = subst (λ (stations : List StationView). AreApproximated
           (record {
             net = network_of was.net.value.program;
-            inputs = was.inputs.value;
+            inputs = was.inputs.came;
             stations = stations;
             traffic =
                 traffic_of c.act_at.new.wire;

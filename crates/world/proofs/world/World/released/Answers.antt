@@ -8,7 +8,7 @@ use Rattle.world.proofs.world.World.released.Goals as goal
 pub returns-clause-prefix : goal.returns-clause-prefix
 returns-clause-prefix g c =
     let world = c.args.self.now in
-    subst (IsStreamOf (network_of world.net.value.program) world.inputs.value c.args.channel) (sym c.stream.ensures)
+    subst (IsStreamOf (network_of world.net.value.program) world.inputs.came c.args.channel) (sym c.stream.ensures)
     (released_is_right (world_of world) world.sound c.args.channel)
 
 pub returns-clause-covered : goal.returns-clause-covered
