@@ -1,9 +1,10 @@
 -- A world whose inputs were fed.
-use Rattle.std.proofs.Common.{◌≡◌, ℕ, ◌+◌, ◌<◌, ◌≤◌, Bool, true, false, ℤ, List, length, Option, Some, None, refl, arith}
+use Rattle.std.proofs.Common.{◌≡◌, ℕ, ◌+◌, ◌<◌, ◌≤◌, Bool, true, false, ℤ, List, length, Option, Some, None, refl, ap, sym, ◌∙◌, arith}
 use Rattle.std.specs.Prelude.{Result, Ok, Err, OnErr, OnOk, nat_le, slice_get, slice_index_or}
 use Rattle.std.proofs.lemmas.Bool.{leb-true}
 use Rattle.std.proofs.lemmas.Option.{slice_get_within}
 use Rattle.std.specs.declared.alloc.AllocError.{AllocError}
+use Rattle.arrived.specs.ArrivedView.{ArrivedView}
 use Rattle.growing.proofs.Adding.{fed_is_later}
 use Rattle.growing.proofs.Feeding.{stays_sound}
 use Rattle.growing.specs.LaterInputs.{AreLaterInputs, fed, with_inputs}
@@ -65,3 +66,14 @@ pub fed_sound : (world : WorldView) (closed : List Bool) (input : ℕ) (items : 
     → WorldInvariant (with_inputs now world)
 fed_sound world closed input items now result sound none ok err =
     stays_sound world now sound (later_either world.net closed world.inputs input items sound.fits none now result ok err)
+
+-- so where they stand behind what had come, of which something may have been let go of
+pub appended_sound : (world : WorldView) (closed : List Bool) (input place : ℕ) (items : List ℤ) (old now : ArrivedView)
+    (result : Result (Unit {0}) AllocError) → world.inputs ≡ old.came → place ≡ input → WorldInvariant world
+    → feed_refusal world.net closed world.inputs input (length items) ≡ None
+    → OnOk result (now.came ≡ fed place items old.came) → OnErr result (now ≡ old) → WorldInvariant (with_inputs now.came world)
+appended_sound world closed input place items old now (Ok done) same at sound none ok err =
+    fed_sound world closed input items now.came (Ok done) sound none (ok ∙ (ap (λ (n : ℕ). fed n items old.came) at
+    ∙ ap (fed input items) (sym same))) tt
+appended_sound world closed input place items old now (Err fault) same at sound none ok err =
+    fed_sound world closed input items now.came (Err fault) sound none tt (ap (λ (a : ArrivedView). a.came) err ∙ sym same)

@@ -181,7 +181,7 @@ fn first_need<C: SlotCell, O: Outlet>(
     stations: &[Station<C, O>],
     node: u8,
 ) -> Option<usize>
-    ensures { result ≡ first_of_any (need_of (network_of net.now.program) (stance_of (network_of net.now.program) inputs.now
+    ensures { result ≡ first_of_any (need_of (network_of net.now.program) (stance_of (network_of net.now.program) inputs.now.came
         rooms.now (map (station_view O.taken O.failures) stations.now)) node) 0 (length (network_of net.now.program).codes) }
 {
     for process in 0..net.program.processes.len() {

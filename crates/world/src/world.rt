@@ -1,6 +1,7 @@
 //! A world, and its events.
 ghost use Rattle.std.specs.Prelude.{◌≡◌, None, Some, is_none, length, map, IfErr, IfOk, IfSome, IsNone, OnErr};
 ghost use Rattle.std.specs.List.{AllZip};
+ghost use Rattle.std.proofs.Props.{props};
 ghost use Rattle.protocol.specs.Node.Common.{Fits, network_of, node_count};
 ghost use Rattle.protocol.specs.World.Common.{event_node, AreApproximated, AreSound, IsNumbered, WorldInvariant};
 ghost use Rattle.protocol.specs.World.Common.{TrafficIsSound, traffic_of, IsGrantedAt, round_after, IsStep};
@@ -55,7 +56,7 @@ pub struct World<C: SlotCell, O: Outlet> {
         (world_view O.taken O.failures net inputs stations.items (traffic_of wire) round channel_rooms) },
     /// What was let go of the permanent images have got.
     pub ghost got: { HaveGot (network_of net.value.program) inputs.bases
-        (records_of (map (station_view O.taken O.failures) stations.items)) },
+        (records_of (map (station_view O.taken O.failures) stations.items)) } by { Prim.hlevel props },
 }
 
 // Written out, since each crate above would go through a derived one again.

@@ -9,6 +9,6 @@ use Rattle.world.proofs.needs.first_need.Given as goal
 -- no process before this one shows what is needed
 abbrev pub invariant-loop-process : goal.invariant-loop-process
 invariant-loop-process g l =
-    IsSought (need_of (network_of l.net.program) (stance_of (network_of l.net.program) l.inputs l.rooms
+    IsSought (need_of (network_of l.net.program) (stance_of (network_of l.net.program) l.inputs.came l.rooms
     (map (station_view g.O.Outlet.taken g.O.Outlet.failures) l.stations)) l.fn.node) (length (network_of l.net.program).codes)
     l.process

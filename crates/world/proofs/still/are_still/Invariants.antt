@@ -9,5 +9,5 @@ use Rattle.world.proofs.still.are_still.Given as goal
 abbrev pub invariant-loop-station : goal.invariant-loop-station
 invariant-loop-station g l =
     let view = station_view g.O.Outlet.taken g.O.Outlet.failures in
-    let still = is_still (network_of l.net.program) l.inputs l.rooms (map view l.stations) in
+    let still = is_still (network_of l.net.program) l.inputs.came l.rooms (map view l.stations) in
     list_all still (map view (drop l.station-index l.stations)) ≡ list_all still (map view l.stations)

@@ -1,4 +1,4 @@
-use Rattle.std.proofs.Common.{◌≡◌, ◌∙◌, Some, map, sym, ap, arith}
+use Rattle.std.proofs.Common.{◌≡◌, ◌∙◌, Some, map, refl, sym, ap, arith}
 use Rattle.protocol.specs.Node.Common.{Net, network_of}
 use Rattle.protocol.specs.World.RoomNeeds.{needed_for}
 use Rattle.station.specs.StationView.{station_view}
@@ -12,9 +12,9 @@ overflow_cast-result g c =
     let world = world_of self in
     let view = station_view g.O.Outlet.taken g.O.Outlet.failures in
     let same =
-    seen_there world.net (network_of c.deref.result.now.program) world.inputs c.deref-2.result.now self.channel_rooms
-    world.stations (map view c.deref-3.result.now) c.args.node (ap (λ (n : Net). network_of n.program) c.deref.ensures)
-    c.deref-2.ensures (ap (map view) c.deref-3.ensures.value) in
+    seen_there world.net (network_of c.deref.result.now.program) world.inputs world.inputs self.channel_rooms
+    world.stations (map view c.deref-2.result.now) c.args.node (ap (λ (n : Net). network_of n.program) c.deref.ensures)
+    refl (ap (map view) c.deref-2.ensures.value) in
     let is : needed_for world c.args.node ≡ Some c.in-Some.channel =
     sym (sym c.in-Some.is ∙ (c.first_need-need.ensures ∙ same)) in
     let below = need_below world c.args.node c.in-Some.channel self.sound.valid is in

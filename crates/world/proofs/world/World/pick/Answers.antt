@@ -1,4 +1,4 @@
-use Rattle.std.proofs.Common.{rules, ◌≡◌, ◌<◌, ◌≤◌, ◌∙◌, ℕ, ℤ, List, length, map, ap, sym, arith}
+use Rattle.std.proofs.Common.{rules, ◌≡◌, ◌<◌, ◌≤◌, ◌∙◌, ℕ, length, map, ap, sym, arith}
 use Rattle.std.proofs.lemmas.Grind.{elements}
 use Rattle.std.proofs.lemmas.List.{length-map}
 use Rattle.std.proofs.lemmas.Option.{slice_get_past}
@@ -29,15 +29,11 @@ returns-in-Some g c =
     let there = seen_at view was.stations.items c.args.node c.in-Some.station.now within (grind (arith, elements)) in
     let many : c.len.result ≡ length was.stations.items = search rules in
     c.pick.ensures
-    ∙ (ap (λ (net : Net). station_choice (network_of net.program) c.deref-in-Some-2.result.now was.channel_rooms
-    (traffic_of was.wire)
+    ∙ (ap (λ (net : Net). station_choice (network_of net.program) world.inputs was.channel_rooms (traffic_of was.wire)
     c.len.result was.round station) c.deref-in-Some.ensures
-    ∙ (ap (λ (inputs : List (List ℤ)). station_choice world.net inputs was.channel_rooms (traffic_of was.wire) c.len.result
-    was.round
-    station) c.deref-in-Some-2.ensures
     ∙ (ap (λ (n : ℕ). station_choice world.net world.inputs was.channel_rooms (traffic_of was.wire) n was.round station)
     (many ∙ sym (length-map was.stations.items view))
-    ∙ sym (ap (choice_of world c.args.node) there))))
+    ∙ sym (ap (choice_of world c.args.node) there)))
 
 pub returns-in-None : goal.returns-in-None
 returns-in-None g c =
