@@ -136,7 +136,14 @@ impl<C: SlotCell, O: Outlet> Station<C, O> {
     }
 
     // The event that is next for its node, where no packet is due to it.
-    fn pick_own(&self, net: &Net, inputs: &Arrived, rooms: &Rooms, nodes: usize, round: u64) -> Event
+    fn pick_own(
+        &self,
+        net: &Net,
+        inputs: &Arrived,
+        rooms: &Rooms,
+        nodes: usize,
+        round: u64,
+    ) -> Event
         ensures { event_view result ≡ own_choice (network_of net.now.program) inputs.now.came rooms.now
             nodes round (station_view O.taken O.failures self.now) }
     {

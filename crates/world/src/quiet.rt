@@ -15,9 +15,7 @@ impl<C: SlotCell, O: Outlet> World<C, O> {
         ensures { result ≡ is_node_quiet (world_of self.now) node }
     {
         match self.stations.get(usize::from(node)) {
-            Some(station) => {
-                station.is_complete(&self.net, &self.inputs, &self.stations)
-            }
+            Some(station) => { station.is_complete(&self.net, &self.inputs, &self.stations) }
             None => true,
         }
     }
