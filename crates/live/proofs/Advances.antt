@@ -1,6 +1,6 @@
 -- Steps, one after another: whatever they are, the world goes on.
 use Rattle.std.proofs.Common.{◌≡◌, ◌∙◌, ℕ, zero, suc, Bool, ℤ, List, [], Option, Some, None, sym, ap, subst}
-use Rattle.std.specs.Prelude.{Result, Ok, Err, IfSome, OnErr, OnOk}
+use Rattle.std.specs.Prelude.{IfSome}
 use Rattle.growing.proofs.GoingOn.{goes_on, goes_on_then, goes_on_whatever_comes}
 use Rattle.growing.specs.LaterInputs.{AreLaterInputs, with_inputs}
 use Rattle.growing.specs.WhateverComes.{ByEvent, ByInputs, ByRooms, HasGoneOn}

@@ -1,5 +1,5 @@
 -- More has come on an input of a network at work, and what is kept for good of it is let go of.
-use Rattle.std.proofs.Common.{◌≡◌, ◌∙◌, ℕ, Bool, true, false, List, Some, None, max, ap, refl}
+use Rattle.std.proofs.Common.{◌≡◌, ◌∙◌, ℕ, Bool, true, false, List, None, max, ap, refl}
 use Rattle.std.specs.Prelude.{slice_set}
 use Rattle.arrived.specs.ArrivedView.{base_of}
 use Rattle.protocol.specs.Node.Common.{Network}
