@@ -1,6 +1,6 @@
 -- Steps, one after another: whatever they are, the world goes on.
 use Rattle.std.proofs.Common.{◌≡◌, ◌∙◌, ℕ, zero, suc, Bool, ℤ, List, [], Option, Some, None, sym, ap, subst}
-use Rattle.std.specs.Prelude.{Result, Ok, Err, IfSome, OnErr, OnOk}
+use Rattle.std.specs.Prelude.{IfSome}
 use Rattle.growing.proofs.GoingOn.{goes_on, goes_on_then, goes_on_whatever_comes}
 use Rattle.growing.specs.LaterInputs.{AreLaterInputs, with_inputs}
 use Rattle.growing.specs.WhateverComes.{ByEvent, ByInputs, ByRooms, HasGoneOn}
@@ -74,14 +74,12 @@ pub applied : (fits : List (RecordView → Bool)) (event : EventView) (old new :
 applied fits event old new (Some reply) inv step refused = goes_on old new inv (ByEvent fits event reply step)
 applied fits event old new None inv step refused = stays_on old new inv refused
 
--- more came on the inputs, or nothing did
-pub came : {E : Type 0} (old new : WorldView) (inputs : List (List ℤ)) (result : Result (Unit {0}) E) → WorldInvariant old
-    → OnOk result (new ≡ with_inputs inputs old) → OnOk result (AreLaterInputs old.net old.inputs new.inputs)
-    → OnErr result (new ≡ old) → HasGoneOn old new
-came {E} old new inputs (Ok done) inv fed later refused =
+-- more came on the inputs
+pub came_on : (old new : WorldView) (inputs : List (List ℤ)) → WorldInvariant old → new ≡ with_inputs inputs old
+    → AreLaterInputs old.net old.inputs new.inputs → HasGoneOn old new
+came_on old new inputs inv fed later =
     let same = sym (ap (λ (world : WorldView). world.inputs) fed) in
     goes_on old new inv (ByInputs new.inputs later (fed ∙ ap (λ (lists : List (List ℤ)). with_inputs lists old) same))
-came {E} old new inputs (Err e) inv fed later refused = stays_on old new inv refused
 
 -- a view that is the same has the same world
 pub then_same : (world : WorldView) (old new : LiveView) → HasGoneOn world old.world → new ≡ old → HasGoneOn world new.world

@@ -1,1 +1,2 @@
 mod Advances
+mod Feeding

@@ -10,7 +10,7 @@ open-requires g c =
     let rerun = c.args.rerun.now in
     let same_net : network_of c.in-Ok-Ok.net.value.program ≡ net_in rerun =
     ap (λ (net : Net). network_of net.program) c.in-Ok-Ok.ensures ∙ c.net.ensures in
-    let same_inputs : c.in-Ok-Ok.inputs.value ≡ inputs_in rerun = c.in-Ok-Ok.ensures' ∙ c.inputs.ensures in
+    let same_inputs : c.in-Ok-Ok.inputs ≡ inputs_in rerun = c.in-Ok-Ok.ensures' ∙ (c.deref.ensures ∙ c.inputs.ensures) in
     record {
       left = rw (same_net, same_inputs)
           (left_there g.D.Disk.sector_count g.D.Disk.content g.D.Disk.may_leave g.D.Disk.armed g.D.Disk.failure_count
@@ -26,7 +26,7 @@ returns-in-Ok-open-clause-made g c =
     let written = c.in-Ok.ensures.written in
     let same_net : network_of c.in-Ok-Ok.net.value.program ≡ net_in rerun =
     ap (λ (net : Net). network_of net.program) c.in-Ok-Ok.ensures ∙ c.net.ensures in
-    let same_inputs : c.in-Ok-Ok.inputs.value ≡ inputs_in rerun = c.in-Ok-Ok.ensures' ∙ c.inputs.ensures in
+    let same_inputs : c.in-Ok-Ok.inputs ≡ inputs_in rerun = c.in-Ok-Ok.ensures' ∙ (c.deref.ensures ∙ c.inputs.ensures) in
     let records = records_there_are g.D.Disk.sector_count g.D.Disk.content g.D.Disk.may_leave g.D.Disk.armed
     g.D.Disk.failure_count (net_in rerun) (table_in rerun) g.O.Outlet.taken (inputs_in rerun) rerun.net.value.valid
     rerun.fits rerun.ordered rerun.reached c.args.disks.items c.in-Ok.written.items c.args.outputs.items
