@@ -153,22 +153,21 @@ module _ {O : Type 0} (taken : O → List ℤ) (failures : O → ℕ) where
       ∙ ap (λ (rest : List OutletView). opening_outlet (unused_outlet output.channel) ∷ rest)
       (unused_outlets outputs unused.1 none.1)
 
-  pub opens_first : (net other : Network) (inputs others : List (List ℤ)) (room : ℕ) (outputs : List (Output O))
-      (first opened : WorldView) → other ≡ net → others ≡ inputs
+  pub opens_first : (net other : Network) (inputs : List (List ℤ)) (room : ℕ) (outputs : List (Output O))
+      (first opened : WorldView) → other ≡ net
       → (failed : List ℕ) → failed ≡ replicate (node_count net) 0
       → first ≡ with_rooms (even_rooms (nearest_room room)) opened
-      → opened ≡ opening_world other others failed (outlet_views taken failures outputs)
+      → opened ≡ opening_world other inputs failed (outlet_views taken failures outputs)
       → map (λ (output : Output O). output.channel) outputs ≡ output_channels 0 net.channels
       → AllByRecursion (IsUnused taken) outputs → AllByRecursion (HasNoFailures failures) outputs
       → first ≡ first_world net inputs room
-  opens_first net other inputs others room outputs first opened same_net same_inputs failed never set opening listed
+  opens_first net other inputs room outputs first opened same_net failed never set opening listed
       unused none =
       let views = outlet_views taken failures outputs in
       set
       ∙ ap (with_rooms (even_rooms (nearest_room room))) (opening
-      ∙ (ap (λ (list : List ℕ). opening_world other others list views) never
-      ∙ (ap (λ (n : Network). opening_world n others (replicate (node_count net) 0) views) same_net
-      ∙ (ap (λ (i : List (List ℤ)). opening_world net i (replicate (node_count net) 0) views) same_inputs
+      ∙ (ap (λ (list : List ℕ). opening_world other inputs list views) never
+      ∙ (ap (λ (n : Network). opening_world n inputs (replicate (node_count net) 0) views) same_net
       ∙ ap (λ (outlets : List OutletView). record {
         net = net;
         inputs = inputs;
@@ -179,7 +178,7 @@ module _ {O : Type 0} (taken : O → List ℤ) (failures : O → ℕ) where
         rooms = even_rooms DEFAULT_ROOM;
       })
       (unused_outlets outputs unused none
-      ∙ ap (λ (channels : List ℕ). map opening_outlet (map unused_outlet channels)) listed)))))
+      ∙ ap (λ (channels : List ℕ). map opening_outlet (map unused_outlet channels)) listed))))
 
 -- a run by turns that wasn't refused went on until it was over
 until_over : (over : WorldView → Bool) (nodes : ℕ) (fits : List (RecordView → Bool)) (script : List ScriptedEvent) (first now : WorldView)

@@ -10,7 +10,7 @@ pub use Rattle.station.specs.OutputView.{outputs_view}
 pub use Rattle.station.specs.declared.output.Output.{Output}
 pub use Rattle.world.specs.Left.{AreLeft, HoldsRecord, record_on, records_on}
 pub use Rattle.world.specs.OpeningWorld.{IsMade, IsUnused}
-pub use Rattle.world.specs.WholeView.{capacities_in, net_in, world_of}
+pub use Rattle.world.specs.WholeView.{capacities_in, inputs_in, net_in, world_of}
 pub use Rattle.history_text.specs.Histories.{history_text}
 pub use Rattle.runtime.specs.Logs.{happenings}
 pub use Rattle.cobaltmidge.specs.FirstWorld.{HasNoFailures}

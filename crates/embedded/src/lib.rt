@@ -9,4 +9,4 @@ mod own;
 
 pub use counting::CountingDisk;
 pub use ledger::{Ledger, Weakness};
-pub use own::{OwnDisk, OwnWorld, SECTORS, open, reopen, step};
+pub use own::{LastingWorld, OwnDisk, OwnWorld, SECTORS, open};

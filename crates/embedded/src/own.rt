@@ -3,13 +3,14 @@
 
 ghost use Rattle.std.specs.Prelude.{◌≡◌, ◌*◌, ◌^◌, ◌<◌, IfOk, length, map};
 ghost use Rattle.std.specs.List.{AllByRecursion};
-ghost use Rattle.cobaltmidge.specs.Common.{IsUnused, SECTOR_BYTES, network_of, output_channels};
+ghost use Rattle.cobaltmidge.specs.Common.{IsUnused, SECTOR_BYTES, inputs_in, network_of, output_channels};
 
 use crate::counting::CountingDisk;
 use crate::ledger::{Ledger, Weakness};
 use anyhow::bail;
 use cobaltmidge::{
-    Event, Job, MemDisk, Net, Network, Output, Reply, SplitCell, World, list_outputs, node_count,
+    Event, Inputs, Job, MemDisk, Net, Network, Output, Reply, SplitCell, World, list_outputs,
+    node_count,
 };
 use std::alloc::{AllocError, Global};
 use std::sync::Arc;
@@ -75,21 +76,32 @@ fn own_outputs(alloc: Global, net: &Net, weakness: Weakness) -> anyhow::Result<V
     }
 }
 
-/// The world before its first event.
-pub fn open(alloc: Global, weakness: Weakness) -> anyhow::Result<OwnWorld> {
+/// The world before its first event, with a copy of what has come on its inputs.
+fn open_with_inputs(alloc: Global, weakness: Weakness) -> anyhow::Result<(OwnWorld, Inputs)>
+    ensures { IfOk result (λ opened. opened.1 ≡ inputs_in opened.0) }
+{
     let network = Network::parse(alloc, NET)?;
     anyhow::ensure!(node_count(&network.net) == 1, "several nodes");
     let inputs = network.inputs(alloc, INPUTS)?;
+    let copy = inputs.copy(alloc)?;
     let outputs = own_outputs(alloc, &network.net, weakness)?;
     let disks = one_disk(alloc)?;
     match World::new(alloc, network.net, inputs, disks, outputs) {
-        Ok(world) => Ok(world),
+        Ok(world) => Ok((world, copy)),
         Err(refused) => Err(refused.fault.into()),
     }
 }
 
+/// The world before its first event.
+pub fn open(alloc: Global, weakness: Weakness) -> anyhow::Result<OwnWorld> {
+    let (world, _inputs) = open_with_inputs(alloc, weakness)?;
+    Ok(world)
+}
+
 /// One event. `World::apply` refuses for want of memory alone.
-fn apply(alloc: Global, world: &mut OwnWorld, event: Event) -> anyhow::Result<Reply> {
+fn apply(alloc: Global, world: &mut OwnWorld, event: Event) -> anyhow::Result<Reply>
+    ensures same { inputs_in world.new ≡ inputs_in world.old }
+{
     match world.apply(alloc, event) {
         Ok(reply) => Ok(reply),
         Err(_) => bail!("no memory"),
@@ -97,7 +109,9 @@ fn apply(alloc: Global, world: &mut OwnWorld, event: Event) -> anyhow::Result<Re
 }
 
 /// The event that is next for the node. A job that it grants is run, and what came of it is brought back. Gives what was answered last.
-pub fn step(alloc: Global, world: &mut OwnWorld) -> anyhow::Result<Reply> {
+fn step(alloc: Global, world: &mut OwnWorld) -> anyhow::Result<Reply>
+    ensures same { inputs_in world.new ≡ inputs_in world.old }
+{
     let event = world.pick(0);
     match apply(alloc, world, event)? {
         Reply::Granted(job) => match Job::run(job, alloc) {
@@ -108,13 +122,46 @@ pub fn step(alloc: Global, world: &mut OwnWorld) -> anyhow::Result<Reply> {
     }
 }
 
-/// The world that is opened over what another one of its network leaves.
-pub fn reopen(alloc: Global, world: OwnWorld) -> anyhow::Result<OwnWorld> {
-    let net = Arc::clone(world.net())?;
-    let inputs = Network::parse(alloc, NET)?.inputs(alloc, INPUTS)?;
-    let (disks, outputs) = world.close(alloc)?;
-    match World::open(alloc, net, inputs, disks, outputs) {
-        Ok(again) => Ok(again),
-        Err(refused) => Err(refused.fault.into()),
+/// A world that can be opened again over what it leaves: with it is all that has come on its inputs, of which the world itself may have let go.
+#[derive(Drop)]
+pub struct LastingWorld {
+    world: OwnWorld,
+    inputs: Inputs,
+    ghost same: { inputs ≡ inputs_in world },
+}
+
+impl LastingWorld {
+    /// The world before its first event.
+    pub fn open(alloc: Global, weakness: Weakness) -> anyhow::Result<LastingWorld> {
+        let (world, inputs) = open_with_inputs(alloc, weakness)?;
+        Ok(LastingWorld { world, inputs })
+    }
+
+    /// The world.
+    pub fn world(&self) -> &OwnWorld
+        ensures { result.now ≡ self.now.world }
+    {
+        &self.world
+    }
+
+    /// The event that is next for the node, as `step` makes it.
+    pub fn step(&mut self, alloc: Global) -> anyhow::Result<Reply> {
+        step(alloc, &mut self.world)
+    }
+
+    /// Lets go of what the node keeps of its input for good.
+    pub fn let_go(&mut self) {
+        self.world.let_go(0);
+    }
+
+    /// The world that is opened over what this one leaves, on the same inputs.
+    pub fn reopen(self, alloc: Global) -> anyhow::Result<OwnWorld> {
+        let LastingWorld { world, inputs } = self;
+        let net = Arc::clone(world.net())?;
+        let (disks, outputs) = world.close(alloc)?;
+        match World::open(alloc, net, inputs, disks, outputs) {
+            Ok(again) => Ok(again),
+            Err(refused) => Err(refused.fault.into()),
+        }
     }
 }

@@ -1,5 +1,5 @@
--- That a node's state, a network, a job and a line of a history may cross threads. (A network has recursive types in it, and so no proof of its own on which
--- others could stand: each type above it would be searched from the ground, and a search ends after 1,000 lemmas.)
+-- That what came on inputs, a node's state, a network, a job and a line of a history may cross threads. (A network has recursive types in it, and
+-- so no proof of its own on which others could stand: each type above it would be searched from the ground, and a search ends after 1,000 lemmas.)
 use denote.Param.Send.{IsSend, IsSync, sendable}
 use denote.RattleType.{RattleType}
 use Rattle.std.proofs.Crossing.{crosses}
@@ -15,6 +15,7 @@ use Rattle.record.proofs.image.Image.TheSendSync.{the_send as image_s}
 use Rattle.kahn_net.proofs.program.Expr.TheLaws.TheKnot.{send-Expr, sync-Expr}
 use Rattle.kahn_net.proofs.program.Statement.TheLaws.TheKnot.{send-Statement, sync-Statement}
 use Rattle.decide_core.proofs.initiator.Initiator.TheSendSync.{the_send as initiator_s}
+use Rattle.arrived.specs.contracts.inputs.Arrived.{the_row as arrived_row}
 use Rattle.proc_step.specs.contracts.job.Job.{the_row as job_row}
 use Rattle.node_memory.specs.contracts.running.Running.{the_field as running_field}
 use Rattle.node.specs.contracts.mode.Mode.{the_field as mode_field}
@@ -33,6 +34,10 @@ use Rattle.run_log.specs.declared.seat_count.RunLedgers.{Ghosts as LedgerWords}
 use Rattle.runtime.specs.contracts.desks.Desk.{the_row as desk_row}
 use Rattle.runtime.specs.declared.hub_run.HubRun.{Ghosts as HubWords}
 use Rattle.runtime.proofs.threads.NodeSeats.TheSendSync.{the_field_send as seats_t, the_send as seats_s}
+
+-- (It has snapshots in it, and so no proof of its own either.)
+pub arrived_send : IsSend arrived_row
+arrived_send = search (sendable, crosses) depth 60 fits 100000
 
 pub net_send : IsSend net_row
 net_send = search (sendable, crosses, channel_s, operator_t, name_s, send-Expr, send-Statement) depth 60 fits 100000

@@ -13,7 +13,7 @@ use Rattle.cobaltmidge.proofs.opening.open_world.Goals as goal
 
 pub returns-in-Err-clause-err : goal.returns-in-Err-clause-err
 returns-in-Err-clause-err g c = λ threads.
-    let share = c.in-Ok-try_clone.share in
+    let share = c.in-Ok.share in
     let disks = c.in-Ok-empty_disks.disks.items in
     subst (IsRunFault threads) (sym (c.unbegun-in-Err.ensures.0 ∙ c.store_fault.ensures))
     (run_refused threads sectors_of (network_of share.value.program) 0 disks c.in-Err.refused.fault share.value.valid
@@ -29,9 +29,8 @@ pub returns-clause-first : goal.returns-clause-first
 returns-clause-first g c =
     let net = network_of c.args.net.now.value.program in
     let opened = world_of c.in-Ok-new.world in
-    opens_first _ _ net _ c.args.inputs _ c.args.room c.args.outputs.items
-    (world_of c.set_room.new.self) opened (ap (λ (n : Net). network_of n.program) c.in-Ok-try_clone.ensures)
-    c.in-Ok.ensures.ok _
+    opens_first _ _ net _ c.args.inputs c.args.room c.args.outputs.items
+    (world_of c.set_room.new.self) opened (ap (λ (n : Net). network_of n.program) c.in-Ok.ensures) _
     (c.in-Ok-empty_disks.ensures.unfailed ∙ ap (λ (n : ℕ). replicate n 0) c.requires.nodes)
     (c.in-Ok-set_room.ensures.set ∙ ap (λ (n : ℕ). with_rooms (even_rooms n) opened) c.nearest_room.ensures)
     c.in-Ok-new.ensures.made.opening
