@@ -1,6 +1,6 @@
 -- The steps of a release.
 use Rattle.std.proofs.Common.{◌≡◌, ◌⊎◌, inl, inr, ℕ, ◌+◌, ◌-◌, ◌<◌, ◌≤◌, max, List, ◌++◌, ℤ, length, take, drop, arith}
-use Rattle.std.proofs.Common.{rules, refl, sym, ◌∙◌, ap}
+use Rattle.std.proofs.Common.{refl, sym, ◌∙◌, ap}
 use Rattle.std.specs.Prelude.{Err, IsErrOf}
 use Rattle.std.proofs.Math.Seq.{take-add}
 use Rattle.std.proofs.lemmas.List.{take-take, take_min, length-take, length-take-le, length-drop, length-append}

@@ -1,3 +1,4 @@
 pub mod Faults
+pub mod QueueView
 pub mod Released
 pub mod ReleaseLaws

@@ -7,9 +7,11 @@
 mod fault;
 mod list;
 mod outlet;
+mod queue;
 mod releasing;
 
 pub use fault::OutletFault;
 pub use list::ListOutlet;
-pub use outlet::Outlet;
+pub use outlet::{KeepsItems, Outlet, PassesItems};
+pub use queue::QueueOutlet;
 pub use releasing::{can_release, release};

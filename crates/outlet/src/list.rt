@@ -3,11 +3,11 @@ ghost use Rattle.std.specs.Prelude.{◌≡◌, ◌⊎◌, List, [], ◌∷◌, �
 ghost use Rattle.outlet.specs.Faults.{failures_after};
 
 use crate::fault::OutletFault;
-use crate::outlet::Outlet;
+use crate::outlet::{KeepsItems, Outlet};
 use std::alloc::Global;
 use std::marker::Model;
 
-/// A list in memory, which never fails.
+/// A list in memory, which never fails and passes nothing on.
 #[derive(Drop)]
 pub struct ListOutlet {
     items: Vec<i64>,
@@ -37,12 +37,10 @@ impl Outlet for ListOutlet {
 
     ghost failures = { λ _. 0 };
 
+    ghost passed = { λ _. 0 };
+
     fn len(&self) -> u64 {
         self.items.len() as u64
-    }
-
-    fn items(&self) -> &[i64] {
-        self.items.as_slice()
     }
 
     fn append(&mut self, item: i64) -> Result<(), OutletFault>
@@ -57,5 +55,11 @@ impl Outlet for ListOutlet {
     {
         self.items.push(item)?;
         Ok(())
+    }
+}
+
+impl KeepsItems for ListOutlet {
+    fn items(&self) -> &[i64] {
+        self.items.as_slice()
     }
 }

@@ -25,6 +25,7 @@ fn append_at<O: Outlet>(outlet: &mut O, log: &Log, position: u64) -> Result<(), 
     ensures no_memory { IsErrOf result OutletFault.NoMemory
         → O.taken outlet.new ≡ O.taken outlet.old }
     ensures count { O.failures outlet.new ≡ failures_after result (O.failures outlet.old) }
+    ensures passed { O.passed outlet.new ≡ O.passed outlet.old }
 {
     match log.get(position) {
         Some(item) => outlet.append(item),
@@ -51,6 +52,8 @@ pub fn release<O: Outlet>(outlet: &mut O, log: &Log, covered: u64) -> Result<(),
         (O.taken outlet.old) (O.taken outlet.new) }
     // No append that failed is passed over.
     ensures count { O.failures outlet.new ≡ failures_after result (O.failures outlet.old) }
+    // Whatever it answers, the outlet has passed on no more.
+    ensures passed { O.passed outlet.new ≡ O.passed outlet.old }
     ensures reaches { OnOk result
         (length (O.taken outlet.new) ≡ max (length (O.taken outlet.old)) covered) }
     // Whatever it answers, it may be called again as it is.
