@@ -407,6 +407,8 @@ impl<C: SlotCell> Node<C> {
         ensures no_memory { IsErrOf result OutletFault.NoMemory → view_of self.new ≡ view_of self.old }
         ensures trimmed { ¬ (IsErrOf result OutletFault.NoMemory) → view_of self.new
             ≡ trimmed_node channel (length (O.taken outlet.new)) (view_of self.old) }
+        // Whatever it answers, the outlet has passed on no more.
+        ensures passed { O.passed outlet.new ≡ O.passed outlet.old }
         ensures same { (self.new.store ≡ self.old.store) × (self.new.number ≡ self.old.number) }
     {
         match &mut self.state.mode {

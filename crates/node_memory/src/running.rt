@@ -242,6 +242,8 @@ impl Running {
             → running_view self.new ≡ running_view self.old }
         ensures trimmed { ¬ (IsErrOf result OutletFault.NoMemory) → running_view self.new
             ≡ cut_at channel (length (O.taken outlet.new)) (running_view self.old) }
+        // Whatever it answers, the outlet has passed on no more.
+        ensures passed { O.passed outlet.new ≡ O.passed outlet.old }
     {
         let Some(log) = self.current.log(channel) else {
             return Ok(());

@@ -10,7 +10,7 @@ ghost use Rattle.output_file.specs.declared.TheConstants.{BLOCK_BYTES};
 use crate::line_block::LineBlock;
 use crate::reading::HeldItems;
 use host::LineFile;
-use outlet::{Outlet, OutletFault};
+use outlet::{KeepsItems, Outlet, OutletFault};
 use sector_disk::Past;
 use std::alloc::{AllocError, Global};
 
@@ -313,12 +313,10 @@ impl<F: LineFile> Outlet for ResumedOutlet<F> {
 
     ghost failures = { failures_of };
 
+    ghost passed = { λ _. 0 };
+
     fn len(&self) -> u64 {
         self.count as u64
-    }
-
-    fn items(&self) -> &[i64] {
-        &self.items[..self.count]
     }
 
     fn append(&mut self, item: i64) -> Result<(), OutletFault>
@@ -347,5 +345,13 @@ impl<F: LineFile> Outlet for ResumedOutlet<F> {
         let result = self.take(item);
         count_failure(&mut self.failures, &result);
         result
+    }
+}
+
+impl<F: LineFile> KeepsItems for ResumedOutlet<F> {
+    ghost use Rattle.output_file.specs.Output.{taken_of};
+
+    fn items(&self) -> &[i64] {
+        &self.items[..self.count]
     }
 }

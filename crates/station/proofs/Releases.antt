@@ -9,6 +9,7 @@ use Rattle.std.specs.declared.alloc.AllocError.{AllocError}
 use Rattle.protocol.specs.Node.Common.{NodeView, current_log, trimmed_node}
 use Rattle.protocol_laws.specs.World.OutputLaws.{map_at, set_same}
 use Rattle.protocol.specs.World.Common.{OutletView, StationView, next_release, IsRelease}
+use Rattle.station.specs.OutputView.{passed_counts}
 use Rattle.station.specs.StationView.{outlet_view, outlet_views}
 use Rattle.protocol.specs.World.Steps.{IsHanded}
 use Rattle.station.specs.ReplyView.{reply_view}
@@ -26,6 +27,17 @@ pub outlet_set : {O : Type 0} (taken : O → List ℤ) (failures : O → ℕ) (o
     → outlet_views taken failures (slice_set outputs j y)
     ≡ slice_set (outlet_views taken failures outputs) j (outlet_view taken failures y)
 outlet_set taken failures outputs j y = map-set (outlet_view taken failures) outputs j y
+
+-- where the outlet that changed has passed on no more, none has
+pub passed_kept : {O : Type 0} (passed : O → ℕ) (outputs : List (Output O)) (j : ℕ) (x y : Output O)
+    → j < length outputs → x ≡ get_or outputs j x → passed y.outlet ≡ passed x.outlet
+    → passed_counts passed (slice_set outputs j y) ≡ passed_counts passed outputs
+passed_kept {O} passed outputs j x y within is same =
+    let count = (λ (output : Output O). passed output.outlet) in
+    map-set count outputs j y
+    ∙ (ap (slice_set (passed_counts passed outputs) j) same
+    ∙ set_same (passed_counts passed outputs) j (count x)
+    (map_at count outputs j x (slice_get_read outputs (length outputs) j x refl within is)))
 
 module _ (round place : ℕ) (old : StationView) (outlet later : OutletView) (node : NodeView) where
   abbrev stands : NodeView → ℕ → ℕ → List OutletView → StationView

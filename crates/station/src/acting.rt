@@ -11,6 +11,7 @@ ghost use Rattle.protocol.specs.declared.reply.Reply.TheVariants.{Down};
 ghost use Rattle.protocol.specs.Node.AtHand.{HasGot};
 ghost use Rattle.station.specs.Lending.{bases_lent, net_lent, setting_by};
 ghost use Rattle.station.specs.ReplyView.{answer_view, reply_view};
+ghost use Rattle.station.specs.OutputView.{passed_counts};
 ghost use Rattle.station.specs.StationView.{outlet_views};
 ghost use Rattle.protocol.specs.World.Steps.{idle_plan, send_plan};
 ghost use Rattle.station.specs.Leaving.{IsCellUnchanged, LeavesDeviceBy, LeavesWhatItFound, RestartsAsArmed};
@@ -31,8 +32,7 @@ impl<C: SlotCell, O: Outlet> Station<C, O> {
     fn send(&mut self, lent: &Lent, wire: &mut Wire) -> Result<Reply, AllocError>
         requires { All IsWritable (turn_packets (net_lent lent.now) self.old.node.number
             (view_of self.old.node).kept (view_of self.old.node).mode) }
-        ensures outputs { outlet_views O.taken O.failures self.new.outputs.items
-            ≡ outlet_views O.taken O.failures self.old.outputs.items }
+        ensures outputs { self.new.outputs ≡ self.old.outputs }
         ensures same { self.new.node ≡ self.old.node }
         ensures refused { OnErr result
             (station_view O.taken O.failures self.new ≡ station_view O.taken O.failures self.old) }
@@ -63,8 +63,7 @@ impl<C: SlotCell, O: Outlet> Station<C, O> {
 
     // The node lets its turn pass.
     fn idle(&mut self, round: u64) -> Reply
-        ensures outputs { outlet_views O.taken O.failures self.new.outputs.items
-            ≡ outlet_views O.taken O.failures self.old.outputs.items }
+        ensures outputs { self.new.outputs ≡ self.old.outputs }
         ensures same { self.new.node ≡ self.old.node }
         ensures step { ComesBy (fits_in (C.slot_capacity (cell_in self.old.node.store))) round
             (idle_plan round (station_view O.taken O.failures self.old))
@@ -91,6 +90,9 @@ impl<C: SlotCell, O: Outlet> Station<C, O> {
             (station_view O.taken O.failures self.old))
             (outlet_views O.taken O.failures self.old.outputs.items)
             (outlet_views O.taken O.failures self.new.outputs.items) }
+        // Whatever it answers, no outlet has passed on more.
+        ensures passed { passed_counts O.passed self.new.outputs.items
+            ≡ passed_counts O.passed self.old.outputs.items }
         // A refusal is want of memory, of an event that takes memory, and the whole view is as it was.
         ensures refused { OnErr result
             ((station_view O.taken O.failures self.new ≡ station_view O.taken O.failures self.old)

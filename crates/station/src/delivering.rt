@@ -15,7 +15,6 @@ ghost use Rattle.protocol.specs.declared.outcome.Outcome.{Outcome as OutcomeValu
 ghost use Rattle.station.specs.Coming.{ComesHeard, ComesOut};
 ghost use Rattle.station.specs.Lending.{net_lent};
 ghost use Rattle.station.specs.ReplyView.{answer_view, reply_view};
-ghost use Rattle.station.specs.StationView.{outlet_views};
 ghost use Rattle.station.specs.StationView.{station_view};
 ghost use Rattle.station.specs.Leaving.{IsCellUnchanged, RestartsAsArmed};
 
@@ -53,8 +52,7 @@ impl<C: SlotCell, O: Outlet> Station<C, O> {
         requires allowed { (came : OutcomeValue) → All IsPacket (packets_by
             (hear_prospect (net_lent lent.now) self.old.node.number packet.now.from
             packet.now.body (view_of self.old.node)) came) }
-        ensures outputs { outlet_views O.taken O.failures self.new.outputs.items
-            ≡ outlet_views O.taken O.failures self.old.outputs.items }
+        ensures outputs { self.new.outputs ≡ self.old.outputs }
         ensures leaves { LeaveEitherSince C.moment C.left_since_whole (cell_in self.old.node.store)
             (cell_in self.new.node.store) (view_of self.old.node).kept
             (next_record (hear_prospect (net_lent lent.now) self.old.node.number
@@ -115,8 +113,7 @@ impl<C: SlotCell, O: Outlet> Station<C, O> {
             → (came : OutcomeValue) → All IsPacket (packets_by
             (hear_prospect (net_lent lent.now) self.old.node.number packet.from
             packet.body (view_of self.old.node)) came) }
-        ensures outputs { outlet_views O.taken O.failures self.new.outputs.items
-            ≡ outlet_views O.taken O.failures self.old.outputs.items }
+        ensures outputs { self.new.outputs ≡ self.old.outputs }
         ensures leaves { LeaveEitherSince C.moment C.left_since_whole (cell_in self.old.node.store)
             (cell_in self.new.node.store) (view_of self.old.node).kept
             (next_record (deliver_plan (net_lent lent.now) place

@@ -11,7 +11,6 @@ ghost use Rattle.protocol.specs.World.Steps.{arm_plan, crash_plan, recover_plan}
 ghost use Rattle.station.specs.Coming.{ComesBy};
 ghost use Rattle.station.specs.Lending.{net_lent};
 ghost use Rattle.station.specs.ReplyView.{answer_view, reply_view};
-ghost use Rattle.station.specs.StationView.{outlet_views};
 ghost use Rattle.station.specs.Leaving.{armed_then, IsCellUnchanged, RestartsAsArmed};
 ghost use Rattle.station.specs.StationView.{station_view};
 
@@ -49,8 +48,7 @@ fn back_reply(mode: &Mode) -> Reply
 impl<C: SlotCell, O: Outlet> Station<C, O> {
     /// Its node crashes.
     pub(crate) fn crash(&mut self, round: u64, fill: u8, rounds: u64) -> Reply
-        ensures outputs { outlet_views O.taken O.failures self.new.outputs.items
-            ≡ outlet_views O.taken O.failures self.old.outputs.items }
+        ensures outputs { self.new.outputs ≡ self.old.outputs }
         ensures leaves { LeaveEitherSince C.moment C.left_since_whole (cell_in self.old.node.store)
             (cell_in self.new.node.store) (view_of self.old.node).kept
             (view_of self.old.node).kept }
@@ -69,8 +67,7 @@ impl<C: SlotCell, O: Outlet> Station<C, O> {
 
     /// Its node, if it is down, comes back.
     pub(crate) fn recover(&mut self, lent: &Lent) -> Result<Reply, AllocError>
-        ensures outputs { outlet_views O.taken O.failures self.new.outputs.items
-            ≡ outlet_views O.taken O.failures self.old.outputs.items }
+        ensures outputs { self.new.outputs ≡ self.old.outputs }
         ensures leaves { LeaveEitherSince C.moment C.left_since_whole (cell_in self.old.node.store)
             (cell_in self.new.node.store) (view_of self.old.node).kept
             (next_record (recover_prospect (net_lent lent.now) self.old.node.number
@@ -108,8 +105,7 @@ impl<C: SlotCell, O: Outlet> Station<C, O> {
         rounds: u64,
         round: u64,
     ) -> Result<Reply, AllocError>
-        ensures outputs { outlet_views O.taken O.failures self.new.outputs.items
-            ≡ outlet_views O.taken O.failures self.old.outputs.items }
+        ensures outputs { self.new.outputs ≡ self.old.outputs }
         ensures leaves { LeaveEitherSince C.moment C.left_since_whole (cell_in self.old.node.store)
             (cell_in self.new.node.store) (view_of self.old.node).kept
             (view_of self.old.node).kept }

@@ -4,6 +4,7 @@ ghost use Rattle.node.specs.NodeOf.{view_of};
 ghost use Rattle.protocol.specs.Node.Common.{HasNext, current_log, trimmed_node};
 ghost use Rattle.station.specs.ReplyView.{reply_view};
 ghost use Rattle.protocol.specs.World.Common.{OutletView, first_waiting, next_release, IsRelease};
+ghost use Rattle.station.specs.OutputView.{passed_counts};
 ghost use Rattle.station.specs.StationView.{outlet_view, outlet_views};
 ghost use Rattle.protocol.specs.World.Steps.{has_failed_in, is_waiting, IsHanded};
 ghost use Rattle.station.specs.StationView.{station_view};
@@ -70,6 +71,7 @@ fn release_at<C: SlotCell, O: Outlet>(
     ensures trimmed { IfOk result
         (λ reply. view_of node.new ≡ trimmed_node output.old.channel
         (length (O.taken output.new.outlet)) (view_of node.old)) }
+    ensures passed { O.passed output.new.outlet ≡ O.passed output.old.outlet }
     ensures same { (node.new.store ≡ node.old.store) × (node.new.number ≡ node.old.number) }
     ensures handed { IfOk result
         (λ reply. IsHanded lent.now.round (current_log output.old.channel (view_of node.old).mode)
@@ -114,6 +116,8 @@ impl<C: SlotCell, O: Outlet> Station<C, O> {
             → HasNext (current_log outlet.channel (view_of self.old.node).mode)
             (length outlet.taken) }
         ensures cell { self.new.node.store ≡ self.old.node.store }
+        ensures passed { passed_counts O.passed self.new.outputs.items
+            ≡ passed_counts O.passed self.old.outputs.items }
         ensures refused { OnErr result
             (station_view O.taken O.failures self.new ≡ station_view O.taken O.failures self.old) }
         ensures step { IfOk result

@@ -8,7 +8,6 @@ ghost use Rattle.protocol.specs.World.Common.{grant_reply, turns_of, IsInstalled
 ghost use Rattle.protocol.specs.Node.AtHand.{AreAtHandNow};
 ghost use Rattle.station.specs.Lending.{bases_lent, inputs_lent, net_lent};
 ghost use Rattle.station.specs.ReplyView.{reply_view};
-ghost use Rattle.station.specs.StationView.{outlet_views};
 ghost use Rattle.protocol.specs.World.Turns.{count_grant};
 ghost use Rattle.protocol.specs.World.Steps.{grant_plan};
 ghost use Rattle.station.specs.Coming.{ComesBy};
@@ -42,8 +41,7 @@ impl<C: SlotCell, O: Outlet> Station<C, O> {
     /// Grants a job, where channels have the rooms that are lent.
     pub(crate) fn grant(&mut self, lent: &Lent) -> Result<Reply, AllocError>
         requires { AreAtHandNow (net_lent lent.now).channels (bases_lent lent.now) (view_of self.old.node).mode }
-        ensures outputs { outlet_views O.taken O.failures self.new.outputs.items
-            ≡ outlet_views O.taken O.failures self.old.outputs.items }
+        ensures outputs { self.new.outputs ≡ self.old.outputs }
         ensures cell { self.new.node.store ≡ self.old.node.store }
         ensures refused { OnErr result
             (station_view O.taken O.failures self.new ≡ station_view O.taken O.failures self.old) }
@@ -64,8 +62,7 @@ impl<C: SlotCell, O: Outlet> Station<C, O> {
         requires { IsOut (job_view done.now.job.value) (view_of self.old.node).mode
             → TakesTurn (net_lent lent.now).channels done.now.job.value.process
             done.now.taken.items done.now.sent.items (view_of self.old.node).mode }
-        ensures outputs { outlet_views O.taken O.failures self.new.outputs.items
-            ≡ outlet_views O.taken O.failures self.old.outputs.items }
+        ensures outputs { self.new.outputs ≡ self.old.outputs }
         ensures cell { self.new.node.store ≡ self.old.node.store }
         ensures refused { OnErr result
             (station_view O.taken O.failures self.new ≡ station_view O.taken O.failures self.old) }

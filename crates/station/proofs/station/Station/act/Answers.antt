@@ -286,7 +286,8 @@ returns-in-Deliver-clause-moved g c =
     (next_kept setting (ByNode c.in-ByNode.node (view.Deliver c.in-Deliver.place)) was)
     (outlet_views g.O.Outlet.taken g.O.Outlet.failures c.args.self.now.outputs.items)
     (outlet_views g.O.Outlet.taken g.O.Outlet.failures c.deliver.new.self.outputs.items) _
-    c.deliver.ensures.later c.deliver.ensures.outputs
+    c.deliver.ensures.later
+    (ap (λ outputs. outlet_views g.O.Outlet.taken g.O.Outlet.failures outputs.items) c.deliver.ensures.outputs)
     refl c.deliver.ensures.leaves)
 
 pub returns-in-Start-clause-moved : goal.returns-in-Start-clause-moved
@@ -306,7 +307,8 @@ returns-in-Start-clause-moved g c =
     (cell_in c.start.new.self.node.store) was.node.kept (next_kept setting (ByNode 0 view.Start) was)
     (outlet_views g.O.Outlet.taken g.O.Outlet.failures c.args.self.now.outputs.items)
     (outlet_views g.O.Outlet.taken g.O.Outlet.failures c.start.new.self.outputs.items) _
-    c.start.ensures.later c.start.ensures.outputs
+    c.start.ensures.later
+    (ap (λ outputs. outlet_views g.O.Outlet.taken g.O.Outlet.failures outputs.items) c.start.ensures.outputs)
     refl c.start.ensures.leaves)
 
 -- what nobody answers needs no reason

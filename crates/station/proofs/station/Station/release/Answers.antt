@@ -5,7 +5,7 @@ use Rattle.protocol.specs.declared.reply.Reply.TheVariants as reply
 use Rattle.station.specs.StationView.{outlet_view}
 use Rattle.protocol.specs.World.Common.{IsRelease}
 use Rattle.station.specs.StationView.{station_view}
-use Rattle.station.proofs.Releases.{outlet_at, outlet_set, release_refused, release_step}
+use Rattle.station.proofs.Releases.{outlet_at, outlet_set, passed_kept, release_refused, release_step}
 use Rattle.station.proofs.station.Station.release.Goals as goal
 
 pub release_at-requires : goal.release_at-requires
@@ -56,3 +56,8 @@ returns-clause-step g c =
     made.same.1
     (ap (λ (store : Store g.row.C.Denot g.C.SlotCell g.C.StableCell). g.C.StableCell.failure_count (cell_in store)) made.same.0)
     (outlet_set taken failures c.args.self.now.outputs.items j now.output) made.trimmed made.handed
+
+pub returns-clause-passed : goal.returns-clause-passed
+returns-clause-passed g c =
+    passed_kept g.O.Outlet.passed c.args.self.now.outputs.items c.in-Some.j c.index_mut.result.now c.release_at.new.output
+    c.in-Some.ensures.within c.index_mut.ensures.value c.release_at.ensures.passed
