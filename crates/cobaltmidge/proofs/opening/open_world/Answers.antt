@@ -51,8 +51,8 @@ pub unreachable-requires : goal.unreachable-requires
 unreachable-requires g c =
     c.in-Err-set_room.ensures.refused (subst IsRoom (sym c.nearest_room.ensures) (nearest_is_room c.args.room))
 
-pub new-requires-2-clause-each : goal.new-requires-2-clause-each
-new-requires-2-clause-each g c = grind (arith, elements)
+pub new-requires-clause-each : goal.new-requires-clause-each
+new-requires-clause-each g c = grind (arith, elements)
 
 pub returns-in_default-empty_disks-clause-err : goal.returns-in_default-empty_disks-clause-err
 returns-in_default-empty_disks-clause-err g c = grind (arith, elements)
