@@ -13,7 +13,7 @@ use Rattle.protocol.specs.World.Roomy.{HasFullRoom}
 use Rattle.protocol.specs.declared.reply.Reply.TheVariants.{Down}
 use Rattle.station.specs.Leaving.{IsCellUnchanged}
 use Rattle.world.specs.RecoveryLine.{KeepsLine, HasOneLine}
-use Rattle.world.specs.WholeView.{HaveGrown, capacities_in, closed_in, arrived_in, net_in, rooms_in, stations_in, world_of}
+use Rattle.world.specs.WholeView.{HaveGrown, capacities_in, closed_in, arrived_in, net_in, passed_in, rooms_in, stations_in, world_of}
 use Rattle.world.specs.WorldView.{HoldsAsBeforeAt, LeavesDeviceAt, RestartsAsArmedAt}
 use Rattle.world.specs.declared.world.World.{World}
 
@@ -35,6 +35,7 @@ pub record IsApplied {C O : Type 0} {cell : CellWords C} {slots : SlotWords C} {
   pub prefix : AreApproximated (world_of new)
   pub same : (net_in new ≡ net_in old) × (arrived_in new ≡ arrived_in old)
   pub same_closed : closed_in new ≡ closed_in old
+  pub passed : passed_in new ≡ passed_in old
   pub step : IfSome answer (λ reply. IsStep (rooms_in old) event (world_of old) reply (world_of new))
   pub same_capacities : capacities_in new ≡ capacities_in old
   pub same_rooms : rooms_in new ≡ rooms_in old

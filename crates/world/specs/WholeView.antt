@@ -11,7 +11,7 @@ use Rattle.protocol.specs.Node.Common.{Net, RecordView}
 use Rattle.protocol.specs.World.Common.{WorldView, traffic_of}
 use Rattle.wire.specs.declared.wire.Wire.{Wire}
 use Rattle.station.specs.declared.station.Station.{Station}
-use Rattle.world.specs.WorldView.{capacities, rooms, world_view, IsGrown}
+use Rattle.world.specs.WorldView.{capacities, passes, rooms, world_view, IsGrown}
 use Rattle.world.specs.declared.world.World.{World}
 
 -- a `World` without pointers and without the contents of its cells
@@ -67,6 +67,11 @@ rooms_in world = rooms world.stations.items
 abbrev pub capacities_in : {C O : Type 0} {cell : CellWords C} {slots : SlotWords C} {outlet : OutletWords O}
     → World C O slots cell outlet → List ℕ
 capacities_in world = capacities world.stations.items
+
+-- for each station, how many items each of its outlets has passed on
+abbrev pub passed_in : {C O : Type 0} {cell : CellWords C} {slots : SlotWords C} {outlet : OutletWords O}
+    → World C O slots cell outlet → List (List ℕ)
+passed_in {C} {O} {cell} {slots} {outlet} world = passes outlet.passed world.stations.items
 
 -- what has left each station only grew, and is covered at each moment between
 abbrev pub HaveGrown : {C O : Type 0} {cell : CellWords C} {slots : SlotWords C} {outlet : OutletWords O}

@@ -7,7 +7,7 @@ use Rattle.station.specs.Nodes.{LeavesAsBefore}
 use Rattle.std.specs.declared.sync.Arc.{Arc}
 use Rattle.std.specs.declared.alloc.Global.{Global}
 use Rattle.arrived.specs.ArrivedView.{ArrivedView}
-use Rattle.station.specs.OutputView.{outputs_view}
+use Rattle.station.specs.OutputView.{outputs_view, passed_counts}
 use Rattle.protocol.specs.World.Common.{EventView, ReplyView, WorldView, Traffic}
 use Rattle.protocol.specs.World.Pairs.{HasGrown}
 use Rattle.station.specs.declared.output.Output.{Output}
@@ -42,6 +42,11 @@ abbrev pub capacities : {C O : Type 0} {cell : CellWords C} {slots : SlotWords C
     → List ℕ
 capacities {C} {O} {cell} {slots} stations =
     map (λ (station : Station C O slots cell). slots.slot_capacity (cell_in station.node.store)) stations
+
+-- for each station, how many items each of its outlets has passed on; `passed` is the outlets' word
+abbrev pub passes : {C O : Type 0} {cell : CellWords C} {slots : SlotWords C} → (O → ℕ) → List (Station C O slots cell) → List (List ℕ)
+passes {C} {O} {cell} {slots} passed stations =
+    map (λ (station : Station C O slots cell). passed_counts passed station.outputs.items) stations
 
 -- what has left a station only grew, and is covered at each moment between
 abbrev pub IsGrown : {C O : Type 0} {cell : CellWords C} {slots : SlotWords C} → (O → List ℤ) → Station C O slots cell

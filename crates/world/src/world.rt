@@ -20,7 +20,7 @@ ghost use Rattle.station.specs.ReplyView.{answer_view, reply_view};
 ghost use Rattle.protocol.specs.declared.reply.Reply.TheVariants.{Down};
 ghost use Rattle.protocol.specs.World.Roomy.{HasFullRoom};
 ghost use Rattle.protocol.specs.World.Steps.{are_done_with};
-ghost use Rattle.world.specs.WorldView.{capacities, HoldsAsBeforeAt, IsGrown, LeavesDeviceAt, LeavesWhatItFoundAt, RestartsAsArmedAt, rooms, world_view};
+ghost use Rattle.world.specs.WorldView.{capacities, HoldsAsBeforeAt, IsGrown, LeavesDeviceAt, LeavesWhatItFoundAt, passes, RestartsAsArmedAt, rooms, world_view};
 ghost use Rattle.station.specs.Leaving.{IsCellUnchanged};
 ghost use Rattle.station.specs.StationView.{station_view};
 
@@ -109,6 +109,7 @@ fn act_at<C: SlotCell, O: Outlet>(
         (map (station_view O.taken O.failures) stations.new.items) (traffic_of wire.new)) }
     ensures same_traffic { OnErr result (traffic_of wire.new ≡ traffic_of wire.old) }
     ensures same_capacities { capacities stations.new.items ≡ capacities stations.old.items }
+    ensures passed { passes O.passed stations.new.items ≡ passes O.passed stations.old.items }
     ensures device { LeavesDeviceAt (event_view event.now) (answer_view result)
         (event_node (event_view event.now)) stations.old.items stations.new.items }
     ensures unchanged { LeavesCells (event_view event.now) (answer_view result)
@@ -152,7 +153,7 @@ fn round_after<C: SlotCell, O: Outlet>(reply: &Reply, round: u64, stations: &[St
 
 impl<C: SlotCell, O: Outlet> World<C, O> {
     ghost use Rattle.world.specs.Applied.{IsApplied};
-    ghost use Rattle.world.specs.WholeView.{HaveGrown, arrived_in, capacities_in, closed_in, net_in, rooms_in, stations_in, world_of};
+    ghost use Rattle.world.specs.WholeView.{HaveGrown, arrived_in, capacities_in, closed_in, net_in, passed_in, rooms_in, stations_in, world_of};
 
     // Its stations. All else is gone.
     pub(crate) fn into_stations(self) -> Vec<Station<C, O>>
@@ -230,6 +231,8 @@ impl<C: SlotCell, O: Outlet> World<C, O> {
         ensures same { (net_in self.new ≡ net_in self.old) × (arrived_in self.new ≡ arrived_in self.old) }
         // No input is closed by an event, and none is opened.
         ensures same_closed { closed_in self.new ≡ closed_in self.old }
+        // No outlet passes on an item by an event.
+        ensures passed { passed_in self.new ≡ passed_in self.old }
         // It is a step of the world: what is answered, and what is there afterwards.
         ensures step { IfOk result
             (λ reply. IsStep (rooms_in self.old) (event_view event)

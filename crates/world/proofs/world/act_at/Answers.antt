@@ -12,6 +12,7 @@ use Rattle.station.specs.EventView.{event_view}
 use Rattle.protocol_laws.specs.World.OutputLaws.{map_at, set_keeps}
 use Rattle.protocol.specs.World.Pairs.{AreSameElsewhere}
 use Rattle.protocol_laws.specs.World.PairLaws.{elsewhere_set, on_err_map, pairs_refl, pairs_set}
+use Rattle.station.specs.OutputView.{passed_counts}
 use Rattle.station.specs.StationView.{station_view}
 use Rattle.station.specs.declared.station.Station.{Station}
 use Rattle.world.proofs.Held.{found_at}
@@ -133,6 +134,14 @@ returns-clause-same_capacities g c =
     (cell_in station.node.store)) c.args.stations.now.items c.args.number c.index_mut.result.now _
     (slice_get_read c.args.stations.now.items _ c.args.number c.index_mut.result.now refl (search rules)
     c.index_mut.ensures.value) c.act.ensures.same_room
+
+pub returns-clause-passed : goal.returns-clause-passed
+returns-clause-passed g c =
+    set_keeps
+    (λ (station : Station g.row.C.Denot g.row.O.Denot g.C.SlotCell g.C.StableCell). passed_counts g.O.Outlet.passed
+    station.outputs.items) c.args.stations.now.items c.args.number c.index_mut.result.now _
+    (slice_get_read c.args.stations.now.items _ c.args.number c.index_mut.result.now refl (search rules)
+    c.index_mut.ensures.value) c.act.ensures.passed
 
 pub returns-clause-unchanged : goal.returns-clause-unchanged
 returns-clause-unchanged g c =

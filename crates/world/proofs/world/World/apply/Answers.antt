@@ -22,6 +22,9 @@ returns-in-Ok-clause-same g c = c.in-Ok.ensures.same
 pub returns-in-Ok-clause-same_closed : goal.returns-in-Ok-clause-same_closed
 returns-in-Ok-clause-same_closed g c = c.in-Ok.ensures.same_closed
 
+pub returns-in-Ok-clause-passed : goal.returns-in-Ok-clause-passed
+returns-in-Ok-clause-passed g c = c.in-Ok.ensures.passed
+
 pub returns-in-Ok-clause-step : goal.returns-in-Ok-clause-step
 returns-in-Ok-clause-step g c = c.in-Ok.ensures.step
 
@@ -72,6 +75,9 @@ returns-in-Err-clause-same g c = c.in-Err.ensures.same
 
 pub returns-in-Err-clause-same_closed : goal.returns-in-Err-clause-same_closed
 returns-in-Err-clause-same_closed g c = c.in-Err.ensures.same_closed
+
+pub returns-in-Err-clause-passed : goal.returns-in-Err-clause-passed
+returns-in-Err-clause-passed g c = c.in-Err.ensures.passed
 
 pub returns-in-Err-clause-same_capacities : goal.returns-in-Err-clause-same_capacities
 returns-in-Err-clause-same_capacities g c = c.in-Err.ensures.same_capacities

@@ -144,6 +144,7 @@ returns-in-Ok g c =
           (reply_view c.in-Ok.reply) _ c.args.self.now.sound step;
       same = (refl, refl);
       same_closed = refl;
+      passed = c.act_at.ensures.passed;
       same_capacities = c.in-Ok.ensures.same_capacities;
       unchanged = c.in-Ok.ensures.unchanged;
       armed = c.in-Ok.ensures.armed;
@@ -215,6 +216,7 @@ returns-in-Err g c =
           c.in-Err.ensures.held c.in-Err.ensures.unchanged;
       same = (refl, refl);
       same_closed = refl;
+      passed = c.act_at.ensures.passed;
       same_capacities = c.in-Err.ensures.same_capacities;
       roomy = λ room. tt;
       heard = tt;
