@@ -7,7 +7,7 @@ ghost use Rattle.protocol.specs.World.Released.{IsPutAtHome, IsStreamOf};
 ghost use Rattle.world.specs.WholeView.{inputs_in, net_in, world_of};
 
 use crate::world::World;
-use outlet::Outlet;
+use outlet::{KeepsItems, Outlet};
 use slot_cell::SlotCell;
 use station::Output;
 use std::alloc::AllocError;
@@ -15,8 +15,22 @@ use std::snapshot::Snapshot;
 use std::sync::Arc;
 use stream_eq::Freed;
 
-// The items that have left by the output of this channel, where it is one of these.
-fn released_by<O: Outlet>(outputs: &[Output<O>], channel: u8) -> Option<&[i64]>
+// How many items have left by the output of this channel, where it is one of these.
+fn count_by<O: Outlet>(outputs: &[Output<O>], channel: u8) -> Option<u64>
+    ensures { result ≡ option_map (λ (outlet : OutletView). length outlet.taken)
+        (find (λ (outlet : OutletView). outlet.channel == channel)
+        (outlet_views O.taken O.failures outputs.now)) }
+{
+    for output in outputs {
+        if output.channel == channel {
+            return Some(output.outlet.len());
+        }
+    }
+    None
+}
+
+// The items that have left there, where the outlets keep them.
+fn released_by<O: KeepsItems>(outputs: &[Output<O>], channel: u8) -> Option<&[i64]>
     ensures { option_copied result
         ≡ option_map (λ (outlet : OutletView). outlet.taken)
         (find (λ (outlet : OutletView). outlet.channel == channel)
@@ -31,17 +45,16 @@ fn released_by<O: Outlet>(outputs: &[Output<O>], channel: u8) -> Option<&[i64]>
 }
 
 impl<C: SlotCell, O: Outlet> World<C, O> {
-    /// The items that have left by the output of this channel, in order; none where the channel is no output.
-    pub fn released(&self, channel: u8) -> &[i64]
-        ensures stream { result.now ≡ released_of channel (world_of self.now).stations }
-        // They are a prefix of the channel's history, in one approximation of it on the inputs;
-        ensures prefix { IsStreamOf (network_of (net_in self.now).value.program) (inputs_in self.now)
-            channel result.now }
-        // and the permanent image of the node that puts there has put all of them.
-        ensures covered { IsPutAtHome (network_of (net_in self.now).value.program)
-            (world_of self.now).stations channel result.now }
+    /// How many items have left by the output of this channel; none where the channel is no output. Takes no memory.
+    pub fn left(&self, channel: u8) -> u64
+        ensures { result ≡ length (released_of channel (world_of self.now).stations) }
     {
-        self.stream(channel)
+        for station in &self.stations {
+            if let Some(count) = count_by(&station.outputs, channel) {
+                return count;
+            }
+        }
+        0
     }
 
     /// How many items have left by the output of this channel, with a share of the network, on what has come: what another thread
@@ -56,8 +69,23 @@ impl<C: SlotCell, O: Outlet> World<C, O> {
             net: Arc::try_clone(&self.net)?,
             came: Snapshot::of(&self.inputs),
             output: channel,
-            number: self.released(channel).len() as u64,
+            number: self.left(channel),
         })
+    }
+}
+
+impl<C: SlotCell, O: KeepsItems> World<C, O> {
+    /// The items that have left by the output of this channel, in order; none where the channel is no output.
+    pub fn released(&self, channel: u8) -> &[i64]
+        ensures stream { result.now ≡ released_of channel (world_of self.now).stations }
+        // They are a prefix of the channel's history, in one approximation of it on the inputs;
+        ensures prefix { IsStreamOf (network_of (net_in self.now).value.program) (inputs_in self.now)
+            channel result.now }
+        // and the permanent image of the node that puts there has put all of them.
+        ensures covered { IsPutAtHome (network_of (net_in self.now).value.program)
+            (world_of self.now).stations channel result.now }
+    {
+        self.stream(channel)
     }
 
     fn stream(&self, channel: u8) -> &[i64]

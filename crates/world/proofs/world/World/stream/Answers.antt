@@ -10,18 +10,18 @@ pub returns-in-Some : goal.returns-in-Some
 returns-in-Some g c =
     let O = g.O.Outlet in
     shown_here (station_view O.taken O.failures) c.args.channel c.deref-station-items.result.now
-    c.loop-station.station-index c.station-item.result _ c.released_by.result
+    c.loop-station.station-index c.station-item.result _
     c.loop-station-test.true c.station-item.is (ap (outlet_views O.taken O.failures) c.deref.ensures.value)
-    c.released_by.ensures c.in-Some.items c.in-Some.is
+    c.released_by.result c.released_by.ensures c.in-Some.items c.in-Some.is
     ∙ c.loop-station.invariant
 
 pub loop-station-preserved : goal.loop-station-preserved
 loop-station-preserved g c =
     let O = g.O.Outlet in
     shown_later (station_view O.taken O.failures) c.args.channel c.deref-station-items.result.now
-    c.loop-station.station-index c.station-item.result _ c.released_by.result
+    c.loop-station.station-index c.station-item.result _
     c.loop-station-test.true c.station-item.is (ap (outlet_views O.taken O.failures) c.deref.ensures.value)
-    c.released_by.ensures c.in_default.is
+    c.released_by.result c.released_by.ensures c.in_default.is
     ∙ c.loop-station.invariant
 
 pub returns : goal.returns
