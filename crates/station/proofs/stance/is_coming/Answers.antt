@@ -1,4 +1,4 @@
-use Rattle.std.proofs.Common.{◌≡◌, ◌==◌, ap, map, not, sym, ◌∙◌}
+use Rattle.std.proofs.Common.{◌==◌, ap, map, not, sym, ◌∙◌}
 use Rattle.std.proofs.lemmas.Bool.{eq-eqb, ne_eqb}
 use Rattle.protocol.specs.Node.Common.{network_of}
 use Rattle.protocol.specs.World.Stances.{comes_to}

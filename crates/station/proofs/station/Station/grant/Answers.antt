@@ -1,5 +1,5 @@
-use Rattle.std.proofs.Common.{ℤ, List, Option, ap, ◌∙◌}
-use Rattle.protocol.specs.Node.Common.{fits_in, cell_in, Store, node_job, with_grant, JobView}
+use Rattle.std.proofs.Common.{ℤ, List, Option, ap}
+use Rattle.protocol.specs.Node.Common.{fits_in, cell_in, Store, node_job, JobView}
 use Rattle.node.specs.NodeOf.{view_of}
 use Rattle.station.specs.StationView.{station_view}
 use Rattle.station.proofs.Planned.{grants}
