@@ -11,5 +11,6 @@ pub mod ReopenedWorld
 pub mod Closing
 pub mod Stillness
 pub mod Applied
+pub mod Passing
 pub mod Events
 pub mod EventKinds

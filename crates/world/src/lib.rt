@@ -13,6 +13,7 @@ mod needs;
 mod opening;
 mod outputs;
 mod parts;
+mod passing;
 mod picking;
 mod quiet;
 mod released;
