@@ -16,3 +16,4 @@ mod Collected
 mod Walks
 mod Fed
 mod LetGo
+mod Holders
