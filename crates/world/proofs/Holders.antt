@@ -9,6 +9,10 @@ use Rattle.gate_cell.specs.declared.cell.StableCell.{Ghosts as CellWords}
 use Rattle.slot_cell.specs.declared.slot_cell.SlotCell.{Ghosts as SlotWords}
 use Rattle.protocol_laws.specs.World.OutputLaws.{set_keeps}
 use Rattle.protocol.specs.World.Common.{OutletView, released_of, StationView, taken_or}
+use Rattle.std.specs.List.{AllZip}
+use Rattle.protocol.specs.World.Growing.{EachBegins}
+use Rattle.station.specs.OutputView.{output_view, outputs_view, passed_counts}
+use Rattle.world.specs.WorldView.{IsGrown, passes}
 use Rattle.station.specs.StationView.{outlet_view, outlet_views, station_view}
 use Rattle.station.specs.declared.output.Output.{Output}
 use Rattle.station.specs.declared.station.Station.{Station}
@@ -309,3 +313,55 @@ is_no_other a channel other is differs = by_test (a == other) refl
     by_test : (b : Bool) → (a == other) ≡ b → (a == other) ≡ false
     by_test false h = h
     by_test true h = absurd (differs (sym (eqb-true a other h) ∙ eqb-true a channel is))
+
+-- ---- what outlets have passed on, over an event
+
+heads : {A : Type 0} (x y : A) (xs ys : List A) → x ∷ xs ≡ y ∷ ys → x ≡ y
+heads x y xs ys same = cc
+
+tails : {A : Type 0} (x y : A) (xs ys : List A) → x ∷ xs ≡ y ∷ ys → xs ≡ ys
+tails x y xs ys same = cc
+
+-- outputs that only grew, and whose outlets have passed on what they had, have passed on by each channel what they had
+counts_stay : {O : Type 0} (taken : O → List ℤ) (passed : O → ℕ) (channel : ℕ) (olds news : List (Output O)) (n : ℕ)
+    → EachBegins (outputs_view taken olds) (outputs_view taken news) → passed_counts passed news ≡ passed_counts passed olds
+    → passed_or passed (find (is_of channel) news) n ≡ passed_or passed (find (is_of channel) olds) n
+counts_stay taken passed channel [] [] n begins same = refl
+counts_stay taken passed channel [] (x ∷ news) n begins same = absurd (let count = begins.count in cc)
+counts_stay taken passed channel (o ∷ olds) [] n begins same = absurd (let count = begins.count in cc)
+counts_stay {O} taken passed channel (o ∷ olds) (x ∷ news) n begins same =
+    let ends : x.channel ≡ o.channel = (begins.begins 0 (output_view taken o) (output_view taken x) refl refl).0 in
+    let first = heads (passed x.outlet) (passed o.outlet) (passed_counts passed news) (passed_counts passed olds) same in
+    let rest = counts_stay taken passed channel olds news n (record {
+      count = suc_same (begins.count);
+      begins = λ j output later there here. begins.begins (suc j) output later there here;
+    }) (tails (passed x.outlet) (passed o.outlet) (passed_counts passed news) (passed_counts passed olds) same) in
+    by_head ends first rest (o.channel == channel) refl
+  where
+    suc_same : {a b : ℕ} → suc a ≡ suc b → a ≡ b
+    suc_same h = cc
+
+    by_head : x.channel ≡ o.channel → passed x.outlet ≡ passed o.outlet
+        → passed_or passed (find (is_of channel) news) n ≡ passed_or passed (find (is_of channel) olds) n
+        → (b : Bool) → (o.channel == channel) ≡ b
+        → passed_or passed (find (is_of channel) (x ∷ news)) n ≡ passed_or passed (find (is_of channel) (o ∷ olds)) n
+    by_head ends first rest true h =
+        ap (λ (c : Bool). passed_or passed (cond c (Some x) (find (is_of channel) news)) n) (ap (λ (e : ℕ). e == channel) ends ∙ h)
+        ∙ (first ∙ sym (ap (λ (c : Bool). passed_or passed (cond c (Some o) (find (is_of channel) olds)) n) h))
+    by_head ends first rest false h =
+        ap (λ (c : Bool). passed_or passed (cond c (Some x) (find (is_of channel) news)) n) (ap (λ (e : ℕ). e == channel) ends ∙ h)
+        ∙ (rest ∙ sym (ap (λ (c : Bool). passed_or passed (cond c (Some o) (find (is_of channel) olds)) n) h))
+
+-- so stations have that only grew, as by an event
+pub passed_stays : {C O : Type 0} {cell : CellWords C} {slots : SlotWords C} (taken : O → List ℤ) (passed : O → ℕ) (channel : ℕ)
+    (olds news : List (Station C O slots cell)) → AllZip (IsGrown taken) olds news → passes passed news ≡ passes passed olds
+    → passed_from passed channel news ≡ passed_from passed channel olds
+passed_stays taken passed channel [] [] grown same = refl
+passed_stays taken passed channel [] (x ∷ news) grown same = absurd (grown)
+passed_stays taken passed channel (s ∷ olds) [] grown same = absurd (grown)
+passed_stays {C} {O} {cell} {slots} taken passed channel (s ∷ olds) (x ∷ news) grown same =
+    let first = heads (passed_counts passed x.outputs.items) (passed_counts passed s.outputs.items) (passes passed news) (passes passed olds) same in
+    let rest = passed_stays taken passed channel olds news grown.1
+    (tails (passed_counts passed x.outputs.items) (passed_counts passed s.outputs.items) (passes passed news) (passes passed olds) same) in
+    counts_stay taken passed channel s.outputs.items x.outputs.items (passed_from passed channel news) grown.0.begins first
+    ∙ ap (passed_or passed (find (is_of channel) s.outputs.items)) rest
