@@ -3,7 +3,6 @@
 ghost use Rattle.std.specs.Prelude.{◌≡◌, Some, slice_get};
 ghost use Rattle.live.specs.LiveViews.{world_on};
 ghost use Rattle.live.specs.Waits.{is_at_get, waits_at, waits_by, waits_for};
-ghost use Rattle.node.specs.NodeOf.{view_of};
 ghost use Rattle.protocol.specs.Node.Common.{network_of};
 ghost use Rattle.protocol.specs.World.RoomNeeds.{getter_of};
 ghost use Rattle.station.specs.StationView.{station_view};

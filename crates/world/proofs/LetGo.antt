@@ -1,5 +1,5 @@
 -- A world that lets go of what nobody asks for.
-use Rattle.std.proofs.Common.{◌≡◌, ◌≤◌, ◌<◌, ℕ, zero, suc, Bool, true, false, ℤ, List, [], ◌∷◌, length, max, Option, Some, None}
+use Rattle.std.proofs.Common.{◌≡◌, ◌≤◌, ℕ, zero, suc, Bool, true, false, ℤ, List, [], ◌∷◌, length, max, Option, Some, None}
 use Rattle.std.proofs.Common.{refl, ap, sym, subst, ◌∙◌, arith}
 use Rattle.std.specs.Prelude.{nat_le, slice_get, slice_index_or, slice_set}
 use Rattle.std.proofs.lemmas.Bool.{leb-true}

@@ -1,10 +1,9 @@
 // Items that come on the inputs of a world, and their end.
-ghost use Rattle.std.specs.Prelude.{◌≡◌, ◌↔◌, ◌+◌, ◌<◌, ◌≤◌, true, false, length, IfErr, IsTrue, None, OnErr, OnOk, slice_set};
+ghost use Rattle.std.specs.Prelude.{◌≡◌, ◌↔◌, ◌<◌, true, false, length, IfErr, IsTrue, None, OnErr, OnOk, slice_set};
 ghost use Rattle.growing.specs.LaterInputs.{AreLaterInputs, fed, with_inputs};
 ghost use Rattle.kahn_net.specs.declared.limits.TheConstants.{MAX_COUNT};
-ghost use Rattle.protocol.specs.Node.Common.{history_of, network_of};
-ghost use Rattle.protocol.specs.World.Common.{are_quiet, AreApproximated};
-ghost use Rattle.protocol.specs.World.Quiet.{AreWhole};
+ghost use Rattle.protocol.specs.Node.Common.{network_of};
+ghost use Rattle.protocol.specs.World.Common.{AreApproximated};
 ghost use Rattle.world.specs.Feeding.{AreClosed, feed_refusal, is_input, none_closed, number_of, told_by};
 ghost use Rattle.world.specs.WholeView.{arrived_in, bases_in, closed_in, inputs_in, net_in, stations_in, wire_in, world_of};
 ghost use Rattle.world.specs.declared.feeding.FeedFault.TheVariants.{NoInput, NoMemory};

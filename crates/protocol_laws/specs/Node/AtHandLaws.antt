@@ -1,10 +1,10 @@
 -- What was let go of an input no process asks for any more.
-use Rattle.std.proofs.Common.{◌≡◌, ◌≤◌, ℕ, zero, suc, List, [], ◌∷◌, length, Some, refl, subst, arith}
+use Rattle.std.proofs.Common.{◌≡◌, ℕ, zero, suc, List, [], ◌∷◌, length, Some, refl, subst, arith}
 use Rattle.std.specs.Prelude.{slice_get}
 use Rattle.arrived.specs.ArrivedView.{base_of, none_gone}
 use Rattle.protocol.specs.Node.AtHand.{AreAtHand, HasGot, HasGotBy, HaveGot}
-use Rattle.protocol.specs.Node.Common.{Channel, ImageView, IsBehind, IsLaidOut, Network, Outside, Process, RecordView, SavedProcessView}
-use Rattle.protocol.specs.Node.Common.{has_process, received_of}
+use Rattle.protocol.specs.Node.Common.{ImageView, IsBehind, IsLaidOut, Network, RecordView, SavedProcessView}
+use Rattle.protocol.specs.Node.Common.{has_process}
 use Rattle.protocol_laws.specs.Node.NumberedLaws.{where_mark}
 
 -- what an image has got, a later one has got too

@@ -1,12 +1,12 @@
 -- What is let go of an input where a node keeps it for good.
-use Rattle.std.proofs.Common.{◌≡◌, ◌==◌, ◌≢◌, ◌≤◌, ◌<◌, ◌⊎◌, inl, inr, ℕ, zero, suc, Bool, true, false, List, ℤ, [], ◌∷◌, length, max, map}
+use Rattle.std.proofs.Common.{◌≡◌, ◌==◌, ◌≢◌, ◌≤◌, ℕ, zero, suc, Bool, true, false, List, [], ◌∷◌, length, max}
 use Rattle.std.proofs.Common.{Option, Some, None, refl, ap, sym, subst, ◌∙◌, arith}
 use Rattle.std.specs.Prelude.{IsTrue, option_map, slice_get, slice_index_or, slice_set}
 use Rattle.std.proofs.lemmas.Bool.{eq-eqb, eqb-true}
 use Rattle.arrived.specs.ArrivedView.{base_of}
-use Rattle.protocol.specs.Node.AtHand.{HasGot, HasGotBy, HaveGot}
-use Rattle.protocol.specs.Node.Common.{Channel, Code, history_of, ImageView, Network, Outside, Port, Process, RecordView, RunningNode}
-use Rattle.protocol.specs.Node.Common.{consumer_of, has_process, is_on, NodeView, ModeView, Runs, received_of, running_in, running_node, running_of}
+use Rattle.protocol.specs.Node.AtHand.{HasGotBy, HaveGot}
+use Rattle.protocol.specs.Node.Common.{Channel, Code, history_of, Outside, Port, Process}
+use Rattle.protocol.specs.Node.Common.{consumer_of, has_process, is_on, NodeView, ModeView, Runs, received_of, running_in}
 use Rattle.protocol.specs.Node.Layout.{node_at}
 use Rattle.protocol.specs.World.Common.{StationView, WorldInvariant, WorldView, records_of}
 use Rattle.protocol.specs.World.Still.{kept_at, kept_by, kept_for_good, kept_from}

@@ -1,4 +1,4 @@
-use Rattle.std.proofs.Common.{◌≡◌, ℕ, ◌+◌, Option, ap, map, subst, sym, ◌∙◌, arith}
+use Rattle.std.proofs.Common.{ℕ, ◌+◌, Option, ap, map, subst, sym, ◌∙◌, arith}
 use Rattle.std.proofs.lemmas.List.{length-map}
 use Rattle.protocol.specs.Node.Common.{code_of, network_of}
 use Rattle.protocol.specs.World.RoomNeeds.{awaited, held_on, is_going}

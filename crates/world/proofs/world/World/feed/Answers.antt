@@ -1,4 +1,4 @@
-use Rattle.std.proofs.Common.{◌≡◌, length, None, arith, refl, ap, sym, subst, ◌∙◌, List, ℕ}
+use Rattle.std.proofs.Common.{◌≡◌, length, None, arith, refl, sym, subst, List, ℕ}
 use Rattle.std.proofs.lemmas.Grind.{elements}
 use Rattle.protocol.specs.Node.AtHand.{HaveGot}
 use Rattle.protocol.specs.Node.Common.{network_of}

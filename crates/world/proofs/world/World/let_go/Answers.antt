@@ -1,4 +1,4 @@
-use Rattle.std.proofs.Common.{◌≡◌, ◌∙◌, ℕ, ℤ, List, true, map, refl, ap, sym, subst, arith}
+use Rattle.std.proofs.Common.{◌≡◌, ◌∙◌, ℤ, List, true, map, refl, ap, sym, subst, arith}
 use Rattle.std.proofs.lemmas.Grind.{elements}
 use Rattle.growing.specs.LaterInputs.{with_inputs}
 use Rattle.protocol.specs.Node.Common.{Net, network_of}

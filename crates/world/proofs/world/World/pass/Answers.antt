@@ -1,11 +1,11 @@
-use Rattle.std.proofs.Common.{rules, ◌≡◌, ◌+◌, ◌∙◌, ℕ, ℤ, List, Some, None, length, map, refl, ap, sym, subst, arith}
+use Rattle.std.proofs.Common.{rules, ◌≡◌, ◌+◌, ◌∙◌, ℕ, ℤ, List, Some, None, length, refl, ap, sym, subst, arith}
 use Rattle.std.specs.Option.{option_to_list}
 use Rattle.std.specs.Prelude.{slice_get, vec_len}
 use Rattle.std.specs.Vec.{with_item}
 use Rattle.std.proofs.lemmas.Option.{slice_get_read}
 use Rattle.protocol.specs.Node.AtHand.{HaveGot}
 use Rattle.protocol.specs.Node.Common.{network_of}
-use Rattle.protocol.specs.World.Common.{OutletView, StationView, WorldInvariant, records_of, released_of, traffic_of}
+use Rattle.protocol.specs.World.Common.{OutletView, StationView, WorldInvariant, records_of, released_of}
 use Rattle.station.specs.StationView.{outlet_view}
 use Rattle.station.specs.declared.output.Output.{Output}
 use Rattle.world.specs.Passing.{holder_from, passed_from}
